@@ -8,8 +8,9 @@ use Rattle.cmd_core.specs.Contents.{fields_of}
 use Rattle.cmd_core.specs.Integer.{int_of}
 use Rattle.std.specs.Fmt.{digits}
 use Rattle.cmd_table.specs.declared.misuse.Misuse.TheVariants.{WrongNumberOfWords}
-use Rattle.cmd_table.specs.declared.name.CommandName.TheVariants as name
-use Rattle.cmd_table.specs.Row.{is_named, command_named}
+use Rattle.kv_types.specs.declared.command_name.CommandName.TheVariants as name
+use Rattle.kv_types.specs.CommandName.{is_named}
+use Rattle.cmd_table.specs.Row.{command_named}
 use Rattle.cmd_table.specs.Command.{read_command}
 use Rattle.cmd_table.specs.Request.{Effect, effect_of_reading}
 

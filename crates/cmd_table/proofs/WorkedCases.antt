@@ -7,8 +7,9 @@ use Rattle.kv_types.specs.Keyspace.{Keyspace}
 use Rattle.cmd_core.specs.Contents.{has_key}
 use Rattle.cmd_core.specs.Shape.{takes, are_short}
 use Rattle.cmd_table.specs.declared.misuse.Misuse.TheVariants.{UnknownName, WrongNumberOfWords, LongKey}
-use Rattle.cmd_table.specs.declared.name.CommandName.TheVariants as name
-use Rattle.cmd_table.specs.Row.{row, is_named, command_named}
+use Rattle.kv_types.specs.declared.command_name.CommandName.TheVariants as name
+use Rattle.kv_types.specs.CommandName.{is_named}
+use Rattle.cmd_table.specs.Row.{row, command_named}
 use Rattle.cmd_table.specs.Command.{read_command}
 use Rattle.cmd_table.specs.Request.{outcome_of_words, closes}
 

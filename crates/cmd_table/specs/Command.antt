@@ -1,12 +1,13 @@
 -- From the words of a request to a command, or to why it is none (this project's profile).
 use Rattle.std.specs.Prelude.{ℕ, ◌+◌, not, if◌then◌else◌, List, [], ◌∷◌, length, Option, Some, None, Result, Ok, Err}
 use Rattle.cmd_core.specs.Shape.{takes, are_short}
-use Rattle.cmd_table.specs.declared.name.CommandName.{CommandName}
+use Rattle.kv_types.specs.declared.command_name.CommandName.{CommandName}
 use Rattle.cmd_table.specs.declared.command.Command as code
 use Rattle.cmd_table.specs.declared.misuse.Misuse.{Misuse}
 use Rattle.cmd_table.specs.declared.misuse.Misuse.TheVariants.{UnknownName, WrongNumberOfWords, LongKey}
-use Rattle.cmd_table.specs.declared.name.TheConstants.{COMMANDS}
-use Rattle.cmd_table.specs.Row.{row, find, command_named}
+use Rattle.kv_types.specs.declared.command_name.TheConstants.{COMMANDS}
+use Rattle.kv_types.specs.CommandName.{find}
+use Rattle.cmd_table.specs.Row.{row, command_named}
 
 pub record Command : Type 0 where
   pub name : CommandName

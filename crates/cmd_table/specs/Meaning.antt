@@ -11,8 +11,8 @@ use Rattle.cmd_hash.specs.Writing.{hset, hsetnx, hdel}
 use Rattle.cmd_hash.specs.Reading.{hget, hmget, hexists, hstrlen}
 use Rattle.cmd_hash.specs.Whole.{hlen, hgetall, hkeys, hvals}
 use Rattle.cmd_hash.specs.Counter.{hincrby}
-use Rattle.cmd_table.specs.declared.name.CommandName.{CommandName}
-use Rattle.cmd_table.specs.declared.name.CommandName.TheVariants as name
+use Rattle.kv_types.specs.declared.command_name.CommandName.{CommandName}
+use Rattle.kv_types.specs.declared.command_name.CommandName.TheVariants as name
 
 -- The session forgets its watches (the Redis page of UNWATCH); of the keyspace nothing is asked.
 abbrev pub unwatch : Outcome

@@ -5,8 +5,8 @@ use Rattle.kv_types.specs.declared.reply.Reply.{Reply, Error}
 use Rattle.kv_types.specs.Keyspace.{Keyspace}
 use Rattle.cmd_core.specs.Outcome.{Outcome, changes_of}
 use Rattle.cmd_core.specs.Reply.{reply_of}
-use Rattle.cmd_table.specs.declared.name.CommandName.{CommandName}
-use Rattle.cmd_table.specs.declared.name.CommandName.TheVariants as name
+use Rattle.kv_types.specs.declared.command_name.CommandName.{CommandName}
+use Rattle.kv_types.specs.declared.command_name.CommandName.TheVariants as name
 use Rattle.cmd_table.specs.declared.misuse.Misuse.{Misuse}
 use Rattle.cmd_table.specs.Row.{command_named}
 use Rattle.cmd_table.specs.Misuse.{misuse_text}

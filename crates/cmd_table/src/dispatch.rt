@@ -6,8 +6,8 @@ ghost use Rattle.cmd_table.specs.Meaning as spec;
 ghost use Rattle.cmd_table.specs.Row.{row, is_served};
 
 use crate::command::Command;
-use crate::name::CommandName;
 use cmd_core::{Answer, Lookup, Outcome, Status};
+use kv_types::CommandName;
 use std::alloc::{AllocError, Global};
 
 /// What a command that was read answers, and what it changes, where the keyspace is as it is shown.

@@ -3,10 +3,8 @@
 
 mod command;
 mod dispatch;
-mod find;
 mod laws;
 mod misuse;
-mod name;
 mod request;
 mod row;
 
@@ -14,6 +12,5 @@ pub use command::{Command, read_command, read_request};
 pub use dispatch::run;
 pub use laws::every_command_is_found;
 pub use misuse::Misuse;
-pub use name::{COMMANDS, CommandName};
 pub use request::{closes, outcome_of_words};
-pub use row::Row;
+pub use row::{Row, is_served, row_of};

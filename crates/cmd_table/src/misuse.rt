@@ -1,10 +1,10 @@
 //! Why a request names no command.
 ghost use Rattle.std.specs.Prelude.{◌≡◌, IfOk, IsErr};
-ghost use Rattle.cmd_table.specs.declared.name.CommandName.{CommandName};
+ghost use Rattle.kv_types.specs.declared.command_name.CommandName.{CommandName};
 ghost use Rattle.cmd_table.specs.Misuse as spec;
 
-use crate::name::CommandName;
 use bytes::Bytes;
+use kv_types::CommandName;
 use std::alloc::{AllocError, Global};
 
 /// Why a request is refused before it runs.
@@ -28,7 +28,7 @@ impl Misuse {
         let text: &'static [u8] = match self {
             Misuse::UnknownName => b"ERR unknown command",
             Misuse::WrongNumberOfWords(name) => {
-                return wrong_number_of_words(alloc, name.row().name);
+                return wrong_number_of_words(alloc, name.text());
             }
             Misuse::LongKey => b"ERR key or field is longer than 512 bytes",
         };

@@ -40,20 +40,16 @@ length-onto (suc k) n acc h =
     let test : (n / 10 == 0) ≡ false = ne_eqb (n / 10) 0 (λ e. omega arith) in
     ap length (cond-false (n / 10 == 0) (glyph ∷ acc) (digits_onto k 10 false (n / 10) (glyph ∷ acc)) test) ∙ length-onto k (n / 10) (glyph ∷ acc) more ∙ omega arith
 
--- a number too long for its digits has 64 of them
-length-decimal_long : (n : ℕ) → 10 ^ 64 ≤ n → length (decimal n) ≡ 64
-unfolding digits
-length-decimal_long n h = length-onto 64 n [] h
-
 -- numbers with the same decimal are equal, if one of them is below 2^64
 decimal_same : (n m : ℕ) → m < 2 ^ 64 → decimal n ≡ decimal m → n ≡ m
+unfolding digits
 decimal_same n m small e =
     elim (cases_lt n (10 ^ 64)) [
       | inl fits ↦ sym ((decimal_is_IsNumeral_wide n fits).1) ∙ ap (digits_value 10) e ∙ (decimal_is_IsNumeral m small).1
       | inr long ↦
           let bound : 2 ^ 64 ≤ 10 ^ 20 = lit≤ tt in
           let short : m < 10 ^ 20 = omega arith in
-          absurd (omega (arith, length-decimal_long n long, length-decimal-le 20 m (omega arith) short small, ap length e))
+          absurd (omega (arith, length-onto 64 n [] long, length-decimal-le 20 m (omega arith) short small, ap length e))
     ]
 
 parted : (p q x y : List ℕ) → AreDigits p → AreDigits q → p ++ (13 ∷ x) ≡ q ++ (13 ∷ y) → (p ≡ q) × (x ≡ y)
@@ -61,9 +57,8 @@ parted [] [] x y hp hq e = (refl, cc)
 parted [] (d ∷ q) x y hp hq e = let same : 13 ≡ d = cc in absurd (omega (arith, hq.0))
 parted (d ∷ p) [] x y hp hq e = let same : d ≡ 13 = cc in absurd (omega (arith, hp.0))
 parted (d ∷ p) (c ∷ q) x y hp hq e =
-    let head : d ≡ c = cc in
     let rest = parted p q x y hp.1 hq.1 cc in
-    (cc, rest.1)
+    (grind (arith, rest.0), rest.1)
 
 -- a number's line begins no other
 pub number_line-parted : (n m : ℕ) (x y : List ℕ) → m < 2 ^ 64 → number_line n ++ x ≡ number_line m ++ y → (n ≡ m) × (x ≡ y)

@@ -5,7 +5,8 @@ use Rattle.std.proofs.lemmas.Bool.{ltb-false, le-ltb}
 use Rattle.kv_types.specs.declared.limits.Limits.{Limits}
 use Rattle.kv_types.specs.declared.item.ProtocolFault.{ProtocolFault}
 use Rattle.kv_types.specs.declared.item.ProtocolFault.TheVariants.{ExpectedArray, InvalidMultibulkLength, InvalidBulkLength, ExpectedLineEnd}
-use Rattle.kv_types.specs.Reading.{Stop, Short, Broken, Read, ◌>>=◌, is_digit, after_byte, with_line_feed, number_from, number_at, after_dollar, payload_at, word_at, with_first, words_at, request_at}
+use Rattle.kv_types.specs.Reading.{Stop, Short, Broken, Read, ◌>>=◌, is_digit, after_byte, with_line_feed, number_from, number_at, after_dollar, payload_at, word_at, words_at, request_at}
+use Rattle.kv_types.proofs.GrammarWords.{line_end_after}
 
 -- the later answer is the earlier one, unless that was `Short`; `grow` appends the bytes that came to a value's rest
 abbrev pub Keeps : {A : Type 0} → (A → A) → Result A Stop → Result A Stop → Type 0
@@ -52,15 +53,9 @@ after_dollar-more : (more bytes : List ℕ) → Keeps (longer more) (after_dolla
 after_dollar-more more [] = tt
 after_dollar-more more (byte ∷ bytes) = Keeps-if (longer more) (byte == 36) _ _ _ _ refl refl
 
--- the line end after `word`
-abbrev line_end_after : List ℕ → List ℕ → Result (Read (List ℕ)) Stop
-line_end_after word bytes = after_byte 13 ExpectedLineEnd bytes >>= λ rest. after_byte 10 ExpectedLineEnd rest >>= λ after. Ok (word, after)
-
 line_end_after-more : (more word bytes : List ℕ) → Keeps (with_more more) (line_end_after word bytes) (line_end_after word (bytes ++ more))
 line_end_after-more more word bytes =
-    Keeps-bind (longer more) (with_more more) (λ rest. after_byte 10 ExpectedLineEnd rest >>= λ after. Ok (word, after))
-    (λ rest. Keeps-bind (longer more) (with_more more) (λ after. Ok (word, after)) (λ after. refl) (after_byte 10 ExpectedLineEnd rest) _ (after_byte-more more 10 ExpectedLineEnd rest))
-    (after_byte 13 ExpectedLineEnd bytes) _ (after_byte-more more 13 ExpectedLineEnd bytes)
+    Keeps-bind _ _ _ (λ rest. Keeps-bind _ _ _ (λ after. refl) _ _ (after_byte-more more 10 ExpectedLineEnd rest)) _ _ (after_byte-more more 13 ExpectedLineEnd bytes)
 
 -- whether a payload is there, as a test b of its length
 payload_at-cases : (len : ℕ) (bytes more : List ℕ) (b c : Bool) → (b ≡ false → (c ≡ false) × (len ≤ length bytes)) → Keeps (with_more more) (cond b (Err Short) (line_end_after (take len bytes) (drop len bytes))) (cond c (Err Short) (line_end_after (take len (bytes ++ more)) (drop len (bytes ++ more))))
@@ -76,22 +71,14 @@ payload_at-more more len bytes =
 
 word_at-more : (more : List ℕ) (limits : Limits) (bytes : List ℕ) → Keeps (with_more more) (word_at limits bytes) (word_at limits (bytes ++ more))
 word_at-more more limits bytes =
-    Keeps-bind (longer more) (with_more more) (λ rest. number_at limits.word_bytes InvalidBulkLength rest >>= λ len. payload_at len.0 len.1)
-    (λ rest. Keeps-bind (with_more more) (with_more more) (λ len. payload_at len.0 len.1) (λ len. payload_at-more more len.0 len.1)
-    (number_at limits.word_bytes InvalidBulkLength rest) _ (number_at-more more limits.word_bytes InvalidBulkLength rest))
-    (after_dollar bytes) _ (after_dollar-more more bytes)
+    Keeps-bind _ _ _ (λ rest. Keeps-bind _ _ _ (λ len. payload_at-more more len.0 len.1) _ _ (number_at-more more limits.word_bytes InvalidBulkLength rest)) _ _ (after_dollar-more more bytes)
 
 words_at-more : (more : List ℕ) (limits : Limits) (count : ℕ) (bytes : List ℕ) → Keeps (with_more more) (words_at limits count bytes) (words_at limits count (bytes ++ more))
 words_at-more more limits zero bytes = refl
 words_at-more more limits (suc count) bytes =
-    Keeps-bind (with_more more) (with_more more) (λ word. words_at limits count word.1 >>= λ others. Ok (with_first word.0 others))
-    (λ word. Keeps-bind (with_more more) (with_more more) (λ others. Ok (with_first word.0 others)) (λ others. refl)
-    (words_at limits count word.1) _ (words_at-more more limits count word.1))
-    (word_at limits bytes) _ (word_at-more more limits bytes)
+    Keeps-bind _ _ _ (λ word. Keeps-bind _ _ _ (λ others. refl) _ _ (words_at-more more limits count word.1)) _ _ (word_at-more more limits bytes)
 
 pub request_at-more : (more : List ℕ) (limits : Limits) (bytes : List ℕ) → Keeps (with_more more) (request_at limits bytes) (request_at limits (bytes ++ more))
 request_at-more more limits bytes =
-    Keeps-bind (longer more) (with_more more) (λ rest. number_at limits.words InvalidMultibulkLength rest >>= λ count. words_at limits count.0 count.1)
-    (λ rest. Keeps-bind (with_more more) (with_more more) (λ count. words_at limits count.0 count.1) (λ count. words_at-more more limits count.0 count.1)
-    (number_at limits.words InvalidMultibulkLength rest) _ (number_at-more more limits.words InvalidMultibulkLength rest))
-    (after_byte 42 ExpectedArray bytes) _ (after_byte-more more 42 ExpectedArray bytes)
+    Keeps-bind _ _ _ (λ rest. Keeps-bind _ _ _ (λ count. words_at-more more limits count.0 count.1) _ _ (number_at-more more limits.words InvalidMultibulkLength rest)) _ _
+    (after_byte-more more 42 ExpectedArray bytes)

@@ -7,8 +7,8 @@ use Rattle.kv_types.specs.declared.item.Item.{Item}
 use Rattle.kv_types.specs.declared.item.Item.TheVariants.{Request, Fault}
 use Rattle.kv_types.specs.Request.{item_of}
 use Rattle.kv_types.specs.Reading.{Stop, Short, Broken, Read, request_at, items_from, items_within, items_at}
-use Rattle.kv_types.proofs.GrammarGrows.{Keeps, with_more, request_at-more}
-use Rattle.kv_types.proofs.GrammarRests.{IsEndOf, IsEndOf-self, IsEndOf-cons, IsEndOf-trans, length-IsEndOf, Leaves, rest_of, request_at-leaves}
+use Rattle.kv_types.proofs.GrammarGrows.{request_at-more}
+use Rattle.kv_types.proofs.GrammarRests.{IsEndOf, IsEndOf-self, IsEndOf-tail, IsEndOf-trans, length-IsEndOf, Leaves, rest_of, request_at-leaves}
 
 items_from-same : (whole : List ℕ) (f g : List ℕ → List Item) → ((bytes : List ℕ) → IsEndOf whole bytes → f bytes ≡ g bytes) → (r : Result (Read (List (List ℕ))) Stop) → Leaves rest_of whole r → items_from f r ≡ items_from g r
 items_from-same whole f g same (Ok request) h = ap (λ items. item_of request.0 ++ items) (same request.1 h)
@@ -69,45 +69,21 @@ abbrev pub later_items : Limits → Option (List ℕ) → List ℕ → List Item
 later_items limits None more = []
 later_items limits (Some unread) more = items_at limits (unread ++ more)
 
--- the same at a count of requests, by what the first request reads as
-append_from : (limits : Limits) (text more : List ℕ) (most : ℕ) → ((rest : List ℕ) → items_at limits (rest ++ more) ≡ items_within most limits rest ++ later_items limits (unread_within most limits rest) more) → (r later : Result (Read (List (List ℕ))) Stop) → Keeps (with_more more) r later → items_at limits (text ++ more) ≡ items_from (items_at limits) later → items_at limits (text ++ more) ≡ items_from (items_within most limits) r ++ later_items limits (unread_from (unread_within most limits) text r) more
-append_from limits text more most each (Ok request) later e step =
-    step ∙ ap (items_from (items_at limits)) e ∙ ap (λ items. item_of request.0 ++ items) (each request.1) ∙ sym (append_assoc (item_of request.0) (items_within most limits request.1) _)
-append_from limits text more most each (Err Short) later e step = refl
-append_from limits text more most each (Err (Broken fault)) later e step = step ∙ ap (items_from (items_at limits)) e
-
-append_within : (limits : Limits) (more : List ℕ) (most : ℕ) (text : List ℕ) → items_at limits (text ++ more) ≡ items_within most limits text ++ later_items limits (unread_within most limits text) more
-append_within limits more zero text = refl
-append_within limits more (suc most) text =
-    append_from limits text more most (append_within limits more most) (request_at limits text) (request_at limits (text ++ more)) (request_at-more more limits text) (items_at-step limits (text ++ more))
-
--- More bytes leave the items unchanged, and add those of the bytes that were left followed by the new bytes.
-pub items_at-append : (limits : Limits) (text more : List ℕ) → items_at limits (text ++ more) ≡ items_at limits text ++ later_items limits (unread_at limits text) more
-unfolding items_at unread_at
-items_at-append limits text more = append_within limits more (length text) text
-
--- ---- faults
-
 -- the last item is a fault
-pub record EndsInFault (items : List Item) : Type 0 where
-  pub before : List Item
-  pub fault : ProtocolFault
-  pub last : items ≡ before ++ Fault fault ∷ []
+record EndsInFault (items : List Item) : Type 0 where
+  before : List Item
+  fault : ProtocolFault
+  last : items ≡ before ++ Fault fault ∷ []
 
-fault_from : (limits : Limits) (text : List ℕ) (most : ℕ) → ((rest : List ℕ) → unread_within most limits rest ≡ None → EndsInFault (items_within most limits rest)) → (r : Result (Read (List (List ℕ))) Stop) → unread_from (unread_within most limits) text r ≡ None → EndsInFault (items_from (items_within most limits) r)
-fault_from limits text most each (Ok request) e =
-    let rest = each request.1 e in
-    record { before = item_of request.0 ++ rest.before; fault = rest.fault; last = ap (λ items. item_of request.0 ++ items) rest.last ∙ sym (append_assoc (item_of request.0) rest.before (Fault rest.fault ∷ [])) }
-fault_from limits text most each (Err Short) e = absurd (cc)
-fault_from limits text most each (Err (Broken fault)) e = record { before = []; fault = fault; last = refl }
+-- where nothing is left the last item is a fault; else an end of the text is left that holds no whole request, and no item is a fault
+abbrev Left : Limits → List ℕ → List Item → Option (List ℕ) → Type 0
+Left limits text items None = EndsInFault items
+Left limits text items (Some unread) = IsEndOf text unread × (items_at limits unread ≡ []) × ((fault : ProtocolFault) → ¬ Contains items (Fault fault))
 
-fault_within : (limits : Limits) (most : ℕ) (text : List ℕ) → unread_within most limits text ≡ None → EndsInFault (items_within most limits text)
-fault_within limits zero text e = absurd (cc)
-fault_within limits (suc most) text e = fault_from limits text most (fault_within limits most) (request_at limits text) e
-
-pub EndsInFault-unread_at : (limits : Limits) (text : List ℕ) → unread_at limits text ≡ None → EndsInFault (items_at limits text)
-unfolding items_at unread_at
-EndsInFault-unread_at limits text e = fault_within limits (length text) text e
+-- what more bytes add to the items, and what is left
+record Splits (limits : Limits) (text : List ℕ) (items : List Item) (unread : Option (List ℕ)) : Type 0 where
+  append : (more : List ℕ) → items_at limits (text ++ more) ≡ items ++ later_items limits unread more
+  left : Left limits text items unread
 
 contains_behind : (words : List (List ℕ)) (items : List Item) (fault : ProtocolFault) (k : ℕ) → k < suc (length items) → slice_index_or (Request words ∷ items) k (Fault fault) ≡ Fault fault → Contains items (Fault fault)
 contains_behind words items fault zero h e = absurd (cc)
@@ -118,68 +94,66 @@ Contains-item_of : (words : List (List ℕ)) (items : List Item) (fault : Protoc
 Contains-item_of [] items fault h = h
 Contains-item_of (name ∷ words) items fault h = contains_behind (name ∷ words) items fault h.0 h.1 h.2
 
-sound_from : (limits : Limits) (text unread : List ℕ) (fault : ProtocolFault) (most : ℕ) → ((rest : List ℕ) → unread_within most limits rest ≡ Some unread → Contains (items_within most limits rest) (Fault fault) → ⊥) → (r : Result (Read (List (List ℕ))) Stop) → unread_from (unread_within most limits) text r ≡ Some unread → Contains (items_from (items_within most limits) r) (Fault fault) → ⊥
-sound_from limits text unread fault most each (Ok request) e h = each request.1 e (Contains-item_of request.0 (items_within most limits request.1) fault h)
-sound_from limits text unread fault most each (Err Short) e h = absurd (omega (arith, h.1))
-sound_from limits text unread fault most each (Err (Broken other)) e h = absurd (cc)
+-- after a request, and at a count of requests, by what the first request reads as
+left_behind : (limits : Limits) (text rest : List ℕ) (words : List (List ℕ)) (items : List Item) (unread : Option (List ℕ)) → IsEndOf text rest → Left limits rest items unread
+    → Left limits text (item_of words ++ items) unread
+left_behind limits text rest words items None end s =
+    record { before = item_of words ++ s.before; fault = s.fault; last = ap (λ items. item_of words ++ items) s.last ∙ sym (append_assoc (item_of words) s.before (Fault s.fault ∷ [])) }
+left_behind limits text rest words items (Some unread) end s = (IsEndOf-trans end s.0, s.1, λ fault h. s.2 fault (Contains-item_of words items fault h))
 
-sound_within : (limits : Limits) (unread : List ℕ) (fault : ProtocolFault) (most : ℕ) (text : List ℕ) → unread_within most limits text ≡ Some unread → Contains (items_within most limits text) (Fault fault) → ⊥
-sound_within limits unread fault zero text e h = absurd (omega (arith, h.1))
-sound_within limits unread fault (suc most) text e h = sound_from limits text unread fault most (sound_within limits unread fault most) (request_at limits text) e h
+splits_short : (limits : Limits) (text : List ℕ) → request_at limits text ≡ Err Short → Splits limits text [] (Some text)
+splits_short limits text e = record { append = λ more. refl; left = (IsEndOf-self text, items_at-short limits text e, λ fault h. absurd (omega (arith, h.1))) }
 
--- if something is left to be read, there is no fault
-pub sound-unread_at : (limits : Limits) (text unread : List ℕ) (fault : ProtocolFault) → unread_at limits text ≡ Some unread → Contains (items_at limits text) (Fault fault) → ⊥
+splits_from : (limits : Limits) (byte : ℕ) (bytes : List ℕ) (most : ℕ) → length bytes ≤ most
+    → ((rest : List ℕ) → length rest ≤ most → Splits limits rest (items_within most limits rest) (unread_within most limits rest)) → (r : Result (Read (List (List ℕ))) Stop)
+    → request_at limits (byte ∷ bytes) ≡ r → Leaves rest_of bytes r → Splits limits (byte ∷ bytes) (items_from (items_within most limits) r) (unread_from (unread_within most limits) (byte ∷ bytes) r)
+splits_from limits byte bytes most fits each (Ok request) e end =
+    let words = request.0 in
+    let rest = request.1 in
+    let s = each rest (omega (arith, length-IsEndOf end)) in
+    record {
+      append = λ more. items_at-read limits (byte ∷ bytes) more words rest e ∙ ap (λ items. item_of words ++ items) (s.append more) ∙ sym
+          (append_assoc (item_of words) (items_within most limits rest) _);
+      left = left_behind limits (byte ∷ bytes) rest words _ _ (IsEndOf-trans (IsEndOf-tail (byte ∷ bytes) byte bytes (IsEndOf-self (byte ∷ bytes))) end) s.left;
+    }
+splits_from limits byte bytes most fits each (Err Short) e end = splits_short limits (byte ∷ bytes) e
+splits_from limits byte bytes most fits each (Err (Broken fault)) e end =
+    record { append = λ more. items_at-broken limits (byte ∷ bytes) more fault e; left = record { before = []; fault = fault; last = refl } }
+
+splits_within : (limits : Limits) (most : ℕ) (text : List ℕ) → length text ≤ most → Splits limits text (items_within most limits text) (unread_within most limits text)
+splits_within limits zero [] h = splits_short limits [] refl
+splits_within limits zero (byte ∷ bytes) h = absurd (omega arith)
+splits_within limits (suc most) [] h = splits_short limits [] refl
+splits_within limits (suc most) (byte ∷ bytes) h =
+    splits_from limits byte bytes most (omega arith) (splits_within limits most) (request_at limits (byte ∷ bytes)) refl (request_at-leaves limits byte bytes)
+
+splits_at : (limits : Limits) (text : List ℕ) → Splits limits text (items_at limits text) (unread_at limits text)
 unfolding items_at unread_at
-sound-unread_at limits text unread fault e h = sound_within limits unread fault (length text) text e h
+splits_at limits text = splits_within limits (length text) text (omega arith)
 
--- what is left is the end of the text, and holds no whole request
-pub record IsUnread (limits : Limits) (text unread : List ℕ) : Type 0 where
-  pub end : IsEndOf text unread
-  pub short : items_at limits unread ≡ []
+-- More bytes leave the items unchanged, and add those of the bytes that were left followed by the new bytes.
+pub items_at-append : (limits : Limits) (text more : List ℕ) → items_at limits (text ++ more) ≡ items_at limits text ++ later_items limits (unread_at limits text) more
+items_at-append limits text more = (splits_at limits text).append more
 
-left_from : (limits : Limits) (byte : ℕ) (bytes unread : List ℕ) (most : ℕ) → length bytes ≤ most → ((rest : List ℕ) → length rest ≤ most → unread_within most limits rest ≡ Some unread → IsUnread limits rest unread) → (r : Result (Read (List (List ℕ))) Stop) → request_at limits (byte ∷ bytes) ≡ r → Leaves rest_of bytes r → unread_from (unread_within most limits) (byte ∷ bytes) r ≡ Some unread → IsUnread limits (byte ∷ bytes) unread
-left_from limits byte bytes unread most fits each (Ok request) is end e =
-    let rest = each request.1 (omega (arith, length-IsEndOf end)) e in
-    record { end = IsEndOf-trans (IsEndOf-cons byte bytes) (IsEndOf-trans end rest.end); short = rest.short }
-left_from limits byte bytes unread most fits each (Err Short) is end e =
-    let same : byte ∷ bytes ≡ unread = cc in
-    rw (← same) (record { end = IsEndOf-self (byte ∷ bytes); short = items_at-short limits (byte ∷ bytes) is })
-left_from limits byte bytes unread most fits each (Err (Broken fault)) is end e = absurd (cc)
-
-left_within : (limits : Limits) (unread : List ℕ) (most : ℕ) (text : List ℕ) → length text ≤ most → unread_within most limits text ≡ Some unread → IsUnread limits text unread
-left_within limits unread zero [] h e =
-    let same : [] ≡ unread = cc in
-    rw (← same) (record { end = IsEndOf-self []; short = items_at-short limits [] refl })
-left_within limits unread zero (byte ∷ bytes) h e = absurd (omega arith)
-left_within limits unread (suc most) [] h e =
-    let same : [] ≡ unread = cc in
-    rw (← same) (record { end = IsEndOf-self []; short = items_at-short limits [] refl })
-left_within limits unread (suc most) (byte ∷ bytes) h e =
-    left_from limits byte bytes unread most (omega arith) (left_within limits unread most) (request_at limits (byte ∷ bytes)) refl (request_at-leaves limits byte bytes) e
-
-pub IsUnread-unread_at : (limits : Limits) (text unread : List ℕ) → unread_at limits text ≡ Some unread → IsUnread limits text unread
-unfolding unread_at
-IsUnread-unread_at limits text unread e = left_within limits unread (length text) text (omega arith) e
-
-after_fault_from : (limits : Limits) (text more : List ℕ) (fault : ProtocolFault) → Contains (items_at limits text) (Fault fault) → (left : Option (List ℕ)) → unread_at limits text ≡ left → items_at limits (text ++ more) ≡ items_at limits text
-after_fault_from limits text more fault h None e = items_at-append limits text more ∙ ap (λ left. items_at limits text ++ later_items limits left more) e ∙ append-nil (items_at limits text)
-after_fault_from limits text more fault h (Some unread) e = absurd (sound-unread_at limits text unread fault e h)
+after_fault_from : (limits : Limits) (text more : List ℕ) (items : List Item) (fault : ProtocolFault) (unread : Option (List ℕ)) → Splits limits text items unread → Contains items (Fault fault)
+    → items_at limits (text ++ more) ≡ items
+after_fault_from limits text more items fault None s h = s.append more ∙ append-nil items
+after_fault_from limits text more items fault (Some unread) s h = absurd (s.left.2 fault h)
 
 -- After a fault more bytes change nothing.
 pub items_at-after_fault : (limits : Limits) (text more : List ℕ) (fault : ProtocolFault) → Contains (items_at limits text) (Fault fault) → items_at limits (text ++ more) ≡ items_at limits text
-items_at-after_fault limits text more fault h = after_fault_from limits text more fault h (unread_at limits text) refl
+items_at-after_fault limits text more fault h = after_fault_from limits text more (items_at limits text) fault (unread_at limits text) (splits_at limits text) h
 
 -- Without a fault, an end of the text is left that holds no whole request, and the items of more bytes continue from it.
 abbrev pub Continues : Limits → List ℕ → Type 0
 Continues limits text = (given unread : List ℕ) × (text ≡ given ++ unread) × (items_at limits unread ≡ []) × ((more : List ℕ) → items_at limits (text ++ more) ≡ items_at limits text ++ items_at limits (unread ++ more))
 
-continues_from : (limits : Limits) (text : List ℕ) → ((fault : ProtocolFault) → ¬ Contains (items_at limits text) (Fault fault)) → (left : Option (List ℕ)) → unread_at limits text ≡ left → Continues limits text
-continues_from limits text sound None e =
-    let broken = EndsInFault-unread_at limits text e in
+continues_from : (limits : Limits) (text : List ℕ) → ((fault : ProtocolFault) → ¬ Contains (items_at limits text) (Fault fault)) → (unread : Option (List ℕ))
+    → Splits limits text (items_at limits text) unread → Continues limits text
+continues_from limits text sound None s =
+    let broken = s.left in
     absurd (sound broken.fault (rw broken.last (length broken.before, omega (arith, length_push broken.before (Fault broken.fault)), get_or_push broken.before (Fault broken.fault) (Fault broken.fault) (length broken.before) refl)))
-continues_from limits text sound (Some unread) e =
-    let left = IsUnread-unread_at limits text unread e in
-    (left.end.prefix, unread, left.end.joined, left.short, λ more. items_at-append limits text more ∙ ap (λ left. items_at limits text ++ later_items limits left more) e)
+continues_from limits text sound (Some unread) s = (s.left.0.prefix, unread, s.left.0.joined, s.left.1, s.append)
 
 pub items_at-continues : (limits : Limits) (text : List ℕ) → ((fault : ProtocolFault) → ¬ Contains (items_at limits text) (Fault fault)) → Continues limits text
-items_at-continues limits text sound = continues_from limits text sound (unread_at limits text) refl
+items_at-continues limits text sound = continues_from limits text sound (unread_at limits text) (splits_at limits text)

@@ -39,33 +39,24 @@ pub words_at-behind : (limits : Limits) (count : ℕ) (word after : List ℕ) �
 words_at-behind limits count word after numbers short = ap (λ r. r >>= words_after limits count) (word_at-again limits word after numbers.word_bytes short)
 
 -- the bytes begin with the spelling of these words: `count` of them, and none too long
-pub record TakesWords (limits : Limits) (count : ℕ) (bytes : List ℕ) (words : List (List ℕ)) (rest : List ℕ) : Type 0 where
-  pub count_is : length words ≡ count
-  pub short : AreShort limits words
-  pub spelled : bytes ≡ flat_map bulk words ++ rest
-
-pub words_at-takes : (limits : Limits) (count : ℕ) (bytes : List ℕ) (words : List (List ℕ)) (rest : List ℕ) → HasNumbers limits → words_at limits count bytes ≡ Ok (words, rest) → TakesWords limits count bytes words rest
+pub words_at-takes : (limits : Limits) (count : ℕ) (bytes : List ℕ) (words : List (List ℕ)) (rest : List ℕ) → HasNumbers limits → words_at limits count bytes ≡ Ok (words, rest)
+    → (length words ≡ count) × AreShort limits words × (bytes ≡ flat_map bulk words ++ rest)
 words_at-takes limits zero bytes words rest numbers e =
     let parts = ok_parts [] words bytes rest e in
-    record { count_is = ap length (sym parts.0); short = rw (← parts.0) tt; spelled = parts.1 ∙ ap (λ w. flat_map bulk w ++ rest) parts.0 }
+    rw (← parts.0) (refl, tt, parts.1)
 words_at-takes limits (suc count) bytes words rest numbers e =
     let first = bind_ok (words_after limits count) (word_at limits bytes) (words, rest) e in
     let second = bind_ok (λ others. Ok (with_first first.0.0 others)) (words_at limits count first.0.1) (words, rest) first.2 in
     let word = word_at-takes limits bytes first.0.0 first.0.1 numbers.word_bytes first.1 in
     let others = words_at-takes limits count first.0.1 second.0.0 second.0.1 numbers second.1 in
     let parts = ok_parts (first.0.0 ∷ second.0.0) words second.0.1 rest second.2 in
-    record {
-      count_is = ap length (sym parts.0) ∙ ap suc others.count_is;
-      short = rw (← parts.0) (word.0, others.short);
-      spelled = word.1 ∙ ap (λ x. bulk first.0.0 ++ x) (others.spelled ∙ ap (λ x. flat_map bulk second.0.0 ++ x) parts.1) ∙ sym (append_assoc (bulk first.0.0) (flat_map bulk second.0.0) rest) ∙ ap (λ w. flat_map bulk w ++ rest) parts.0;
-    }
+    let after = others.2 ∙ ap (λ x. flat_map bulk second.0.0 ++ x) parts.1 in
+    let spelled = word.1 ∙ ap (λ x. bulk first.0.0 ++ x) after ∙ sym (append_assoc (bulk first.0.0) (flat_map bulk second.0.0) rest) ∙ ap (λ w. flat_map bulk w ++ rest) parts.0 in
+    (ap length (sym parts.0) ∙ ap suc others.0, rw (← parts.0) (word.0, others.1), spelled)
 
 -- the bytes begin the spelling of some words: `count` of them, and none too long
-pub record BeginsWords (limits : Limits) (count : ℕ) (bytes : List ℕ) : Type 0 where
-  pub words : List (List ℕ)
-  pub count_is : length words ≡ count
-  pub short : AreShort limits words
-  pub prefix : IsProperPrefix bytes (flat_map bulk words)
+abbrev BeginsWords : Limits → ℕ → List ℕ → Type 0
+BeginsWords limits count bytes = (words : List (List ℕ)) × (length words ≡ count) × AreShort limits words × IsProperPrefix bytes (flat_map bulk words)
 
 AreShort-empty : (limits : Limits) (count : ℕ) → AreShort limits (replicate count [])
 AreShort-empty limits zero = tt
@@ -76,51 +67,36 @@ words_at-short limits zero bytes numbers e = absurd (cc)
 words_at-short limits (suc count) bytes numbers e =
     elim (bind_err (words_after limits count) (word_at limits bytes) Short e) [
       | inl h ↦
-          let word = word_at-short limits bytes numbers.word_bytes h in
-          record {
-            words = word.0 ∷ replicate count [];
-            count_is = ap suc (length-replicate count []);
-            short = (word.1, AreShort-empty limits count);
-            prefix = IsProperPrefix-append bytes (bulk word.0) (flat_map bulk (replicate count [])) word.2;
-          }
+          let word = word_at-short limits bytes numbers.word_bytes h in (
+            word.0 ∷ replicate count [],
+            ap suc (length-replicate count []),
+            (word.1, AreShort-empty limits count),
+            IsProperPrefix-append bytes (bulk word.0)
+                (flat_map bulk (replicate count [])) word.2,
+          )
       | inr h ↦
           let word = word_at-takes limits bytes h.0.0 h.0.1 numbers.word_bytes h.1 in
           let others = words_at-short limits count h.0.1 numbers (elim (bind_err (λ others. Ok (with_first h.0.0 others)) (words_at limits count h.0.1) Short h.2) [ inl k ↦ k | inr k ↦ absurd (cc) ]) in
-          record {
-            words = h.0.0 ∷ others.words;
-            count_is = ap suc others.count_is;
-            short = (word.0, others.short);
-            prefix = IsProperPrefix-same word.1 refl (IsProperPrefix-behind (bulk h.0.0) h.0.1 (flat_map bulk others.words) others.prefix);
-          }
+          (h.0.0 ∷ others.0, ap suc others.1, (word.0, others.2), IsProperPrefix-same word.1 refl (IsProperPrefix-behind (bulk h.0.0) h.0.1 (flat_map bulk others.0) others.3))
     ]
 
 -- the bytes before the one at which one of `count` words breaks
-pub record InWords (limits : Limits) (count : ℕ) (prefix : List ℕ) (byte : ℕ) (fault : ProtocolFault) : Type 0 where
-  pub words : List (List ℕ)
-  pub inner : List ℕ
-  pub fewer : length words < count
-  pub prefix_is : prefix ≡ flat_map bulk words ++ inner
-  pub within : InWord limits inner byte fault
+abbrev pub InWords : Limits → ℕ → List ℕ → ℕ → ProtocolFault → Type 0
+InWords limits count prefix byte fault = (words : List (List ℕ)) × (inner : List ℕ) × (length words < count) × InWord limits inner byte fault × (prefix ≡ flat_map bulk words ++ inner)
 
 pub words_at-breaks : (limits : Limits) (count : ℕ) (bytes : List ℕ) (said : ProtocolFault) → HasNumbers limits → words_at limits count bytes ≡ Err (Broken said) → BreaksAt (words_at limits count) (InWords limits count) bytes said
 words_at-breaks limits zero bytes said numbers e = absurd (cc)
 words_at-breaks limits (suc count) bytes said numbers e =
     elim (bind_err (words_after limits count) (word_at limits bytes) (Broken said) e) [
       | inl h ↦ BreaksAt-first (word_at limits) (words_after limits count) (InWord limits) (InWords limits (suc count)) bytes said
-          (λ prefix byte p. record { words = []; inner = prefix; fewer = omega arith; prefix_is = refl; within = p })
+          (λ prefix byte p. ([], prefix, omega arith, p, refl))
           (word_at-breaks limits bytes said numbers.word_bytes h)
       | inr h ↦
           let word = word_at-takes limits bytes h.0.0 h.0.1 numbers.word_bytes h.1 in
           let others = words_at-breaks limits count h.0.1 said numbers (elim (bind_err (λ others. Ok (with_first h.0.0 others)) (words_at limits count h.0.1) (Broken said) h.2) [ inl k ↦ k | inr k ↦ absurd (cc) ]) in
           rw word.1 (BreaksAt-behind (λ after. words_after limits count (h.0.0, after)) (words_at limits (suc count)) (InWords limits count) (InWords limits (suc count)) (bulk h.0.0) h.0.1 said
           (λ after. words_at-behind limits count h.0.0 after numbers word.0)
-          (λ prefix byte p. record {
-            words = h.0.0 ∷ p.words;
-            inner = p.inner;
-            fewer = omega (arith, p.fewer);
-            prefix_is = ap (λ x. bulk h.0.0 ++ x) p.prefix_is ∙ sym (append_assoc (bulk h.0.0) (flat_map bulk p.words) p.inner);
-            within = p.within;
-          })
+          (λ prefix byte p. (h.0.0 ∷ p.0, p.1, omega (arith, p.2), p.3, ap (λ x. bulk h.0.0 ++ x) p.4 ∙ sym (append_assoc (bulk h.0.0) (flat_map bulk p.0) p.1)))
           (BreaksAt-first (words_at limits count) (λ others. Ok (with_first h.0.0 others)) (InWords limits count) (InWords limits count) h.0.1 said (λ prefix byte p. p) others))
     ]
 
@@ -146,86 +122,49 @@ request_at-takes limits bytes words rest numbers e =
     let second = bind_ok (λ count. words_at limits count.0 count.1) (number_at limits.words InvalidMultibulkLength first.0) (words, rest) first.2 in
     let number = number_at-takes limits.words InvalidMultibulkLength first.0 second.0.0 second.0.1 numbers.words second.1 in
     let found = words_at-takes limits second.0.0 second.0.1 words rest numbers second.2 in (
-      record { count = omega (arith, number.0, found.count_is); lengths = found.short },
-      after_byte-takes 42 ExpectedArray bytes first.0 first.1 ∙ ap (λ x. 42 ∷ x) (number.1 ∙ ap (λ x. number_line second.0.0 ++ x) found.spelled ∙ ap (λ n. number_line n ++ (flat_map bulk words ++ rest)) (sym found.count_is)) ∙ sym (spelling-append words rest),
+      record { count = omega (arith, number.0, found.0); lengths = found.1 },
+      after_byte-takes 42 ExpectedArray bytes first.0 first.1 ∙ ap (λ x. 42 ∷ x) (number.1 ∙ ap (λ x. number_line second.0.0 ++ x) found.2 ∙ ap (λ n. number_line n ++ (flat_map bulk words ++ rest))
+          (sym found.0)) ∙ sym (spelling-append words rest),
     )
 
 -- the bytes begin some request's spelling
-pub record BeginsRequest (limits : Limits) (bytes : List ℕ) : Type 0 where
-  pub words : List (List ℕ)
-  pub within : IsWithin limits words
-  pub prefix : IsProperPrefix bytes (spelling words)
-
--- bytes that end within the number of words, and after it
-begun_in_number : (limits : Limits) (n : ℕ) (inside bytes : List ℕ) → n ≤ limits.words → bytes ≡ 42 ∷ inside → IsProperPrefix inside (number_line n) → BeginsRequest limits bytes
-begun_in_number limits n inside bytes fits whole p =
-    let words : List (List ℕ) = replicate n [] in
-    let count : length words ≡ n = length-replicate n [] in
-    record {
-      words = words;
-      within = record { count = omega (arith, count); lengths = AreShort-empty limits n };
-      prefix = IsProperPrefix-same whole (ap (λ k. 42 ∷ (number_line k ++ flat_map bulk words)) (sym count)) (IsProperPrefix-behind (42 ∷ []) inside _ (IsProperPrefix-append inside (number_line n) (flat_map bulk words) p));
-    }
-
-begun_behind_number : (limits : Limits) (n : ℕ) (after inside bytes : List ℕ) → n ≤ limits.words → bytes ≡ 42 ∷ inside → inside ≡ number_line n ++ after → BeginsWords limits n after → BeginsRequest limits bytes
-begun_behind_number limits n after inside bytes fits whole line b =
-    record {
-      words = b.words;
-      within = record { count = omega (arith, b.count_is); lengths = b.short };
-      prefix = IsProperPrefix-same (whole ∙ ap (λ x. 42 ∷ x) line) (ap (λ k. 42 ∷ (number_line k ++ flat_map bulk b.words)) (sym b.count_is)) (IsProperPrefix-behind (42 ∷ number_line n) after (flat_map bulk b.words) b.prefix);
-    }
+abbrev pub BeginsRequest : Limits → List ℕ → Type 0
+BeginsRequest limits bytes = (words : List (List ℕ)) × IsWithin limits words × IsProperPrefix bytes (spelling words)
 
 pub request_at-short : (limits : Limits) (bytes : List ℕ) → HasNumbers limits → request_at limits bytes ≡ Err Short → BeginsRequest limits bytes
 request_at-short limits bytes numbers e =
     elim (bind_err (counted_words limits) (after_byte 42 ExpectedArray bytes) Short e) [
-      | inl h ↦ record {
-        words = [];
-        within = record { count = omega arith; lengths = tt };
-        prefix = record { byte = 42; rest = number_line 0 ++ []; joined = ap (λ x. x ++ (42 ∷ (number_line 0 ++ []))) (after_byte-short 42 ExpectedArray bytes h) };
-      }
+      | inl h ↦
+          let prefix = ap (λ x. x ++ (42 ∷ (number_line 0 ++ []))) (after_byte-short 42 ExpectedArray bytes h) in
+          ([], record { count = omega arith; lengths = tt }, record { byte = 42; rest = number_line 0 ++ []; joined = prefix })
       | inr h ↦
           let star = after_byte-takes 42 ExpectedArray bytes h.0 h.1 in
           elim (bind_err (λ count. words_at limits count.0 count.1) (number_at limits.words InvalidMultibulkLength h.0) Short h.2) [
             | inl k ↦
                 let number = number_at-short limits.words InvalidMultibulkLength h.0 numbers.words k in
-                begun_in_number limits number.0 h.0 bytes number.1 star number.2
+                let count = length-replicate {A = List ℕ} number.0 [] in
+                let inside = IsProperPrefix-behind (42 ∷ []) h.0 _ (IsProperPrefix-append h.0 (number_line number.0) (flat_map bulk (replicate number.0 [])) number.2) in
+                let whole = ap (λ k. 42 ∷ (number_line k ++ flat_map bulk (replicate number.0 []))) (sym count) in
+                (replicate number.0 [], record { count = omega (arith, count, number.1); lengths = AreShort-empty limits number.0 }, IsProperPrefix-same star whole inside)
             | inr k ↦
                 let number = number_at-takes limits.words InvalidMultibulkLength h.0 k.0.0 k.0.1 numbers.words k.1 in
-                begun_behind_number limits k.0.0 k.0.1 h.0 bytes number.0 star number.1 (words_at-short limits k.0.0 k.0.1 numbers k.2)
+                let b = words_at-short limits k.0.0 k.0.1 numbers k.2 in
+                let whole = ap (λ k. 42 ∷ (number_line k ++ flat_map bulk b.0)) (sym b.1) in
+                let inside = IsProperPrefix-behind (42 ∷ number_line k.0.0) k.0.1 (flat_map bulk b.0) b.3 in
+                (b.0, record { count = omega (arith, b.1, number.0); lengths = b.2 }, IsProperPrefix-same (star ∙ ap (λ x. 42 ∷ x) number.1) whole inside)
           ]
     ]
 
--- the position of a byte in a request, from its position in the number or in the words
-placed_in_number : (limits : Limits) (said : ProtocolFault) (prefix : List ℕ) (byte : ℕ) → said ≡ InvalidMultibulkLength → InNumber limits.words prefix byte said → Says limits (42 ∷ prefix) byte said
-placed_in_number limits said prefix byte same p = rw same (prefix, p.0, p.1, p.2, refl)
-
-pub regrouped : (a b c d e : List ℕ) → a ++ (b ++ ((c ++ d) ++ e)) ≡ (((a ++ b) ++ c) ++ d) ++ e
-regrouped a b c d e = simp append_assoc
-
+-- the position of a byte in a request, from its position in the words
 placed_in_words : (limits : Limits) (n : ℕ) (said : ProtocolFault) (prefix : List ℕ) (byte : ℕ) → InWords limits n prefix byte said → Says limits ((42 ∷ number_line n) ++ prefix) byte said
-placed_in_words limits n ExpectedArray prefix byte p = absurd p.within
-placed_in_words limits n InvalidMultibulkLength prefix byte p = absurd p.within
+placed_in_words limits n ExpectedArray prefix byte p = absurd p.3
+placed_in_words limits n InvalidMultibulkLength prefix byte p = absurd p.3
 placed_in_words limits n (ExpectedBulk got) prefix byte p =
-    (n, p.words, p.fewer, ap (λ x. (42 ∷ number_line n) ++ x) (p.prefix_is ∙ ap (λ x. flat_map bulk p.words ++ x) p.within.0 ∙ append-nil (flat_map bulk p.words)), p.within.1)
-placed_in_words limits n InvalidBulkLength prefix byte p = (
-  n,
-  p.words,
-  p.within.0,
-  p.within.1,
-  p.fewer,
-  p.within.2,
-  p.within.3,
-  ap (λ x. (42 ∷ number_line n) ++ x) (p.prefix_is ∙ ap (λ x. flat_map bulk p.words ++ x) p.within.4) ∙ sym (append_assoc (42 ∷ number_line n) (flat_map bulk p.words) (36 ∷ p.within.0)),
-)
-placed_in_words limits n ExpectedLineEnd prefix byte p = (
-  n,
-  p.words,
-  p.within.0,
-  p.within.1,
-  p.fewer,
-  p.within.3,
-  ap (λ x. (42 ∷ number_line n) ++ x) (p.prefix_is ∙ ap (λ x. flat_map bulk p.words ++ x) p.within.4) ∙ regrouped (42 ∷ number_line n) (flat_map bulk p.words) (36 ∷ number_line (length p.within.0)) p.within.0 p.within.1,
-)
+    (n, p.0, p.2, ap (λ x. (42 ∷ number_line n) ++ x) (p.4 ∙ ap (λ x. flat_map bulk p.0 ++ x) p.3.0 ∙ append-nil (flat_map bulk p.0)), p.3.1)
+placed_in_words limits n InvalidBulkLength prefix byte p =
+    (n, p.0, p.3.0, p.3.1, p.2, p.3.2, p.3.3, simp (p.4, p.3.4, append_assoc))
+placed_in_words limits n ExpectedLineEnd prefix byte p =
+    (n, p.0, p.3.0, p.3.1, p.2, p.3.3, simp (p.4, p.3.4, append_assoc))
 
 pub request_at-breaks : (limits : Limits) (bytes : List ℕ) (said : ProtocolFault) → HasNumbers limits → request_at limits bytes ≡ Err (Broken said) → BreaksAt (request_at limits) (Says limits) bytes said
 request_at-breaks limits bytes said numbers e =
@@ -238,7 +177,8 @@ request_at-breaks limits bytes said numbers e =
           elim (bind_err (λ count. words_at limits count.0 count.1) (number_at limits.words InvalidMultibulkLength h.0) (Broken said) h.2) [
             | inl k ↦
                 let number = number_at-breaks limits.words InvalidMultibulkLength h.0 said numbers.words k in
-                rw star (BreaksAt-behind (counted_words limits) (request_at limits) (InNumber limits.words) (Says limits) (42 ∷ []) h.0 said (λ after. refl) (λ prefix byte p. placed_in_number limits said prefix byte number.0 p)
+                rw star (BreaksAt-behind (counted_words limits) (request_at limits) (InNumber limits.words) (Says limits) (42 ∷ []) h.0 said (λ after. refl)
+                (λ prefix byte p. rw number.0 (prefix, p.0, p.1, p.2, refl))
                 (BreaksAt-first (number_at limits.words InvalidMultibulkLength) (λ count. words_at limits count.0 count.1) (InNumber limits.words) (InNumber limits.words) h.0 said (λ prefix byte p. p) number.1))
             | inr k ↦
                 let number = number_at-takes limits.words InvalidMultibulkLength h.0 k.0.0 k.0.1 numbers.words k.1 in

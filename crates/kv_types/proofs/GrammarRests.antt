@@ -4,7 +4,7 @@ use Rattle.std.proofs.lemmas.List.{append_assoc, length-append, take-append-drop
 use Rattle.kv_types.specs.declared.limits.Limits.{Limits}
 use Rattle.kv_types.specs.declared.item.ProtocolFault.{ProtocolFault}
 use Rattle.kv_types.specs.declared.item.ProtocolFault.TheVariants.{ExpectedArray, InvalidMultibulkLength, ExpectedBulk, InvalidBulkLength, ExpectedLineEnd}
-use Rattle.kv_types.specs.Reading.{Stop, Short, Broken, Read, ◌>>=◌, is_digit, after_byte, with_line_feed, number_from, number_at, after_dollar, payload_at, word_at, with_first, words_at, request_at}
+use Rattle.kv_types.specs.Reading.{Stop, Short, Broken, Read, ◌>>=◌, is_digit, after_byte, with_line_feed, number_from, number_at, after_dollar, payload_at, word_at, words_at, request_at}
 
 -- part is the end of whole
 pub record IsEndOf (whole part : List ℕ) : Type 0 where
@@ -18,10 +18,7 @@ pub IsEndOf-trans : {a b c : List ℕ} → IsEndOf a b → IsEndOf b c → IsEnd
 IsEndOf-trans {a} {b} {c} ab bc =
     record { prefix = ab.prefix ++ bc.prefix; joined = ab.joined ∙ ap (λ part. ab.prefix ++ part) bc.joined ∙ sym (append_assoc ab.prefix bc.prefix c) }
 
-pub IsEndOf-cons : (byte : ℕ) (bytes : List ℕ) → IsEndOf (byte ∷ bytes) bytes
-IsEndOf-cons byte bytes = record { prefix = byte ∷ []; joined = refl }
-
-IsEndOf-tail : (whole : List ℕ) (byte : ℕ) (bytes : List ℕ) → IsEndOf whole (byte ∷ bytes) → IsEndOf whole bytes
+pub IsEndOf-tail : (whole : List ℕ) (byte : ℕ) (bytes : List ℕ) → IsEndOf whole (byte ∷ bytes) → IsEndOf whole bytes
 IsEndOf-tail whole byte bytes end = record { prefix = end.prefix ++ byte ∷ []; joined = end.joined ∙ sym (append_assoc end.prefix (byte ∷ []) bytes) }
 
 IsEndOf-drop : (whole : List ℕ) (n : ℕ) (bytes : List ℕ) → IsEndOf whole bytes → IsEndOf whole (drop n bytes)
@@ -79,29 +76,21 @@ after_dollar-leaves whole (byte ∷ bytes) end = Leaves-if itself whole (byte ==
 payload_at-leaves : (len : ℕ) (whole bytes : List ℕ) → IsEndOf whole bytes → Leaves rest_of whole (payload_at len bytes)
 payload_at-leaves len whole bytes end =
     Leaves-if rest_of whole (nat_lt (length bytes) len) (Err Short) _ tt
-    (Leaves-bind itself rest_of (λ rest. after_byte 10 ExpectedLineEnd rest >>= λ after. Ok (take len bytes, after)) whole
-    (λ rest k. Leaves-bind itself rest_of (λ after. Ok (take len bytes, after)) whole (λ after j. j) (after_byte 10 ExpectedLineEnd rest) (after_byte-leaves 10 ExpectedLineEnd whole rest k))
-    (after_byte 13 ExpectedLineEnd (drop len bytes)) (after_byte-leaves 13 ExpectedLineEnd whole (drop len bytes) (IsEndOf-drop whole len bytes end)))
+    (Leaves-bind _ _ _ _ (λ rest k. Leaves-bind _ _ _ _ (λ after j. j) _ (after_byte-leaves 10 ExpectedLineEnd whole rest k)) _
+    (after_byte-leaves 13 ExpectedLineEnd whole (drop len bytes) (IsEndOf-drop whole len bytes end)))
 
 word_at-leaves : (limits : Limits) (whole bytes : List ℕ) → IsEndOf whole bytes → Leaves rest_of whole (word_at limits bytes)
 word_at-leaves limits whole bytes end =
-    Leaves-bind itself rest_of (λ rest. number_at limits.word_bytes InvalidBulkLength rest >>= λ len. payload_at len.0 len.1) whole
-    (λ rest k. Leaves-bind rest_of rest_of (λ len. payload_at len.0 len.1) whole (λ len j. payload_at-leaves len.0 whole len.1 j)
-    (number_at limits.word_bytes InvalidBulkLength rest) (number_at-leaves limits.word_bytes InvalidBulkLength whole rest k))
-    (after_dollar bytes) (after_dollar-leaves whole bytes end)
+    Leaves-bind _ _ _ _ (λ rest k. Leaves-bind _ _ _ _ (λ len j. payload_at-leaves len.0 whole len.1 j) _ (number_at-leaves limits.word_bytes InvalidBulkLength whole rest k)) _
+    (after_dollar-leaves whole bytes end)
 
 words_at-leaves : (limits : Limits) (count : ℕ) (whole bytes : List ℕ) → IsEndOf whole bytes → Leaves rest_of whole (words_at limits count bytes)
 words_at-leaves limits zero whole bytes end = end
 words_at-leaves limits (suc count) whole bytes end =
-    Leaves-bind rest_of rest_of (λ word. words_at limits count word.1 >>= λ others. Ok (with_first word.0 others)) whole
-    (λ word k. Leaves-bind rest_of rest_of (λ others. Ok (with_first word.0 others)) whole (λ others j. j)
-    (words_at limits count word.1) (words_at-leaves limits count whole word.1 k))
-    (word_at limits bytes) (word_at-leaves limits whole bytes end)
+    Leaves-bind _ _ _ _ (λ word k. Leaves-bind _ _ _ _ (λ others j. j) _ (words_at-leaves limits count whole word.1 k)) _ (word_at-leaves limits whole bytes end)
 
 -- what is left after a request does not include the first byte
 pub request_at-leaves : (limits : Limits) (byte : ℕ) (bytes : List ℕ) → Leaves rest_of bytes (request_at limits (byte ∷ bytes))
 request_at-leaves limits byte bytes =
-    Leaves-bind itself rest_of (λ rest. number_at limits.words InvalidMultibulkLength rest >>= λ count. words_at limits count.0 count.1) bytes
-    (λ rest k. Leaves-bind rest_of rest_of (λ count. words_at limits count.0 count.1) bytes (λ count j. words_at-leaves limits count.0 bytes count.1 j)
-    (number_at limits.words InvalidMultibulkLength rest) (number_at-leaves limits.words InvalidMultibulkLength bytes rest k))
-    (after_byte 42 ExpectedArray (byte ∷ bytes)) (Leaves-if itself bytes (byte == 42) (Ok bytes) (Err (Broken ExpectedArray)) (IsEndOf-self bytes) tt)
+    Leaves-bind _ _ _ _ (λ rest k. Leaves-bind _ _ _ _ (λ count j. words_at-leaves limits count.0 bytes count.1 j) _ (number_at-leaves limits.words InvalidMultibulkLength bytes rest k))
+    _ (Leaves-if itself bytes (byte == 42) (Ok bytes) (Err (Broken ExpectedArray)) (IsEndOf-self bytes) tt)

@@ -21,9 +21,8 @@ same_length-parted [] [] x y h e = (refl, e)
 same_length-parted [] (d ∷ b) x y h e = absurd (omega arith)
 same_length-parted (d ∷ a) [] x y h e = absurd (omega arith)
 same_length-parted (d ∷ a) (c ∷ b) x y h e =
-    let head : d ≡ c = cc in
     let rest = same_length-parted a b x y (omega arith) cc in
-    (cc, rest.1)
+    (grind (arith, rest.0), rest.1)
 
 -- a word's number tells its length, whatever the word
 bulk-line : (n : ℕ) (word x y : List ℕ) → length word < 2 ^ 64 → (36 ∷ number_line n) ++ x ≡ bulk word ++ y → (n ≡ length word) × (x ≡ word ++ (13 ∷ 10 ∷ y))
@@ -39,20 +38,16 @@ bulk-parted word other x y small e =
     (parts.0, cc)
 
 -- where short words begin with fewer words: these are short too, and another word comes next
-pub record HasNext (limits : Limits) (words : List (List ℕ)) (after : List ℕ) : Type 0 where
-  pub short : AreShort limits words
-  pub next : List ℕ
-  pub next_short : length next ≤ limits.word_bytes
-  pub rest : List ℕ
-  pub follows : after ≡ bulk next ++ rest
+abbrev pub HasNext : Limits → List (List ℕ) → List ℕ → Type 0
+HasNext limits words after = AreShort limits words × (next : List ℕ) × (length next ≤ limits.word_bytes) × (rest : List ℕ) × (after ≡ bulk next ++ rest)
 
 HasNext-flat_map : (limits : Limits) (words all : List (List ℕ)) (after : List ℕ) → HasNumbers limits → AreShort limits all → length words < length all → flat_map bulk words ++ after ≡ flat_map bulk all → HasNext limits words after
 HasNext-flat_map limits words [] after numbers short fewer e = absurd (omega arith)
-HasNext-flat_map limits [] (other ∷ all) after numbers short fewer e = record { short = tt; next = other; next_short = short.0; rest = flat_map bulk all; follows = e }
+HasNext-flat_map limits [] (other ∷ all) after numbers short fewer e = (tt, other, short.0, flat_map bulk all, e)
 HasNext-flat_map limits (word ∷ words) (other ∷ all) after numbers short fewer e =
     let parts = bulk-parted word other (flat_map bulk words ++ after) (flat_map bulk all) (omega (arith, short.0, numbers.word_bytes)) (sym (append_assoc (bulk word) (flat_map bulk words) after) ∙ e) in
     let others = HasNext-flat_map limits words all after numbers short.1 (omega arith) parts.1 in
-    record { short = (rw parts.0 short.0, others.short); next = others.next; next_short = others.next_short; rest = others.rest; follows = others.follows }
+    ((rw parts.0 short.0, others.0), others.1, others.2, others.3, others.4)
 
 -- the count and the words that a prefix of a spelling shows are within the limits
 pub record IsInside (limits : Limits) (n : ℕ) (words : List (List ℕ)) (inner : List ℕ) : Type 0 where
@@ -66,15 +61,12 @@ IsInside-begins limits n words inner numbers fewer b =
     let within = b.spells.within in
     let whole : 42 ∷ (number_line n ++ ((flat_map bulk words ++ inner) ++ b.rest)) ≡ 42 ∷ (number_line (length all) ++ flat_map bulk all) = sym (append_assoc (42 ∷ number_line n) (flat_map bulk words ++ inner) b.rest) ∙ b.spells.whole in
     let parts = number_line-parted n (length all) ((flat_map bulk words ++ inner) ++ b.rest) (flat_map bulk all) (omega (arith, within.count, numbers.words)) cc in
-    record {
-      count = omega (arith, within.count, parts.0);
-      more = b.rest;
-      next = HasNext-flat_map limits words all (inner ++ b.rest) numbers within.lengths (omega (arith, parts.0)) (sym (append_assoc (flat_map bulk words) inner b.rest) ∙ parts.1);
-    }
+    let next = HasNext-flat_map limits words all (inner ++ b.rest) numbers within.lengths (omega (arith, parts.0)) (sym (append_assoc (flat_map bulk words) inner b.rest) ∙ parts.1) in
+    record { count = omega (arith, within.count, parts.0); more = b.rest; next = next }
 
 -- a word whose length is spelled is no longer than the limit
 pub length-inside : (limits : Limits) (n : ℕ) (words : List (List ℕ)) (len : ℕ) (after : List ℕ) → HasNumbers limits → IsInside limits n words ((36 ∷ number_line len) ++ after) → len ≤ limits.word_bytes
 length-inside limits n words len after numbers inside =
     let next = inside.next in
-    let line = bulk-line len next.next (after ++ inside.more) next.rest (omega (arith, next.next_short, numbers.word_bytes)) (sym (append_assoc (36 ∷ number_line len) after inside.more) ∙ next.follows) in
-    omega (arith, line.0, next.next_short)
+    let line = bulk-line len next.1 (after ++ inside.more) next.3 (omega (arith, next.2, numbers.word_bytes)) (sym (append_assoc (36 ∷ number_line len) after inside.more) ∙ next.4) in
+    omega (arith, line.0, next.2)

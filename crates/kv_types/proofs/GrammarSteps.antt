@@ -1,7 +1,6 @@
 -- Tools on readers: what a step gave, and the first byte at which a reading breaks.
-use Rattle.std.proofs.Common.{◌≡◌, ℕ, Bool, true, false, cond, ◌==◌, ◌⊎◌, inl, inr, ⊎_elim, List, [], ◌∷◌, ◌++◌, Result, Ok, Err, refl, ap, sym, ◌∙◌}
+use Rattle.std.proofs.Common.{◌≡◌, ℕ, Bool, true, false, cond, ◌⊎◌, inl, inr, List, [], ◌∷◌, ◌++◌, Result, Ok, Err, refl, ap, sym, ◌∙◌, arith}
 use Rattle.std.proofs.lemmas.List.{append_assoc}
-use Rattle.std.proofs.lemmas.Bool.{eqb-true, cond-false}
 use Rattle.kv_types.specs.declared.item.ProtocolFault.{ProtocolFault}
 use Rattle.kv_types.specs.Reading.{Stop, Short, Broken, ◌>>=◌, after_byte}
 
@@ -9,6 +8,9 @@ use Rattle.kv_types.specs.Reading.{Stop, Short, Broken, ◌>>=◌, after_byte}
 pub chosen : {A : Type 0} (test : Bool) (x y z : A) → cond test x y ≡ z → ((test ≡ true) × (x ≡ z)) ⊎ ((test ≡ false) × (y ≡ z))
 chosen true x y z e = inl (refl, e)
 chosen false x y z e = inr (refl, e)
+
+pub cond_cases : {A : Type 0} (a b : Bool) (x y w z : A) → cond a x (cond b y w) ≡ z → ((a ≡ true) × (x ≡ z)) ⊎ ((a ≡ false) × (b ≡ true) × (y ≡ z)) ⊎ ((a ≡ false) × (b ≡ false) × (w ≡ z))
+cond_cases a b x y w z e = grind arith
 
 -- both steps gave a value
 pub bind_ok : {A B : Type 0} (f : A → Result B Stop) (r : Result A Stop) (y : B) → (r >>= f) ≡ Ok y → (x : A) × (r ≡ Ok x) × (f x ≡ Ok y)
@@ -27,64 +29,35 @@ ok_parts {A} {B} x y s t e =
     (ap (λ p. p.0) pairs, ap (λ p. p.1) pairs)
 
 pub after_byte-takes : (expected : ℕ) (fault : ProtocolFault) (bytes rest : List ℕ) → after_byte expected fault bytes ≡ Ok rest → bytes ≡ expected ∷ rest
-after_byte-takes expected fault [] rest e = absurd (cc)
-after_byte-takes expected fault (byte ∷ bytes) rest e =
-    ⊎_elim (λ h. let same = eqb-true byte expected h.0 in cc) (λ h. absurd (cc)) (chosen (byte == expected) (Ok bytes) (Err (Broken fault)) (Ok rest) e)
+after_byte-takes expected fault bytes rest e = grind arith
 
 pub after_byte-short : (expected : ℕ) (fault : ProtocolFault) (bytes : List ℕ) → after_byte expected fault bytes ≡ Err Short → bytes ≡ []
-after_byte-short expected fault [] e = refl
-after_byte-short expected fault (byte ∷ bytes) e =
-    absurd (⊎_elim (λ h. cc) (λ h. cc) (chosen (byte == expected) (Ok bytes) (Err (Broken fault)) (Err Short) e))
+after_byte-short expected fault bytes e = grind arith
 
 -- The reading breaks with this fault at a byte: the bytes before it are too short, and with it no further bytes help. `Place` says where it is.
-pub record BreaksAt {A : Type 0} (read : List ℕ → Result A Stop) (Place : List ℕ → ℕ → ProtocolFault → Type 0) (bytes : List ℕ) (fault : ProtocolFault) : Type 0 where
-  pub prefix : List ℕ
-  pub byte : ℕ
-  pub rest : List ℕ
-  pub split : bytes ≡ prefix ++ byte ∷ rest
-  pub short : read prefix ≡ Err Short
-  pub broken : read (prefix ++ byte ∷ []) ≡ Err (Broken fault)
-  pub place : Place prefix byte fault
+abbrev pub BreaksAt : {A : Type 0} → (List ℕ → Result A Stop) → (List ℕ → ℕ → ProtocolFault → Type 0) → List ℕ → ProtocolFault → Type 0
+BreaksAt read Place bytes fault =
+    (prefix : List ℕ) × (byte : ℕ) × (rest : List ℕ) × Place prefix byte fault × (bytes ≡ prefix ++ byte ∷ rest) × (read prefix ≡ Err Short) × (read (prefix ++ byte ∷ []) ≡ Err (Broken fault))
 
 abbrev pub Anywhere : List ℕ → ℕ → ProtocolFault → Type 0
 Anywhere prefix byte fault = Unit {0}
 
 -- it breaks in the first of two steps
 pub BreaksAt-first : {A B : Type 0} (read : List ℕ → Result A Stop) (f : A → Result B Stop) (Place Place' : List ℕ → ℕ → ProtocolFault → Type 0) (bytes : List ℕ) (fault : ProtocolFault) → ((prefix : List ℕ) (byte : ℕ) → Place prefix byte fault → Place' prefix byte fault) → BreaksAt read Place bytes fault → BreaksAt (λ b. read b >>= f) Place' bytes fault
-BreaksAt-first read f Place Place' bytes fault moves b =
-    record {
-      prefix = b.prefix;
-      byte = b.byte;
-      rest = b.rest;
-      split = b.split;
-      short = ap (λ r. r >>= f) b.short;
-      broken = ap (λ r. r >>= f) b.broken;
-      place = moves b.prefix b.byte b.place;
-    }
+BreaksAt-first read f Place Place' bytes fault moves b = (b.0, b.1, b.2, moves b.0 b.1 b.3, b.4, ap (λ r. r >>= f) b.5, ap (λ r. r >>= f) b.6)
 
 -- it breaks after bytes that are read without a fault
 pub BreaksAt-behind : {A : Type 0} (read read' : List ℕ → Result A Stop) (Place Place' : List ℕ → ℕ → ProtocolFault → Type 0) (before bytes : List ℕ) (fault : ProtocolFault) → ((after : List ℕ) → read' (before ++ after) ≡ read after) → ((prefix : List ℕ) (byte : ℕ) → Place prefix byte fault → Place' (before ++ prefix) byte fault) → BreaksAt read Place bytes fault → BreaksAt read' Place' (before ++ bytes) fault
 BreaksAt-behind read read' Place Place' before bytes fault same moves b =
-    record {
-      prefix = before ++ b.prefix;
-      byte = b.byte;
-      rest = b.rest;
-      split = ap (λ x. before ++ x) b.split ∙ sym (append_assoc before b.prefix (b.byte ∷ b.rest));
-      short = same b.prefix ∙ b.short;
-      broken = ap read' (append_assoc before b.prefix (b.byte ∷ [])) ∙ same (b.prefix ++ b.byte ∷ []) ∙ b.broken;
-      place = moves b.prefix b.byte b.place;
-    }
+    let broken = ap read' (append_assoc before b.0 (b.1 ∷ [])) ∙ same (b.0 ++ b.1 ∷ []) ∙ b.6 in
+    (before ++ b.0, b.1, b.2, moves b.0 b.1 b.3, ap (λ x. before ++ x) b.4 ∙ sym (append_assoc before b.0 (b.1 ∷ b.2)), same b.0 ∙ b.5, broken)
 
 -- it breaks at the first byte
 pub BreaksAt-here : {A : Type 0} (read : List ℕ → Result A Stop) (Place : List ℕ → ℕ → ProtocolFault → Type 0) (byte : ℕ) (bytes : List ℕ) (fault : ProtocolFault) → read [] ≡ Err Short → read (byte ∷ []) ≡ Err (Broken fault) → Place [] byte fault → BreaksAt read Place (byte ∷ bytes) fault
-BreaksAt-here read Place byte bytes fault short broken place =
-    record { prefix = []; byte = byte; rest = bytes; split = refl; short = short; broken = broken; place = place }
+BreaksAt-here read Place byte bytes fault short broken place = ([], byte, bytes, place, refl, short, broken)
 
 pub after_byte-breaks : (expected : ℕ) (fault other : ProtocolFault) (bytes : List ℕ) → after_byte expected fault bytes ≡ Err (Broken other) → (other ≡ fault) × BreaksAt (after_byte expected fault) (λ prefix byte said. (prefix ≡ []) × (said ≡ fault)) bytes other
 after_byte-breaks expected fault other [] e = absurd (cc)
 after_byte-breaks expected fault other (byte ∷ bytes) e =
-    ⊎_elim (λ h. absurd (cc))
-    (λ h.
-    let same : other ≡ fault = cc in
-    (same, BreaksAt-here (after_byte expected fault) _ byte bytes other refl (cond-false (byte == expected) (Ok []) (Err (Broken fault)) h.0 ∙ h.1) (refl, same)))
-    (chosen (byte == expected) (Ok bytes) (Err (Broken fault)) (Err (Broken other)) e)
+    let same : other ≡ fault = grind arith in
+    (same, BreaksAt-here (after_byte expected fault) (λ prefix byte said. (prefix ≡ []) × (said ≡ fault)) byte bytes other refl (grind arith) (refl, same))

@@ -11,7 +11,7 @@ use Rattle.kv_types.proofs.GrammarSteps.{ok_parts}
 use Rattle.kv_types.proofs.GrammarGrows.{Keeps, with_more, number_at-more}
 use Rattle.kv_types.proofs.GrammarNumbers.{number_at-number_line, number_at-takes, number_at-breaks}
 use Rattle.kv_types.proofs.GrammarWords.{line_end_after, payload_at-behind, rest_of_word, rest_of_word-again, InWord}
-use Rattle.kv_types.proofs.GrammarRequests.{HasNumbers, AreShort, words_after, words_at-behind, counted_words, counted_words-behind, regrouped}
+use Rattle.kv_types.proofs.GrammarRequests.{HasNumbers, AreShort, words_after, words_at-behind, counted_words, counted_words-behind}
 use Rattle.kv_types.proofs.GrammarSpellings.{IsInside, IsInside-begins, length-inside}
 
 -- what a reader answers at the end of its bytes: if it broke, it was with this fault, and if it read something, nothing is left
@@ -49,10 +49,8 @@ prefix_without_last : (p a : List ℕ) (byte d : ℕ) (rest : List ℕ) → p ++
 prefix_without_last p [] byte d rest e = (p, refl)
 prefix_without_last [] (c ∷ a) byte d rest e = absurd (omega (arith, ap length e, length-append a (d ∷ rest)))
 prefix_without_last (b ∷ p) (c ∷ a) byte d rest e =
-    let head : b ≡ c = cc in
     let tail = prefix_without_last p a byte d rest cc in
-    let same = tail.1 in
-    (tail.0, cc)
+    (tail.0, grind (arith, tail.1))
 
 nothing_left : (most : ℕ) (fault : ProtocolFault) (line : List ℕ) (byte m : ℕ) (rest : List ℕ) → most < 2 ^ 64 → number_at most fault line ≡ Err Short → m ≤ most → line ++ byte ∷ [] ≡ number_line m ++ rest → rest ≡ []
 nothing_left most fault line byte m [] small short fits e = refl
@@ -72,12 +70,6 @@ number_at-tells : (most : ℕ) (fault : ProtocolFault) (line : List ℕ) (byte n
 number_at-tells most fault line byte n small fits p = tells_number most fault line byte small (number_at-prefix most fault line n small fits p) (number_at most fault (line ++ byte ∷ [])) refl
 
 -- ---- words
-
-regrouped_word : (a b c d : List ℕ) → ((a ++ b) ++ c) ++ d ≡ a ++ (b ++ (c ++ d))
-regrouped_word a b c d = simp append_assoc
-
-regrouped_words : (a b c d : List ℕ) → (a ++ (b ++ c)) ++ d ≡ a ++ (b ++ (c ++ d))
-regrouped_words a b c d = simp append_assoc
 
 line_end-tells : (word end : List ℕ) (byte : ℕ) → IsProperPrefix end line_end → Tells ExpectedLineEnd (line_end_after word (end ++ byte ∷ []))
 line_end-tells word [] byte p =
@@ -101,7 +93,7 @@ word_at-tells limits inner byte InvalidBulkLength numbers p =
     rw p.4 (Tells-bind InvalidBulkLength (λ len. payload_at len.0 len.1) (λ len. payload-nothing InvalidBulkLength len) (number_at limits.word_bytes InvalidBulkLength (p.0 ++ byte ∷ [])) (number_at-tells limits.word_bytes InvalidBulkLength p.0 byte p.1 numbers.word_bytes p.2 p.3))
 word_at-tells limits inner byte ExpectedLineEnd numbers p =
     let word = p.0 in
-    let whole : inner ++ byte ∷ [] ≡ (36 ∷ number_line (length word)) ++ (word ++ (p.1 ++ byte ∷ [])) = ap (λ x. x ++ byte ∷ []) p.4 ∙ regrouped_word (36 ∷ number_line (length word)) word p.1 (byte ∷ []) in
+    let whole : inner ++ byte ∷ [] ≡ (36 ∷ number_line (length word)) ++ (word ++ (p.1 ++ byte ∷ [])) = simp (p.4, append_assoc) in
     let read : word_at limits (inner ++ byte ∷ []) ≡ line_end_after word (p.1 ++ byte ∷ []) = ap (word_at limits) whole ∙ rest_of_word-again limits (length word) (word ++ (p.1 ++ byte ∷ [])) numbers.word_bytes p.2 ∙ payload_at-behind (length word) word (p.1 ++ byte ∷ []) refl in
     rw read (line_end-tells word p.1 byte p.3)
 
@@ -109,13 +101,11 @@ words-nothing : (limits : Limits) (fault : ProtocolFault) (count : ℕ) → Tell
 words-nothing limits fault zero = refl
 words-nothing limits fault (suc count) = tt
 
-after-nothing : (limits : Limits) (fault : ProtocolFault) (count : ℕ) (word : List ℕ) → Tells fault (words_after limits count (word, []))
-after-nothing limits fault count word = Tells-bind fault (λ others. Ok (with_first word others)) (λ others. refl) (words_at limits count []) (words-nothing limits fault count)
-
 words_at-tells : (limits : Limits) (count : ℕ) (words : List (List ℕ)) (inner : List ℕ) (byte : ℕ) (fault : ProtocolFault) → HasNumbers limits → length words < count → AreShort limits words → InWord limits inner byte fault → Tells fault (words_at limits count (flat_map bulk words ++ (inner ++ byte ∷ [])))
 words_at-tells limits zero words inner byte fault numbers fewer short p = absurd (omega arith)
 words_at-tells limits (suc count) [] inner byte fault numbers fewer short p =
-    Tells-bind fault (words_after limits count) (after-nothing limits fault count) (word_at limits (inner ++ byte ∷ [])) (word_at-tells limits inner byte fault numbers p)
+    Tells-bind fault (words_after limits count) (λ word. Tells-bind fault (λ others. Ok (with_first word others)) (λ others. refl) (words_at limits count []) (words-nothing limits fault count))
+    (word_at limits (inner ++ byte ∷ [])) (word_at-tells limits inner byte fault numbers p)
 words_at-tells limits (suc count) (word ∷ words) inner byte fault numbers fewer short p =
     let after = flat_map bulk words ++ (inner ++ byte ∷ []) in
     let read : words_at limits (suc count) ((bulk word ++ flat_map bulk words) ++ (inner ++ byte ∷ [])) ≡ words_after limits count (word, after) = ap (words_at limits (suc count)) (append_assoc (bulk word) (flat_map bulk words) (inner ++ byte ∷ [])) ∙ words_at-behind limits count word after numbers short.0 in
@@ -126,9 +116,9 @@ words_at-tells limits (suc count) (word ∷ words) inner byte fault numbers fewe
 -- after the number of words
 tells_in_words : (limits : Limits) (n : ℕ) (words : List (List ℕ)) (inner : List ℕ) (byte : ℕ) (fault : ProtocolFault) → HasNumbers limits → length words < n → IsInside limits n words inner → InWord limits inner byte fault → Tells fault (request_at limits (((42 ∷ number_line n) ++ (flat_map bulk words ++ inner)) ++ byte ∷ []))
 tells_in_words limits n words inner byte fault numbers fewer inside p =
-    let whole : ((42 ∷ number_line n) ++ (flat_map bulk words ++ inner)) ++ byte ∷ [] ≡ (42 ∷ number_line n) ++ (flat_map bulk words ++ (inner ++ byte ∷ [])) = regrouped_words (42 ∷ number_line n) (flat_map bulk words) inner (byte ∷ []) in
+    let whole : ((42 ∷ number_line n) ++ (flat_map bulk words ++ inner)) ++ byte ∷ [] ≡ (42 ∷ number_line n) ++ (flat_map bulk words ++ (inner ++ byte ∷ [])) = simp append_assoc in
     let read : request_at limits (((42 ∷ number_line n) ++ (flat_map bulk words ++ inner)) ++ byte ∷ []) ≡ words_at limits n (flat_map bulk words ++ (inner ++ byte ∷ [])) = ap (request_at limits) whole ∙ counted_words-behind limits n (flat_map bulk words ++ (inner ++ byte ∷ [])) numbers inside.count in
-    rw read (words_at-tells limits n words inner byte fault numbers fewer inside.next.short p)
+    rw read (words_at-tells limits n words inner byte fault numbers fewer inside.next.0 p)
 
 -- A byte gives the fault of its position.
 pub Says-tells : (limits : Limits) (prefix : List ℕ) (byte : ℕ) (fault : ProtocolFault) → HasNumbers limits → Begins limits prefix → Says limits prefix byte fault → Tells fault (request_at limits (prefix ++ byte ∷ []))
@@ -137,25 +127,19 @@ Says-tells limits prefix byte ExpectedArray numbers b p =
 Says-tells limits prefix byte InvalidMultibulkLength numbers b p =
     rw p.4 (Tells-bind InvalidMultibulkLength (λ count. words_at limits count.0 count.1) (λ count. words-nothing limits InvalidMultibulkLength count) (number_at limits.words InvalidMultibulkLength (p.0 ++ byte ∷ [])) (number_at-tells limits.words InvalidMultibulkLength p.0 byte p.1 numbers.words p.2 p.3))
 Says-tells limits prefix byte (ExpectedBulk got) numbers b p =
-    let n = p.0 in
-    let words = p.1 in
-    let whole : prefix ≡ (42 ∷ number_line n) ++ (flat_map bulk words ++ []) = p.3 ∙ ap (λ x. (42 ∷ number_line n) ++ x) (sym (append-nil (flat_map bulk words))) in
+    let whole : prefix ≡ (42 ∷ number_line p.0) ++ (flat_map bulk p.1 ++ []) = p.3 ∙ ap (λ x. (42 ∷ number_line p.0) ++ x) (sym (append-nil (flat_map bulk p.1))) in
     let begins = rw whole at b in
-    rw whole (tells_in_words limits n words [] byte (ExpectedBulk got) numbers p.2 (IsInside-begins limits n words [] numbers p.2 begins) (refl, p.4))
+    rw whole (tells_in_words limits p.0 p.1 [] byte (ExpectedBulk got) numbers p.2 (IsInside-begins limits p.0 p.1 [] numbers p.2 begins) (refl, p.4))
 Says-tells limits prefix byte InvalidBulkLength numbers b p =
-    let n = p.0 in
-    let words = p.1 in
     let inner = 36 ∷ p.2 in
-    let whole : prefix ≡ (42 ∷ number_line n) ++ (flat_map bulk words ++ inner) = p.7 ∙ append_assoc (42 ∷ number_line n) (flat_map bulk words) inner in
+    let whole : prefix ≡ (42 ∷ number_line p.0) ++ (flat_map bulk p.1 ++ inner) = p.7 ∙ append_assoc (42 ∷ number_line p.0) (flat_map bulk p.1) inner in
     let begins = rw whole at b in
-    rw whole (tells_in_words limits n words inner byte InvalidBulkLength numbers p.4 (IsInside-begins limits n words inner numbers p.4 begins) (p.2, p.3, p.5, p.6, refl))
+    rw whole (tells_in_words limits p.0 p.1 inner byte InvalidBulkLength numbers p.4 (IsInside-begins limits p.0 p.1 inner numbers p.4 begins) (p.2, p.3, p.5, p.6, refl))
 Says-tells limits prefix byte ExpectedLineEnd numbers b p =
-    let n = p.0 in
-    let words = p.1 in
     let word = p.2 in
     let inner = ((36 ∷ number_line (length word)) ++ word) ++ p.3 in
-    let whole : prefix ≡ (42 ∷ number_line n) ++ (flat_map bulk words ++ inner) = p.6 ∙ sym (regrouped (42 ∷ number_line n) (flat_map bulk words) (36 ∷ number_line (length word)) word p.3) in
+    let whole : prefix ≡ (42 ∷ number_line p.0) ++ (flat_map bulk p.1 ++ inner) = simp (p.6, append_assoc) in
     let begins = rw whole at b in
-    let inside = IsInside-begins limits n words inner numbers p.4 begins in
-    let short : length word ≤ limits.word_bytes = length-inside limits n words (length word) (word ++ p.3) numbers (rw (append_assoc (36 ∷ number_line (length word)) word p.3) at inside) in
-    rw whole (tells_in_words limits n words inner byte ExpectedLineEnd numbers p.4 inside (word, p.3, short, p.5, refl))
+    let inside = IsInside-begins limits p.0 p.1 inner numbers p.4 begins in
+    let short : length word ≤ limits.word_bytes = length-inside limits p.0 p.1 (length word) (word ++ p.3) numbers (rw (append_assoc (36 ∷ number_line (length word)) word p.3) at inside) in
+    rw whole (tells_in_words limits p.0 p.1 inner byte ExpectedLineEnd numbers p.4 inside (word, p.3, short, p.5, refl))

@@ -15,10 +15,6 @@ use Rattle.kv_types.proofs.GrammarRequests.{HasNumbers, request_at-again, reques
 use Rattle.kv_types.proofs.GrammarTells.{Tells, Says-tells}
 use Rattle.kv_types.proofs.GrammarAsks.{Begins-short, not_begun}
 
-Begins-prefix : (limits : Limits) (a b : List ℕ) → Begins limits (a ++ b) → Begins limits a
-Begins-prefix limits a b h =
-    record { rest = b ++ h.rest; words = h.words; spells = record { within = h.spells.within; whole = sym (append_assoc a b h.rest) ∙ h.spells.whole } }
-
 -- the byte with which no spelling continues breaks the reading, with the fault of its position
 told_by : (limits : Limits) (bytes : List ℕ) (fault said : ProtocolFault) → HasNumbers limits → (f : FaultsWith limits bytes fault) → request_at limits bytes ≡ Err (Broken said) → (r : Result (Read (List (List ℕ))) Stop) → request_at limits (f.prefix ++ f.byte ∷ []) ≡ r → Tells fault r → fault ≡ said
 told_by limits bytes fault said numbers f e (Ok x) broken tells =
@@ -38,8 +34,9 @@ ends_so limits rest ending numbers longest ends (Ok request) e =
 ends_so limits rest ending numbers longest (inl ends) (Err Short) e = ends.1
 ends_so limits rest ending numbers longest (inr ends) (Err Short) e =
     let f = ends.1 in
-    let begins : Begins limits ((f.prefix ++ f.byte ∷ []) ++ f.rest) = rw (append_assoc f.prefix (f.byte ∷ []) f.rest, ← f.split) (Begins-short limits rest numbers e) in
-    absurd (f.breaks (Begins-prefix limits (f.prefix ++ f.byte ∷ []) f.rest begins))
+    let b : Begins limits ((f.prefix ++ f.byte ∷ []) ++ f.rest) = rw (append_assoc f.prefix (f.byte ∷ []) f.rest, ← f.split) (Begins-short limits rest numbers e) in
+    let whole = sym (append_assoc (f.prefix ++ f.byte ∷ []) f.rest b.rest) ∙ b.spells.whole in
+    absurd (f.breaks (record { rest = f.rest ++ b.rest; words = b.words; spells = record { within = b.spells.within; whole = whole } }))
 ends_so limits rest ending numbers longest (inl ends) (Err (Broken said)) e = absurd (not_begun limits rest said numbers e ends.0)
 ends_so limits rest ending numbers longest (inr ends) (Err (Broken said)) e =
     let f = ends.1 in

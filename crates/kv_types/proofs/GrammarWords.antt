@@ -1,13 +1,13 @@
 -- Words: what is read is spelled that way, what is spelled that way is read, and where the reading breaks.
-use Rattle.std.proofs.Common.{◌≡◌, ℕ, ◌-◌, ◌^◌, ◌<◌, ◌≤◌, ◌==◌, nat_lt, inl, inr, List, [], ◌∷◌, ◌++◌, length, take, drop, replicate, Result, Ok, Err, refl, ap, sym, ◌∙◌, arith}
+use Rattle.std.proofs.Common.{◌≡◌, ℕ, ◌-◌, ◌^◌, ◌<◌, ◌≤◌, nat_lt, ◌⊎◌, inl, inr, List, [], ◌∷◌, ◌++◌, length, take, drop, replicate, Result, Ok, Err, refl, ap, sym, ◌∙◌, arith}
 use Rattle.std.proofs.lemmas.List.{append_assoc, length-append, length-replicate, length-take-le, take-append-drop, take_at, drop_at}
-use Rattle.std.proofs.lemmas.Bool.{eqb-true, ltb-true, ltb-false, le-ltb, cond-false}
+use Rattle.std.proofs.lemmas.Bool.{ltb-true, ltb-false, le-ltb, cond-false}
 use Rattle.kv_types.specs.declared.limits.Limits.{Limits}
 use Rattle.kv_types.specs.declared.item.ProtocolFault.{ProtocolFault}
 use Rattle.kv_types.specs.declared.item.ProtocolFault.TheVariants.{ExpectedArray, InvalidMultibulkLength, ExpectedBulk, InvalidBulkLength, ExpectedLineEnd}
 use Rattle.kv_types.specs.Request.{line_end, number_line, bulk, IsProperPrefix}
 use Rattle.kv_types.specs.Reading.{Stop, Short, Broken, Read, ◌>>=◌, after_byte, number_at, after_dollar, payload_at, word_at}
-use Rattle.kv_types.proofs.GrammarSteps.{chosen, bind_ok, bind_err, ok_parts, after_byte-takes, after_byte-short, after_byte-breaks, BreaksAt, BreaksAt-first, BreaksAt-behind, BreaksAt-here}
+use Rattle.kv_types.proofs.GrammarSteps.{chosen, bind_ok, bind_err, BreaksAt, BreaksAt-first, BreaksAt-behind, BreaksAt-here}
 use Rattle.kv_types.proofs.GrammarNumbers.{number_at-number_line, number_at-takes, number_at-short, number_at-breaks, InNumber}
 
 -- ---- proper prefixes
@@ -30,63 +30,43 @@ abbrev pub line_end_after : List ℕ → List ℕ → Result (Read (List ℕ)) S
 line_end_after word bytes = after_byte 13 ExpectedLineEnd bytes >>= λ rest. after_byte 10 ExpectedLineEnd rest >>= λ after. Ok (word, after)
 
 pub line_end_after-takes : (word bytes w rest : List ℕ) → line_end_after word bytes ≡ Ok (w, rest) → (word ≡ w) × (bytes ≡ 13 ∷ 10 ∷ rest)
-line_end_after-takes word bytes w rest e =
-    let first = bind_ok (λ rest. after_byte 10 ExpectedLineEnd rest >>= λ after. Ok (word, after)) (after_byte 13 ExpectedLineEnd bytes) (w, rest) e in
-    let second = bind_ok (λ after. Ok (word, after)) (after_byte 10 ExpectedLineEnd first.0) (w, rest) first.2 in
-    let parts = ok_parts word w second.0 rest second.2 in
-    (parts.0, after_byte-takes 13 ExpectedLineEnd bytes first.0 first.1 ∙ ap (λ x. 13 ∷ x) (after_byte-takes 10 ExpectedLineEnd first.0 second.0 second.1 ∙ ap (λ x. 10 ∷ x) parts.1))
+line_end_after-takes word bytes w rest e = grind arith
 
 pub line_end_after-short : (word bytes : List ℕ) → line_end_after word bytes ≡ Err Short → IsProperPrefix bytes line_end
-line_end_after-short word bytes e =
-    elim (bind_err (λ rest. after_byte 10 ExpectedLineEnd rest >>= λ after. Ok (word, after)) (after_byte 13 ExpectedLineEnd bytes) Short e) [
-      | inl h ↦ record { byte = 13; rest = 10 ∷ []; joined = ap (λ x. x ++ (13 ∷ 10 ∷ [])) (after_byte-short 13 ExpectedLineEnd bytes h) }
-      | inr h ↦ elim (bind_err (λ after. Ok (word, after)) (after_byte 10 ExpectedLineEnd h.0) Short h.2) [
-        | inl k ↦ record { byte = 10; rest = []; joined = ap (λ x. x ++ (10 ∷ [])) (after_byte-takes 13 ExpectedLineEnd bytes h.0 h.1 ∙ ap (λ x. 13 ∷ x) (after_byte-short 10 ExpectedLineEnd h.0 k)) }
-        | inr k ↦ absurd (cc)
-      ]
-    ]
-
--- the byte where the next one of a line end should have been
-abbrev AtLineEnd : List ℕ → ℕ → ProtocolFault → Type 0
-AtLineEnd prefix byte fault = (prefix ≡ []) × (fault ≡ ExpectedLineEnd)
+line_end_after-short word [] e = record { byte = 13; rest = 10 ∷ []; joined = refl }
+line_end_after-short word (a ∷ []) e = record { byte = 10; rest = []; joined = grind arith }
+line_end_after-short word (a ∷ b ∷ more) e = absurd (grind arith)
 
 -- the bytes before the one at which the line end breaks
 abbrev pub InLineEnd : List ℕ → ℕ → ProtocolFault → Type 0
 InLineEnd prefix byte fault = (fault ≡ ExpectedLineEnd) × IsProperPrefix prefix line_end
 
+breaks_first : (word : List ℕ) (a : ℕ) (bytes : List ℕ) (said : ProtocolFault) → line_end_after word (a ∷ bytes) ≡ Err (Broken said) → (a ≡ 13)
+    ⊎ ((said ≡ ExpectedLineEnd) × (line_end_after word (a ∷ []) ≡ Err (Broken said)))
+breaks_first word a bytes said e = grind arith
+
+breaks_second : (word : List ℕ) (b : ℕ) (bytes : List ℕ) (said : ProtocolFault) → line_end_after word (13 ∷ b ∷ bytes) ≡ Err (Broken said)
+    → (said ≡ ExpectedLineEnd) × (line_end_after word (13 ∷ b ∷ []) ≡ Err (Broken said))
+breaks_second word b bytes said e = grind arith
+
+breaks_behind : (word bytes : List ℕ) (said : ProtocolFault) → line_end_after word (13 ∷ bytes) ≡ Err (Broken said) → BreaksAt (line_end_after word) InLineEnd (13 ∷ bytes) said
+breaks_behind word [] said e = absurd (cc)
+breaks_behind word (b ∷ bytes) said e =
+    let h = breaks_second word b bytes said e in
+    (13 ∷ [], b, bytes, (h.0, record { byte = 10; rest = []; joined = refl }), refl, refl, h.1)
+
 line_end_after-breaks : (word bytes : List ℕ) (said : ProtocolFault) → line_end_after word bytes ≡ Err (Broken said) → BreaksAt (line_end_after word) InLineEnd bytes said
-line_end_after-breaks word bytes said e =
-    elim (bind_err (λ rest. after_byte 10 ExpectedLineEnd rest >>= λ after. Ok (word, after)) (after_byte 13 ExpectedLineEnd bytes) (Broken said) e) [
-      | inl h ↦ BreaksAt-first (after_byte 13 ExpectedLineEnd) (λ rest. after_byte 10 ExpectedLineEnd rest >>= λ after. Ok (word, after)) AtLineEnd InLineEnd bytes said
-          (λ prefix byte p. (p.1, record { byte = 13; rest = 10 ∷ []; joined = ap (λ x. x ++ (13 ∷ 10 ∷ [])) p.0 }))
-          (after_byte-breaks 13 ExpectedLineEnd said bytes h).1
-      | inr h ↦ elim (bind_err (λ after. Ok (word, after)) (after_byte 10 ExpectedLineEnd h.0) (Broken said) h.2) [
-        | inl k ↦
-            let feed = after_byte-takes 13 ExpectedLineEnd bytes h.0 h.1 in
-            rw feed (BreaksAt-behind (λ rest. after_byte 10 ExpectedLineEnd rest >>= λ after. Ok (word, after)) (line_end_after word) AtLineEnd InLineEnd (13 ∷ []) h.0 said (λ after. refl)
-            (λ prefix byte p. (p.1, record { byte = 10; rest = []; joined = ap (λ x. 13 ∷ (x ++ (10 ∷ []))) p.0 }))
-            (BreaksAt-first (after_byte 10 ExpectedLineEnd) (λ after. Ok (word, after)) AtLineEnd AtLineEnd h.0 said (λ prefix byte p. p) (after_byte-breaks 10 ExpectedLineEnd said h.0 k).1))
-        | inr k ↦ absurd (cc)
-      ]
+line_end_after-breaks word [] said e = absurd (cc)
+line_end_after-breaks word (a ∷ bytes) said e =
+    elim (breaks_first word a bytes said e) [
+      | inl h ↦ rw h (breaks_behind word bytes said (rw h at e))
+      | inr h ↦ BreaksAt-here (line_end_after word) InLineEnd a bytes said refl h.1 (h.0, record { byte = 13; rest = 10 ∷ []; joined = refl })
     ]
 
 -- ---- the bytes of a word
 
-payload_at-again : (word rest : List ℕ) → payload_at (length word) (word ++ (13 ∷ 10 ∷ rest)) ≡ Ok (word, rest)
-payload_at-again word rest =
-    cond-false (nat_lt (length (word ++ (13 ∷ 10 ∷ rest))) (length word)) (Err Short) _ (le-ltb _ _ (omega (arith, length-append word (13 ∷ 10 ∷ rest))))
-    ∙ ap (λ w. line_end_after w (drop (length word) (word ++ (13 ∷ 10 ∷ rest)))) (take_at word (13 ∷ 10 ∷ rest) (length word) refl)
-    ∙ ap (line_end_after word) (drop_at word (13 ∷ 10 ∷ rest) (length word) refl)
-
 pub payload_at-takes : (len : ℕ) (bytes word rest : List ℕ) → payload_at len bytes ≡ Ok (word, rest) → (length word ≡ len) × (bytes ≡ word ++ (13 ∷ 10 ∷ rest))
-payload_at-takes len bytes word rest e =
-    elim (chosen (nat_lt (length bytes) len) (Err Short) (line_end_after (take len bytes) (drop len bytes)) (Ok (word, rest)) e) [
-      | inl h ↦ absurd (cc)
-      | inr h ↦
-          let fits : len ≤ length bytes = ltb-false (length bytes) len h.0 in
-          let found = line_end_after-takes (take len bytes) (drop len bytes) word rest h.1 in
-          (ap length (sym found.0) ∙ length-take-le len bytes fits, sym (take-append-drop len bytes) ∙ ap (λ w. w ++ drop len bytes) found.0 ∙ ap (λ x. word ++ x) found.1)
-    ]
+payload_at-takes len bytes word rest e = grind (arith, line_end_after-takes (take len bytes) (drop len bytes) word rest, take-append-drop len bytes, length-take-le len bytes)
 
 -- the bytes begin some word of this length and its line end
 filled : (bytes : List ℕ) (len : ℕ) → length bytes < len → (word : List ℕ) × (length word ≡ len) × IsProperPrefix bytes (word ++ line_end)
@@ -114,6 +94,9 @@ payload_at-behind len word after same =
     ∙ ap (λ w. line_end_after w (drop len (word ++ after))) (take_at word after len same)
     ∙ ap (line_end_after word) (drop_at word after len same)
 
+payload_at-again : (word rest : List ℕ) → payload_at (length word) (word ++ (13 ∷ 10 ∷ rest)) ≡ Ok (word, rest)
+payload_at-again word rest = payload_at-behind (length word) word (13 ∷ 10 ∷ rest) refl
+
 payload_at-breaks : (len : ℕ) (bytes : List ℕ) (said : ProtocolFault) → payload_at len bytes ≡ Err (Broken said) → BreaksAt (payload_at len) (AfterWord len) bytes said
 payload_at-breaks len bytes said e =
     elim (chosen (nat_lt (length bytes) len) (Err Short) (line_end_after (take len bytes) (drop len bytes)) (Err (Broken said)) e) [
@@ -130,16 +113,10 @@ payload_at-breaks len bytes said e =
 -- ---- a word
 
 after_dollar-takes : (bytes rest : List ℕ) → after_dollar bytes ≡ Ok rest → bytes ≡ 36 ∷ rest
-after_dollar-takes [] rest e = absurd (cc)
-after_dollar-takes (byte ∷ bytes) rest e =
-    elim (chosen (byte == 36) (Ok bytes) (Err (Broken (ExpectedBulk byte))) (Ok rest) e) [
-      | inl h ↦ let same = eqb-true byte 36 h.0 in cc
-      | inr h ↦ absurd (cc)
-    ]
+after_dollar-takes bytes rest e = grind arith
 
 after_dollar-short : (bytes : List ℕ) → after_dollar bytes ≡ Err Short → bytes ≡ []
-after_dollar-short [] e = refl
-after_dollar-short (byte ∷ bytes) e = absurd (elim (chosen (byte == 36) (Ok bytes) (Err (Broken (ExpectedBulk byte))) (Err Short) e) [ inl h ↦ cc | inr h ↦ cc ])
+after_dollar-short bytes e = grind arith
 
 -- the bytes before the one at which a word breaks
 abbrev pub InWord : Limits → List ℕ → ℕ → ProtocolFault → Type 0
@@ -153,12 +130,8 @@ InWord limits prefix byte ExpectedLineEnd =
 after_dollar-breaks : (limits : Limits) (bytes : List ℕ) (said : ProtocolFault) → after_dollar bytes ≡ Err (Broken said) → BreaksAt after_dollar (InWord limits) bytes said
 after_dollar-breaks limits [] said e = absurd (cc)
 after_dollar-breaks limits (byte ∷ bytes) said e =
-    elim (chosen (byte == 36) (Ok bytes) (Err (Broken (ExpectedBulk byte))) (Err (Broken said)) e) [
-      | inl h ↦ absurd (cc)
-      | inr h ↦
-          let same : ExpectedBulk byte ≡ said = cc in
-          rw (← same) (BreaksAt-here after_dollar (InWord limits) byte bytes (ExpectedBulk byte) refl (cond-false (byte == 36) (Ok []) (Err (Broken (ExpectedBulk byte))) h.0) (refl, refl))
-    ]
+    let same : ExpectedBulk byte ≡ said = grind arith in
+    rw (← same) (BreaksAt-here after_dollar (InWord limits) byte bytes (ExpectedBulk byte) refl (grind arith) (refl, refl))
 
 pub bulk-append : (word rest : List ℕ) → bulk word ++ rest ≡ 36 ∷ (number_line (length word) ++ (word ++ (13 ∷ 10 ∷ rest)))
 bulk-append word rest = ap (λ x. 36 ∷ x) (simp append_assoc)
@@ -188,17 +161,6 @@ word_at-takes limits bytes word rest small e =
 bulk-parts : (word : List ℕ) → (36 ∷ number_line (length word)) ++ (word ++ line_end) ≡ bulk word
 bulk-parts word = sym (append_assoc (36 ∷ number_line (length word)) word line_end)
 
--- bytes that end within the length of a word, and after it
-begun_in_length : (n : ℕ) (inside bytes : List ℕ) → bytes ≡ 36 ∷ inside → IsProperPrefix inside (number_line n) → IsProperPrefix bytes (bulk (replicate n 0))
-begun_in_length n inside bytes whole p =
-    let word : List ℕ = replicate n 0 in
-    let len : length word ≡ n = length-replicate n 0 in
-    IsProperPrefix-same whole (ap (λ k. 36 ∷ (number_line k ++ (word ++ line_end))) (sym len) ∙ bulk-parts word) (IsProperPrefix-behind (36 ∷ []) inside _ (IsProperPrefix-append inside (number_line n) (word ++ line_end) p))
-
-begun_behind_length : (n : ℕ) (word after inside bytes : List ℕ) → bytes ≡ 36 ∷ inside → inside ≡ number_line n ++ after → length word ≡ n → IsProperPrefix after (word ++ line_end) → IsProperPrefix bytes (bulk word)
-begun_behind_length n word after inside bytes whole line len p =
-    IsProperPrefix-same (whole ∙ ap (λ x. 36 ∷ x) line) (ap (λ k. 36 ∷ (number_line k ++ (word ++ line_end))) (sym len) ∙ bulk-parts word) (IsProperPrefix-behind (36 ∷ number_line n) after (word ++ line_end) p)
-
 pub word_at-short : (limits : Limits) (bytes : List ℕ) → limits.word_bytes < 2 ^ 64 → word_at limits bytes ≡ Err Short → (word : List ℕ) × (length word ≤ limits.word_bytes) × IsProperPrefix bytes (bulk word)
 word_at-short limits bytes small e =
     elim (bind_err (rest_of_word limits) (after_dollar bytes) Short e) [
@@ -206,18 +168,20 @@ word_at-short limits bytes small e =
       | inr h ↦ elim (bind_err (λ len. payload_at len.0 len.1) (number_at limits.word_bytes InvalidBulkLength h.0) Short h.2) [
         | inl k ↦
             let number = number_at-short limits.word_bytes InvalidBulkLength h.0 small k in
-            (replicate number.0 0, omega (arith, length-replicate {A = ℕ} number.0 0, number.1), begun_in_length number.0 h.0 bytes (after_dollar-takes bytes h.0 h.1) number.2)
+            let len = length-replicate {A = ℕ} number.0 0 in
+            let inside = IsProperPrefix-behind (36 ∷ []) h.0 _ (IsProperPrefix-append h.0 (number_line number.0) (replicate number.0 0 ++ line_end) number.2) in
+            let whole = ap (λ k. 36 ∷ (number_line k ++ (replicate number.0 0 ++ line_end))) (sym len) ∙ bulk-parts (replicate number.0 0) in
+            (replicate number.0 0, omega (arith, len, number.1), IsProperPrefix-same (after_dollar-takes bytes h.0 h.1) whole inside)
         | inr k ↦
             let number = number_at-takes limits.word_bytes InvalidBulkLength h.0 k.0.0 k.0.1 small k.1 in
             let word = payload_at-short k.0.0 k.0.1 k.2 in
-            (word.0, omega (arith, word.1, number.0), begun_behind_length k.0.0 word.0 k.0.1 h.0 bytes (after_dollar-takes bytes h.0 h.1) number.1 word.1 word.2)
+            let whole = ap (λ k. 36 ∷ (number_line k ++ (word.0 ++ line_end))) (sym word.1) ∙ bulk-parts word.0 in
+            let start = after_dollar-takes bytes h.0 h.1 ∙ ap (λ x. 36 ∷ x) number.1 in
+            (word.0, omega (arith, word.1, number.0), IsProperPrefix-same start whole (IsProperPrefix-behind (36 ∷ number_line k.0.0) k.0.1 (word.0 ++ line_end) word.2))
       ]
     ]
 
 -- where a word breaks: in its length, or after it
-placed_in_length : (limits : Limits) (said : ProtocolFault) (prefix : List ℕ) (byte : ℕ) → said ≡ InvalidBulkLength → InNumber limits.word_bytes prefix byte said → InWord limits (36 ∷ prefix) byte said
-placed_in_length limits said prefix byte same p = rw same (prefix, p.0, p.1, p.2, refl)
-
 placed_behind_length : (limits : Limits) (len : ℕ) (said : ProtocolFault) (prefix : List ℕ) (byte : ℕ) → len ≤ limits.word_bytes → AfterWord len prefix byte said → InWord limits ((36 ∷ number_line len) ++ prefix) byte said
 placed_behind_length limits len said prefix byte fits p =
     rw p.0 (p.1.0, p.1.1, omega (arith, p.1.2), p.1.3, ap (λ x. (36 ∷ number_line len) ++ x) p.1.4 ∙ ap (λ k. (36 ∷ number_line k) ++ (p.1.0 ++ p.1.1)) (sym p.1.2) ∙ sym (append_assoc (36 ∷ number_line (length p.1.0)) p.1.0 p.1.1))
@@ -231,7 +195,8 @@ word_at-breaks limits bytes said small e =
           elim (bind_err (λ len. payload_at len.0 len.1) (number_at limits.word_bytes InvalidBulkLength h.0) (Broken said) h.2) [
             | inl k ↦
                 let number = number_at-breaks limits.word_bytes InvalidBulkLength h.0 said small k in
-                rw dollar (BreaksAt-behind (rest_of_word limits) (word_at limits) (InNumber limits.word_bytes) (InWord limits) (36 ∷ []) h.0 said (λ after. refl) (λ prefix byte p. placed_in_length limits said prefix byte number.0 p)
+                rw dollar (BreaksAt-behind (rest_of_word limits) (word_at limits) (InNumber limits.word_bytes) (InWord limits) (36 ∷ []) h.0 said (λ after. refl)
+                (λ prefix byte p. rw number.0 (prefix, p.0, p.1, p.2, refl))
                 (BreaksAt-first (number_at limits.word_bytes InvalidBulkLength) (λ len. payload_at len.0 len.1) (InNumber limits.word_bytes) (InNumber limits.word_bytes) h.0 said (λ prefix byte p. p) number.1))
             | inr k ↦
                 let number = number_at-takes limits.word_bytes InvalidBulkLength h.0 k.0.0 k.0.1 small k.1 in

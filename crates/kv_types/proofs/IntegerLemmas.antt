@@ -1,8 +1,7 @@
 -- The text of a 64-bit signed integer: it is UTF-8, and parsing it gives the integer back.
-use Rattle.std.proofs.Common.{◌≡◌, ◌<◌, ◌≤◌, ◌^◌, arith, length, ℕ, ℤ, List, Result, Ok, FitsSigned, IsUtf8, w64, to_z, of_z, to_z-of_z, false, ◌≢◌, nat_eq, sym, ap, subst, ◌∙◌}
+use Rattle.std.proofs.Common.{◌≡◌, ℕ, ℤ, List, Result, Ok, FitsSigned, IsUtf8, w64, to_z, of_z, to_z-of_z, false, ◌≢◌, nat_eq, sym, ap, subst, ◌∙◌}
 use Rattle.std.specs.Cmp.Lexicographic.{pointwise, other_text}
-use Rattle.std.proofs.lemmas.Fmt.{IsAscii-signed, parse-signed_decimal, signed_decimal_injective, length_signed_le}
-use Rattle.std.specs.Int.Signed.{mag}
+use Rattle.std.proofs.lemmas.Fmt.{IsAscii-signed, parse-signed_decimal}
 use Rattle.std.proofs.lemmas.Str.{IsUtf8-from_ascii}
 use Rattle.std.specs.Fmt.{signed_decimal}
 use Rattle.std.specs.Str.Parse.{ParsesSigned}
@@ -18,13 +17,3 @@ pub written_back : (number n : ℤ) (written text : List ℕ) → number ≡ n �
 written_back number n written text same fits writes is differ =
     let back : to_z w64 (of_z w64 number) ≡ n = ap (λ z. to_z w64 (of_z w64 z)) same ∙ to_z-of_z fits in
     other_text written text differ (writes ∙ ap signed_decimal back ∙ sym is)
-
-pub same_Ok : {A E : Type 0} (x y : A) (r : Result A E) → r ≡ Ok x → r ≡ Ok y → x ≡ y
-same_Ok x y r a b = cc
-
--- integers with the same text are equal
-pub signed_decimal-same : (m n : ℤ) → FitsSigned w64 m → FitsSigned w64 n → signed_decimal m ≡ signed_decimal n → m ≡ n
-signed_decimal-same m n fits_m fits_n = signed_decimal_injective m n fits_m.sfits fits_n.sfits
-
-pub length-integer : (n : ℤ) → FitsSigned w64 n → length (signed_decimal n) ≤ 20
-length-integer n fits = let small : mag n < 2 ^ 63 = fits.sfits in length_signed_le 19 n (omega arith) small

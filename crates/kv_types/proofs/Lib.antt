@@ -1,3 +1,4 @@
+pub mod CommandNameLemmas
 pub mod OrderLemmas
 pub mod LookUpLemmas
 pub mod PlayLemmas

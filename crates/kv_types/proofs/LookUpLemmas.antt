@@ -1,5 +1,5 @@
 -- What a look-up finds after a record was put or removed, and after each change.
-use Rattle.std.proofs.Common.{◌≡◌, ◌≢◌, ℕ, List, Bool, true, false, cond, not, Some, None, nat_eq, refl, sym, ap, ap₂, ◌∙◌}
+use Rattle.std.proofs.Common.{◌≡◌, ◌≢◌, ℕ, List, Bool, true, false, cond, not, Some, None, nat_eq, refl, sym, ap, ◌∙◌, arith}
 use Rattle.std.proofs.lemmas.Bool.{false_from_ne_true}
 use Rattle.std.specs.Cmp.Lexicographic.{pointwise}
 use Rattle.std.specs.FinMap.Entries.{find-put, find-where_key}
@@ -9,7 +9,7 @@ use Rattle.kv_types.specs.declared.record_id.RecordId.TheVariants.{Str, Field}
 use Rattle.kv_types.specs.declared.change.Change.{Change}
 use Rattle.kv_types.specs.declared.change.Change.TheVariants.{Put, Drop, DropKey, Clear}
 use Rattle.kv_types.specs.Keyspace.{Keyspace, key_of, record_cmp, value_at, with_record, without_record, without_key, play}
-use Rattle.kv_types.specs.LookUp.{IsLookedUpAfter, PutsString, PutsField, DropsRecord, DropsKey}
+use Rattle.kv_types.specs.LookUp.{IsLookedUpAfter}
 use Rattle.kv_types.specs.Order.{record_cmp_total}
 use Rattle.kv_types.proofs.OrderLemmas.{record_cmp_equal, same_record, record_itself, same_key, key_itself, field_is_no_string, string_is_no_field}
 
@@ -21,8 +21,7 @@ abbrev pub is_same_key : List ℕ → List ℕ → Bool
 is_same_key = pointwise nat_eq
 
 cond_not : {A : Type 0} (b : Bool) (x y : A) → cond (not b) x y ≡ cond b y x
-cond_not true x y = refl
-cond_not false x y = refl
+cond_not b x y = grind arith
 
 pub value_at-with_record : (s : Keyspace) (id : RecordId) (value : List ℕ) (q : RecordId) → value_at (with_record id value s) q ≡ cond (is_same q id) (Some value) (value_at s q)
 value_at-with_record s id value q = find-put record_cmp record_cmp_total q id value s
@@ -58,35 +57,20 @@ pub is_same_key_at : (xs ys : List ℕ) → xs ≡ ys → is_same_key xs ys ≡ 
 is_same_key_at xs ys e = ap (is_same_key xs) (sym e) ∙ key_itself xs
 
 -- after each change, in words
-puts_string : (s : Keyspace) (key value : List ℕ) → PutsString key value s (play s (Put (Str key) value))
-puts_string s key value = record {
-  there = value_at-put_string s key value (Str key) ∙ ap (λ b. cond b (Some value) (cond (is_same_key key key) None (value_at s (Str key)))) (record_itself (Str key));
-  no_fields = λ field. value_at-put_string s key value (Field key field) ∙ ap₂ (λ b c. cond b (Some value) (cond c None (value_at s (Field key field)))) (field_is_no_string key field key) (key_itself key);
-  others = λ id differ. value_at-put_string s key value id ∙ ap₂ (λ b c. cond b (Some value) (cond c None (value_at s id))) (is_other id (Str key) (λ e. differ (ap key_of e))) (is_other_key (key_of id) key differ);
-}
-
-puts_field : (s : Keyspace) (key field value : List ℕ) → PutsField key field value s (play s (Put (Field key field) value))
-puts_field s key field value = record {
-  there = value_at-put_field s key field value (Field key field) ∙ ap (λ b. cond b (Some value) (cond (is_same (Field key field) (Str key)) None (value_at s (Field key field)))) (record_itself (Field key field));
-  no_string = value_at-put_field s key field value (Str key) ∙ ap₂ (λ b c. cond b (Some value) (cond c None (value_at s (Str key)))) (string_is_no_field key key field) (record_itself (Str key));
-  others = λ id differ. value_at-put_field s key field value id ∙ ap₂ (λ b c. cond b (Some value) (cond c None (value_at s id))) (is_other id (Field key field) differ.0) (is_other id (Str key) differ.1);
-}
-
-drops_record : (s : Keyspace) (id : RecordId) → DropsRecord id s (play s (Drop id))
-drops_record s id = record {
-  gone = value_at-without_record s id id ∙ ap (λ b. cond b None (value_at s id)) (record_itself id);
-  others = λ other differ. value_at-without_record s id other ∙ ap (λ b. cond b None (value_at s other)) (is_other other id differ);
-}
-
-drops_key : (s : Keyspace) (key : List ℕ) → DropsKey key s (play s (DropKey key))
-drops_key s key = record {
-  gone = λ id e. value_at-without_key s key id ∙ ap (λ b. cond b None (value_at s id)) (is_same_key_at (key_of id) key e);
-  others = λ id differ. value_at-without_key s key id ∙ ap (λ b. cond b None (value_at s id)) (is_other_key (key_of id) key differ);
-}
-
 pub looked_up-play : (s : Keyspace) (change : Change) → IsLookedUpAfter change s (play s change)
-looked_up-play s (Put (Str key) value) = puts_string s key value
-looked_up-play s (Put (Field key field) value) = puts_field s key field value
-looked_up-play s (Drop id) = drops_record s id
-looked_up-play s (DropKey key) = drops_key s key
+looked_up-play s (Put (Str key) value) = record {
+  there = simp (value_at-put_string, record_itself);
+  no_fields = λ field. simp (value_at-put_string, field_is_no_string, key_itself);
+  others = λ id differ. simp (value_at-put_string, is_other id (Str key) (λ e. differ (ap key_of e)), is_other_key (key_of id) key differ);
+}
+looked_up-play s (Put (Field key field) value) = record {
+  there = simp (value_at-put_field, record_itself);
+  no_string = simp (value_at-put_field, string_is_no_field, record_itself);
+  others = λ id differ. simp (value_at-put_field, is_other id (Field key field) differ.0, is_other id (Str key) differ.1);
+}
+looked_up-play s (Drop id) = record { gone = simp (value_at-without_record, record_itself); others = λ other differ. simp (value_at-without_record, is_other other id differ) }
+looked_up-play s (DropKey key) = record {
+  gone = λ id e. simp (value_at-without_key, is_same_key_at (key_of id) key e);
+  others = λ id differ. simp (value_at-without_key, is_other_key (key_of id) key differ);
+}
 looked_up-play s Clear = λ id. refl

@@ -1,5 +1,5 @@
 -- A record is in a keyspace exactly when the look-up finds it.
-use Rattle.std.proofs.Common.{◌≡◌, ℕ, zero, suc, ◌<◌, List, [], ◌∷◌, length, get_or, Bool, true, false, IsTrue, cond, Some, None, Ordering, Less, Equal, Greater, Contains, refl, sym, ap, ap₂, ◌∙◌, is_eq, is_lt, arith}
+use Rattle.std.proofs.Common.{◌≡◌, ℕ, zero, suc, ◌<◌, List, [], ◌∷◌, length, get_or, Bool, true, false, IsTrue, cond, Some, None, Ordering, Contains, refl, sym, ap, ap₂, ◌∙◌, is_eq, is_lt, arith}
 use Rattle.std.proofs.lemmas.Bool.{and_parts}
 use Rattle.std.specs.FinMap.Entries.{is_sorted, below_all}
 use Rattle.kv_types.specs.declared.record_id.RecordId.{RecordId}
@@ -8,9 +8,7 @@ use Rattle.kv_types.proofs.OrderLemmas.{same_record, record_itself}
 use Rattle.kv_types.proofs.LookUpLemmas.{is_same}
 
 is_lt-no_eq : (o : Ordering) → is_lt o ≡ true → is_eq o ≡ false
-is_lt-no_eq Less e = refl
-is_lt-no_eq Equal e = cc
-is_lt-no_eq Greater e = refl
+is_lt-no_eq o e = grind arith
 
 pub value_at-below_all : (id : RecordId) (s : Keyspace) → IsTrue (below_all record_cmp id s) → value_at s id ≡ None
 value_at-below_all id [] h = refl
@@ -29,9 +27,6 @@ found_at (x ∷ s) id value (suc k) h lt e =
       | true ↦ λ t. let missed : value_at s id ≡ None = ap (value_at s) (same_record id x.0 t) ∙ value_at-below_all x.0 s parts.0 in cc
       | false ↦ λ t. later
     ] refl
-
-pub found-from_member : (s : Keyspace) (id : RecordId) (value : List ℕ) → IsTrue (is_sorted record_cmp s) → Contains s (id, value) → value_at s id ≡ Some value
-found-from_member s id value h m = found_at s id value m.0 h m.1 m.2
 
 pub member-from_found : (s : Keyspace) (id : RecordId) (value : List ℕ) → value_at s id ≡ Some value → Contains s (id, value)
 member-from_found [] id value e = cc

@@ -1,5 +1,5 @@
 -- A keyspace stays a keyspace under every change, and changes are played one after another.
-use Rattle.std.proofs.Common.{◌≡◌, ℕ, List, [], ◌∷◌, ◌++◌, Bool, true, false, IsTrue, cond, not, T, Option, Some, None, IsSome, Ordering, Less, Equal, Greater, refl, sym, ap, subst, subst₂, ◌∙◌, is_eq, Result, Ok, Err, OnOk, OnErr}
+use Rattle.std.proofs.Common.{◌≡◌, ℕ, List, [], ◌∷◌, ◌++◌, Bool, false, IsTrue, cond, not, T, Option, Some, None, IsSome, Ordering, Equal, refl, sym, subst, is_eq, Result, Ok, Err, OnOk, OnErr, arith}
 use Rattle.std.specs.FinMap.Entries.{where_key, is_sorted, is_sorted-put, is_sorted-where_key, same_entries}
 use Rattle.std.specs.Ordering.{ordering_then}
 use Rattle.kv_types.specs.declared.record_id.RecordId.{RecordId}
@@ -17,8 +17,7 @@ T_from : (b : Bool) → IsTrue b → T b
 T_from b e = subst T (sym e) tt
 
 true_from : (b : Bool) → T b → IsTrue b
-true_from true h = refl
-true_from false h = absurd h
+true_from b h = grind arith
 
 pub is_sorted-with_record : (id : RecordId) (value : List ℕ) (s : Keyspace) → IsTrue (is_sorted record_cmp s) → IsTrue (is_sorted record_cmp (with_record id value s))
 is_sorted-with_record id value s h = true_from _ (is_sorted-put record_cmp record_cmp_total id value s (T_from _ h))
@@ -45,40 +44,27 @@ abbrev OneKind : Option (List ℕ) → Option (List ℕ) → Type 0
 OneKind string field = IsSome string → field ≡ None
 
 kinds_dropped : (b c : Bool) (x y : Option (List ℕ)) → OneKind x y → OneKind (cond b None x) (cond c None y)
-kinds_dropped true c x y h is = cc
-kinds_dropped false true x y h is = refl
-kinds_dropped false false x y h is = h is
+kinds_dropped b c x y h is = grind arith
 
 kinds_put_string : (b : Bool) (value : List ℕ) (x y : Option (List ℕ)) → OneKind x y → OneKind (cond b (Some value) (cond b None x)) (cond b None y)
-kinds_put_string true value x y h is = refl
-kinds_put_string false value x y h is = h is
+kinds_put_string b value x y h is = grind arith
 
 is_eq-then_false : (o p : Ordering) → is_eq (ordering_then o Equal) ≡ false → is_eq (ordering_then o p) ≡ false
-is_eq-then_false Less p e = refl
-is_eq-then_false Equal p e = cc
-is_eq-then_false Greater p e = refl
+is_eq-then_false o p e = grind arith
 
 kinds_put_field : (b c : Bool) (value : List ℕ) (x y : Option (List ℕ)) → (b ≡ false → c ≡ false) → OneKind x y → OneKind (cond b None x) (cond c (Some value) y)
-kinds_put_field true c value x y apart h is = cc
-kinds_put_field false c value x y apart h is = ap (λ t. cond t (Some value) y) (apart refl) ∙ h is
+kinds_put_field b c value x y apart h is = grind arith
 
 one_kind-play : (s : Keyspace) (change : Change) → IsKeyspace s → (key field : List ℕ) → OneKind (value_at (play s change) (Str key)) (value_at (play s change) (Field key field))
 one_kind-play s (Put (Str k) value) ok key field =
-    let P : Option (List ℕ) → Option (List ℕ) → Type 0 = OneKind in
-    let string = value_at-put_string s k value (Str key) ∙ ap (λ b. cond b (Some value) (cond (is_same_key key k) None (value_at s (Str key)))) (sym (same_strings key k)) in
-    let hash = value_at-put_string s k value (Field key field) ∙ ap (λ b. cond b (Some value) (cond (is_same_key key k) None (value_at s (Field key field)))) (field_is_no_string key field k) in
-    subst₂ P (sym string) (sym hash) (kinds_put_string (is_same_key key k) value (value_at s (Str key)) (value_at s (Field key field)) (ok.one_kind key field))
+    simp value_at-put_string (simp (same_strings, field_is_no_string) (kinds_put_string (is_same (Str key) (Str k)) value _ _ (ok.one_kind key field)))
 one_kind-play s (Put (Field k f) value) ok key field =
-    let P : Option (List ℕ) → Option (List ℕ) → Type 0 = OneKind in
-    let string = value_at-put_field s k f value (Str key) ∙ ap (λ b. cond b (Some value) (cond (is_same (Str key) (Str k)) None (value_at s (Str key)))) (string_is_no_field key k f) in
-    let hash = value_at-put_field s k f value (Field key field) ∙ ap (λ b. cond (is_same (Field key field) (Field k f)) (Some value) (cond b None (value_at s (Field key field)))) (field_is_no_string key field k) in
-    subst₂ P (sym string) (sym hash) (kinds_put_field (is_same (Str key) (Str k)) (is_same (Field key field) (Field k f)) value (value_at s (Str key)) (value_at s (Field key field)) (is_eq-then_false (bytes_cmp key k) (bytes_cmp field f)) (ok.one_kind key field))
+    let kinds = kinds_put_field (is_same (Str key) (Str k)) (is_same (Field key field) (Field k f)) value _ _ (is_eq-then_false (bytes_cmp key k) (bytes_cmp field f)) (ok.one_kind key field) in
+    simp value_at-put_field (simp (string_is_no_field, field_is_no_string) kinds)
 one_kind-play s (Drop id) ok key field =
-    let P : Option (List ℕ) → Option (List ℕ) → Type 0 = OneKind in
-    subst₂ P (sym (value_at-without_record s id (Str key))) (sym (value_at-without_record s id (Field key field))) (kinds_dropped (is_same (Str key) id) (is_same (Field key field) id) (value_at s (Str key)) (value_at s (Field key field)) (ok.one_kind key field))
+    simp value_at-without_record (kinds_dropped (is_same (Str key) id) (is_same (Field key field) id) _ _ (ok.one_kind key field))
 one_kind-play s (DropKey k) ok key field =
-    let P : Option (List ℕ) → Option (List ℕ) → Type 0 = OneKind in
-    subst₂ P (sym (value_at-without_key s k (Str key))) (sym (value_at-without_key s k (Field key field))) (kinds_dropped (is_same_key key k) (is_same_key key k) (value_at s (Str key)) (value_at s (Field key field)) (ok.one_kind key field))
+    simp value_at-without_key (kinds_dropped (is_same_key key k) (is_same_key key k) _ _ (ok.one_kind key field))
 one_kind-play s Clear ok key field = λ is. refl
 
 pub is_keyspace-play : (s : Keyspace) (change : Change) → IsKeyspace s → IsKeyspace (play s change)
@@ -98,9 +84,6 @@ play_all-append s (change ∷ xs) ys = play_all-append (play s change) xs ys
 pub is_keyspace-played : {A E : Type 0} (r : Result A E) (old new : Keyspace) (change : Change) → IsKeyspace old → OnOk r (new ≡ play old change) → OnErr r (new ≡ old) → IsKeyspace new
 is_keyspace-played (Ok x) old new change ok played unchanged = subst IsKeyspace (sym played) (is_keyspace-play old change ok)
 is_keyspace-played (Err e) old new change ok played unchanged = subst IsKeyspace (sym unchanged) ok
-
-pub play_all-push : (s : Keyspace) (changes : List Change) (change : Change) → play_all s (changes ++ change ∷ []) ≡ play (play_all s changes) change
-play_all-push s changes change = play_all-append s changes (change ∷ [])
 
 pub is_keyspace-empty : IsKeyspace []
 is_keyspace-empty = record { sorted = refl; one_kind = λ key field is. refl }

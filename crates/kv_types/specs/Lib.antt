@@ -1,5 +1,6 @@
 pub mod formers
 pub mod Word
+pub mod CommandName
 pub mod Keyspace
 pub mod LookUp
 pub mod Order

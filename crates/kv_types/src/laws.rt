@@ -1,8 +1,12 @@
 //! Laws of the definitions, each the contract of a function that does nothing.
-ghost use Rattle.std.specs.Prelude.{◌≡◌, ◌↔◌, ℕ, List, [], ◌∷◌, ◌++◌, length, flat_map, Some, Contains};
+ghost use Rattle.std.specs.Prelude.{◌≡◌, ◌↔◌, ℕ, List, [], ◌∷◌, ◌++◌, length, flat_map, Some, Contains, IsTrue};
+ghost use Rattle.std.specs.Str.{str_to_ascii_lowercase};
 ghost use Rattle.kv_types.specs.declared.change.Change.{Change};
+ghost use Rattle.kv_types.specs.declared.command_name.CommandName.{CommandName};
+ghost use Rattle.kv_types.specs.declared.command_name.TheConstants.{COMMANDS};
 ghost use Rattle.kv_types.specs.declared.record_id.RecordId.{RecordId};
 ghost use Rattle.kv_types.specs.declared.reply.Reply.{Reply, Array};
+ghost use Rattle.kv_types.specs.CommandName.{text, is_named, find};
 ghost use Rattle.kv_types.specs.Keyspace.{Keyspace, IsKeyspace, value_at, play, play_all};
 ghost use Rattle.kv_types.specs.LookUp.{IsLookedUpAfter};
 ghost use Rattle.kv_types.specs.Reply.{text_of};
@@ -38,4 +42,11 @@ pub fn records_are_found()
 /// The text of an array is `*`, the number of its replies, and their texts.
 pub fn array_text()
     ensures { (replies : List Reply) → text_of (Array replies) ≡ 42 ∷ number_line (length replies) ++ flat_map text_of replies }
+{}
+
+/// A word that is the name of a command, in any ASCII case, finds this command: no command is left out, and no two have one name. And a word
+/// that finds a command is its whole name.
+pub fn commands_are_found()
+    ensures found { (command : CommandName) (word : List ℕ) → IsTrue (is_named (text command) word) → find COMMANDS word ≡ Some command }
+    ensures named { (command : CommandName) (word : List ℕ) → find COMMANDS word ≡ Some command → str_to_ascii_lowercase word ≡ text command }
 {}

@@ -3,6 +3,7 @@
 
 mod bounded;
 mod change;
+mod command_name;
 mod grammar_laws;
 mod integer;
 mod item;
@@ -18,12 +19,13 @@ mod request;
 
 pub use bounded::{BoundedBytes, Field, Key, Value};
 pub use change::{Change, changes_fit};
+pub use command_name::{COMMANDS, CommandName};
 pub use grammar_laws::{items_are_asked_for, items_grow, one_spelling};
 pub use integer::{read_int, write_int};
 pub use item::{Item, ProtocolFault};
 pub use laws::{
-    array_text, keyspace_stays, look_up_after_change, look_ups_tell_apart, play_in_two_parts,
-    records_are_found,
+    array_text, commands_are_found, keyspace_stays, look_up_after_change, look_ups_tell_apart,
+    play_in_two_parts, records_are_found,
 };
 pub use limits::{Limits, MAX_CHANGE_BYTES, MAX_KEY_BYTES, MAX_VALUE_BYTES, REQUEST_LIMITS};
 pub use listed::Listed;

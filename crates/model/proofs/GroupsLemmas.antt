@@ -1,5 +1,6 @@
 -- What a group does to the versions, their map and the contents of an engine.
-use Rattle.std.proofs.Common.{◌≡◌, ℕ, ◌<◌, ◌≤◌, Bool, true, false, cond, not, ◌||◌, ◌&&◌, List, [], ◌∷◌, ◌++◌, map, IsTrue, Some, None, nat_eq, refl, sym, ap, subst, ◌∙◌, arith, append-nil, ne_eqb}
+use Rattle.std.proofs.Common.{◌≡◌, ℕ, ◌≤◌, false, ◌||◌, List, [], ◌∷◌, ◌++◌, map, None, refl, sym, ap, subst, ◌∙◌, arith, append-nil, ne_eqb}
+use Rattle.std.proofs.lemmas.Bool.{or_parts, and_parts}
 use Rattle.std.specs.List.{flat_map, AllByRecursion}
 use Rattle.kv_types.specs.Keyspace.{Keyspace, play, play_all}
 use Rattle.kv_types.proofs.PlayLemmas.{play_all-append}
@@ -8,15 +9,10 @@ use Rattle.model.specs.declared.group.Group.{Group}
 use Rattle.model.specs.declared.group.Part.{Part}
 use Rattle.model.specs.declared.group.Put.{Put}
 use Rattle.model.specs.declared.group.PlacedChange.{PlacedChange}
-use Rattle.model.specs.declared.group.PlacedChange.TheVariants as placed
-use Rattle.model.specs.Group.{change_of, put_of, changes_of_part, puts_of_part, changes_of_group, puts_of_group, Versions, ended_where_begun, version_of_put, change_versions, changes_versions, part_versions, parts_versions, is_put_at, IsPlaced, IsApartFrom, AreAllApart, IsUnused, Contents, IsGroup, IsConsistent, after_group}
+use Rattle.model.specs.Group.{change_of, put_of, changes_of_part, puts_of_part, changes_of_group, puts_of_group, Versions, change_versions, changes_versions, part_versions, parts_versions, is_put_at, IsPlaced, IsApartFrom, AreAllApart, IsUnused, Contents, IsGroup, IsConsistent, after_group}
 use Rattle.model.proofs.VersionsLemmas.{HasRoom, IsMapOf-change}
 
 -- ---- facts of each element
-
-All-map : {X : Type 0} (P Q : X → Type 0) → ((x : X) → P x → Q x) → (xs : List X) → AllByRecursion P xs → AllByRecursion Q xs
-All-map P Q f [] h = tt
-All-map P Q f (x ∷ xs) h = (f x h.0, All-map P Q f xs h.1)
 
 All-both : {X : Type 0} (P Q R : X → Type 0) → ((x : X) → P x → Q x → R x) → (xs : List X) → AllByRecursion P xs → AllByRecursion Q xs → AllByRecursion R xs
 All-both P Q R f [] h k = tt
@@ -49,47 +45,30 @@ beside_more x xs put apart beside = ap (λ b. b || is_put_at put.entry.0 xs) (ne
 
 -- none of the earlier puts is at the entry of a later one
 AllBeside : (xs ys : List Put) → AreAllApart (xs ++ ys) → AllByRecursion (IsBeside xs) ys
-AllBeside [] ys h = nothing ys
-  where
-    nothing : (ys : List Put) → AllByRecursion (IsBeside []) ys
-    nothing [] = tt
-    nothing (y ∷ ys) = (refl, nothing ys)
+AllBeside [] [] h = tt
+AllBeside [] (y ∷ ys) h = (refl, AllBeside [] ys h.1)
 AllBeside (x ∷ xs) ys h = All-both (IsApartFrom x) (IsBeside xs) (IsBeside (x ∷ xs)) (beside_more x xs) ys (All-rest (IsApartFrom x) xs ys h.0) (AllBeside xs ys h.1)
-
-neither : (a b : Bool) → (a || b) ≡ false → (a ≡ false) × (b ≡ false)
-neither true b e = cc
-neither false b e = (refl, e)
-
-or_append : (a b c : Bool) → ((a || b) || c) ≡ (a || (b || c))
-or_append true b c = refl
-or_append false b c = refl
 
 pub is_put_at-append : (i : ℕ) (xs ys : List Put) → is_put_at i (xs ++ ys) ≡ (is_put_at i xs || is_put_at i ys)
 is_put_at-append i [] ys = refl
-is_put_at-append i (x ∷ xs) ys = ap (λ b. nat_eq i x.entry.0 || b) (is_put_at-append i xs ys) ∙ sym (or_append (nat_eq i x.entry.0) (is_put_at i xs) (is_put_at i ys))
+is_put_at-append i (x ∷ xs) ys = grind (arith, is_put_at-append i xs ys)
 
 -- ---- entries that hold nothing
 
 -- an entry without a version gets one only from a put
 pub change_versions-none : (position : ℕ) (versions : Versions) (placed_change : PlacedChange) (i : ℕ) → versions i ≡ None → is_put_at i (put_of placed_change) ≡ false → change_versions position versions placed_change i ≡ None
-change_versions-none position versions (placed.Put put) i none beside =
-    let c = change_of (placed.Put put) in
-    let other : nat_eq i put.entry.0 ≡ false = (neither (nat_eq i put.entry.0) false beside).0 in
-    ap (λ b. cond b (Some (version_of_put position put)) (ended_where_begun c (versions i))) other ∙ ap (ended_where_begun c) none
-change_versions-none position versions (placed.Drop id) i none beside = ap (ended_where_begun (change_of (placed.Drop id))) none
-change_versions-none position versions (placed.DropKey key) i none beside = ap (ended_where_begun (change_of (placed.DropKey key))) none
-change_versions-none position versions placed.Clear i none beside = ap (ended_where_begun (change_of placed.Clear)) none
+change_versions-none position versions c i none beside = grind arith
 
 pub changes_versions-none : (position : ℕ) (versions : Versions) (changes : List PlacedChange) (i : ℕ) → versions i ≡ None → is_put_at i (flat_map put_of changes) ≡ false → changes_versions position versions changes i ≡ None
 changes_versions-none position versions [] i none beside = none
 changes_versions-none position versions (c ∷ changes) i none beside =
-    let apart = neither (is_put_at i (put_of c)) (is_put_at i (flat_map put_of changes)) (sym (is_put_at-append i (put_of c) (flat_map put_of changes)) ∙ beside) in
+    let apart = or_parts _ _ (sym (is_put_at-append i (put_of c) (flat_map put_of changes)) ∙ beside) in
     changes_versions-none position (change_versions position versions c) changes i (change_versions-none position versions c i none apart.0) apart.1
 
 pub parts_versions-none : (versions : Versions) (parts : List Part) (i : ℕ) → versions i ≡ None → is_put_at i (flat_map puts_of_part parts) ≡ false → parts_versions versions parts i ≡ None
 parts_versions-none versions [] i none beside = none
 parts_versions-none versions (part ∷ parts) i none beside =
-    let apart = neither (is_put_at i (puts_of_part part)) (is_put_at i (flat_map puts_of_part parts)) (sym (is_put_at-append i (puts_of_part part) (flat_map puts_of_part parts)) ∙ beside) in
+    let apart = or_parts _ _ (sym (is_put_at-append i (puts_of_part part) (flat_map puts_of_part parts)) ∙ beside) in
     parts_versions-none (part_versions versions part) parts i (changes_versions-none part.position versions part.changes.items i none apart.0) apart.1
 
 -- ---- the map
@@ -141,18 +120,13 @@ IsMapOf-after_group contents group s consistent lawful map =
 -- no put of a group has an entry beyond the directory
 not_beyond : (lines : ℕ) (puts : List Put) (i : ℕ) → AllByRecursion (IsPlaced lines) puts → entries_of_lines lines ≤ i → is_put_at i puts ≡ false
 not_beyond lines [] i placed le = refl
-not_beyond lines (put ∷ puts) i placed le = ap (λ b. b || is_put_at i puts) (ne_eqb i put.entry.0 (too_low placed.0.entry)) ∙ not_beyond lines puts i placed.1 le
-  where
-    too_low : put.entry.0 < entries_of_lines lines → i ≡ put.entry.0 → ⊥
-    too_low lt e = omega arith
-
-both_true : (a b : Bool) → IsTrue (a && not b) → IsTrue a × (b ≡ false)
-both_true true true e = cc
-both_true true false e = (refl, refl)
-both_true false b e = cc
+not_beyond lines (put ∷ puts) i placed le = let low = placed.0.entry in rw (ne_eqb i put.entry.0 (λ e. omega arith)) (not_beyond lines puts i placed.1 le)
 
 pub IsConsistent-after_group : (contents : Contents) (group : Group) → IsConsistent contents → IsGroup contents group → IsConsistent (after_group contents group)
 IsConsistent-after_group contents group consistent lawful = record {
-  free = λ i is. let both = both_true (contents.is_free i) (is_put_at i (puts_of_group group)) is in parts_versions-none contents.versions group.parts.items i (consistent.free i both.0) both.1;
+  free = λ i is.
+      let both = and_parts (contents.is_free i) _ is in
+      let beside : is_put_at i (puts_of_group group) ≡ false = grind (arith, both.1) in
+      parts_versions-none contents.versions group.parts.items i (consistent.free i both.0) beside;
   beyond = λ i le. parts_versions-none contents.versions group.parts.items i (consistent.beyond i le) (not_beyond contents.lines (puts_of_group group) i lawful.placed le);
 }

@@ -10,9 +10,6 @@ use Rattle.kv_types.proofs.LookUpLemmas.{is_same, is_same_at, is_other, value_at
 use Rattle.kv_types.proofs.PlayLemmas.{is_sorted-with_record, same_keyspace}
 use Rattle.model.specs.Image.{Version, IsLive, IsMapOf, with_version, map_below}
 
-not_below : (i n : ℕ) → i < n → i ≡ n → ⊥
-not_below i n lt e = omega arith
-
 -- ---- one map at most
 
 -- a value that is found on one side is found on the other
@@ -58,10 +55,7 @@ IsMapOf-none versions entries none = record {
 -- what is known of a live entry's version
 pub live_version : {versions : ℕ → Option Version} {i : ℕ} {id : RecordId} {value : List ℕ} (version : Version) → versions i ≡ Some version → IsLive versions i id value
     → (version.is_ended ≡ false) × (version.id ≡ id) × (version.value ≡ value)
-live_version version e live =
-    let begun = live.begun in
-    let same : version ≡ live.version = cc in
-    (ap (λ (v : Version). v.is_ended) same ∙ live.not_ended, ap (λ (v : Version). v.id) same ∙ live.id_is, ap (λ (v : Version). v.value) same ∙ live.value_is)
+live_version version e live = let begun = live.begun in (cc, cc, cc)
 
 -- ---- computed
 
@@ -73,10 +67,8 @@ OnceBelow versions n = (i j : ℕ) (id : RecordId) (v w : List ℕ) → i < n �
 more_idle : (versions : ℕ → Option Version) (n : ℕ) (s : Keyspace) → ((id : RecordId) (value : List ℕ) → IsLive versions n id value → ⊥) → OnceBelow versions (suc n) → IsMapOf versions n s → IsMapOf versions (suc n) s
 more_idle versions n s idle once map = record {
   held = λ id value e. let live = map.held id value e in (live.0, omega arith, live.2);
-  found = λ i id value lt live. ⊎_elim
-      (λ (below : i < n). map.found i id value below live)
-      (λ (above : n ≤ i). let last : i ≡ n = omega arith in absurd (idle id value (subst (λ k. IsLive versions k id value) last live)))
-      (cases_lt i n);
+  found = λ i id value lt live. ⊎_elim (λ (below : i < n). map.found i id value below live)
+      (λ (above : n ≤ i). let last : i ≡ n = omega arith in absurd (idle id value (rw last at live))) (cases_lt i n);
   once = once;
 }
 
@@ -94,7 +86,8 @@ more_live versions n s version begun going once map = record {
   found = λ i id value lt live. value_at-with_record s version.id version.value id ∙ ⊎_elim
       (λ (below : i < n).
       let own : IsLive versions n version.id version.value = record { version = version; begun = begun; not_ended = going; id_is = refl; value_is = refl } in
-      let differ : is_same id version.id ≡ false = is_other id version.id (λ same. not_below i n below (once i n id value version.value lt (omega arith) live (subst (λ other. IsLive versions n other version.value) (sym same) own))) in
+      let differ : is_same id version.id ≡ false = is_other id version.id (λ same.
+      let at : i ≡ n = once i n id value version.value lt (omega arith) live (subst (λ other. IsLive versions n other version.value) (sym same) own) in omega arith) in
       ap (λ b. cond b (Some version.value) (value_at s id)) differ ∙ map.found i id value below live)
       (λ (above : n ≤ i).
       let last : i ≡ n = omega arith in
@@ -113,11 +106,12 @@ more_version versions n s (Some version) e once map =
       | false ↦ λ going. more_live versions n s version e going once map
     ] refl
 
-map_below-from : (versions : ℕ → Option Version) (n : ℕ) → OnceBelow versions n → IsMapOf versions n (map_below versions n)
+-- what is computed is a map, where no record is live twice
+pub IsMapOf-map_below : (versions : ℕ → Option Version) (entries : ℕ) → OnceBelow versions entries → IsMapOf versions entries (map_below versions entries)
 unfolding map_below
-map_below-from versions zero once = IsMapOf-none versions 0 (λ i lt. absurd (omega arith))
-map_below-from versions (suc n) once =
-    more_version versions n (map_below versions n) (versions n) refl once (map_below-from versions n (λ i j id v w lt lt' a b. once i j id v w (omega arith) (omega arith) a b))
+IsMapOf-map_below versions zero once = IsMapOf-none versions 0 (λ i lt. absurd (omega arith))
+IsMapOf-map_below versions (suc n) once =
+    more_version versions n (map_below versions n) (versions n) refl once (IsMapOf-map_below versions n (λ i j id v w lt lt' a b. once i j id v w (omega arith) (omega arith) a b))
 
 is_sorted-with_version : (entry : Option Version) (s : Keyspace) → IsTrue (is_sorted record_cmp s) → IsTrue (is_sorted record_cmp (with_version entry s))
 is_sorted-with_version None s h = h
@@ -128,10 +122,6 @@ pub is_sorted-map_below : (versions : ℕ → Option Version) (n : ℕ) → IsTr
 unfolding map_below
 is_sorted-map_below versions zero = refl
 is_sorted-map_below versions (suc n) = is_sorted-with_version (versions n) (map_below versions n) (is_sorted-map_below versions n)
-
--- what is computed is a map, where no record is live twice
-pub IsMapOf-map_below : (versions : ℕ → Option Version) (entries : ℕ) → OnceBelow versions entries → IsMapOf versions entries (map_below versions entries)
-IsMapOf-map_below versions entries once = map_below-from versions entries once
 
 -- the map is computed
 pub map_below-map : {versions : ℕ → Option Version} {entries : ℕ} {s : Keyspace} → IsMapOf versions entries s → IsKeyspace s → map_below versions entries ≡ s

@@ -24,10 +24,6 @@ IsPrefix-append {ys = ys} more a = IsPrefix-trans a (IsPrefix-of_append ys more)
 pub IsPrefix-cons : {X : Type 0} {xs ys : List X} (x : X) → IsPrefix xs ys → IsPrefix (x ∷ xs) (x ∷ ys)
 IsPrefix-cons x a = record { rest = a.rest; joined = ap (λ whole. x ∷ whole) a.joined }
 
--- both with the same prefix put in front
-pub IsPrefix-same_prefix : {X : Type 0} {xs ys : List X} (prefix : List X) → IsPrefix xs ys → IsPrefix (prefix ++ xs) (prefix ++ ys)
-IsPrefix-same_prefix {xs = xs} prefix a = record { rest = a.rest; joined = append_assoc prefix xs a.rest ∙ ap (λ whole. prefix ++ whole) a.joined }
-
 pub IsPrefix-map : {X Y : Type 0} {xs ys : List X} (f : X → Y) → IsPrefix xs ys → IsPrefix (map f xs) (map f ys)
 IsPrefix-map {xs = xs} f a = record { rest = map f a.rest; joined = sym (map-append f xs a.rest) ∙ ap (map f) a.joined }
 

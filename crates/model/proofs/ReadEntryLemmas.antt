@@ -6,14 +6,8 @@ use Rattle.std.proofs.lemmas.Grind.{flat_map-append}
 use Rattle.model.specs.Image.{Image, words_from, bytes_at}
 
 words_from-suc : (image : Image) (first count : ℕ) → words_from image first (suc count) ≡ words_from image first count ++ image (first + count) ∷ []
-words_from-suc image first zero = let same : first ≡ first + 0 = omega arith in ap (λ n. image n ∷ []) same
-words_from-suc image first (suc count) =
-    let same : first + 1 + count ≡ first + suc count = omega arith in
-    ap (λ words. image first ∷ words) (words_from-suc image (first + 1) count ∙ ap (λ n. words_from image (first + 1) count ++ image n ∷ []) same)
-
--- one more word
-pub words_from-more : (image : Image) (first count : ℕ) → words_from image first (count + 1) ≡ words_from image first count ++ image (first + count) ∷ []
-words_from-more image first count = rw add-one (words_from-suc image first count)
+words_from-suc image first zero = grind arith
+words_from-suc image first (suc count) = grind (arith, words_from-suc image (first + 1) count)
 
 pub length-words_from : (image : Image) (first count : ℕ) → length (words_from image first count) ≡ count
 length-words_from image first zero = refl
@@ -26,7 +20,8 @@ length-word_bytes (word ∷ words) = let rest = length-word_bytes words in omega
 -- the bytes of one more word
 pub word_bytes-more : (image : Image) (first count : ℕ) → flat_map (to_le_bytes w64) (words_from image first (count + 1)) ≡ flat_map (to_le_bytes w64) (words_from image first count) ++ to_le_bytes w64 (image (first + count))
 word_bytes-more image first count =
-    ap (flat_map (to_le_bytes w64)) (words_from-more image first count) ∙ flat_map-append (to_le_bytes w64) (words_from image first count) (image (first + count) ∷ [])
+    let more : words_from image first (count + 1) ≡ words_from image first count ++ image (first + count) ∷ [] = rw add-one (words_from-suc image first count) in
+    ap (flat_map (to_le_bytes w64)) more ∙ flat_map-append (to_le_bytes w64) (words_from image first count) (image (first + count) ∷ [])
     ∙ ap (λ last. flat_map (to_le_bytes w64) (words_from image first count) ++ last) (append-nil (to_le_bytes w64 (image (first + count))))
 
 pub length-bytes_at : (image : Image) (line count : ℕ) → length (bytes_at image line count) ≡ count

@@ -1,6 +1,6 @@
 -- The map of an image, read entry by entry.
-use Rattle.std.proofs.Common.{◌≡◌, ℕ, suc, ◌+◌, ◌<◌, ◌≤◌, Bool, true, false, cond, not, ◌&&◌, ◌||◌, inl, inr, ⊎_elim, List, [], ◌∷◌, IsTrue, IsSome, Option, Some, None, is_some, refl, sym, ap, subst, ◌∙◌, arith, add-one}
-use Rattle.std.proofs.lemmas.Bool.{cases_lt, true≢false}
+use Rattle.std.proofs.Common.{◌≡◌, ℕ, suc, ◌+◌, ◌<◌, ◌≤◌, Bool, true, false, cond, ◌||◌, inl, inr, ⊎_elim, List, [], ◌∷◌, IsTrue, IsSome, Option, Some, None, is_some, refl, sym, ap, subst, ◌∙◌, arith, add-one}
+use Rattle.std.proofs.lemmas.Bool.{cases_lt, and_parts, or_parts}
 use Rattle.std.specs.List.{list_any}
 use Rattle.kv_types.specs.declared.record_id.RecordId.{RecordId}
 use Rattle.kv_types.specs.declared.record_id.RecordId.TheVariants.{Str, Field}
@@ -14,40 +14,17 @@ use Rattle.model.specs.ReadImage.{image_of, line_count, record_in, is_clash, IsR
 use Rattle.model.proofs.MapLemmas.{OnceBelow, more_version}
 use Rattle.model.proofs.RecordLemmas.{HasRecord-unique}
 
--- ---- tests
-
-both_are : (a b : Bool) → (a && b) ≡ true → (a ≡ true) × (b ≡ true)
-both_are true b e = (refl, e)
-both_are false b e = cc
-
-neither : (a b : Bool) → (a || b) ≡ false → (a ≡ false) × (b ≡ false)
-neither true b e = cc
-neither false b e = (refl, e)
-
-or_true : (a : Bool) → (a || true) ≡ true
-or_true true = refl
-or_true false = refl
-
-or_false : (a : Bool) → (a || false) ≡ a
-or_false true = refl
-or_false false = refl
-
-and_true : (a b : Bool) → b ≡ true → (a && b) ≡ a
-and_true true b e = e
-and_true false b e = refl
-
 -- ---- clashes
 
 clash_itself : (id : RecordId) → is_clash id id ≡ true
-clash_itself (Str key) = and_true (is_same_key key key) _ (or_true (is_same (Str key) (Str key) || true)) ∙ key_itself key
-clash_itself (Field key field) = and_true (is_same_key key key) _ (or_false (is_same (Field key field) (Field key field) || false) ∙ or_false (is_same (Field key field) (Field key field)) ∙ record_itself (Field key field)) ∙ key_itself key
+clash_itself (Str key) = grind (arith, key_itself key)
+clash_itself (Field key field) = grind (arith, key_itself key, record_itself (Field key field))
 
 clash_with_string : (other : RecordId) (key : List ℕ) → is_clash other (Str key) ≡ is_same_key (key_of other) key
-clash_with_string (Str a) key = and_true (is_same_key a key) _ (or_true (is_same (Str a) (Str key) || true))
-clash_with_string (Field a f) key = and_true (is_same_key a key) _ (or_true (is_same (Field a f) (Str key) || false))
+clash_with_string other key = grind arith
 
 clash_of_string : (a key field : List ℕ) → is_clash (Str a) (Field key field) ≡ is_same_key a key
-clash_of_string a key field = and_true (is_same_key a key) _ (ap (λ b. b || false) (or_true (is_same (Str a) (Field key field))))
+clash_of_string a key field = grind arith
 
 -- whether some record of the keyspace clashes with this one
 abbrev clashes : Keyspace → RecordId → Bool
@@ -56,28 +33,18 @@ clashes s id = list_any (λ (entry : RecordId × List ℕ). is_clash entry.0 id)
 -- where none clashes, the record is not there
 pub value_at-no_clash : (s : Keyspace) (id : RecordId) → clashes s id ≡ false → value_at s id ≡ None
 value_at-no_clash [] id none = refl
-value_at-no_clash (entry ∷ s) id none =
-    let parts = neither (is_clash entry.0 id) (clashes s id) none in
-    elim (is_same id entry.0) as (λ b. is_same id entry.0 ≡ b → cond b (Some entry.1) (value_at s id) ≡ None) [
-      | true ↦ λ same. let clash = ap (λ other. is_clash other id) (sym (same_record id entry.0 same)) ∙ clash_itself id in let no_clash = parts.0 in cc
-      | false ↦ λ same. value_at-no_clash s id parts.1
-    ] refl
+value_at-no_clash (entry ∷ s) id none = grind (arith, or_parts, same_record id entry.0, clash_itself id, value_at-no_clash s id)
 
 without_key-no_clash : (s : Keyspace) (key : List ℕ) → clashes s (Str key) ≡ false → without_key key s ≡ s
 without_key-no_clash [] key none = refl
-without_key-no_clash (entry ∷ s) key none =
-    let parts = neither (is_clash entry.0 (Str key)) (clashes s (Str key)) none in
-    ap (λ b. cond (not b) (entry ∷ without_key key s) (without_key key s)) (sym (clash_with_string entry.0 key) ∙ parts.0) ∙ ap (λ rest. entry ∷ rest) (without_key-no_clash s key parts.1)
+without_key-no_clash (entry ∷ s) key none = grind (arith, or_parts, clash_with_string entry.0 key, without_key-no_clash s key)
 
 no_string : (other : RecordId) (key field : List ℕ) → is_clash other (Field key field) ≡ false → is_same other (Str key) ≡ false
-no_string (Str a) key field none = sym (same_strings a key) ∙ sym (clash_of_string a key field) ∙ none
-no_string (Field a f) key field none = field_is_no_string a f key
+no_string other key field none = grind (arith, same_strings, field_is_no_string)
 
 without_record-no_clash : (s : Keyspace) (key field : List ℕ) → clashes s (Field key field) ≡ false → without_record (Str key) s ≡ s
 without_record-no_clash [] key field none = refl
-without_record-no_clash (entry ∷ s) key field none =
-    let parts = neither (is_clash entry.0 (Field key field)) (clashes s (Field key field)) none in
-    ap (λ b. cond (not b) (entry ∷ without_record (Str key) s) (without_record (Str key) s)) (no_string entry.0 key field parts.0) ∙ ap (λ rest. entry ∷ rest) (without_record-no_clash s key field parts.1)
+without_record-no_clash (entry ∷ s) key field none = grind (arith, or_parts, no_string entry.0 key field, without_record-no_clash s key field)
 
 -- and writing it leaves all others
 pub play-no_clash : (s : Keyspace) (id : RecordId) (value : List ℕ) → clashes s id ≡ false → play s (change.Put id value) ≡ with_record id value s
@@ -101,20 +68,18 @@ some_is (Some x) e = (x, refl)
 
 -- records of one keyspace that clash are the same
 clash_apart : (t : Keyspace) → IsKeyspace t → (other id : RecordId) (v w : List ℕ) → value_at t other ≡ Some v → value_at t id ≡ Some w → is_clash other id ≡ true → other ≡ id
-clash_apart t lawful (Str a) (Str b) v w there here clash = ap Str (same_key a b (both_are (is_same_key a b) _ clash).0)
+clash_apart t lawful (Str a) (Str b) v w there here clash = ap Str (same_key a b (and_parts (is_same_key a b) _ clash).0)
 clash_apart t lawful (Str a) (Field b g) v w there here clash =
-    let same = same_key a b (both_are (is_same_key a b) _ clash).0 in
+    let same = same_key a b (and_parts (is_same_key a b) _ clash).0 in
     let none = lawful.one_kind a g (ap is_some there) in
     let found : value_at t (Field a g) ≡ Some w = ap (λ k. value_at t (Field k g)) same ∙ here in
     cc
 clash_apart t lawful (Field a f) (Str b) v w there here clash =
-    let same = same_key a b (both_are (is_same_key a b) _ clash).0 in
+    let same = same_key a b (and_parts (is_same_key a b) _ clash).0 in
     let none = lawful.one_kind b f (ap is_some here) in
     let found : value_at t (Field b f) ≡ Some v = ap (λ k. value_at t (Field k f)) (sym same) ∙ there in
     cc
-clash_apart t lawful (Field a f) (Field b g) v w there here clash =
-    let test = (both_are (is_same_key a b) _ clash).1 in
-    same_record (Field a f) (Field b g) (sym (or_false (is_same (Field a f) (Field b g))) ∙ sym (or_false (is_same (Field a f) (Field b g) || false)) ∙ test)
+clash_apart t lawful (Field a f) (Field b g) v w there here clash = let test = (and_parts (is_same_key a b) _ clash).1 in same_record (Field a f) (Field b g) (grind (arith, test))
 
 -- ---- one entry
 
@@ -137,24 +102,10 @@ AddsEntry-put r image i s new id value begun going id_is value_is none played =
 
 -- an entry that is not live adds nothing
 pub AddsEntry-ended : (r : Record) (image : Image) (i : ℕ) (s : Keyspace) → counts r (image (entry_word i 0)) ≡ true → counts r (image (entry_word i 1)) ≡ true → AddsEntry (version_at r image) i s s
-AddsEntry-ended r image i s begun ended =
-    let version = version_in r image i in
-    record {
-      added = sym (ap (λ b. cond b s (with_record version.id version.value s)) ended) ∙ ap (λ entry. with_version entry s) (sym (begun_at r image i begun));
-      fresh = λ other is not_ended.
-          let some : Some version ≡ Some other = sym (begun_at r image i begun) ∙ is in
-          let same : version ≡ other = cc in
-          let going : version.is_ended ≡ false = ap (λ (v : Version). v.is_ended) same ∙ not_ended in
-          absurd (true≢false (sym ended ∙ going));
-    }
+AddsEntry-ended r image i s begun ended = record { added = grind arith; fresh = λ other is not_ended. grind arith }
 
 pub AddsEntry-none : (r : Record) (image : Image) (i : ℕ) (s : Keyspace) → counts r (image (entry_word i 0)) ≡ false → AddsEntry (version_at r image) i s s
-AddsEntry-none r image i s free =
-    let none : version_at r image i ≡ None = ap (λ b. cond b (Some (version_in r image i)) None) free in
-    record {
-      added = ap (λ entry. with_version entry s) (sym none);
-      fresh = λ other is not_ended. let both : None ≡ Some other = sym none ∙ is in cc;
-    }
+AddsEntry-none r image i s free = record { added = grind arith; fresh = λ other is not_ended. grind arith }
 
 pub CannotAdd-clash : (lines : ℕ) (r : Record) (image : Image) (i : ℕ) (s : Keyspace) (id : RecordId) → counts r (image (entry_word i 0)) ≡ true → counts r (image (entry_word i 1)) ≡ false → id ≡ (record_in image i).0
     → clashes s id ≡ true → CannotAdd lines r image i s

@@ -1,5 +1,5 @@
 -- A record read word by word.
-use Rattle.std.proofs.Common.{◌≡◌, ◌≢◌, ℕ, zero, suc, ◌+◌, ◌-◌, ◌*◌, ◌<◌, ◌≤◌, List, [], ◌∷◌, ◌++◌, length, take, replicate, refl, sym, ap, subst, ◌∙◌, arith, add-zero}
+use Rattle.std.proofs.Common.{◌≡◌, ◌≢◌, ℕ, zero, suc, ◌+◌, ◌-◌, ◌*◌, ◌<◌, ◌≤◌, List, [], ◌∷◌, ◌++◌, length, take, replicate, refl, sym, ap, subst, ◌∙◌, arith, add-zero, add_assoc}
 use Rattle.std.specs.List.{flat_map}
 use Rattle.std.proofs.Math.Seq.{take-append-add}
 use Rattle.std.proofs.lemmas.List.{take-replicate, length-replicate, replicate_more}
@@ -51,10 +51,8 @@ abbrev pub pair_at : Image → ℕ → Gap
 pair_at image first = record { first = image first; last = image (first + 1) }
 
 gaps_from-suc : (image : Image) (first count : ℕ) → gaps_from image first (suc count) ≡ gaps_from image first count ++ pair_at image (first + 2 * count) ∷ []
-gaps_from-suc image first zero = let same : first ≡ first + 2 * 0 = omega arith in ap (λ n. pair_at image n ∷ []) same
-gaps_from-suc image first (suc count) =
-    let same : first + 2 + 2 * count ≡ first + 2 * suc count = omega arith in
-    ap (λ gaps. pair_at image first ∷ gaps) (gaps_from-suc image (first + 2) count ∙ ap (λ n. gaps_from image (first + 2) count ++ pair_at image n ∷ []) same)
+gaps_from-suc image first zero = grind arith
+gaps_from-suc image first (suc count) = grind (arith, gaps_from-suc image (first + 2) count)
 
 -- one more pair
 pub gaps_from-more : (image : Image) (first count : ℕ) → gaps_from image first (count + 1) ≡ gaps_from image first count ++ pair_at image (first + 2 * count) ∷ []
@@ -67,15 +65,6 @@ HasWords-gaps_from image first (suc count) =
     let same : first + 2 ≡ first + 1 + 1 = omega arith in
     let rest = flat_map gap_words (gaps_from image (first + 2) count) in
     (refl, (refl, HasWords-at image (first + 2) (first + 1 + 1) rest same (HasWords-gaps_from image (first + 2) count)))
-
-gaps_from-HasWords : (image : Image) (first : ℕ) (gaps : List Gap) → HasWords image first (flat_map gap_words gaps) → gaps_from image first (length gaps) ≡ gaps
-gaps_from-HasWords image first [] h = refl
-gaps_from-HasWords image first (gap ∷ gaps) h =
-    let same : first + 1 + 1 ≡ first + 2 = omega arith in
-    let rest = gaps_from-HasWords image (first + 2) gaps (HasWords-at image (first + 1 + 1) (first + 2) (flat_map gap_words gaps) same h.1.1) in
-    let a : image first ≡ gap.first = h.0 in
-    let b : image (first + 1) ≡ gap.last = h.1.0 in
-    λ i. record { first = a i; last = b i } ∷ rest i
 
 length-pairs : (gaps : List Gap) → length (flat_map gap_words gaps) ≡ 2 * length gaps
 length-pairs [] = refl
@@ -94,108 +83,42 @@ gaps_words-pairs gaps few =
 abbrev pub slot_word : ℕ → ℕ → ℕ
 slot_word lines root = first_word (slot_line lines root)
 
--- the record is in its slot, word by word
-pub record StandsInSlot (lines : ℕ) (image : Image) (first : ℕ) (r : Record) : Type 0 where
-  pub root : image root_word ≡ r.number
-  pub slot : first ≡ slot_word lines r.number
-  pub number : image first ≡ r.number
-  pub position : image (first + 1) ≡ r.position
-  pub cp : image (first + 2) ≡ r.cp
-  pub cd : image (first + 3) ≡ r.cd
-  pub epoch : image (first + 4) ≡ r.epoch
-  pub count : image (first + 5) ≡ length r.gaps.items
-  pub few : length r.gaps.items ≤ MAX_GAPS
-  pub gaps : r.gaps.items ≡ gaps_from image (first + 6) (length r.gaps.items)
-  pub unused : AreZero image (first + 6 + 2 * length r.gaps.items) (gap_room - 2 * length r.gaps.items)
-  pub role : image (first + LAYOUT.role_word) ≡ role_number r.role
-  pub last : image (first + (LAYOUT.role_word + 1)) ≡ 0
-
-word_is : (image : Image) (a b : ℕ) (x : ℕ) → a ≡ b → image b ≡ x → image a ≡ x
-word_is image a b x same e = ap image same ∙ e
-
-pub IsRecordOf-slot : (lines : ℕ) (image : Image) (first : ℕ) (r : Record) → StandsInSlot lines image first r → IsRecordOf lines image r
-IsRecordOf-slot lines image first r stands =
-    let pairs = flat_map gap_words r.gaps.items in
-    let unused = 16 - 2 * length r.gaps.items in
-    let ending = role_number r.role ∷ 0 ∷ [] in
-    let in_gaps : HasWords image (first + 6) pairs = subst (λ gaps. HasWords image (first + 6) (flat_map gap_words gaps)) (sym stands.gaps) (HasWords-gaps_from image (first + 6) (length r.gaps.items)) in
-    let zeros : HasWords image (first + 6 + length pairs) (replicate unused 0) = HasWords-at image (first + 6 + 2 * length r.gaps.items) (first + 6 + length pairs) (replicate unused 0) (ap (λ n. first + 6 + n) (sym (length-pairs r.gaps.items))) stands.unused in
-    let middle : HasWords image (first + 6) (gaps_words r.gaps.items) = subst (HasWords image (first + 6)) (sym (gaps_words-pairs r.gaps.items stands.few)) (HasWords-append image (first + 6) pairs (replicate unused 0) in_gaps zeros) in
-    let after : HasWords image (first + 6 + length (gaps_words r.gaps.items)) ending = (
-      word_is image (first + 6 + length (gaps_words r.gaps.items)) (first + LAYOUT.role_word) (role_number r.role) (omega (arith, length-gaps_words r.gaps.items)) stands.role,
-      (word_is image (first + 6 + length (gaps_words r.gaps.items) + 1) (first + (LAYOUT.role_word + 1)) 0 (omega (arith, length-gaps_words r.gaps.items)) stands.last, tt),
-    ) in
-    let tail : HasWords image (first + 1 + 1 + 1 + 1 + 1 + 1) (gaps_words r.gaps.items ++ ending) =
-    HasWords-at image (first + 6) (first + 1 + 1 + 1 + 1 + 1 + 1) (gaps_words r.gaps.items ++ ending) (omega arith) (HasWords-append image (first + 6) (gaps_words r.gaps.items) ending middle after) in
-    let words : HasWords image first (record_words r) = (
-      stands.number,
-      (
-        stands.position,
-        (
-          word_is image (first + 1 + 1) (first + 2) r.cp (omega arith) stands.cp,
-          (
-            word_is image (first + 1 + 1 + 1) (first + 3) r.cd (omega arith) stands.cd,
-            (word_is image (first + 1 + 1 + 1 + 1) (first + 4) r.epoch (omega arith) stands.epoch, (word_is image (first + 1 + 1 + 1 + 1 + 1) (first + 5) (length r.gaps.items) (omega arith) stands.count, tail)),
-          ),
-        ),
-      ),
-    ) in
-    record {
-      has_record = record { root = stands.root; words = HasWords-at image first (record_word lines r.number 0) (record_words r) (stands.slot ∙ sym (add-zero (slot_word lines r.number))) words };
-      few = stands.few;
-    }
-
--- the words of a record are those that its slot has
-pub slot-IsRecordOf : (lines : ℕ) (image : Image) (r : Record) → IsRecordOf lines image r → StandsInSlot lines image (slot_word lines r.number) r
-slot-IsRecordOf lines image r is =
-    let first = slot_word lines r.number in
-    let words : HasWords image first (record_words r) = HasWords-at image (record_word lines r.number 0) first (record_words r) (add-zero first) is.has_record.words in
-    let pairs = flat_map gap_words r.gaps.items in
-    let unused = 16 - 2 * length r.gaps.items in
-    let ending = role_number r.role ∷ 0 ∷ [] in
-    let count = words.1.1.1.1.1.0 in
-    let tail : HasWords image (first + 6) (gaps_words r.gaps.items ++ ending) = HasWords-at image (first + 1 + 1 + 1 + 1 + 1 + 1) (first + 6) (gaps_words r.gaps.items ++ ending) (omega arith) words.1.1.1.1.1.1 in
-    let middle : HasWords image (first + 6) (pairs ++ replicate unused 0) = subst (HasWords image (first + 6)) (gaps_words-pairs r.gaps.items is.few) (HasWords-prefix image (first + 6) (gaps_words r.gaps.items) ending tail) in
-    let after : HasWords image (first + 6 + length (gaps_words r.gaps.items)) ending = HasWords-rest image (first + 6) (gaps_words r.gaps.items) ending tail in
-    record {
-      root = is.has_record.root;
-      slot = refl;
-      number = words.0;
-      position = words.1.0;
-      cp = word_is image (first + 2) (first + 1 + 1) r.cp (omega arith) words.1.1.0;
-      cd = word_is image (first + 3) (first + 1 + 1 + 1) r.cd (omega arith) words.1.1.1.0;
-      epoch = word_is image (first + 4) (first + 1 + 1 + 1 + 1) r.epoch (omega arith) words.1.1.1.1.0;
-      count = word_is image (first + 5) (first + 1 + 1 + 1 + 1 + 1) (length r.gaps.items) (omega arith) count;
-      few = is.few;
-      gaps = sym (gaps_from-HasWords image (first + 6) r.gaps.items (HasWords-prefix image (first + 6) pairs (replicate unused 0) middle));
-      unused = HasWords-at image (first + 6 + length pairs) (first + 6 + 2 * length r.gaps.items) (replicate unused 0) (ap (λ n. first + 6 + n) (length-pairs r.gaps.items)) (HasWords-rest image (first + 6) pairs (replicate unused 0) middle);
-      role = word_is image (first + LAYOUT.role_word) (first + 6 + length (gaps_words r.gaps.items)) (role_number r.role) (omega (arith, length-gaps_words r.gaps.items)) after.0;
-      last = word_is image (first + (LAYOUT.role_word + 1)) (first + 6 + length (gaps_words r.gaps.items) + 1) 0 (omega (arith, length-gaps_words r.gaps.items)) after.1.0;
-    }
-
 -- ---- no record
 
 -- what is known of a record's slot where the root is this number
-at_root : (lines : ℕ) (image : Image) (number first : ℕ) (r : Record) → image root_word ≡ number → first ≡ slot_word lines number → IsRecordOf lines image r → StandsInSlot lines image first r
+record IsAt (image : Image) (number first : ℕ) (r : Record) : Type 0 where
+  number_is : image first ≡ number
+  count : image (first + 5) ≡ length r.gaps.items
+  unused : AreZero image (first + 6 + 2 * length r.gaps.items) (gap_room - 2 * length r.gaps.items)
+  role : image (first + LAYOUT.role_word) ≡ role_number r.role
+  last : image (first + (LAYOUT.role_word + 1)) ≡ 0
+
+at_root : (lines : ℕ) (image : Image) (number first : ℕ) (r : Record) → image root_word ≡ number → first ≡ slot_word lines number → IsRecordOf lines image r → IsAt image number first r
 at_root lines image number first r root slot is =
-    let stands = slot-IsRecordOf lines image r is in
-    subst (λ n. StandsInSlot lines image n r) (sym slot) (subst (λ n. StandsInSlot lines image (slot_word lines n) r) (sym stands.root ∙ root) stands)
+    let number_is : r.number ≡ number = sym is.has_record.root ∙ root in
+    let words = HasWords-at image (record_word lines r.number 0) first (record_words r) (add-zero (slot_word lines r.number) ∙ ap (slot_word lines) number_is ∙ sym slot) is.has_record.words in
+    let pairs = flat_map gap_words r.gaps.items in
+    let unused : List ℕ = replicate (16 - 2 * length r.gaps.items) 0 in
+    let ending = role_number r.role ∷ 0 ∷ [] in
+    let tail : HasWords image (first + 6) (gaps_words r.gaps.items ++ ending) = HasWords-at image (first + 1 + 1 + 1 + 1 + 1 + 1) (first + 6) (gaps_words r.gaps.items ++ ending) (omega arith) words.1.1.1.1.1.1 in
+    let middle : HasWords image (first + 6) (pairs ++ unused) = subst (HasWords image (first + 6)) (gaps_words-pairs r.gaps.items is.few)
+    (HasWords-prefix image (first + 6) (gaps_words r.gaps.items) ending tail) in
+    let after = simp (length-gaps_words, add_assoc) at (HasWords-rest image (first + 6) (gaps_words r.gaps.items) ending tail) in
+    record {
+      number_is = words.0 ∙ number_is;
+      count = simp add_assoc at words.1.1.1.1.1.0;
+      unused = rw (length-pairs r.gaps.items) at (HasWords-rest image (first + 6) pairs unused middle);
+      role = after.0;
+      last = after.1.0;
+    }
 
 pub no_record-role : (lines : ℕ) (image : Image) (number first code : ℕ) → image root_word ≡ number → first ≡ slot_word lines number → image (first + LAYOUT.role_word) ≡ code → ((role : Role) → role_number role ≢ code) → (r : Record) → IsRecordOf lines image r → ⊥
 no_record-role lines image number first code root slot at none r is = let stands = at_root lines image number first r root slot is in none r.role (sym stands.role ∙ at)
 
-pub no_record-count : (lines : ℕ) (image : Image) (number first count : ℕ) → image root_word ≡ number → first ≡ slot_word lines number → image (first + 5) ≡ count → MAX_GAPS < count → (r : Record) → IsRecordOf lines image r → ⊥
-no_record-count lines image number first count root slot at many r is = let stands = at_root lines image number first r root slot is in let same = sym stands.count ∙ at in let few = stands.few in omega arith
-
 pub no_record-filled : (lines : ℕ) (image : Image) (number first count : ℕ) → image root_word ≡ number → first ≡ slot_word lines number → image (first + 5) ≡ count → (IsFilled image first number count → ⊥) → (r : Record) → IsRecordOf lines image r → ⊥
 no_record-filled lines image number first count root slot at none r is =
     let stands = at_root lines image number first r root slot is in
-    let count_is = sym stands.count ∙ at in
-    none (record {
-      number_is = stands.number ∙ sym stands.root ∙ root;
-      last = stands.last;
-      unused = subst (λ n. AreZero image (first + 6 + 2 * n) (gap_room - 2 * n)) count_is stands.unused;
-    })
+    none (record { number_is = stands.number_is; last = stands.last; unused = subst (λ n. AreZero image (first + 6 + 2 * n) (gap_room - 2 * n)) (sym stands.count ∙ at) stands.unused })
 
 -- a record that was read
 pub IsRecordOf-read : (lines : ℕ) (image : Image) (number first count : ℕ) (r : Record) → image root_word ≡ number → first ≡ slot_word lines number → r.number ≡ number → image (first + 1) ≡ r.position → image (first + 2) ≡ r.cp
@@ -203,18 +126,15 @@ pub IsRecordOf-read : (lines : ℕ) (image : Image) (number first count : ℕ) (
     → image (first + LAYOUT.role_word) ≡ role_number r.role → IsFilled image first number count → IsRecordOf lines image r
 IsRecordOf-read lines image number first count r root slot number_is position cp cd epoch at few gaps role filled =
     let len : length r.gaps.items ≡ count = ap length gaps ∙ length-gaps_from image (first + 6) count in
-    IsRecordOf-slot lines image first r (record {
-      root = root ∙ sym number_is;
-      slot = slot ∙ ap (slot_word lines) (sym number_is);
-      number = filled.number_is ∙ sym number_is;
-      position = position;
-      cp = cp;
-      cd = cd;
-      epoch = epoch;
-      count = at ∙ sym len;
-      few = omega arith;
-      gaps = gaps ∙ ap (gaps_from image (first + 6)) (sym len);
-      unused = subst (λ n. AreZero image (first + 6 + 2 * n) (gap_room - 2 * n)) (sym len) filled.unused;
-      role = role;
-      last = filled.last;
-    })
+    let pairs = flat_map gap_words r.gaps.items in
+    let unused : List ℕ = replicate (16 - 2 * length r.gaps.items) 0 in
+    let ending = role_number r.role ∷ 0 ∷ [] in
+    let in_gaps : HasWords image (first + 6) pairs = subst (λ gaps. HasWords image (first + 6) (flat_map gap_words gaps)) (sym gaps) (HasWords-gaps_from image (first + 6) count) in
+    let zeros : HasWords image (first + 6 + length pairs) unused = rw (length-pairs r.gaps.items, len) filled.unused in
+    let middle : HasWords image (first + 6) (gaps_words r.gaps.items) = subst (HasWords image (first + 6)) (sym (gaps_words-pairs r.gaps.items (omega arith)))
+    (HasWords-append image (first + 6) pairs unused in_gaps zeros) in
+    let after : HasWords image (first + 6 + length (gaps_words r.gaps.items)) ending = simp (length-gaps_words, add_assoc) (role, (filled.last, tt)) in
+    let tail : HasWords image (first + 6) (gaps_words r.gaps.items ++ ending) = HasWords-append image (first + 6) (gaps_words r.gaps.items) ending middle after in
+    let words : HasWords image first (record_words r) = simp add_assoc (filled.number_is ∙ sym number_is, (position, (cp, (cd, (epoch, (at ∙ sym len, tail)))))) in
+    let start : first ≡ record_word lines r.number 0 = slot ∙ ap (slot_word lines) (sym number_is) ∙ sym (add-zero (slot_word lines r.number)) in
+    record { has_record = record { root = root ∙ sym number_is; words = HasWords-at image first (record_word lines r.number 0) (record_words r) start words }; few = omega arith }

@@ -4,9 +4,8 @@ use Rattle.std.specs.List.{flat_map}
 use Rattle.model.specs.declared.record.Gap.{Gap}
 use Rattle.model.specs.declared.record.Record.{Record}
 use Rattle.model.specs.declared.record.Role.{Role}
-use Rattle.model.specs.declared.record.Role.TheVariants.{Primary, Standby}
 use Rattle.model.specs.declared.record.TheConstants.{MAX_GAPS}
-use Rattle.model.specs.Image.{Image, HasWords, words_from, record_word, role_number, gap_words, gaps_words, record_words, HasRecord}
+use Rattle.model.specs.Image.{Image, HasWords, record_word, role_number, gap_words, gaps_words, record_words, HasRecord}
 
 -- ---- words one after another
 
@@ -14,19 +13,7 @@ pub HasWords-same : (image : Image) (first : ℕ) (xs ys : List ℕ) → length 
 HasWords-same image first [] [] e a b = refl
 HasWords-same image first [] (y ∷ ys) e a b = absurd (omega arith)
 HasWords-same image first (x ∷ xs) [] e a b = absurd (omega arith)
-HasWords-same image first (x ∷ xs) (y ∷ ys) e a b =
-    let head : x ≡ y = sym a.0 ∙ b.0 in
-    let tail = HasWords-same image (first + 1) xs ys (omega arith) a.1 b.1 in
-    λ i. head i ∷ tail i
-
--- the words that are there are those that are read
-pub words_from-HasWords : (image : Image) (first : ℕ) (xs : List ℕ) → HasWords image first xs → words_from image first (length xs) ≡ xs
-words_from-HasWords image first [] h = refl
-words_from-HasWords image first (x ∷ xs) h = let head = h.0 in let tail = words_from-HasWords image (first + 1) xs h.1 in λ i. head i ∷ tail i
-
-pub HasWords-words_from : (image : Image) (first count : ℕ) → HasWords image first (words_from image first count)
-HasWords-words_from image first zero = tt
-HasWords-words_from image first (suc count) = (refl, HasWords-words_from image (first + 1) count)
+HasWords-same image first (x ∷ xs) (y ∷ ys) e a b = cc (a.0, b.0, HasWords-same image (first + 1) xs ys (omega arith) a.1 b.1)
 
 -- ---- a record's words
 
@@ -37,13 +24,7 @@ pub length-record_words : (r : Record) → length (record_words r) ≡ 24
 length-record_words r = omega (arith, length-append (gaps_words r.gaps.items) (role_number r.role ∷ 0 ∷ []), length-gaps_words r.gaps.items)
 
 same_role : (a b : Role) → role_number a ≡ role_number b → a ≡ b
-same_role Primary Primary e = refl
-same_role Primary Standby e = absurd (omega arith)
-same_role Standby Primary e = absurd (omega arith)
-same_role Standby Standby e = refl
-
-same_gap : (a b : Gap) → a.first ≡ b.first → a.last ≡ b.last → a ≡ b
-same_gap a b first last = λ i. record { first = first i; last = last i }
+same_role a b e = grind arith
 
 -- the pairs determine the gaps, where there is room for all of them
 same_gaps : (xs ys : List Gap) (room : ℕ) → length xs ≡ length ys → 2 * length xs ≤ room → take room (flat_map gap_words xs ++ replicate 16 0) ≡ take room (flat_map gap_words ys ++ replicate 16 0) → xs ≡ ys
@@ -56,19 +37,14 @@ same_gaps (x ∷ xs) (y ∷ ys) (suc (suc room)) e le same =
     let first : x.first ≡ y.first = cc in
     let last : x.last ≡ y.last = cc in
     let more : take room (flat_map gap_words xs ++ replicate 16 0) ≡ take room (flat_map gap_words ys ++ replicate 16 0) = cc in
-    let gap = same_gap x y first last in
     let rest = same_gaps xs ys room (omega arith) (omega arith) more in
-    λ i. gap i ∷ rest i
+    λ i. record { first = first i; last = last i } ∷ rest i
 
 same_prefixes : (xs ys us vs : List ℕ) → length xs ≡ length ys → xs ++ us ≡ ys ++ vs → (xs ≡ ys) × (us ≡ vs)
 same_prefixes [] [] us vs e same = (refl, same)
 same_prefixes [] (y ∷ ys) us vs e same = absurd (omega arith)
 same_prefixes (x ∷ xs) [] us vs e same = absurd (omega arith)
-same_prefixes (x ∷ xs) (y ∷ ys) us vs e same =
-    let head : x ≡ y = cc in
-    let more : xs ++ us ≡ ys ++ vs = cc in
-    let tails = same_prefixes xs ys us vs (omega arith) more in
-    (λ i. head i ∷ tails.0 i, tails.1)
+same_prefixes (x ∷ xs) (y ∷ ys) us vs e same = let tails = same_prefixes xs ys us vs (omega arith) cc in (cc, tails.1)
 
 -- two records with the same words are equal, where there is room for their gaps
 same_record_words : (a b : Record) → length a.gaps.items ≤ MAX_GAPS → record_words a ≡ record_words b → a ≡ b

@@ -1,20 +1,18 @@
 -- The sessions of the state after a call, and after a list.
-use Rattle.std.proofs.Common.{◌≡◌, ◌≢◌, ℕ, true, false, cond, nat_eq, List, [], ◌∷◌, ◌++◌, ◌+◌, map, length, suc, ◌⊎◌, inl, inr, refl, sym, ap, ap₂, subst, ◌∙◌, eq-eqb, ne_eqb}
+use Rattle.std.proofs.Common.{◌≡◌, ◌≢◌, ℕ, true, false, List, [], ◌∷◌, ◌+◌, length, suc, ◌⊎◌, inl, inr, refl, sym, ap, ◌∙◌, eq-eqb, ne_eqb, arith}
 use Rattle.kv_types.specs.declared.item.Item.{Item}
 use Rattle.kv_types.specs.declared.item.Item.TheVariants.{Request, Fault}
 use mathlib.Core.Former.{Count}
 use Rattle.kv_types.specs.declared.reply.Reply.{Reply, Array, Array', Row_of-Reply, end_of-Reply, more_of-Reply, items-the_row-Reply, items_hidden-the_row-Reply-0}
-use Rattle.kv_types.specs.declared.change.Change.{Change}
 use Rattle.kv_types.specs.Keyspace.{Keyspace, play_all}
 use Rattle.kv_types.specs.Change.{changes_size}
-use Rattle.cmd_table.specs.Request.{closes as request_closes}
 use Rattle.multi_watch.specs.Session.{Session, idle_session, modified_where}
 use Rattle.multi_watch.specs.Admission.{Admission, RunAll, session_after_request, session_after_refusal}
 use Rattle.multi_watch.specs.Modified.{modifies}
 use Rattle.model.specs.declared.call.Call.{Call}
 use Rattle.model.specs.Command.{closes}
 use Rattle.model.specs.State.{State, start_state}
-use Rattle.model.specs.Call.{MayStandAll, MayAnswer, AreAlike, admission_at, memory_reply, list_of_row, replies_in, all_made, changes_for, made, changes_of, is_memory, calls_of, items_of, session_after_item, session_before_marks, session_after, after_call, state_from, state_after}
+use Rattle.model.specs.Call.{MayStandAll, MayAnswer, AreAlike, admission_at, memory_reply, list_of_row, replies_in, all_made, changes_for, made, changes_of, is_memory, items_of, session_after_item, session_after, after_call, state_from, state_after}
 use Rattle.model.proofs.CallsLemmas.{changes_of-alike}
 
 -- ---- one call
@@ -23,78 +21,49 @@ abbrev pub marks : State → Call → Session → Session
 marks s call = modified_where (modifies s.keyspace (changes_of s call))
 
 pub session_after-own : (s : State) (call : Call) → session_after s call call.connection ≡ marks s call (session_after_item (s.sessions call.connection) call.item call.reply)
-session_after-own s call =
-    ap (λ b. marks s call (cond b (session_after_item (s.sessions call.connection) call.item call.reply) (s.sessions call.connection))) (eq-eqb call.connection call.connection refl)
+session_after-own s call = simp (eq-eqb call.connection call.connection refl)
 
 pub session_after-other : (s : State) (call : Call) (connection : ℕ) → call.connection ≢ connection → session_after s call connection ≡ marks s call (s.sessions connection)
-session_after-other s call connection differ =
-    ap (λ b. marks s call (cond b (session_after_item (s.sessions call.connection) call.item call.reply) (s.sessions connection))) (ne_eqb call.connection connection differ)
+session_after-other s call connection differ = simp (ne_eqb call.connection connection differ)
 
 -- what it leaves of its own session depends on nothing else
 pub session_after-alike : (s t : State) (a b : Call) → AreAlike s a t b → session_after s a a.connection ≡ session_after t b b.connection
 session_after-alike s t a b alike =
-    let left : session_after_item (s.sessions a.connection) a.item a.reply ≡ session_after_item (t.sessions b.connection) b.item b.reply =
-    ap (λ (session : Session). session_after_item session a.item a.reply) alike.session
-    ∙ ap (λ (item : Item). session_after_item (t.sessions b.connection) item a.reply) alike.item
-    ∙ ap (λ (reply : Reply). session_after_item (t.sessions b.connection) b.item reply) alike.reply in
     let changes = changes_of-alike s t a b alike in
-    session_after-own s a
-    ∙ ap₂ (λ (k : Keyspace) (made : List Change). modified_where (modifies k made) (session_after_item (s.sessions a.connection) a.item a.reply)) alike.keyspace changes
-    ∙ ap (modified_where (modifies t.keyspace (changes_of t b))) left ∙ sym (session_after-own t b)
+    let own = session_after-own s a in
+    let own' = session_after-own t b in
+    cc
 
 -- what it marks in the session of another connection does not depend on who made it
 pub session_after-others : (s t : State) (a b : Call) (c d : ℕ) → AreAlike s a t b → a.connection ≢ c → b.connection ≢ d → s.sessions c ≡ t.sessions d → session_after s a c ≡ session_after t b d
 session_after-others s t a b c d alike differ differ' same =
-    session_after-other s a c differ
-    ∙ ap₂ (λ (k : Keyspace) (made : List Change). modified_where (modifies k made) (s.sessions c)) alike.keyspace (changes_of-alike s t a b alike)
-    ∙ ap (modified_where (modifies t.keyspace (changes_of t b))) same ∙ sym (session_after-other t b d differ')
+    let changes = changes_of-alike s t a b alike in
+    let other = session_after-other s a c differ in
+    let other' = session_after-other t b d differ' in
+    cc
 
 -- ---- one's own session after its item
 
 pub item-closed : (session : Session) (item : Item) (reply : Reply) → closes item ≡ true → session_after_item session item reply ≡ idle_session
-item-closed session (Request words) reply e =
-    ap (λ b. cond b idle_session (cond (is_memory reply) (session_after_refusal session words) (session_after_request session words))) e
+item-closed session (Request words) reply e = simp e
 item-closed session (Fault fault) reply e = refl
 
 -- nothing is left where the item closes the connection
 pub session_after-closed : (s : State) (call : Call) → closes call.item ≡ true → session_after s call call.connection ≡ idle_session
 session_after-closed s call e = session_after-own s call ∙ ap (marks s call) (item-closed (s.sessions call.connection) call.item call.reply e)
 
-item-answered : (session : Session) (words : List (List ℕ)) (reply : Reply) → request_closes words ≡ false → is_memory reply ≡ false
-    → session_after_item session (Request words) reply ≡ session_after_request session words
-item-answered session words reply stays known =
-    ap (λ b. cond b idle_session (cond (is_memory reply) (session_after_refusal session words) (session_after_request session words))) stays
-    ∙ ap (λ b. cond b (session_after_refusal session words) (session_after_request session words)) known
-
-item-refused : (session : Session) (words : List (List ℕ)) (reply : Reply) → request_closes words ≡ false → is_memory reply ≡ true
-    → session_after_item session (Request words) reply ≡ session_after_refusal session words
-item-refused session words reply stays known =
-    ap (λ b. cond b idle_session (cond (is_memory reply) (session_after_refusal session words) (session_after_request session words))) stays
-    ∙ ap (λ b. cond b (session_after_refusal session words) (session_after_request session words)) known
-
 pub own-answered : (s : State) (call : Call) (words : List (List ℕ)) → call.item ≡ Request words → closes call.item ≡ false → is_memory call.reply ≡ false
     → session_after s call call.connection ≡ marks s call (session_after_request (s.sessions call.connection) words)
-own-answered s call words is stays known =
-    session_after-own s call ∙ ap (λ item. marks s call (session_after_item (s.sessions call.connection) item call.reply)) is
-    ∙ ap (marks s call) (item-answered (s.sessions call.connection) words call.reply (ap closes (sym is) ∙ stays) known)
+own-answered s call words is stays known = simp (eq-eqb call.connection call.connection refl, is, simp is at stays, known)
 
 pub own-refused : (s : State) (call : Call) (words : List (List ℕ)) → call.item ≡ Request words → closes call.item ≡ false → is_memory call.reply ≡ true
     → session_after s call call.connection ≡ marks s call (session_after_refusal (s.sessions call.connection) words)
-own-refused s call words is stays known =
-    session_after-own s call ∙ ap (λ item. marks s call (session_after_item (s.sessions call.connection) item call.reply)) is
-    ∙ ap (marks s call) (item-refused (s.sessions call.connection) words call.reply (ap closes (sym is) ∙ stays) known)
+own-refused s call words is stays known = simp (eq-eqb call.connection call.connection refl, is, simp is at stays, known)
 
 -- ---- a connection that has made no call
 
 first_other : (connection : ℕ) (call : Call) (calls : List Call) → items_of connection (call ∷ calls) ≡ [] → (call.connection ≢ connection) × (items_of connection calls ≡ [])
-first_other connection call calls none =
-    elim (nat_eq call.connection connection) as (λ b. nat_eq call.connection connection ≡ b → map (λ (c : Call). c.item) (cond b (call ∷ calls_of connection calls) (calls_of connection calls)) ≡ [] → (call.connection ≢ connection) × (items_of connection calls ≡ [])) [
-      | true ↦ λ e h. cc
-      | false ↦ λ e h. (λ same. both (sym e ∙ eq-eqb call.connection connection same), h)
-    ] refl none
-  where
-    both : false ≡ true → ⊥
-    both e = cc
+first_other connection call calls none = grind (arith, eq-eqb call.connection connection)
 
 sessions_from : (s : State) (calls : List Call) (connection : ℕ) → items_of connection calls ≡ [] → s.sessions connection ≡ idle_session → (state_from s calls).sessions connection ≡ idle_session
 sessions_from s [] connection none idle = idle

@@ -5,10 +5,10 @@ use Rattle.model.specs.declared.call.Call.{Call}
 use Rattle.model.specs.declared.record.Record.{Record}
 use Rattle.model.specs.declared.record.TheConstants.{MAX_GAPS}
 use Rattle.model.specs.Call.{position_of}
-use Rattle.model.specs.Image.{Image, Version, entries_of_lines, HasSuperblock, HasRecord, version_at, IsMapOf, map_below, Holds}
+use Rattle.model.specs.Image.{Image, Version, entries_of_lines, HasSuperblock, HasRecord, version_at, IsMapOf, Holds}
 use Rattle.model.specs.Standing.{Holder, StandsAt}
 use Rattle.model.proofs.CallsLemmas.{keyspace_after-cut_at-append}
-use Rattle.model.proofs.MapLemmas.{IsMapOf-unique, IsMapOf-same, map_below-map}
+use Rattle.model.proofs.MapLemmas.{IsMapOf-unique, IsMapOf-same}
 use Rattle.model.proofs.RecordLemmas.{HasRecord-unique}
 
 -- an image with this record holds the map of the versions that its entries have
@@ -23,10 +23,6 @@ Holds-record {lines} {a} {b} {image = image} few in_a in_b = HasRecord-unique li
 
 pub Holds-keyspace : {lines : ℕ} {r : Record} {s t : Keyspace} {image : Image} → IsKeyspace s → IsKeyspace t → Holds lines r s image → Holds lines r t image → s ≡ t
 Holds-keyspace lawful_s lawful_t in_s in_t = IsMapOf-unique in_s.map in_t.map lawful_s lawful_t
-
--- and the keyspace is computed from the entries
-pub map_below-Holds : {lines : ℕ} {r : Record} {s : Keyspace} {image : Image} → IsKeyspace s → Holds lines r s image → map_below (version_at r image) (entries_of_lines lines) ≡ s
-map_below-Holds lawful held = map_below-map held.map lawful
 
 -- ---- standing
 

@@ -1,5 +1,6 @@
 -- What a change does to the versions and to their map.
-use Rattle.std.proofs.Common.{◌≡◌, ℕ, ◌<◌, Bool, true, false, cond, ◌||◌, List, [], ◌∷◌, map, Option, Some, None, nat_eq, refl, sym, ap, subst, ◌∙◌, eq-eqb, ne_eqb, eqb-true}
+use Rattle.std.proofs.Common.{◌≡◌, ℕ, ◌<◌, Bool, true, false, cond, ◌||◌, List, [], ◌∷◌, map, Option, Some, None, nat_eq, refl, sym, ap, subst, ◌∙◌, eq-eqb, ne_eqb, eqb-true, arith}
+use Rattle.std.proofs.lemmas.Bool.{or_parts}
 use Rattle.std.specs.List.{AllByRecursion}
 use Rattle.kv_types.specs.declared.record_id.RecordId.{RecordId}
 use Rattle.kv_types.specs.declared.record_id.RecordId.TheVariants.{Str, Field}
@@ -21,13 +22,9 @@ use Rattle.model.proofs.MapLemmas.{live_version, not_live}
 abbrev pub without_ended : Change → Keyspace → RecordId → Option (List ℕ)
 without_ended c s id = cond (ends_record c id) None (value_at s id)
 
-cond_or : (a b : Bool) (x y : Option (List ℕ)) → cond a x (cond b None y) ≡ cond a x (cond (a || b) None y)
-cond_or true b x y = refl
-cond_or false b x y = refl
-
 pub value_at-put : (s : Keyspace) (id : RecordId) (value : List ℕ) (q : RecordId) → value_at (play s (change.Put id value)) q ≡ cond (is_same q id) (Some value) (without_ended (change.Put id value) s q)
 value_at-put s (Str key) value q = value_at-put_string s key value q
-value_at-put s (Field key field) value q = value_at-put_field s key field value q ∙ cond_or (is_same q (Field key field)) (is_same q (Str key)) (Some value) (value_at s q)
+value_at-put s (Field key field) value q = grind (arith, value_at-put_field s key field value q)
 
 -- a put ends what its record held
 pub ends_record-own : (id : RecordId) (value : List ℕ) → ends_record (change.Put id value) id ≡ true
@@ -41,9 +38,6 @@ record Maps (versions : ℕ → Option Version) (entries : ℕ) (found_at : Reco
   found : (i : ℕ) (id : RecordId) (value : List ℕ) → i < entries → IsLive versions i id value → found_at id ≡ Some value
   once : (i j : ℕ) (id : RecordId) (v w : List ℕ) → i < entries → j < entries → IsLive versions i id v → IsLive versions j id w → i ≡ j
 
-maps-map : (versions : ℕ → Option Version) (entries : ℕ) (s : Keyspace) → IsMapOf versions entries s → Maps versions entries (value_at s)
-maps-map versions entries s map = record { held = map.held; found = map.found; once = map.once }
-
 map-maps : (versions : ℕ → Option Version) (entries : ℕ) (found_at : RecordId → Option (List ℕ)) (s : Keyspace) → ((id : RecordId) → value_at s id ≡ found_at id) → Maps versions entries found_at → IsMapOf versions entries s
 map-maps versions entries found_at s same maps = record {
   held = λ id value e. maps.held id value (sym (same id) ∙ e);
@@ -56,10 +50,6 @@ map-maps versions entries found_at s same maps = record {
 begun_before : (entry : Option Version) (c : Change) (ended : Version) → ended_where_begun c entry ≡ Some ended → (version : Version) × (entry ≡ Some version) × (ended_by c version ≡ ended)
 begun_before None c ended e = cc
 begun_before (Some version) c ended e = (version, refl, cc)
-
-pub neither : (a b : Bool) → (a || b) ≡ false → (a ≡ false) × (b ≡ false)
-neither true b e = cc
-neither false b e = (refl, e)
 
 -- a live version of a record that the change does not end stays live
 pub live_after : (versions : Versions) (c : Change) (i : ℕ) (id : RecordId) (value : List ℕ) → ends_record c id ≡ false → IsLive versions i id value → IsLive (λ j. ended_where_begun c (versions j)) i id value
@@ -77,7 +67,7 @@ live_before versions c i id value live =
     let before = begun_before (versions i) c live.version live.begun in
     let version = before.0 in
     let ended = before.2 in
-    let going = neither version.is_ended (ends_record c version.id) (ap (λ (v : Version). v.is_ended) ended ∙ live.not_ended) in
+    let going = or_parts version.is_ended (ends_record c version.id) (ap (λ (v : Version). v.is_ended) ended ∙ live.not_ended) in
     let same : version.id ≡ id = ap (λ (v : Version). v.id) ended ∙ live.id_is in
     (record { version = version; begun = before.1; not_ended = going.0; id_is = same; value_is = ap (λ (v : Version). v.value) ended ∙ live.value_is }, ap (ends_record c) (sym same) ∙ going.1)
 

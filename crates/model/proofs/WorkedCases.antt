@@ -10,13 +10,13 @@ use Rattle.kv_types.specs.declared.reply.Reply.{Reply, Simple, Error, Bulk, Null
 use Rattle.kv_types.specs.Keyspace.{Keyspace}
 use Rattle.cmd_core.specs.Contents.{has_key}
 use Rattle.cmd_core.specs.Integer.{int_of}
-use Rattle.cmd_table.specs.Row.{is_named}
+use Rattle.kv_types.specs.CommandName.{is_named}
 use Rattle.cmd_table.specs.Request.{outcome_of_words, closes}
 use Rattle.model.specs.declared.call.Call.{Call}
 use Rattle.multi_watch.specs.Session.{idle_session}
 use Rattle.multi_watch.specs.Admission.{Answer}
 use Rattle.multi_watch.specs.Verb.{verb_of}
-use Rattle.model.specs.Command.{Outcome, outcome_of, admission_of}
+use Rattle.model.specs.Command.{Effect, outcome_of, admission_of}
 use Rattle.model.proofs.CallsLemmas.{position_of-push}
 use Rattle.model.proofs.SessionLemmas.{replies_in-Array}
 use Rattle.model.specs.Call.{memory_reply, full_reply, changes_of, all_made, is_nonempty, IsLegal, state_after, keyspace_after, position_of, cut_at, replies_to, up_to_closing}
@@ -27,68 +27,30 @@ use Rattle.model.specs.Position.{changes_at}
 abbrev holds_a : Keyspace
 holds_a = (Str (codes "a"), codes "1") ∷ []
 
-abbrev refusing : List ℕ → Outcome
+abbrev refusing : List ℕ → Effect
 refusing message = record { reply = Error message; changes = [] }
 
-get_absent : outcome_of [] (codes "GET" ∷ codes "z" ∷ []) ≡ record { reply = NullBulk; changes = [] }
+requests :
+    (outcome_of [] (codes "GET" ∷ codes "z" ∷ []) ≡ record { reply = NullBulk; changes = [] })
+    × (outcome_of holds_a (codes "get" ∷ codes "a" ∷ []) ≡ record { reply = Bulk (codes "1"); changes = [] })
+    × (outcome_of [] (codes "sEt" ∷ codes "a" ∷ codes "1" ∷ []) ≡ record { reply = Simple (codes "OK"); changes = Put (Str (codes "a")) (codes "1") ∷ [] })
+    -- the empty value
+    × (outcome_of [] (codes "SET" ∷ codes "e" ∷ [] ∷ []) ≡ record { reply = Simple (codes "OK"); changes = Put (Str (codes "e")) [] ∷ [] })
+    × (outcome_of [] (codes "gEt" ∷ []) ≡ refusing (codes "ERR wrong number of arguments for 'get' command"))
+    × (outcome_of holds_a (codes "GET" ∷ codes "a" ∷ codes "b" ∷ []) ≡ refusing (codes "ERR wrong number of arguments for 'get' command"))
+    × (outcome_of [] (codes "SET" ∷ codes "a" ∷ []) ≡ refusing (codes "ERR wrong number of arguments for 'set' command"))
+    × (outcome_of ((Field (codes "h") (codes "f"), codes "1") ∷ []) (codes "APPEND" ∷ codes "h" ∷ codes "x" ∷ []) ≡ refusing (codes "WRONGTYPE Operation against a key holding the wrong kind of value"))
+    -- one call with two changes
+    × (outcome_of [] (codes "MSET" ∷ codes "a" ∷ codes "1" ∷ codes "b" ∷ codes "2" ∷ [])
+    ≡ record { reply = Simple (codes "OK"); changes = Put (Str (codes "a")) (codes "1") ∷ Put (Str (codes "b")) (codes "2") ∷ [] })
+    × (outcome_of [] (codes "NOSUCH" ∷ codes "a" ∷ []) ≡ refusing (codes "ERR unknown command"))
+    -- a key of 512 bytes is a key, one of 513 is too long; its length is checked after the number of arguments
+    × (outcome_of [] (codes "GET" ∷ replicate 513 107 ∷ []) ≡ refusing (codes "ERR key or field is longer than 512 bytes"))
+    × (outcome_of [] (codes "GET" ∷ replicate 512 107 ∷ []) ≡ record { reply = NullBulk; changes = [] })
+    × (outcome_of [] (codes "GET" ∷ replicate 513 107 ∷ codes "x" ∷ []) ≡ refusing (codes "ERR wrong number of arguments for 'get' command"))
+    × (outcome_of [] (codes "SET" ∷ replicate 513 107 ∷ codes "1" ∷ codes "NX" ∷ []) ≡ refusing (codes "ERR key or field is longer than 512 bytes"))
 unfolding outcome_of_words is_named has_key
-get_absent = refl
-
-get_present : outcome_of holds_a (codes "get" ∷ codes "a" ∷ []) ≡ record { reply = Bulk (codes "1"); changes = [] }
-unfolding outcome_of_words is_named has_key
-get_present = refl
-
-set_writes : outcome_of [] (codes "sEt" ∷ codes "a" ∷ codes "1" ∷ []) ≡ record { reply = Simple (codes "OK"); changes = Put (Str (codes "a")) (codes "1") ∷ [] }
-unfolding outcome_of_words is_named has_key
-set_writes = refl
-
--- the empty value
-set_empty : outcome_of [] (codes "SET" ∷ codes "e" ∷ [] ∷ []) ≡ record { reply = Simple (codes "OK"); changes = Put (Str (codes "e")) [] ∷ [] }
-unfolding outcome_of_words is_named has_key
-set_empty = refl
-
-get_alone : outcome_of [] (codes "gEt" ∷ []) ≡ refusing (codes "ERR wrong number of arguments for 'get' command")
-unfolding outcome_of_words is_named has_key
-get_alone = refl
-
-get_of_two : outcome_of holds_a (codes "GET" ∷ codes "a" ∷ codes "b" ∷ []) ≡ refusing (codes "ERR wrong number of arguments for 'get' command")
-unfolding outcome_of_words is_named has_key
-get_of_two = refl
-
-set_of_key : outcome_of [] (codes "SET" ∷ codes "a" ∷ []) ≡ refusing (codes "ERR wrong number of arguments for 'set' command")
-unfolding outcome_of_words is_named has_key
-set_of_key = refl
-
-append_to_hash : outcome_of ((Field (codes "h") (codes "f"), codes "1") ∷ []) (codes "APPEND" ∷ codes "h" ∷ codes "x" ∷ []) ≡ refusing (codes "WRONGTYPE Operation against a key holding the wrong kind of value")
-unfolding outcome_of_words is_named has_key
-append_to_hash = refl
-
--- one call with two changes
-mset_writes : outcome_of [] (codes "MSET" ∷ codes "a" ∷ codes "1" ∷ codes "b" ∷ codes "2" ∷ [])
-    ≡ record { reply = Simple (codes "OK"); changes = Put (Str (codes "a")) (codes "1") ∷ Put (Str (codes "b")) (codes "2") ∷ [] }
-unfolding outcome_of_words is_named has_key
-mset_writes = refl
-
-unknown_name : outcome_of [] (codes "NOSUCH" ∷ codes "a" ∷ []) ≡ refusing (codes "ERR unknown command")
-unfolding outcome_of_words is_named has_key
-unknown_name = refl
-
--- a key of 512 bytes is a key, one of 513 is too long; its length is checked after the number of arguments
-long_key : outcome_of [] (codes "GET" ∷ replicate 513 107 ∷ []) ≡ refusing (codes "ERR key or field is longer than 512 bytes")
-unfolding outcome_of_words is_named has_key
-long_key = refl
-
-longest_key : outcome_of [] (codes "GET" ∷ replicate 512 107 ∷ []) ≡ record { reply = NullBulk; changes = [] }
-unfolding outcome_of_words is_named has_key
-longest_key = refl
-
-long_key_and_words : outcome_of [] (codes "GET" ∷ replicate 513 107 ∷ codes "x" ∷ []) ≡ refusing (codes "ERR wrong number of arguments for 'get' command")
-unfolding outcome_of_words is_named has_key
-long_key_and_words = refl
-
-long_key_and_option : outcome_of [] (codes "SET" ∷ replicate 513 107 ∷ codes "1" ∷ codes "NX" ∷ []) ≡ refusing (codes "ERR key or field is longer than 512 bytes")
-unfolding outcome_of_words is_named has_key
-long_key_and_option = refl
+requests = (refl, refl, refl, refl, refl, refl, refl, refl, refl, refl, refl, refl, refl, refl)
 
 fault_answered : admission_of idle_session (Fault (ExpectedBulk 7)) ≡ Answer (Error (codes "ERR Protocol error: expected '$', got '?'"))
 fault_answered = refl
@@ -111,32 +73,18 @@ unfolding outcome_of_words closes verb_of is_named has_key
 worked_list_legal =
     (inr (inr (inl (lit≤ tt, refl))), (inr (inr (inl (lit≤ tt, refl))), (inl refl, (inr (inr (inr (lit≤ tt, refl, refl))), (inr (inr (inl (lit≤ tt, refl))), (inr (inr (inl (lit≤ tt, refl))), tt))))))
 
-worked_list_keyspace : keyspace_after worked_list ≡ (Str (codes "a"), codes "4") ∷ []
+worked_list_leaves :
+    (keyspace_after worked_list ≡ (Str (codes "a"), codes "4") ∷ [])
+    -- neither a write nor a refusal begins a transaction
+    × ((state_after worked_list).sessions 0 ≡ idle_session)
+    -- reads and refused writes do not count
+    × (position_of worked_list ≡ 2)
+    -- the cut keeps what follows its last change and changes nothing
+    × (cut_at worked_list 1 ≡ set_a (codes "1") (Simple (codes "OK")) ∷ get_a 1 (Bulk (codes "1")) ∷ set_a (codes "2") memory_reply ∷ set_a (codes "3") full_reply ∷ get_a 0 (Bulk (codes "1")) ∷ [])
+    × (keyspace_after (cut_at worked_list 1) ≡ holds_a)
+    × (changes_at worked_list 1 ≡ Put (Str (codes "a")) (codes "4") ∷ [])
 unfolding outcome_of_words closes verb_of is_named has_key
-worked_list_keyspace = refl
-
--- neither a write nor a refusal begins a transaction
-worked_list_session : (state_after worked_list).sessions 0 ≡ idle_session
-unfolding outcome_of_words closes verb_of is_named has_key
-worked_list_session = refl
-
--- reads and refused writes do not count
-worked_list_position : position_of worked_list ≡ 2
-unfolding outcome_of_words closes verb_of is_named has_key
-worked_list_position = refl
-
--- the cut keeps what follows its last change and changes nothing
-worked_list_cut : cut_at worked_list 1 ≡ set_a (codes "1") (Simple (codes "OK")) ∷ get_a 1 (Bulk (codes "1")) ∷ set_a (codes "2") memory_reply ∷ set_a (codes "3") full_reply ∷ get_a 0 (Bulk (codes "1")) ∷ []
-unfolding outcome_of_words closes verb_of is_named has_key
-worked_list_cut = refl
-
-worked_list_cut_keyspace : keyspace_after (cut_at worked_list 1) ≡ holds_a
-unfolding outcome_of_words closes verb_of is_named has_key
-worked_list_cut_keyspace = refl
-
-worked_list_change : changes_at worked_list 1 ≡ Put (Str (codes "a")) (codes "4") ∷ []
-unfolding outcome_of_words closes verb_of is_named has_key
-worked_list_change = refl
+worked_list_leaves = (refl, refl, refl, refl, refl, refl)
 
 replies_of_one : replies_to 1 worked_list ≡ codes "$1\r\n1\r\n"
 unfolding digits
@@ -209,12 +157,12 @@ worked_watch_legal : IsLegal worked_watch
 unfolding outcome_of_words closes verb_of is_named has_key
 worked_watch_legal = (inr (inr (inl (lit≤ tt, refl))), (inr refl, (inr (inr (inl (lit≤ tt, refl))), (inr refl, (inr refl, (inr refl, tt))))))
 
--- nothing is asked for after a request to quit
-nothing_after_quit : up_to_closing (Request (codes "GET" ∷ codes "a" ∷ []) ∷ Request (codes "quit" ∷ []) ∷ Request (codes "GET" ∷ codes "a" ∷ []) ∷ []) ≡ Request (codes "GET" ∷ codes "a" ∷ []) ∷ Request (codes "quit" ∷ []) ∷ []
+nothing_after :
+    -- nothing is asked for after a request to quit
+    (up_to_closing (Request (codes "GET" ∷ codes "a" ∷ []) ∷ Request (codes "quit" ∷ []) ∷ Request (codes "GET" ∷ codes "a" ∷ []) ∷ [])
+    ≡ Request (codes "GET" ∷ codes "a" ∷ []) ∷ Request (codes "quit" ∷ []) ∷ [])
+    -- nor after a protocol fault
+    × (up_to_closing (Request (codes "GET" ∷ codes "a" ∷ []) ∷ Fault (ExpectedBulk 7) ∷ Request (codes "GET" ∷ codes "a" ∷ []) ∷ [])
+    ≡ Request (codes "GET" ∷ codes "a" ∷ []) ∷ Fault (ExpectedBulk 7) ∷ [])
 unfolding closes is_named
-nothing_after_quit = refl
-
--- nor after a protocol fault
-nothing_after_fault : up_to_closing (Request (codes "GET" ∷ codes "a" ∷ []) ∷ Fault (ExpectedBulk 7) ∷ Request (codes "GET" ∷ codes "a" ∷ []) ∷ []) ≡ Request (codes "GET" ∷ codes "a" ∷ []) ∷ Fault (ExpectedBulk 7) ∷ []
-unfolding closes is_named
-nothing_after_fault = refl
+nothing_after = (refl, refl)

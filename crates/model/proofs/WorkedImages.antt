@@ -1,13 +1,13 @@
 -- The worked images, computed from the definitions: a new primary image of 4,096 lines, after the group of `SET a 1` or of `HSET h f 1`, and the
 -- first where the root of the commit was lost.
 use Rattle.std.proofs.Common.{◌≡◌, ℕ, zero, suc, ◌<◌, ◌≤◌, Bool, true, false, ◌*◌, ◌||◌, ◌&&◌, nat_eq, if◌then◌else◌, List, [], ◌∷◌, codes, Some, None, Option, is_none, ⊎_elim, refl, sym, subst, ◌∙◌, arith, eqb-true}
-use Rattle.std.proofs.lemmas.Bool.{cases_lt}
+use Rattle.std.proofs.lemmas.Bool.{cases_lt, and_parts}
 use Rattle.kv_types.specs.declared.item.Item.TheVariants.{Request}
 use Rattle.kv_types.specs.declared.record_id.RecordId.{RecordId}
 use Rattle.kv_types.specs.declared.record_id.RecordId.TheVariants.{Str, Field}
 use Rattle.kv_types.specs.declared.reply.Reply.{Simple}
 use Rattle.kv_types.specs.Keyspace.{Keyspace}
-use Rattle.cmd_table.specs.Row.{is_named}
+use Rattle.kv_types.specs.CommandName.{is_named}
 use Rattle.multi_watch.specs.Verb.{verb_of}
 use Rattle.cmd_table.specs.Request.{outcome_of_words}
 use Rattle.model.specs.declared.call.Call.{Call}
@@ -29,10 +29,6 @@ abbrev only_first : (ℕ → Option Version) → ℕ → Bool
 only_first versions zero = true
 only_first versions (suc i) = (nat_eq i 0 || is_none (versions i)) && only_first versions i
 
-both_are : (a b : Bool) → (a && b) ≡ true → (a ≡ true) × (b ≡ true)
-both_are true b e = (refl, e)
-both_are false b e = cc
-
 nothing_there : (entry : Option Version) → is_none entry ≡ true → entry ≡ None
 nothing_there None e = refl
 nothing_there (Some version) e = cc
@@ -47,7 +43,7 @@ first_or_none versions i e live =
 live_first : (versions : ℕ → Option Version) (n i : ℕ) {id : RecordId} {value : List ℕ} → only_first versions n ≡ true → i < n → IsLive versions i id value → i ≡ 0
 live_first versions zero i e lt live = absurd (omega arith)
 live_first versions (suc n) i {id} {value} e lt live =
-    let parts = both_are (nat_eq n 0 || is_none (versions n)) (only_first versions n) e in
+    let parts = and_parts (nat_eq n 0 || is_none (versions n)) (only_first versions n) e in
     ⊎_elim (λ (below : i < n). live_first versions n i parts.1 below live) (λ (above : n ≤ i). let last : n ≡ i = omega arith in let P : ℕ → Type 0 = λ k. (nat_eq k 0 || is_none (versions k)) ≡ true in first_or_none versions i (subst P last parts.0) live) (cases_lt i n)
 
 once_first : (versions : ℕ → Option Version) (n : ℕ) → only_first versions n ≡ true → OnceBelow versions n

@@ -16,7 +16,7 @@ use Rattle.cmd_table.specs.Request.{closes as request_closes}
 use Rattle.multi_watch.specs.Session.{Session, idle_session, modified_where}
 use Rattle.multi_watch.specs.Admission.{Admission, Answer, Run, RunAll, session_after_request, session_after_refusal}
 use Rattle.multi_watch.specs.Modified.{modifies}
-use Rattle.model.specs.Command.{Outcome, outcome_of, admission_of, closes}
+use Rattle.model.specs.Command.{Effect, outcome_of, admission_of, closes}
 use Rattle.model.specs.State.{State, start_state}
 
 -- the change makes a new version
@@ -43,7 +43,7 @@ too_large_reply = Error (codes "ERR change is too large")
 -- The replies that may be given where this is the outcome, after this many bytes of change text in the same call. Memory may be refused for any
 -- request. Otherwise a change text that comes above the limit with the bytes before it is refused; otherwise the reply is the outcome's own or,
 -- for a command that writes, that there was no room.
-abbrev pub MayStand : ℕ → Outcome → Reply → Type 0
+abbrev pub MayStand : ℕ → Effect → Reply → Type 0
 MayStand before outcome reply =
     (reply ≡ memory_reply)
     ⊎ ((MAX_CHANGE_TEXT_BYTES < before + changes_size outcome.changes) × (reply ≡ too_large_reply))

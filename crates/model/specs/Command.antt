@@ -9,14 +9,14 @@ use Rattle.kv_types.specs.Fault.{fault_message}
 use Rattle.cmd_table.specs.Request as request
 use Rattle.multi_watch.specs.Session.{Session}
 use Rattle.multi_watch.specs.Admission.{Admission, Answer, admit}
-use Rattle.model.specs.declared.outcome.Outcome.{Outcome as Computed}
+use Rattle.model.specs.declared.effect.Effect.{Effect as Computed}
 
 -- what a command answers, and what it changes, one change after another
-abbrev pub Outcome : Type 0
-Outcome = request.Effect
+abbrev pub Effect : Type 0
+Effect = request.Effect
 
 -- the meaning of the words of a request that is run
-abbrev pub outcome_of : Keyspace → List (List ℕ) → Outcome
+abbrev pub outcome_of : Keyspace → List (List ℕ) → Effect
 outcome_of = request.outcome_of_words
 
 -- what is to be done for an item of a connection with this session
@@ -30,6 +30,6 @@ closes (Request words) = request.closes words
 closes (Fault fault) = true
 
 -- what was computed has this reply and these changes
-pub record Gives (computed : Computed) (outcome : Outcome) : Type 0 where
+pub record Gives (computed : Computed) (outcome : Effect) : Type 0 where
   pub reply : computed.reply ≡ outcome.reply
   pub changes : computed.changes.items ≡ outcome.changes

@@ -2,6 +2,7 @@
 #![tactic(auto)]
 
 mod call;
+mod effect;
 mod group;
 mod image;
 mod image_contents;
@@ -9,11 +10,11 @@ mod image_entries;
 mod image_words;
 mod laws;
 mod layout;
-mod outcome;
 mod record;
 mod work;
 
 pub use call::{Call, MAX_CHANGE_TEXT_BYTES};
+pub use effect::{Effect, closes, outcome_of};
 pub use group::{Group, MAX_PARTS, Part, PlacedChange, Put};
 pub use image::{COUNTER_LIMIT, MAGIC, MAX_LINES, MIN_LINES, STAMP_WINDOW};
 pub use image_contents::{ImageContents, read_image};
@@ -28,6 +29,5 @@ pub use layout::{
     FIELD_LENGTH_UNIT, GAPS_WORD, LAYOUT, LINE_BYTES, LINE_WORDS, Layout, Slots, VERSION_1,
     VERSION_2, WORD_BYTES,
 };
-pub use outcome::{Outcome, closes, outcome_of};
 pub use record::{FIRST_EPOCH, Gap, MAX_GAPS, Record, Role};
 pub use work::{FreeList, Work};

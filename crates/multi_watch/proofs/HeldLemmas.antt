@@ -1,14 +1,12 @@
 -- The keys of the table that a keyspace holds, key by key.
-use Rattle.std.proofs.Common.{◌≡◌, ℕ, ◌≤◌, Bool, true, false, cond, ◌&&◌, ◌||◌, List, [], ◌∷◌, ◌++◌, length, map, Option, None, Some, nat_eq, refl, sym, ap, ◌∙◌}
+use Rattle.std.proofs.Common.{◌≡◌, ℕ, ◌≤◌, Bool, true, false, cond, ◌&&◌, ◌||◌, List, [], ◌∷◌, ◌++◌, length, map, Option, None, Some, nat_eq, refl, sym, ap, ◌∙◌, arith}
 use Rattle.std.specs.Prelude.{is_some}
 use Rattle.std.specs.Global.{Vec}
 use Rattle.std.specs.List.{list_any}
-use Rattle.std.proofs.Math.Bool.{and-false}
 use Rattle.std.proofs.lemmas.Bool.{and_parts, eq-eqb, or_left, or_right}
 use Rattle.std.proofs.lemmas.List.Folds.{list_any-append}
 use Rattle.kv_types.specs.declared.limits.TheConstants.{MAX_KEY_BYTES}
 use Rattle.kv_types.specs.Keyspace.{Keyspace}
-use Rattle.kv_types.proofs.OrderLemmas.{key_itself}
 use Rattle.cmd_core.specs.Contents.{same_bytes, has_key}
 use Rattle.multi_watch.specs.Session.{is_watched}
 use Rattle.multi_watch.specs.Watchers.{Table, numbers_of, numbers_at, has_number, EachWatched}
@@ -20,8 +18,7 @@ abbrev pub is_one : List ℕ → List (Vec ℕ) → Bool
 is_one own keys = list_any (λ key. same_bytes own key.items) keys
 
 one_more : (here : Bool) (numbers : Vec ℕ) (later : Option (Vec ℕ)) → (here || is_some later) ≡ is_some (cond here (Some numbers) later)
-one_more true numbers later = refl
-one_more false numbers later = refl
+one_more here numbers later = grind arith
 
 -- the table has something at each of its keys, and at no other
 pub is_one_of : (own : List ℕ) (table : Table) → is_one own (map (λ entry. entry.0) table) ≡ is_some (numbers_at table own)
@@ -38,18 +35,12 @@ all_short table each own is = by_slot (numbers_at table own) refl (sym (is_one_o
   by_slot None at some = absurd cc
   by_slot (Some numbers) at some = (each own numbers at).1
 
-pub first_short : (first : Vec ℕ) (left before : List (Vec ℕ)) → before ≡ first ∷ left → AllShort before → length first.items ≤ MAX_KEY_BYTES
-first_short first left before is short =
-    short first.items (ap (is_one first.items) is ∙ or_left (same_bytes first.items first.items) (is_one first.items left) (key_itself first.items))
-
 pub others_short : (first : Vec ℕ) (left before : List (Vec ℕ)) → before ≡ first ∷ left → AllShort before → AllShort left
 others_short first left before is short own one =
     short own (ap (is_one own) is ∙ or_right (same_bytes own first.items) (is_one own left) one)
 
 one_held : (held same later has : Bool) → (same ≡ true → has ≡ true) → ((held || (same || false)) || (later && has)) ≡ (held || ((same || later) && has))
-one_held true same later has is = refl
-one_held false true later has is = sym (is refl)
-one_held false false later has is = refl
+one_held held same later has is = grind arith
 
 -- whether the key is found, among those that were found and those that are left
 abbrev pub finds : Keyspace → List ℕ → (found : List (List ℕ)) (left : List (Vec ℕ)) → Bool
@@ -66,20 +57,6 @@ pub held_next : (s : Keyspace) (own : List ℕ) (key : Vec ℕ) (found : List (L
     → now ≡ found ++ key.items ∷ [] → before ≡ key ∷ left → finds s own now left ≡ finds s own found before
 held_next s own key found left now before has more next =
     ap (λ keys. finds s own keys left) more ∙ held_more s own key found left has ∙ ap (finds s own found) (sym next)
-
-and_none : (later has : Bool) → has ≡ false → (later && has) ≡ false
-and_none later has is = ap (λ b. later && b) is ∙ and-false later
-
-not_held : (found same later has : Bool) → (same ≡ true → has ≡ false) → (found || (later && has)) ≡ (found || ((same || later) && has))
-not_held true same later has is = refl
-not_held false true later has is = and_none later has (is refl) ∙ sym (is refl)
-not_held false false later has is = refl
-
-pub passed_next : (s : Keyspace) (own : List ℕ) (key : Vec ℕ) (found : List (List ℕ)) (left before : List (Vec ℕ)) → has_key s key.items ≡ false → before ≡ key ∷ left
-    → finds s own found left ≡ finds s own found before
-passed_next s own key found left before has next =
-    not_held (list_any (λ other. same_bytes own other) found) (same_bytes own key.items) (is_one own left) (has_key s own) (λ same. ap (has_key s) (same_is own key.items same) ∙ has)
-    ∙ ap (finds s own found) (sym next)
 
 -- a key of the table is watched by some session
 module _ (table : Table) (sessions : Sessions) (agree : Agree table sessions) (each : EachWatched table) (own : List ℕ) where

@@ -1,5 +1,5 @@
 -- Which keys changes modify, made in parts, and marking in parts.
-use Rattle.std.proofs.Common.{◌≡◌, ◌≢◌, ℕ, Bool, true, false, cond, not, ◌&&◌, ◌||◌, List, [], ◌∷◌, ◌++◌, map, Some, None, refl, sym, ap, ap₂, ◌∙◌}
+use Rattle.std.proofs.Common.{◌≡◌, ◌≢◌, ℕ, Bool, true, false, cond, not, ◌&&◌, ◌||◌, List, [], ◌∷◌, ◌++◌, map, Some, None, refl, sym, ap, ap₂, ◌∙◌, arith}
 use Rattle.std.specs.List.{list_any}
 use Rattle.std.specs.FinMap.Entries.{where_key, by_order}
 use Rattle.std.specs.declared.cmp.Ordering.{Ordering}
@@ -17,7 +17,7 @@ use Rattle.kv_types.proofs.LookUpLemmas.{is_same, is_other, is_same_key_at, look
 use Rattle.cmd_core.specs.Contents.{same_bytes, has_key}
 use Rattle.cmd_core.proofs.RecordsLemmas.{has_none, has_more}
 use Rattle.multi_watch.specs.declared.watch.Watch.{Watch}
-use Rattle.multi_watch.specs.Session.{Session, is_watched, with_watched, marked_where, modified_where, modified}
+use Rattle.multi_watch.specs.Session.{Session, is_watched, with_watched, marked_where, modified_where}
 use Rattle.multi_watch.specs.Modified.{names, is_clear, modifies}
 
 -- ---- whether a key is there, after changes that are of other keys
@@ -39,11 +39,7 @@ module _ (own : List ℕ) where
   -- taking out records of other keys
   has-where : (p : RecordId → Bool) → ((id : RecordId) → p id ≡ false → same_bytes (key_of id) own ≡ false) → (s : Keyspace) → has_key (where_key record_cmp p s) own ≡ has_key s own
   has-where p other [] = refl
-  has-where p other (e ∷ s) = step (p e.0) refl (has-where p other s)
-    where
-      step : (b : Bool) → p e.0 ≡ b → has_key (where_key record_cmp p s) own ≡ has_key s own → has_key (cond b (e ∷ where_key record_cmp p s) (where_key record_cmp p s)) own ≡ has_key (e ∷ s) own
-      step true is rest = has_more e (where_key record_cmp p s) own ∙ ap (λ b. same_bytes (key_of e.0) own || b) rest ∙ sym (has_more e s own)
-      step false is rest = rest ∙ ap (λ b. b || has_key s own) (sym (other e.0 is)) ∙ sym (has_more e s own)
+  has-where p other (e ∷ s) = grind (arith, has_more e s own, has_more e (where_key record_cmp p s) own, other e.0, has-where p other s)
 
   -- putting in a record of another key
   has-put : (id : RecordId) (value : List ℕ) → same_bytes (key_of id) own ≡ false → (s : Keyspace) → has_key (with_record id value s) own ≡ has_key s own
@@ -77,9 +73,7 @@ module _ (own : List ℕ) where
   has-play s Clear apart = has_none own ∙ sym (and-false (has_key s own))
 
   neither : (had a b : Bool) → ((had && not a) && not b) ≡ (had && not (a || b))
-  neither true true b = refl
-  neither true false b = refl
-  neither false a b = refl
+  neither had a b = grind arith
 
   pub has-play_all : (s : Keyspace) (changes : List Change) → list_any (names own) changes ≡ false → has_key (play_all s changes) own ≡ (has_key s own && not (list_any is_clear changes))
   has-play_all s [] apart = sym (and-true (has_key s own))
@@ -93,20 +87,8 @@ module _ (own : List ℕ) where
 pub modifies-none : (s : Keyspace) (own : List ℕ) → modifies s [] own ≡ false
 modifies-none s own = refl
 
-cleared_once : (more first later had : Bool) → (more || ((first || later) && had)) ≡ ((first && had) || (more || (later && (had && not first))))
-cleared_once true true later true = refl
-cleared_once true true later false = refl
-cleared_once true false later had = refl
-cleared_once false true later true = refl
-cleared_once false true true false = refl
-cleared_once false true false false = refl
-cleared_once false false true true = refl
-cleared_once false false true false = refl
-cleared_once false false false had = refl
-
 in_parts : (named more first later had has : Bool) → (named ≡ false → has ≡ (had && not first)) → ((named || more) || ((first || later) && had)) ≡ ((named || (first && had)) || (more || (later && has)))
-in_parts true more first later had has is = refl
-in_parts false more first later had has is = cleared_once more first later had ∙ ap (λ b. (first && had) || (more || (later && b))) (sym (is refl))
+in_parts named more first later had has is = grind arith
 
 -- what some changes modify, and what more of them do, made on what these leave
 pub modifies-append : (s : Keyspace) (first more : List Change) (own : List ℕ) → modifies s (first ++ more) own ≡ (modifies s first own || modifies (play_all s first) more own)
@@ -144,8 +126,7 @@ stays-play_all s (change ∷ changes) id kept =
 -- ---- marking in parts
 
 or_more : (was a b : Bool) → ((was || a) || b) ≡ (was || (a || b))
-or_more true a b = refl
-or_more false a b = refl
+or_more was a b = grind arith
 
 abbrev pub with_mark : List ℕ → Bool → Watch
 with_mark key is_modified = record { key = key; is_modified = is_modified }
@@ -178,11 +159,3 @@ modified_where-same p q same session = ap (λ watched. with_watched watched sess
 -- tests that agree on the watched keys
 pub modified_where-watched : (p q : List ℕ → Bool) (session : Session) → ((own : List ℕ) → is_watched own session.watched ≡ true → p own ≡ q own) → modified_where p session ≡ modified_where q session
 modified_where-watched p q session same = ap (λ watched. with_watched watched session) (marked_where-watched p q session.watched same)
-
--- one key more, after those of a list
-pub modified-next : (keys : List (List ℕ)) (key : List ℕ) (session : Session)
-    → modified key (modified_where (λ own. list_any (λ other. same_bytes own other) keys) session) ≡ modified_where (λ own. list_any (λ other. same_bytes own other) (keys ++ key ∷ [])) session
-modified-next keys key session =
-    modified_where-twice (λ own. list_any (λ other. same_bytes own other) keys) (λ own. same_bytes own key) session
-    ∙ modified_where-same (λ own. list_any (λ other. same_bytes own other) keys || same_bytes own key) (λ own. list_any (λ other. same_bytes own other) (keys ++ key ∷ []))
-    (λ own. sym (list_any-append (λ other. same_bytes own other) keys (key ∷ []) ∙ ap (λ b. list_any (λ other. same_bytes own other) keys || b) (or-false (same_bytes own key)))) session

@@ -17,9 +17,7 @@ use Rattle.multi_watch.specs.Sessions.{Sessions, slot, session_of, session_at, m
 -- ---- a key is marked
 
 twice : (was same : Bool) → ((was || same) || same) ≡ (was || same)
-twice true same = refl
-twice false true = refl
-twice false false = refl
+twice was same = grind arith
 
 marked_again : (key : List ℕ) (watch : Watch) → marked key (marked key watch) ≡ marked key watch
 marked_again key watch = ap (λ b. with_mark watch.key b) (twice watch.is_modified (same_bytes watch.key key))
@@ -52,9 +50,7 @@ not_modified key (Some s) is = ap (λ ws. Some (record s { watched = ws })) (not
 
 -- a number that comes now, or later
 in_turn : (key : List ℕ) (here later : Bool) (o : Option Session) → marked_if key later (marked_if key here o) ≡ marked_if key (here || later) o
-in_turn key true true o = modified_twice key o
-in_turn key true false o = refl
-in_turn key false later o = refl
+in_turn key here later o = grind (arith, modified_twice key o)
 
 next_number : (numbers : List ℕ) (i n : ℕ) → i < length numbers → has_number n (drop i numbers) ≡ (nat_eq (get_or numbers i 0) n || has_number n (drop (i + 1) numbers))
 next_number numbers i n within =
@@ -73,10 +69,7 @@ marked_last key numbers i n past now = ap (λ ns. marked_if key (has_number n ns
 module _ (table : Table) (old : Sessions) (key : List ℕ) (agree : Agree table old) where
   -- marking those that the table names marks all
   pub all_marked : (n : ℕ) → marked_if key (watches table key n) (slot old n) ≡ option_map (modified key) (slot old n)
-  all_marked n = either (watches table key n) refl where
-    either : (is_there : Bool) → watches table key n ≡ is_there → marked_if key is_there (slot old n) ≡ option_map (modified key) (slot old n)
-    either true is = refl
-    either false is = sym (not_modified key (slot old n) (sym (agree key n) ∙ is))
+  all_marked n = grind (arith, agree key n, not_modified key (slot old n))
 
   pub agrees_still : (new : Sessions) → ((n : ℕ) → slot new n ≡ option_map (modified key) (slot old n)) → Agree table new
   agrees_still new now other n = agree other n ∙ by_slot (slot old n) ∙ ap (λ o. is_watched other (session_of o).watched) (sym (now n)) where
@@ -94,26 +87,13 @@ marked_session key (Some s) = refl
 apart_key : (watched fresh : List Watch) → list_any (λ watch. is_watched watch.key watched) fresh ≡ false
     → (key : List ℕ) → is_watched key fresh ≡ true → is_watched key watched ≡ false
 apart_key watched [] none key is = let p = is in cc
-apart_key watched (watch ∷ fresh) none key is = by_same (λ apart is_later. apart_key watched fresh apart key is_later) (same_bytes watch.key key) refl where
-  parts : (is_watched watch.key watched ≡ false) × (list_any (λ other. is_watched other.key watched) fresh ≡ false)
-  parts = or_parts (is_watched watch.key watched) (list_any (λ other. is_watched other.key watched) fresh) none
-
-  by_same : (list_any (λ other. is_watched other.key watched) fresh ≡ false → is_watched key fresh ≡ true → is_watched key watched ≡ false)
-      → (same : Bool) → same_bytes watch.key key ≡ same → is_watched key watched ≡ false
-  by_same later true same = ap (λ k. is_watched k watched) (sym (same_is watch.key key same)) ∙ parts.0
-  by_same later false same = later parts.1 (ap (λ b. b || is_watched key fresh) (sym same) ∙ is)
+apart_key watched (watch ∷ fresh) none key is = grind (arith, or_parts, same_is watch.key key, apart_key watched fresh)
 
 nothing_removed : (was fresh own : Bool) → (fresh ≡ true → own ≡ true → was ≡ false) → (was && not (fresh && own)) ≡ was
-nothing_removed false fresh own apart = refl
-nothing_removed true true true apart = sym (apart refl refl)
-nothing_removed true true false apart = refl
-nothing_removed true false own apart = refl
+nothing_removed was fresh own apart = grind arith
 
 undone : (was fresh own : Bool) → ((was || (fresh && own)) && not (fresh && own)) ≡ (was && not (fresh && own))
-undone true fresh own = refl
-undone false true true = refl
-undone false true false = refl
-undone false false own = refl
+undone was fresh own = grind arith
 
 -- What was added is removed.
 pub removed_again : (table with_them new : Table) (fresh : List Watch) (number : ℕ) → AddsAll table fresh number with_them → RemovesAll with_them fresh number new → RemovesAll table fresh number new
@@ -134,10 +114,7 @@ agrees_without table new sessions fresh number agree apart removes key n =
 
 by_number : (new : Table) (now : Sessions) (number : ℕ) → ((key : List ℕ) → watches new key number ≡ is_watched key (session_at now number).watched)
     → ((key : List ℕ) (n : ℕ) → nat_eq number n ≡ false → watches new key n ≡ is_watched key (session_at now n).watched) → Agree new now
-by_number new now number here others key n = by_same (nat_eq number n) refl where
-  by_same : (same : Bool) → nat_eq number n ≡ same → watches new key n ≡ is_watched key (session_at now n).watched
-  by_same true is = ap (watches new key) (sym (eqb-true number n is)) ∙ here key ∙ ap (λ m. is_watched key (session_at now m).watched) (eqb-true number n is)
-  by_same false is = others key n is
+by_number new now number here others key n = grind (arith, eqb-true number n, here key, others key n)
 
 itself : (n : ℕ) → nat_eq n n ≡ true
 itself n = eq-eqb n n refl
@@ -146,13 +123,10 @@ other_number : (number n : ℕ) → nat_eq number n ≡ false → n ≢ number
 other_number number n is same = let both : true ≡ false = sym (eq-eqb number n (sym same)) ∙ is in cc
 
 no_longer : (was own : Bool) → own ≡ true → (was && not (was && own)) ≡ false
-no_longer true true is = refl
-no_longer false own is = refl
-no_longer true false is = cc
+no_longer was own is = grind arith
 
 as_it_was : (was removed own : Bool) → own ≡ false → (was && not (removed && own)) ≡ was
-as_it_was true removed own is = ap (λ b. not (removed && b)) is ∙ ap not (and-false removed)
-as_it_was false removed own is = refl
+as_it_was was removed own is = grind arith
 
 not_added : (was added own : Bool) → own ≡ false → (was || (added && own)) ≡ was
 not_added was added own is = ap (λ b. was || (added && b)) is ∙ ap (λ b. was || b) (and-false added) ∙ or-false was

@@ -6,12 +6,11 @@ use Rattle.std.specs.Map.{lookup, IsKeyTest, AreApart, KeepsOthers}
 use Rattle.std.specs.Cmp.Lexicographic.{nat_list_eq_equiv}
 use Rattle.std.proofs.lemmas.List.Folds.{list_any-append}
 use Rattle.std.proofs.lemmas.Map.Views.{any-filter_same}
-use Rattle.std.proofs.Math.Bool.{or-false, and-true, and-false, and_comm}
+use Rattle.std.proofs.Math.Bool.{or-false, and_comm}
 use Rattle.std.proofs.lemmas.Bool.{eqb-true}
 use Rattle.std.proofs.lemmas.Slice.Eq.{bytes_eq-Decides}
 use Rattle.kv_types.specs.declared.limits.TheConstants.{MAX_KEY_BYTES}
 use Rattle.cmd_core.specs.Contents.{same_bytes}
-use Rattle.multi_watch.specs.Watches.{is_key_in}
 use Rattle.multi_watch.specs.Watchers.{Table, numbers_of, numbers_at, has_number, watches, SaysSame, Adds, Removes, EachWatched}
 
 pub same_is : (x y : List ℕ) → same_bytes x y ≡ true → x ≡ y
@@ -43,31 +42,14 @@ becomes_at old new key slot here keeps q = by_same (same_bytes key q) refl where
       (λ x y. nat_list_eq_equiv.congr q x.items y.items) (λ own. apart key q own.items is)
 
 module _ (old new : Table) (key : List ℕ) (slot : Option (Vec ℕ)) (becomes : Becomes old key slot new) where
-  -- a key is the changed one, or has what it had
-  at_key : (q : List ℕ) (n : ℕ) (same : Bool) → same_bytes key q ≡ same → watches new q n ≡ cond same (has_number n (numbers_of slot)) (watches old q n)
-  at_key q n true is = ap (λ o. has_number n (numbers_of o)) (becomes q ∙ ap (λ b. cond b slot (numbers_at old q)) is)
-  at_key q n false is = ap (λ o. has_number n (numbers_of o)) (becomes q ∙ ap (λ b. cond b slot (numbers_at old q)) is)
-
-  old_at : (q : List ℕ) (n : ℕ) → same_bytes key q ≡ true → watches old key n ≡ watches old q n
-  old_at q n is = ap (λ k. watches old k n) (same_is key q is)
-
   pub says_same : ((n : ℕ) → has_number n (numbers_of slot) ≡ watches old key n) → SaysSame old new
-  says_same slot_is q n = by_same (same_bytes key q) refl where
-    by_same : (same : Bool) → same_bytes key q ≡ same → watches new q n ≡ watches old q n
-    by_same true is = at_key q n true is ∙ slot_is n ∙ old_at q n is
-    by_same false is = at_key q n false is
+  says_same slot_is q n = grind (arith, becomes q, same_is key q, slot_is n)
 
   pub adds : (number : ℕ) → ((n : ℕ) → has_number n (numbers_of slot) ≡ (watches old key n || nat_eq number n)) → Adds old key number new
-  adds number slot_is q n = by_same (same_bytes key q) refl where
-    by_same : (same : Bool) → same_bytes key q ≡ same → watches new q n ≡ (watches old q n || (same_bytes key q && nat_eq number n))
-    by_same true is = at_key q n true is ∙ slot_is n ∙ ap (λ b. b || nat_eq number n) (old_at q n is) ∙ ap (λ s. watches old q n || (s && nat_eq number n)) (sym is)
-    by_same false is = at_key q n false is ∙ sym (or-false (watches old q n)) ∙ ap (λ s. watches old q n || (s && nat_eq number n)) (sym is)
+  adds number slot_is q n = grind (arith, becomes q, same_is key q, slot_is n)
 
   pub removes : (number : ℕ) → ((n : ℕ) → has_number n (numbers_of slot) ≡ (watches old key n && not (nat_eq number n))) → Removes old key number new
-  removes number slot_is q n = by_same (same_bytes key q) refl where
-    by_same : (same : Bool) → same_bytes key q ≡ same → watches new q n ≡ (watches old q n && not (same_bytes key q && nat_eq number n))
-    by_same true is = at_key q n true is ∙ slot_is n ∙ ap (λ b. b && not (nat_eq number n)) (old_at q n is) ∙ ap (λ s. watches old q n && not (s && nat_eq number n)) (sym is)
-    by_same false is = at_key q n false is ∙ sym (and-true (watches old q n)) ∙ ap (λ s. watches old q n && not (s && nat_eq number n)) (sym is)
+  removes number slot_is q n = grind (arith, becomes q, same_is key q, slot_is n)
 
 -- ---- no key is left that nobody watches
 
@@ -122,55 +104,3 @@ pub filtered : (n number : ℕ) (numbers : List ℕ) → has_number n (filter (�
 filtered n number numbers =
     any-filter_same (λ x. nat_eq x n) (λ x. not (nat_eq x number)) (not (nat_eq number n)) (λ x is. ap (λ y. not (nat_eq y number)) (eqb-true x n is) ∙ ap not (equal_sym n number)) numbers
     ∙ and_comm (not (nat_eq number n)) (has_number n numbers)
-
--- ---- one key after another
-
--- one is removed here, and the rest below
-remove_in_turn : (was here later own : Bool) → ((was && not (here && own)) && not (later && own)) ≡ (was && not ((here || later) && own))
-remove_in_turn false here later own = refl
-remove_in_turn true true true true = refl
-remove_in_turn true true false true = refl
-remove_in_turn true false later own = refl
-remove_in_turn true true true false = refl
-remove_in_turn true true false false = refl
-
-pub removed_next : (left : List (Vec ℕ)) (first : Vec ℕ) (before : List (Vec ℕ)) → before ≡ first ∷ left
-    → (key : List ℕ) (n number : ℕ) (was now : Bool) → now ≡ (was && not (same_bytes first.items key && nat_eq number n))
-    → (now && not (is_key_in key left && nat_eq number n)) ≡ (was && not (is_key_in key before && nat_eq number n))
-removed_next left first before is key n number was now after =
-    ap (λ b. b && not (is_key_in key left && nat_eq number n)) after
-    ∙ remove_in_turn was (same_bytes first.items key) (is_key_in key left) (nat_eq number n)
-    ∙ ap (λ keys. was && not (is_key_in key keys && nat_eq number n)) (sym is)
-
-pub removed_last : (left : List (Vec ℕ)) (key : List ℕ) (n number : ℕ) (now : Bool) → left ≡ []
-    → now ≡ (now && not (is_key_in key left && nat_eq number n))
-removed_last left key n number now none =
-    sym (and-true now) ∙ ap (λ keys. now && not (is_key_in key keys && nat_eq number n)) (sym none)
-
-add_in_turn : (was here later own : Bool) → ((was || (here && own)) || (later && own)) ≡ (was || ((here || later) && own))
-add_in_turn true here later own = refl
-add_in_turn false true true true = refl
-add_in_turn false true false true = refl
-add_in_turn false false later own = refl
-add_in_turn false true true false = refl
-add_in_turn false true false false = refl
-
-pub added_next : (left : List (Vec ℕ)) (first : Vec ℕ) (before : List (Vec ℕ)) → before ≡ first ∷ left
-    → (key : List ℕ) (n number : ℕ) (was now : Bool) → now ≡ (was || (same_bytes first.items key && nat_eq number n))
-    → (now || (is_key_in key left && nat_eq number n)) ≡ (was || (is_key_in key before && nat_eq number n))
-added_next left first before is key n number was now after =
-    ap (λ b. b || (is_key_in key left && nat_eq number n)) after
-    ∙ add_in_turn was (same_bytes first.items key) (is_key_in key left) (nat_eq number n)
-    ∙ ap (λ keys. was || (is_key_in key keys && nat_eq number n)) (sym is)
-
-pub added_last : (left : List (Vec ℕ)) (key : List ℕ) (n number : ℕ) (now : Bool) → left ≡ []
-    → now ≡ (now || (is_key_in key left && nat_eq number n))
-added_last left key n number now none =
-    sym (or-false now) ∙ ap (λ keys. now || (is_key_in key keys && nat_eq number n)) (sym none)
-
--- What was added before the rest is removed with the whole, of which each of the rest is one.
-pub undo : (old now whole rest own : Bool) → (rest ≡ true → whole ≡ true) → (now || (rest && own)) ≡ (old || (whole && own)) → (now && not (whole && own)) ≡ (old && not (whole && own))
-undo old now true rest true within same = and-false now ∙ sym (and-false old)
-undo old now true rest false within same = and-true now ∙ sym (or-false now) ∙ ap (λ b. now || b) (sym (and-false rest)) ∙ same ∙ or-false old ∙ sym (and-true old)
-undo old now false true own within same = let p = within refl in cc
-undo old now false false own within same = and-true now ∙ sym (or-false now) ∙ same ∙ or-false old ∙ sym (and-true old)

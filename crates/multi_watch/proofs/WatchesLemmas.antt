@@ -1,5 +1,5 @@
 -- The watched keys of one session, as the entries of a table whose keys differ.
-use Rattle.std.proofs.Common.{◌≡◌, ℕ, Bool, true, false, cond, ◌||◌, List, [], ◌∷◌, ◌++◌, map, Option, None, Some, Result, Ok, Err, OnOk, refl, sym, ap, ap₂, ◌∙◌}
+use Rattle.std.proofs.Common.{◌≡◌, ℕ, Bool, true, false, cond, ◌||◌, List, [], ◌∷◌, ◌++◌, map, Option, None, Some, Result, Ok, Err, OnOk, refl, sym, ap, ap₂, ◌∙◌, arith, append_assoc, append-nil}
 use Rattle.std.specs.Prelude.{is_some}
 use Rattle.std.specs.Global.{Vec}
 use Rattle.std.specs.List.{list_any, AllByRecursion, IsDistinct}
@@ -27,14 +27,9 @@ flipped a b = nat_list_eq_equiv.symm a b
 
 -- ---- looking a key up
 
-found_or_later : (here : Bool) (value : Bool) (later : Option Bool) → is_some (cond here (Some value) later) ≡ (here || is_some later)
-found_or_later true value later = refl
-found_or_later false value later = refl
-
 pub found_watched : (own : List ℕ) (marks : Marks) → is_some (lookup (is_at own) marks) ≡ is_watched own (watches_of marks)
 found_watched own [] = refl
-found_watched own (mark ∷ marks) =
-    found_or_later (same_bytes own mark.0.items) mark.1 (lookup (is_at own) marks) ∙ ap₂ (λ a b. a || b) (flipped own mark.0.items) (found_watched own marks)
+found_watched own (mark ∷ marks) = grind (arith, flipped own mark.0.items, found_watched own marks)
 
 pub keys_watched : (own : List ℕ) (marks : Marks) → is_key_in own (keys_of marks) ≡ is_watched own (watches_of marks)
 keys_watched own [] = refl
@@ -82,23 +77,14 @@ short-append (mark ∷ first) more short later = (short.0, short-append first mo
 -- a key that is not there goes last
 goes_last : (key : Vec ℕ) (value : Bool) (marks : Marks) → is_watched key.items (watches_of marks) ≡ false → insert_entry vec_eq marks key value ≡ marks ++ (key, value) ∷ []
 goes_last key value [] new = refl
-goes_last key value (mark ∷ marks) new =
-    let parts = or_parts (same_bytes mark.0.items key.items) (is_watched key.items (watches_of marks)) new in
-    ap (λ b. cond b ((mark.0, value) ∷ marks) (mark ∷ insert_entry vec_eq marks key value)) (flipped key.items mark.0.items ∙ parts.0)
-    ∙ ap (λ rest. mark ∷ rest) (goes_last key value marks parts.1)
+goes_last key value (mark ∷ marks) new = grind (arith, or_parts, flipped key.items mark.0.items, goes_last key value marks)
 
 pub one_added : (key : Vec ℕ) (own : List ℕ) (value : Bool) (marks : Marks) → key.items ≡ own → is_watched own (watches_of marks) ≡ false → insert_entry vec_eq marks key value ≡ marks ++ (key, value) ∷ []
 one_added key own value marks is new = goes_last key value marks (ap (λ k. is_watched k (watches_of marks)) is ∙ new)
 
-append_assoc : (first : Marks) (mark : Vec ℕ × Bool) (more : Marks) → (first ++ mark ∷ []) ++ more ≡ first ++ mark ∷ more
-append_assoc [] mark more = refl
-append_assoc (one ∷ first) mark more = ap (λ rest. one ∷ rest) (append_assoc first mark more)
-
 is_watched-append : (own : List ℕ) (first more : List Watch) → is_watched own first ≡ false → is_watched own more ≡ false → is_watched own (first ++ more) ≡ false
 is_watched-append own [] more none later = later
-is_watched-append own (watch ∷ first) more none later =
-    let parts = or_parts (same_bytes watch.key own) (is_watched own first) none in
-    ap₂ (λ a b. a || b) parts.0 (is_watched-append own first more parts.1 later)
+is_watched-append own (watch ∷ first) more none later = grind (arith, or_parts, is_watched-append own first more)
 
 -- the later keys are none of the first ones, nor the next one
 still_apart : (first : Marks) (mark : Vec ℕ × Bool) (more : Marks) → AllByRecursion (λ other. vec_eq mark.0 other ≡ false) (keys_of more)
@@ -113,16 +99,13 @@ still_apart first mark (next ∷ more) differ apart =
 
 pub all_added : (first more : Marks) → IsDistinct vec_eq (keys_of more) → list_any (λ watch. is_watched watch.key (watches_of first)) (watches_of more) ≡ false
     → insert_all vec_eq first more ≡ first ++ more
-all_added first [] differ apart = sym (append_none first) where
-  append_none : (marks : Marks) → marks ++ [] ≡ marks
-  append_none [] = refl
-  append_none (mark ∷ marks) = ap (λ rest. mark ∷ rest) (append_none marks)
+all_added first [] differ apart = sym (append-nil first)
 all_added first (mark ∷ more) differ apart =
     let parts = or_parts (is_watched mark.0.items (watches_of first)) (list_any (λ watch. is_watched watch.key (watches_of first)) (watches_of more)) apart in
     ap (λ done. insert_all vec_eq done more) (goes_last mark.0 mark.1 first parts.0)
     ∙ all_added (first ++ mark ∷ []) more (IsDistinct-tail vec_eq mark.0 (keys_of more) differ)
     (still_apart first mark more (IsDistinct-head vec_eq mark.0 (keys_of more) differ) parts.1)
-    ∙ append_assoc first mark more
+    ∙ append_assoc first (mark ∷ []) more
 
 -- ---- some key was modified
 

@@ -1,7 +1,7 @@
 -- What a request asks of a session.
 use Rattle.std.specs.Prelude.{ℕ, List, Result, Ok, Err}
-use Rattle.cmd_table.specs.declared.name.CommandName.{CommandName}
-use Rattle.cmd_table.specs.declared.name.CommandName.TheVariants as name
+use Rattle.kv_types.specs.declared.command_name.CommandName.{CommandName}
+use Rattle.kv_types.specs.declared.command_name.CommandName.TheVariants as name
 use Rattle.cmd_table.specs.declared.misuse.Misuse.{Misuse}
 use Rattle.cmd_table.specs.Command.{Command, read_request}
 use Rattle.multi_watch.specs.declared.verb.Verb.{Verb}

@@ -82,6 +82,7 @@ impl Session {
     pub(crate) fn wait(&mut self, request: Request) -> Result<Act, AllocError>
         ensures act { IfOk result (λ act. act_now act ≡ (after_waiting request self.old).admission) }
         ensures session { OnOk result (self.new ≡ (after_waiting request self.old).session) }
+        ensures watched { self.new.watched ≡ self.old.watched }
         ensures refusable { IsErr result → IsTrue (has_room self.old) }
         ensures room { IfOk result HasRoom }
         ensures err { OnErr result (self.new ≡ spoiled self.old) }

@@ -4,8 +4,8 @@ ghost use Rattle.cmd_core.specs.declared.shape.Keys.TheVariants as shape;
 ghost use Rattle.cmd_core.specs.Shape.{are_short};
 ghost use Rattle.multi_watch.specs.Verb as spec;
 
-use cmd_table::{CommandName, Misuse, read_request};
-use kv_types::Request;
+use cmd_table::{Misuse, read_request};
+use kv_types::{CommandName, Request};
 
 /// What a request asks of a session.
 #[derive(Clone, Copy, Debug, PartialEq, Eq)]
@@ -29,7 +29,7 @@ impl Verb {
         ensures verb { result ≡ spec.verb_of request.now }
         ensures keys { result ≡ Verb.Watch → IsTrue (are_short shape.All (drop 1 request.now)) }
     {
-        match read_request(request.words()) {
+        match read_request(request) {
             Ok(command) => Verb::of_name(command.name),
             Err(misuse) => Verb::Misused(misuse),
         }

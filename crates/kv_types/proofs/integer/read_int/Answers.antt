@@ -1,5 +1,5 @@
-use Rattle.std.proofs.Common.{◌∙◌}
-use Rattle.kv_types.proofs.IntegerLemmas.{IsUtf8-integer, parsed_integer, written_back, same_Ok}
+use Rattle.std.proofs.Common.{◌≡◌, ◌∙◌}
+use Rattle.kv_types.proofs.IntegerLemmas.{IsUtf8-integer, parsed_integer, written_back}
 use Rattle.kv_types.proofs.integer.read_int.Goals as goal
 
 pub returns-in_default-clause-refused : goal.returns-in_default-clause-refused
@@ -11,4 +11,5 @@ returns-in_default-parse-clause-refused c n fits is = c.in_default-parse.not-Ok 
 pub returns-else-eq-clause-refused : goal.returns-else-eq-clause-refused
 returns-else-eq-clause-refused c n fits is =
     let parsed = parsed_integer n c.in-Ok.shown.now c.parse.result fits (c.in-Ok.ensures.cases.0 ∙ is) c.parse.ensures.value.0 in
-    written_back c.in-Ok-parse.number n c.as_bytes.result.now c.args.text.now (same_Ok c.in-Ok-parse.number n c.parse.result c.in-Ok-parse.is parsed) fits (c.as_bytes.ensures.value ∙ c.format.ensures.text) is c.if-eq.ensures
+    let same : c.in-Ok-parse.number ≡ n = cc in
+    written_back c.in-Ok-parse.number n c.as_bytes.result.now c.args.text.now same fits (c.as_bytes.ensures.value ∙ c.format.ensures.text) is c.if-eq.ensures

@@ -1,6 +1,6 @@
-use Rattle.std.proofs.Common.{◌≡◌, ◌+◌, ◌*◌, length, ap, sym, ◌∙◌, arith, lit<, ◌++◌, ◌∷◌, []}
+use Rattle.std.proofs.Common.{◌≡◌, ◌+◌, ◌*◌, length, ap, ◌∙◌, arith, lit<}
 use Rattle.model.specs.declared.record.Gap.{Gap}
-use Rattle.model.specs.ReadImage.{image_of, gaps_from}
+use Rattle.model.specs.ReadImage.{image_of}
 use Rattle.model.proofs.ReadRecordLemmas.{pair_at, length-gaps_from, gaps_from-more}
 use Rattle.model.proofs.image_words.read_gaps.Goals as goal
 
@@ -13,7 +13,8 @@ pub loop-k-preserved : goal.loop-k-preserved
 loop-k-preserved c =
     let image = image_of c.args.words.now in
     let gap : Gap = record { first = c.word_at.result; last = c.word_at-in-loop-k.result } in
-    let first : c.word_at.result ≡ image (c.args.first + 2 * c.loop-k.k) = c.word_at.ensures in
-    let last : c.word_at-in-loop-k.result ≡ image (c.args.first + 2 * c.loop-k.k + 1) = c.word_at-in-loop-k.ensures in
-    let same : gap ≡ pair_at image (c.args.first + 2 * c.loop-k.k) = λ i. record { first = first i; last = last i } in
-    c.push.ensures.items ∙ ap (λ gaps. gaps ++ gap ∷ []) c.loop-k.invariant ∙ ap (λ g. gaps_from image c.args.first c.loop-k.k ++ g ∷ []) same ∙ sym (gaps_from-more image c.args.first c.loop-k.k)
+    let same : gap ≡ pair_at image (c.args.first + 2 * c.loop-k.k) = λ i. record { first = c.word_at.ensures i; last = c.word_at-in-loop-k.ensures i } in
+    let more = gaps_from-more image c.args.first c.loop-k.k in
+    let pushed = c.push.ensures.items in
+    let before = c.loop-k.invariant in
+    cc

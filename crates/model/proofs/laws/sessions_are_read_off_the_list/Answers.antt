@@ -1,5 +1,4 @@
-use Rattle.std.proofs.Common.{ap, sym, ◌∙◌}
-use Rattle.model.proofs.SessionLemmas.{marks, session_of_new, session_after-own, session_after-closed, session_after-other, own-answered, own-refused}
+use Rattle.model.proofs.SessionLemmas.{session_of_new, session_after-closed, session_after-other, own-answered, own-refused}
 use Rattle.model.proofs.laws.sessions_are_read_off_the_list.Goals as goal
 
 pub returns : goal.returns

@@ -1,4 +1,3 @@
-use Rattle.std.proofs.Common.{ap}
 use Rattle.model.proofs.CallsLemmas.{changes_for-error}
 use Rattle.model.proofs.SessionLemmas.{answers_each, changes_of-exec}
 use Rattle.multi_watch.specs.Admission.{RunAll}

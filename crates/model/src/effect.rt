@@ -10,7 +10,7 @@ use std::alloc::{AllocError, Global};
 
 /// What a request answers, and what it changes, one change after another.
 #[derive(Debug, Drop)]
-pub struct Outcome {
+pub struct Effect {
     pub reply: Reply,
     pub changes: Vec<Change>,
 }
@@ -20,11 +20,11 @@ pub fn outcome_of<L: Lookup>(
     alloc: Global,
     lookup: &L,
     request: &Request,
-) -> Result<Outcome, AllocError>
+) -> Result<Effect, AllocError>
     ensures { IfOk result (λ o. Gives o (meaning.outcome_of (L.keyspace lookup.now) request.now)) }
 {
-    let (reply, changes) = outcome_of_words(alloc, lookup, request.words())?;
-    Ok(Outcome { reply, changes })
+    let (reply, changes) = outcome_of_words(alloc, lookup, request)?;
+    Ok(Effect { reply, changes })
 }
 
 /// Whether nothing more is taken from a connection after this item: a request to quit, or a fault.
@@ -32,7 +32,7 @@ pub fn closes(item: &Item) -> bool
     ensures { result ≡ meaning.closes item.now }
 {
     match item {
-        Item::Request(request) => cmd_table::closes(request.words()),
+        Item::Request(request) => cmd_table::closes(request),
         Item::Fault(_) => true,
     }
 }
