@@ -1,10 +1,9 @@
 -- A standby that has taken a whole frame still follows, and the commit asked of its engine meets the engine's contract.
-use Rattle.std.proofs.Common.{◌≡◌, ◌≢◌, ℕ, ◌+◌, ◌<◌, ◌≤◌, ◌||◌, ◌⊎◌, inl, inr, ⊎_elim, Bool, true, false, not, IsTrue, List, [], ◌∷◌, length, map, Option, Some, None, refl, sym, ap, subst, ◌∙◌, arith}
-use Rattle.std.proofs.lemmas.Bool.{cases_Bool, cases_lt, or_left, or_right, true≢false}
+use Rattle.std.proofs.Common.{◌≡◌, ℕ, ◌+◌, ◌<◌, ◌≤◌, ◌||◌, ◌⊎◌, inl, inr, ⊎_elim, Bool, true, false, not, IsTrue, List, [], ◌∷◌, length, map, Option, Some, None, refl, sym, ap, subst, ◌∙◌, rules}
+use Rattle.std.proofs.lemmas.Bool.{cases_Bool, or_left, or_right, true≢false}
 use Rattle.std.specs.List.{AllByRecursion}
 use Rattle.kv_types.specs.declared.place.EntryNo.{EntryNo}
 use Rattle.kv_types.specs.Keyspace.{play_all}
-use Rattle.kv_types.specs.declared.record_id.RecordId.{RecordId}
 use Rattle.pmem.specs.Device.{State}
 use Rattle.pmem.specs.Runs.{LeavesOnly}
 use Rattle.pmem.proofs.Leaving.{LeavesOnly-weaken}
@@ -13,30 +12,27 @@ use Rattle.model.specs.declared.group.Part.{Part}
 use Rattle.model.specs.declared.group.Put.{Put}
 use Rattle.model.specs.declared.image.TheConstants.{COUNTER_LIMIT, STAMP_WINDOW}
 use Rattle.model.specs.declared.record.Record.{Record}
-use Rattle.model.specs.Image.{Image, IsMapOf, Version, entries_of_lines, first_extent_line}
+use Rattle.model.specs.Image.{Image, IsMapOf, Version, entries_of_lines}
 use Rattle.model.specs.Group.{AreEnded as AreEndedIn, Contents, Versions, IsConsistent, IsGroup, after_group, change_of, puts_of_part, part_versions, parts_versions, last_position, IsPlaced, IsUnused, AreAllApart, NamesEnded, is_ended_version, is_listed, is_live_version, is_put_at}
 use Rattle.model.proofs.GroupsLemmas.{IsConsistent-after_group, changes_versions-none}
 use Rattle.extent_heap.specs.Room.{Room}
-use Rattle.mv_keyspace.specs.Table.{Cell, Table, IsCellOf, IsTable, AreEnded, place_all, records}
+use Rattle.mv_keyspace.specs.Table.{Table, IsTable, AreEnded, place_all, records}
 use Rattle.mv_keyspace.proofs.TableLemmas.{records-place_all}
 use Rattle.mv_keyspace.proofs.VersionTables.{AreEmpty}
 use Rattle.mv_keyspace.proofs.PartTables.{AreDistinct, IsTable-changes, names-ended, map-from_table}
-use Rattle.placing.specs.Back.{ComesBack, HasOut, count_versions, has_version}
+use Rattle.placing.specs.Back.{HasOut}
 use Rattle.placing.specs.Left.{IsTaken, IsLeftOf}
 use Rattle.placing.specs.Place.{TakesPlaces}
 use Rattle.placing.proofs.TakenLemmas.{All-map, IsFree, IsWithin, places_within, places_free, places_taken, places_fitting, places_apart, AreDistinct-from_apart}
 use Rattle.placing.proofs.LeftLemmas.{placed_of_free, unused_of_free, left_within, after_parts, left-after}
 use Rattle.placing.proofs.BackLemmas.{comes-back-taken}
-use Rattle.placing.proofs.CountLemmas.{same_count}
-use Rattle.placing.proofs.MemberLemmas.{distinct_none}
 use Rattle.placing.proofs.PartsLemmas.{IsGroup-alone}
 use Rattle.wbl_engine.specs.Contents.{Exhausts, Keeps, Same}
-use Rattle.wbl_engine.specs.Lawful.{AreLawful}
 use Rattle.wbl_engine.proofs.ApartLemmas.{group_apart}
 use Rattle.wbl_engine.proofs.LawfulLemmas.{group_lawful}
 use Rattle.frames.specs.declared.frame.Frame.{Frame}
-use Rattle.standby.specs.Following.{Follows, HasTaken, IsBeforeOrWhole, IsHeld, IsTakenNext, IsWhole, TakesEpoch, WouldExhaust}
-use Rattle.standby.proofs.EndedLemmas.{AreEnded-from_members, AreEnded-same, KeepsWithoutSome-none, listed-from_member}
+use Rattle.standby.specs.Following.{Follows, HasTaken, IsBeforeOrWhole, IsWhole, TakesEpoch, WouldExhaust}
+use Rattle.standby.proofs.EndedLemmas.{AreEnded-from_members, KeepsWithoutSome-none, listed-from_member, Same-is, ended-directory, nothing-back}
 
 -- ---- the frame as a group of one part
 
@@ -73,17 +69,7 @@ module _ (contents : Contents) (table : Table) (room : Room) (follows : Follows 
       IsGroup-alone own part group one before refl later (names-ended contents.versions table part empty distinct follows.table_is ended)
       (All-map (IsFree room) (IsPlaced contents.lines) (λ put. placed_of_free contents room put follows.left) puts free) (places_fitting room puts left takes)
       (All-map (IsFree room) (IsUnused contents.versions contents.is_free) (λ put. unused_of_free contents room put follows.left) puts free) apart in
-      record {
-        epoch = epoch;
-        before = is.before;
-        some = is.some;
-        few = is.few;
-        parts = is.parts;
-        placed = is.placed;
-        fitting = is.fitting;
-        unused = is.unused;
-        apart = is.apart;
-      }
+      search rules
 
   left_after : (epoch : ℕ) → IsLeftOf (after_parts epoch contents (part ∷ [])) left
   left_after epoch = left-after epoch contents left part (left_within contents left room within follows.left) taken
@@ -124,25 +110,12 @@ module _ (contents : Contents) (table : Table) (room : Room) (follows : Follows 
   ended_after new versions_are consistent =
       AreEnded-from_members new part.ended.items ended.once
       (λ i m.
-      let is : IsTrue (is_ended_version (new.versions i)) = ap (λ (versions : Versions). is_ended_version (versions i)) versions_are ∙ ((names i).0 m).1 in (
-        ⊎_elim (λ (lt : i < entries_of_lines new.lines). lt)
-            (λ (past : entries_of_lines new.lines ≤ i). absurd (true≢false (sym is ∙ ap is_ended_version (consistent.beyond i past))))
-            (cases_lt i (entries_of_lines new.lines)),
-        is,
-      ))
+      let is : IsTrue (is_ended_version (new.versions i)) = ap (λ (versions : Versions). is_ended_version (versions i)) versions_are ∙ ((names i).0 m).1 in
+      (ended-directory new consistent i is, is))
 
   out_after : (epoch : ℕ) → HasOut (after_parts epoch contents (part ∷ [])) left 0
   out_after epoch =
-      let nothing : ComesBack contents room [] [] =
-      record {
-        once = distinct_none _;
-        entries_back = λ i listed. absurd (true≢false (sym listed));
-        apart = tt;
-        some = tt;
-        lines_back = λ line has. absurd (true≢false (sym has));
-        out = follows.out;
-      } in
-      let out = (comes-back-taken contents part.position room left part.changes.items [] [] takes (λ i free. (follows.left.entries i free).2) nothing).out in
+      let out = (comes-back-taken contents part.position room left part.changes.items [] [] takes (λ i free. (follows.left.entries i free).2) (nothing-back contents room follows.out)).out in
       record { end_line = out.end_line; end_entry = out.end_entry; held = out.held }
 
   -- the tables follow what the commit makes of the contents
@@ -164,44 +137,8 @@ module _ (contents : Contents) (table : Table) (room : Room) (follows : Follows 
 
 -- ---- contents that say the same
 
-pub cell_along : (old new : Versions) (id : RecordId) (cell : Cell) → new cell.entry ≡ old cell.entry → IsCellOf old id cell → IsCellOf new id cell
-cell_along old new id cell same is = record {
-  live = record { version = is.live.version; begun = same ∙ is.live.begun; not_ended = is.live.not_ended; id_is = is.live.id_is; value_is = is.live.value_is };
-  position_is = is.position_is;
-}
-
 pub Follows-same : (old new : Contents) (table : Table) (room : Room) (ended : List EntryNo) → Same old new → Follows old table room ended → Follows new table room ended
-Follows-same old new table room ended same follows = record {
-  consistent = record {
-    free = λ i is. same.versions i ∙ follows.consistent.free i (sym (same.is_free i) ∙ is);
-    beyond = λ i le. same.versions i ∙ follows.consistent.beyond i (subst (λ lines. entries_of_lines lines ≤ i) same.lines le);
-  };
-  left = record {
-    entries = λ i is.
-        let before = follows.left.entries i is in
-        (subst (λ lines. i < entries_of_lines lines) (sym same.lines) before.0, same.is_free i ∙ before.1, same.versions i ∙ before.2);
-    lines = λ line is. subst (λ lines. (first_extent_line lines ≤ line) × (line < lines)) (sym same.lines) (follows.left.lines line is);
-    apart = λ i version begun. follows.left.apart i version (sym (same.versions i) ∙ begun);
-  };
-  table_is = record {
-    keyspace = follows.table_is.keyspace;
-    live = λ id cell found. cell_along old.versions new.versions id cell (same.versions cell.entry) (follows.table_is.live id cell found);
-    found = λ id cell is. follows.table_is.found id cell (cell_along new.versions old.versions id cell (sym (same.versions cell.entry)) is);
-  };
-  apart = λ i j v w differ is_v is_w. follows.apart i j v w differ (sym (same.versions i) ∙ is_v) (sym (same.versions j) ∙ is_w);
-  out =
-      let count : count_versions new.versions (entries_of_lines new.lines) ≡ count_versions old.versions (entries_of_lines old.lines) =
-      ap (λ lines. count_versions new.versions (entries_of_lines lines)) same.lines
-      ∙ same_count old.versions new.versions (entries_of_lines old.lines) (λ i lt. ap has_version (same.versions i)) in
-      let held = follows.out.held in
-      record {
-        end_line = follows.out.end_line ∙ sym same.lines;
-        end_entry = follows.out.end_entry ∙ ap entries_of_lines (sym same.lines);
-        held = omega (arith, count, held);
-      };
-  listed = AreEnded-same old new ended same follows.listed;
-  all = λ i is. follows.all i (sym (ap is_ended_version (same.versions i)) ∙ is);
-}
+Follows-same old new table room ended same follows = rw (Same-is old new same) follows
 
 -- ---- the frame whole
 
@@ -251,24 +188,3 @@ module _ (contents : Contents) (table : Table) (frame : Frame) (part : Part) (sa
         whole : (image : Image) → Keeps contents image ⊎ Keeps (after_group contents group) image → IsBeforeOrWhole frame [] contents table image
         whole image (inl before) = inl (KeepsWithoutSome-none [] contents image before)
         whole image (inr keeps) = inr (after_group contents group, IsWhole-group, keeps)
-
--- ---- a frame that was taken
-
--- a frame that moved the node is the one that came next
-pub next-of_moved : {N : Type 0} (current : Record) (frame : Frame) (position told : ℕ) (at : N → ℕ) (old new : N) → position ≡ at old → told ≡ at new → told ≢ position
-    → (IsHeld current frame × (new ≡ old)) ⊎ IsTakenNext current frame → IsTakenNext current frame
-next-of_moved current frame position told at old new was is moved (inl held) = absurd (moved (is ∙ ap at held.1 ∙ sym was))
-next-of_moved current frame position told at old new was is moved (inr next) = next
-
-pub IsWhole-taken : (frame : Frame) (before after : Contents) (old new : Table) (room : Room) (ended : List EntryNo) → HasTaken frame before after old new → Follows after new room ended
-    → (AreLawful before → AreLawful after) → IsWhole frame before old after
-IsWhole-taken frame before after old new room ended taken follows lawful = record {
-  position = taken.position;
-  line_count = taken.lines;
-  role = taken.role;
-  epoch = taken.epoch;
-  consistent = follows.consistent;
-  map = subst (IsMapOf after.versions (entries_of_lines after.lines)) taken.keyspace
-      (map-from_table after.versions (entries_of_lines after.lines) new follows.consistent.beyond follows.table_is);
-  lawful = lawful;
-}

@@ -4,12 +4,11 @@ use Rattle.std.proofs.lemmas.Bool.{true≢false}
 use Rattle.std.proofs.lemmas.Option.{none-some}
 use Rattle.model.specs.Image.{entries_of_lines, first_extent_line}
 use Rattle.model.specs.Group.{Contents, IsConsistent, is_ended_version}
-use Rattle.model.specs.declared.record.Record.{Record}
 use Rattle.model.specs.declared.record.Role.{Role}
 use Rattle.extent_heap.specs.Room.{Room, is_free_entry, is_free_line}
 use Rattle.mv_keyspace.specs.Table.{Table, IsTable}
 use Rattle.mv_keyspace.proofs.PartTables.{table-none}
-use Rattle.wbl_engine.specs.Contents.{IsNew, Same}
+use Rattle.wbl_engine.specs.Contents.{IsNew}
 use Rattle.placing.specs.Back.{HasOut, has_version}
 use Rattle.placing.specs.Left.{IsLeftOf}
 use Rattle.placing.proofs.CountLemmas.{none_counted}
@@ -67,20 +66,4 @@ follows-new lines role contents table room new all empty =
       out = out-new lines role contents room new all;
       listed = tt;
       all = λ i is. absurd (true≢false (sym is ∙ ap is_ended_version (new.versions i)));
-    }
-
--- contents that say the same are new too
-pub new-same : (lines : ℕ) (role : Role) (old new : Contents) → Same old new → IsNew lines role old → IsNew lines role new
-new-same lines role old new same is =
-    record {
-      number = ap (λ (r : Record). r.number) same.current ∙ is.number;
-      position = ap (λ (r : Record). r.position) same.current ∙ is.position;
-      cp = ap (λ (r : Record). r.cp) same.current ∙ is.cp;
-      cd = ap (λ (r : Record). r.cd) same.current ∙ is.cd;
-      epoch = ap (λ (r : Record). r.epoch) same.current ∙ is.epoch;
-      role_is = ap (λ (r : Record). r.role) same.current ∙ is.role_is;
-      gaps = ap (λ (r : Record). r.gaps.items) same.current ∙ is.gaps;
-      line_count = same.lines ∙ is.line_count;
-      versions = λ i. same.versions i ∙ is.versions i;
-      is_free = λ i within. same.is_free i ∙ is.is_free i within;
     }

@@ -1,13 +1,13 @@
 -- An image that was opened again shows its contents, so the lists that were read of it are those from which a keyspace and a heap are made.
 use Rattle.std.proofs.Common.{◌≡◌, ℕ, ◌<◌, ◌≤◌, inl, ⊎_elim, cond, IsTrue, List, Some, None, refl, sym, ap, subst, subst₂, ◌∙◌, eqb-true}
-use Rattle.std.proofs.lemmas.Bool.{cases_lt, le-ltb, true≢false}
+use Rattle.std.proofs.lemmas.Bool.{cases_lt, le-ltb}
 use Rattle.kv_types.specs.declared.place.EntryNo.{EntryNo}
 use Rattle.heap_layout.specs.declared.entry.Entry.{Entry}
 use Rattle.extent_heap.specs.Room.{Room}
 use Rattle.pmem.specs.Device.{State}
 use Rattle.pmem.specs.Crash.{image_of}
 use Rattle.model.specs.declared.record.Role.{Role}
-use Rattle.model.specs.Group.{Contents, IsConsistent, is_ended_version}
+use Rattle.model.specs.Group.{Contents, IsConsistent}
 use Rattle.model.specs.Image.{Image, counts, entries_of_lines, entry_word, version_at, version_in}
 use Rattle.mv_keyspace.specs.Row.{numbers_of}
 use Rattle.mv_keyspace.specs.Table.{Table}
@@ -17,7 +17,7 @@ use Rattle.placing.proofs.ReadLemmas.{read_is_of}
 use Rattle.wbl_engine.specs.Contents.{IsDurable, Keeps}
 use Rattle.wbl_engine.specs.Reopening.{IsShown, Reopens}
 use Rattle.standby.specs.Following.{Follows}
-use Rattle.standby.proofs.EndedLemmas.{AreEnded-from_members, listed-from_member}
+use Rattle.standby.proofs.EndedLemmas.{AreEnded-from_members, listed-from_member, ended-directory}
 
 module _ (device : State) (lines' : ℕ) (image : Image) (role : Role) (contents : Contents) (counted : List (EntryNo × Entry)) (gapped : List EntryNo)
     (reopens : Reopens lines' image role contents counted gapped) (shown : IsShown contents counted gapped (image_of device.words)) (durable : IsDurable device contents) where
@@ -64,12 +64,6 @@ follows_rebuilt contents table room ended order rebuilt are = record {
   table_is = rebuilt.table_is;
   apart = order.apart;
   out = rebuilt.out;
-  listed = AreEnded-from_members contents ended are.once (λ i m. let is = (are.these i).0 m in (within i is, is));
+  listed = AreEnded-from_members contents ended are.once (λ i m. let is = (are.these i).0 m in (ended-directory contents rebuilt.consistent i is, is));
   all = λ i is. listed-from_member i ended ((are.these i).1 is);
 }
-  where
-    within : (i : ℕ) → IsTrue (is_ended_version (contents.versions i)) → i < entries_of_lines contents.lines
-    within i is =
-        ⊎_elim (λ (lt : i < entries_of_lines contents.lines). lt)
-        (λ (past : entries_of_lines contents.lines ≤ i). absurd (true≢false (sym is ∙ ap is_ended_version (rebuilt.consistent.beyond i past))))
-        (cases_lt i (entries_of_lines contents.lines))

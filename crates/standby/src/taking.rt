@@ -1,12 +1,13 @@
 //! How a standby takes a frame, and how it frees what has ended.
-ghost use Rattle.std.specs.Prelude.{◌≡◌, ◌↔◌, ◌⊎◌, ◌<◌, ◌≤◌, false, true, [], Ok, Err, IsTrue, IfOk, IfErr, OnOk, OnErr, IsErrOf};
+ghost use Rattle.std.specs.Prelude.{◌≡◌, ◌↔◌, ◌⊎◌, ◌<◌, false, true, [], Ok, Err, IsTrue, IfErr, OnOk, OnErr, IsErrOf};
 ghost use Rattle.kv_types.specs.declared.refusal.Refusal.TheVariants.{WrongEpoch, PositionGap, Full, Memory, Fault, Exhausted};
 ghost use Rattle.pmem.specs.Runs.{LeavesOnly};
 ghost use Rattle.placing.specs.Place.{HasRoomFor};
 ghost use Rattle.wbl_engine.specs.Contents.{IsDurable, Same};
 ghost use Rattle.wbl_engine.specs.Freeing.{KeepsWithoutSome, after_free};
 ghost use Rattle.wbl_engine.specs.Lawful.{AreLawful};
-ghost use Rattle.standby.specs.Following.{Follows, TakesEpoch, IsHeld, IsNext, IsTakenNext, HasFreed, HasTaken, AreGone, IsMadeAt, HasRoomOnceFreed, WouldExhaust, IsBeforeOrWhole, EndsAs};
+ghost use Rattle.standby.specs.Following.{Follows, TakesEpoch, IsNext, IsTakenNext, HasFreed, HasTaken, IsMadeAt, WouldExhaust, IsBeforeOrWhole};
+ghost use Rattle.standby.specs.Taking.{Stands, TakesFrame};
 
 use crate::part::make_part;
 use crate::standby::Standby;
@@ -24,6 +25,9 @@ impl<E: Durable, K: Keyspace> Standby<E, K> {
     /// it is durable then. What the frame ended is listed and not freed: `free_ended` does that, and so does the next call that takes a frame, which
     /// first frees all that is listed.
     ///
+    /// It can be called on a standby that was opened or restarted, and again after each of its calls that did not answer `Fault`. After `Fault` it can
+    /// be called once the standby was restarted.
+    ///
     /// # Errors
     ///
     /// `WrongEpoch` for a frame of another epoch, `PositionGap` for one that begins elsewhere, or at position 0 for one of a higher epoch that ends
@@ -32,63 +36,8 @@ impl<E: Durable, K: Keyspace> Standby<E, K> {
     /// nothing else changed. `Fault` if a fence failed: the engine holds what it held, perhaps without what had ended, or the whole frame, but the
     /// keyspace and the heap may be ahead of it or behind it, so the image has to be reopened.
     pub fn take_frame(&mut self, alloc: Global, frame: &Frame) -> Result<Ack, Refusal>
-        requires follows { Follows (E.contents self.old.engine) (K.table self.old.keyspace) self.old.heap self.old.ended.items }
-        requires sound { E.is_faulted self.old.engine ≡ false }
-        requires durable { IsDurable (E.device self.old.engine) (E.contents self.old.engine) }
-        ensures epoch { ¬ TakesEpoch (E.contents self.old.engine).current frame.now.epoch → (result ≡ Err WrongEpoch) × (self.new ≡ self.old) }
-        ensures again { frame.now.epoch ≡ (E.contents self.old.engine).current.epoch → frame.now.after ≤ (E.contents self.old.engine).current.position
-            → (result ≡ Ok (record { epoch = (E.contents self.old.engine).current.epoch; position = (E.contents self.old.engine).current.position }))
-            × (self.new ≡ self.old) }
-        ensures gap { TakesEpoch (E.contents self.old.engine).current frame.now.epoch → ¬ IsHeld (E.contents self.old.engine).current frame.now
-            → ¬ IsNext (E.contents self.old.engine).current.position frame.now → (result ≡ Err PositionGap) × (self.new ≡ self.old) }
-        // no other frame is acknowledged
-        ensures answers { IfOk result (λ _. (IsHeld (E.contents self.old.engine).current frame.now × (self.new ≡ self.old))
-            ⊎ IsTakenNext (E.contents self.old.engine).current frame.now) }
-
-        // for the frame that comes next
-        ensures ack { IsTakenNext (E.contents self.old.engine).current frame.now
-            → IfOk result (λ ack. ack ≡ record { epoch = frame.now.epoch; position = frame.now.after }) }
-        ensures taken { IsTakenNext (E.contents self.old.engine).current frame.now
-            → OnOk result (HasTaken frame.now (E.contents self.old.engine) (E.contents self.new.engine)
-            (K.table self.old.keyspace) (K.table self.new.keyspace)) }
-        ensures gone { IsTakenNext (E.contents self.old.engine).current frame.now
-            → OnOk result (AreGone frame.now.after (E.contents self.old.engine).versions (E.contents self.new.engine).versions) }
-        ensures fits { IsTakenNext (E.contents self.old.engine).current frame.now
-            → OnOk result (HasRoomOnceFreed self.old.heap self.old.ended.items (E.contents self.old.engine) frame.now) }
-        ensures causes { IsTakenNext (E.contents self.old.engine).current frame.now
-            → IfErr result (λ refusal. (refusal ≡ Full) ⊎ (refusal ≡ Memory) ⊎ (refusal ≡ Fault) ⊎ (refusal ≡ Exhausted)) }
-        ensures exhausts { IsTakenNext (E.contents self.old.engine).current frame.now
-            → WouldExhaust (E.contents self.old.engine).current frame.now → result ≡ Err Exhausted }
-
-        // each refusal has its cause, and all but a failed fence change nothing, or free what had ended
-        ensures full { IsErrOf result Full → ¬ HasRoomFor self.new.heap frame.now.changes.items
-            × HasFreed self.old.ended.items (E.contents self.old.engine) (E.contents self.new.engine) self.old.heap self.new.heap self.new.ended.items }
-        ensures exhausted { IsErrOf result Exhausted → WouldExhaust (E.contents self.old.engine).current frame.now × (self.new ≡ self.old) }
-        ensures fault { IsErrOf result Fault
-            → (E.is_faulted self.new.engine ≡ true) × ((E.device self.old.engine).failures < (E.device self.new.engine).failures) }
-        ensures refused { ¬ IsErrOf result Fault → OnErr result ((K.table self.new.keyspace ≡ K.table self.old.keyspace) × ((self.new ≡ self.old)
-            ⊎ HasFreed self.old.ended.items (E.contents self.old.engine) (E.contents self.new.engine) self.old.heap self.new.heap self.new.ended.items)) }
-
-        // for any frame
-        ensures one_epoch { IfOk result (λ ack. (ack.epoch ≡ frame.now.epoch) × (ack.epoch ≡ (E.contents self.new.engine).current.epoch)
-            × (ack.position ≡ (E.contents self.new.engine).current.position)) }
-        ensures still { ¬ IsErrOf result Fault → Follows (E.contents self.new.engine) (K.table self.new.keyspace) self.new.heap self.new.ended.items }
-        ensures sound { ¬ IsErrOf result Fault
-            → (E.is_faulted self.new.engine ≡ false) × ((E.device self.new.engine).failures ≡ (E.device self.old.engine).failures) }
-        ensures durable { ¬ IsErrOf result Fault → IsDurable (E.device self.new.engine) (E.contents self.new.engine) }
-        ensures lawful { AreLawful (E.contents self.old.engine) → ¬ IsErrOf result Fault → AreLawful (E.contents self.new.engine) }
-        ensures stays { OnErr result (EndsAs frame.now self.old.ended.items (E.contents self.old.engine) (K.table self.old.keyspace) (E.contents self.new.engine)) }
-        ensures own_epoch { frame.now.epoch ≡ (E.contents self.old.engine).current.epoch
-            → (E.contents self.new.engine).current.epoch ≡ (E.contents self.old.engine).current.epoch }
-
-        // at any moment of the call
-        ensures moments { IsTakenNext (E.contents self.old.engine).current frame.now
-            → LeavesOnly (E.device self.old.engine) (E.device self.new.engine)
-            (IsBeforeOrWhole frame.now self.old.ended.items (E.contents self.old.engine) (K.table self.old.keyspace)) }
-        // at any moment of a call that refuses the frame
-        ensures rests { IsTakenNext (E.contents self.old.engine).current frame.now
-            → ¬ IsErrOf result Fault → OnErr result (LeavesOnly (E.device self.old.engine) (E.device self.new.engine)
-            (KeepsWithoutSome self.old.ended.items (E.contents self.old.engine))) }
+        requires { Stands E.device E.contents E.is_faulted K.table self.old }
+        ensures { TakesFrame E.device E.contents E.is_faulted K.table frame.now self.old result self.new }
     {
         if !self.takes_epoch(frame.epoch) {
             return Err(Refusal::WrongEpoch);
@@ -115,11 +64,10 @@ impl<E: Durable, K: Keyspace> Standby<E, K> {
     }
 
     /// Frees what has ended, and gives its places back to the heap. `Memory` if an allocation was refused, with nothing changed. `Fault` if a fence
-    /// failed: the heap and the list are as they were, and the engine holds its contents without what had ended.
+    /// failed: the heap and the list are as they were, and the engine holds its contents without what had ended. It can be called where
+    /// `take_frame` can.
     pub fn free_ended(&mut self, alloc: Global) -> Result<(), Refusal>
-        requires follows { Follows (E.contents self.old.engine) (K.table self.old.keyspace) self.old.heap self.old.ended.items }
-        requires sound { E.is_faulted self.old.engine ≡ false }
-        requires durable { IsDurable (E.device self.old.engine) (E.contents self.old.engine) }
+        requires { Stands E.device E.contents E.is_faulted K.table self.old }
         ensures freed { OnOk result (HasFreed self.old.ended.items (E.contents self.old.engine) (E.contents self.new.engine) self.old.heap self.new.heap self.new.ended.items) }
         ensures keyspace { self.new.keyspace ≡ self.old.keyspace }
         ensures causes { IfErr result (λ refusal. (refusal ≡ Memory) ⊎ (refusal ≡ Fault)) }

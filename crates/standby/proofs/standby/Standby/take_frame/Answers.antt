@@ -1,90 +1,52 @@
-use Rattle.std.proofs.Common.{◌≡◌, inl, Err, Result, sym, ap, subst, ◌∙◌}
+use Rattle.std.proofs.Common.{rules, inl, Err, ap, ◌∙◌}
 use Rattle.std.proofs.lemmas.Result.{err_from_is_err_and}
-use Rattle.pmem.specs.Device.{State}
 use Rattle.pmem.specs.Runs.{LeavesOnly}
-use Rattle.pmem.proofs.Leaving.{none_leaves}
+use Rattle.pmem.proofs.Leaving.{LeavesOnly-weaken, none_leaves}
 use Rattle.wbl_engine.specs.Freeing.{KeepsWithoutSome}
-use Rattle.standby.specs.Following.{IsBeforeOrWhole}
+use Rattle.standby.specs.Following.{IsBeforeOrWhole, IsTakenNext, WouldExhaust}
 use Rattle.standby.proofs.EndedLemmas.{KeepsWithoutSome-none}
-use Rattle.standby.proofs.FreedLemmas.{Follows-moved, moments-committed}
+use Rattle.standby.proofs.TakingLemmas.{TakesFrame-refused, TakesFrame-taken, TakesFrame-unfreed}
 use Rattle.standby.proofs.standby.Standby.take_frame.Given.{Over}
 use Rattle.standby.proofs.standby.Standby.take_frame.Goals as goal
-use Rattle.standby.proofs.standby.Standby.take_frame.Goals.{After-commit_frame}
+use Rattle.standby.proofs.standby.Standby.take_frame.Goals.{After-free_ended}
 
-error : {T E : Type 0} (x y : E) → ◌≡◌ {A = Result T E} (Err x) (Err y) → x ≡ y
-error x y e = cc
+pub returns-then-would_exhaust : goal.returns-then-would_exhaust
+returns-then-would_exhaust g c =
+    let device = g.E.Durable.device c.args.self.now.engine in
+    let contents = g.E.Durable.contents c.args.self.now.engine in
+    let rests : LeavesOnly device device (KeepsWithoutSome c.args.self.now.ended.items contents) =
+    none_leaves _ _ (λ image is. KeepsWithoutSome-none c.args.self.now.ended.items contents image (c.requires.durable image is)) in
+    let moments : LeavesOnly device device (IsBeforeOrWhole c.args.frame.now c.args.self.now.ended.items contents (g.K.Keyspace.table c.args.self.now.keyspace)) =
+    LeavesOnly-weaken _ (λ image some. inl some) rests in
+    search rules
 
--- ---- nothing is done
+next : (g : Over) (c : After-free_ended g) → IsTakenNext (g.E.Durable.contents c.args.self.now.engine).current c.args.frame.now
+next g c = search rules
 
-pub returns-then-would_exhaust-clause-moments : goal.returns-then-would_exhaust-clause-moments
-returns-then-would_exhaust-clause-moments g c = λ _.
-    none_leaves _ _ (λ image is. inl (KeepsWithoutSome-none c.args.self.now.ended.items (g.E.Durable.contents c.args.self.now.engine) image (c.requires.durable image is)))
+fits : (g : Over) (c : After-free_ended g) → ¬ WouldExhaust (g.E.Durable.contents c.args.self.now.engine).current c.args.frame.now
+fits g c = search rules
 
-pub returns-then-would_exhaust-clause-rests : goal.returns-then-would_exhaust-clause-rests
-returns-then-would_exhaust-clause-rests g c = λ _ _.
-    none_leaves _ _ (λ image is. KeepsWithoutSome-none c.args.self.now.ended.items (g.E.Durable.contents c.args.self.now.engine) image (c.requires.durable image is))
-
--- ---- what had ended is freed
-
-pub returns-in_err-free_ended-clause-durable : goal.returns-in_err-free_ended-clause-durable
-returns-in_err-free_ended-clause-durable g c = λ no_fault.
+pub returns-in_err-free_ended : goal.returns-in_err-free_ended
+returns-in_err-free_ended g c =
     let exit = err_from_is_err_and c.from_residual.result c.from_residual.ensures.1 in
-    c.in_err-free_ended.ensures.durable (λ is. no_fault (exit.1 ∙ ap Err (exit.2 ∙ error _ _ is)))
+    let prefix = (goal.at.returns-in_err-free_ended g c).After-free_ended in
+    rw (exit.1 ∙ ap Err exit.2)
+    (TakesFrame-unfreed g.E.Durable.device g.E.Durable.contents g.E.Durable.is_faulted g.K.Keyspace.table c.args.frame.now c.args.self.now c.requires (next g prefix) (fits g prefix)
+    c.in_err-free_ended.field-0.0 c.free_ended.new.self (search (rules, c.in_err-free_ended.ensures)))
 
 pub commit_frame-requires-clause-durable : goal.commit_frame-requires-clause-durable
 commit_frame-requires-clause-durable g c = c.in_ok-free_ended.ensures.durable (λ is. cc)
 
--- ---- the frame is taken
-
-committed : (g : Over) (c : After-commit_frame g)
-    → LeavesOnly (g.E.Durable.device c.args.self.now.engine) (g.E.Durable.device c.commit_frame.new.self.engine)
-    (IsBeforeOrWhole c.args.frame.now c.args.self.now.ended.items (g.E.Durable.contents c.args.self.now.engine) (g.K.Keyspace.table c.args.self.now.keyspace))
-committed g c =
-    moments-committed c.args.frame.now c.args.self.now.ended.items (g.E.Durable.contents c.args.self.now.engine) (g.E.Durable.contents c.free_ended.new.self.engine)
-    (g.K.Keyspace.table c.args.self.now.keyspace) (g.K.Keyspace.table c.free_ended.new.self.keyspace) c.requires.follows.listed c.in_ok-free_ended.ensures.freed.contents_are
-    (ap g.K.Keyspace.table c.free_ended.ensures.keyspace)
-    (g.E.Durable.device c.args.self.now.engine) (g.E.Durable.device c.free_ended.new.self.engine) (g.E.Durable.device c.commit_frame.new.self.engine)
-    c.free_ended.ensures.moments c.commit_frame.ensures.moments
-
-pub returns-in_err-commit_frame-clause-still : goal.returns-in_err-commit_frame-clause-still
-returns-in_err-commit_frame-clause-still g c = λ no_fault.
+pub returns-in_err-commit_frame : goal.returns-in_err-commit_frame
+returns-in_err-commit_frame g c =
     let exit = err_from_is_err_and c.from_residual-in_err-commit_frame.result c.from_residual-in_err-commit_frame.ensures.1 in
-    let same = c.in_err-commit_frame.ensures.refused (λ is. no_fault (exit.1 ∙ ap Err (exit.2 ∙ error _ _ is))) in
-    Follows-moved (g.E.Durable.contents c.free_ended.new.self.engine) (g.E.Durable.contents c.commit_frame.new.self.engine)
-    (g.K.Keyspace.table c.free_ended.new.self.keyspace) (g.K.Keyspace.table c.commit_frame.new.self.keyspace) c.free_ended.new.self.heap c.commit_frame.new.self.heap
-    c.free_ended.new.self.ended.items c.commit_frame.new.self.ended.items (ap g.E.Durable.contents same.0) same.1 same.2 (same.3 ∙ sym c.in_ok-free_ended.ensures.freed.none)
-    (c.in_ok-free_ended.ensures.still (λ is. cc))
+    let prefix = (goal.at.returns-in_err-commit_frame g c).After-free_ended in
+    rw (exit.1 ∙ ap Err exit.2)
+    (TakesFrame-refused g.E.Durable.device g.E.Durable.contents g.E.Durable.is_faulted g.K.Keyspace.table c.args.frame.now c.args.self.now c.requires (next g prefix) (fits g prefix)
+    c.free_ended.new.self c.commit_frame.new.self c.in_ok-free_ended.field-0 (search (rules, c.in_ok-free_ended.ensures)) c.in_err-commit_frame.field-0.0 (search (rules, c.in_err-commit_frame.ensures)))
 
-pub returns-in_err-commit_frame-clause-sound : goal.returns-in_err-commit_frame-clause-sound
-returns-in_err-commit_frame-clause-sound g c = λ no_fault.
-    let exit = err_from_is_err_and c.from_residual-in_err-commit_frame.result c.from_residual-in_err-commit_frame.ensures.1 in
-    let committing = c.in_err-commit_frame.ensures.sound (λ is. no_fault (exit.1 ∙ ap Err (exit.2 ∙ error _ _ is))) in
-    let freeing = c.in_ok-free_ended.ensures.sound (λ is. cc) in
-    (committing.0, committing.1 ∙ freeing.1)
-
-pub returns-in_err-commit_frame-clause-durable : goal.returns-in_err-commit_frame-clause-durable
-returns-in_err-commit_frame-clause-durable g c = λ no_fault.
-    let exit = err_from_is_err_and c.from_residual-in_err-commit_frame.result c.from_residual-in_err-commit_frame.ensures.1 in
-    c.in_err-commit_frame.ensures.durable (λ is. no_fault (exit.1 ∙ ap Err (exit.2 ∙ error _ _ is)))
-
-pub returns-in_err-commit_frame-clause-lawful : goal.returns-in_err-commit_frame-clause-lawful
-returns-in_err-commit_frame-clause-lawful g c = λ lawful no_fault.
-    let exit = err_from_is_err_and c.from_residual-in_err-commit_frame.result c.from_residual-in_err-commit_frame.ensures.1 in
-    c.in_err-commit_frame.ensures.lawful (c.in_ok-free_ended.ensures.lawful lawful (λ is. cc)) (λ is. no_fault (exit.1 ∙ ap Err (exit.2 ∙ error _ _ is)))
-
-pub returns-in_err-commit_frame-clause-moments : goal.returns-in_err-commit_frame-clause-moments
-returns-in_err-commit_frame-clause-moments g c = λ _. committed g (goal.at.returns-in_err-commit_frame-clause-moments g c).After-commit_frame
-
-pub returns-in_err-commit_frame-clause-rests : goal.returns-in_err-commit_frame-clause-rests
-returns-in_err-commit_frame-clause-rests g c = λ _ no_fault.
-    let exit = err_from_is_err_and c.from_residual-in_err-commit_frame.result c.from_residual-in_err-commit_frame.ensures.1 in
-    let same = c.in_err-commit_frame.ensures.refused (λ is. no_fault (exit.1 ∙ ap Err (exit.2 ∙ error _ _ is))) in
-    rw exit.1
-    (subst (λ (d : State). LeavesOnly (g.E.Durable.device c.args.self.now.engine) d (KeepsWithoutSome c.args.self.now.ended.items (g.E.Durable.contents c.args.self.now.engine)))
-    (sym (ap g.E.Durable.device same.0)) c.free_ended.ensures.moments)
-
-pub returns-clause-durable : goal.returns-clause-durable
-returns-clause-durable g c = λ _. c.in_ok-commit_frame.ensures.durable (λ is. cc)
-
-pub returns-clause-moments : goal.returns-clause-moments
-returns-clause-moments g c = λ _. committed g (goal.at.returns-clause-moments g c).After-commit_frame
+pub returns : goal.returns
+returns g c =
+    let prefix = (goal.at.returns g c).After-free_ended in
+    TakesFrame-taken g.E.Durable.device g.E.Durable.contents g.E.Durable.is_faulted g.K.Keyspace.table c.args.frame.now c.args.self.now c.requires (next g prefix) (fits g prefix)
+    c.free_ended.new.self c.commit_frame.new.self c.in_ok-free_ended.field-0 (search (rules, c.in_ok-free_ended.ensures)) c.in_ok-commit_frame.field-0 _ (search (rules, c.in_ok-commit_frame.ensures)) c.ack-2.ensures
