@@ -1,3 +1,4 @@
 pub mod CarriesLemmas
 pub mod OutboxLemmas
 pub mod ReadingLemmas
+pub mod SendsLemmas

@@ -22,3 +22,9 @@ pub record Carries (taken taken' : List Answer) (contents contents' : Option (Li
   pub takes : taken' ≡ taken ++ more
   pub writes : Appends contents contents' written
   pub texts : waiting ++ texts_of more ≡ written ++ waiting'
+
+-- The first bytes of what was to go out were written, and the rest of it is still to go out.
+pub record Sends (contents contents' : Option (List ℕ)) (pending pending' : List ℕ) : Type 0 where
+  pub first : List ℕ
+  pub writes : Appends contents contents' first
+  pub whole : pending ≡ first ++ pending'

@@ -1,11 +1,11 @@
 //! The replies of one connection that are on their way out.
-ghost use Rattle.std.specs.Prelude.{◌≡◌, ◌≤◌, ℕ, List, [], ◌++◌, take, drop, length, true, OnOk};
+ghost use Rattle.std.specs.Prelude.{◌≡◌, ◌<◌, ◌≤◌, ℕ, List, [], ◌++◌, take, drop, length, true, OnOk};
 ghost use Rattle.std.specs.Io.KnownBytes.{Appends};
 ghost use Rattle.kv_types.specs.declared.reply.Held.{Held as Answer};
 ghost use Rattle.kv_types.specs.Reply.{text_of};
 ghost use Rattle.pipes.specs.Ring.{taken_at};
 ghost use Rattle.reply_gate.specs.Gate.{covered_bytes, uncovered_rest};
-ghost use Rattle.clients.specs.Texts.{texts_of, IsWithin};
+ghost use Rattle.clients.specs.Texts.{texts_of, IsWithin, Sends};
 
 use kv_types::Held;
 use pipes::{Inlet, RingInlet};
@@ -105,8 +105,25 @@ fn write_pending<W: Write>(gate: &mut Gate, writer: &mut W) -> io::Result<bool>
     ensures waiting { gate.new.waiting ≡ gate.old.waiting }
     ensures replies { gate.new.replies ≡ gate.old.replies }
 {
-    let count = gate.pending().len();
-    writer.write_all(gate.pending())?;
+    let mut wrote = false;
+    while gate.pending_len() > 0 {
+        write_first(gate, writer)?;
+        wrote = true;
+    }
+    Ok(wrote)
+}
+
+/// Writes the first of the bytes that were released, all that lie together.
+fn write_first<W: Write>(gate: &mut Gate, writer: &mut W) -> io::Result<()>
+    requires { 0 < length gate.old.pending }
+    ensures sends { OnOk result (Sends (W.contents writer.old) (W.contents writer.new) gate.old.pending gate.new.pending) }
+    ensures less { OnOk result (length gate.new.pending < length gate.old.pending) }
+    ensures waiting { gate.new.waiting ≡ gate.old.waiting }
+    ensures replies { gate.new.replies ≡ gate.old.replies }
+{
+    let first = gate.pending();
+    writer.write_all(first)?;
+    let count = first.len();
     gate.sent(count);
-    Ok(count > 0)
+    Ok(())
 }

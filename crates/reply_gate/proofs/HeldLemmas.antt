@@ -1,5 +1,6 @@
 -- Lemmas on the replies that a gate holds.
-use Rattle.std.proofs.Common.{◌≡◌, ℕ, ◌+◌, ◌≤◌, true, false, List, [], ◌∷◌, ◌++◌, length, drop, cond, refl, arith, length-append, length-drop}
+use Rattle.std.proofs.Common.{◌≡◌, ℕ, ◌+◌, ◌≤◌, true, false, List, [], ◌∷◌, ◌++◌, length, take, drop, cond, refl, sym, ap, ◌∙◌, arith, length-append, length-drop}
+use Rattle.std.proofs.lemmas.List.{take-take, take-append-le, take-append-drop}
 use Rattle.reply_gate.specs.declared.held_text.HeldText.{HeldText}
 use Rattle.reply_gate.specs.Gate.{held_bytes, covered_bytes, uncovered_rest, is_covered}
 
@@ -26,3 +27,9 @@ held_more p old text new held held' position bytes is_new is_held is_bytes withi
       omega (arith, length-append old text),
       omega (arith, length-append old text, length-drop p (old ++ text), length-drop p old, held_bytes-append held (record { position = position; bytes = bytes } ∷ [])),
     )
+
+-- the first of the pending bytes are a front part of them
+pub first_pending : (pending count : ℕ) (all first : List ℕ) → (rest : List ℕ) × (all ≡ first ++ rest) → count ≤ pending → count ≤ length first → (rest : List ℕ) × (take pending all ≡ take count first ++ rest)
+first_pending pending count all first whole within short =
+    let front = take-take count pending all within ∙ ap (take count) whole.1 ∙ take-append-le count first whole.0 short in
+    (drop count (take pending all), sym (take-append-drop count (take pending all)) ∙ ap (λ bytes. bytes ++ drop count (take pending all)) front)

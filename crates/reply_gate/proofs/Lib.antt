@@ -1,1 +1,3 @@
+pub mod GrowsLemmas
 pub mod HeldLemmas
+pub mod WovenLemmas

@@ -1,1 +1,3 @@
 pub mod Gate
+pub mod Parts
+pub mod Woven

@@ -1,12 +1,11 @@
 //! The gate of one connection.
-ghost use Rattle.std.specs.Prelude.{◌≡◌, ◌+◌, ◌≤◌, [], ◌∷◌, ◌++◌, length, take, drop, IfOk, OnOk, OnErr};
+ghost use Rattle.std.specs.Prelude.{◌≡◌, ℕ, ◌+◌, ◌≤◌, List, [], ◌∷◌, ◌++◌, length, take, drop, OnOk, OnErr};
 ghost use Rattle.kv_types.specs.Reply.{text_of};
 ghost use Rattle.reply_gate.specs.Gate.{covered_bytes, uncovered_rest, held_bytes, is_first_covered};
 
 use crate::held_text::{HeldText, Seen};
-use bytes::{Buf, BytesMut};
+use crate::parts::Parts;
 use kv_types::Reply;
-use resp_codec::write_reply;
 use std::alloc::{AllocError, Global};
 use std::collections::VecDeque;
 use std::marker::Model;
@@ -16,8 +15,8 @@ use std::marker::Model;
 #[derive(Drop)]
 pub struct Gate {
     // what was released and not yet sent, followed by the text of the held replies
-    text: BytesMut,
-    // how many bytes of `text` were released
+    parts: Parts,
+    // how many bytes of `parts` were released
     pending: usize,
     held: VecDeque<HeldText>,
 }
@@ -28,9 +27,11 @@ impl Model for Gate {
 
     ghost Value = { Held };
 
-    ghost view = { λ g. record { pending = take g.pending g.text.items; waiting = drop g.pending g.text.items; replies = g.held.items } };
+    ghost use Rattle.reply_gate.specs.Parts.{all_bytes};
 
-    ghost invariant = { λ g. (g.pending ≤ length g.text.items) × (length (drop g.pending g.text.items) ≡ held_bytes g.held.items) };
+    ghost view = { λ g. record { pending = take g.pending (all_bytes g.parts); waiting = drop g.pending (all_bytes g.parts); replies = g.held.items } };
+
+    ghost invariant = { λ g. (g.pending ≤ length (all_bytes g.parts)) × (length (drop g.pending (all_bytes g.parts)) ≡ held_bytes g.held.items) };
 }
 
 impl Gate {
@@ -41,7 +42,7 @@ impl Gate {
         ensures replies { result.replies ≡ [] }
     {
         Gate {
-            text: BytesMut::new(alloc),
+            parts: Parts::new(alloc),
             pending: 0,
             held: VecDeque::new(alloc),
         }
@@ -55,9 +56,9 @@ impl Gate {
         ensures err { OnErr result (self.new ≡ self.old) }
     {
         self.held.reserve(1)?;
-        let before = self.text.len();
-        write_reply(reply, &mut self.text)?;
-        let bytes = self.text.len() - before;
+        let before = self.parts.len();
+        self.parts.write(reply)?;
+        let bytes = self.parts.len() - before;
         self.held.push_back_reserved(HeldText { position, bytes });
         Ok(())
     }
@@ -79,26 +80,49 @@ impl Gate {
         ensures waiting { self.new.waiting ≡ drop (covered_bytes seen.now.local seen.now.remote self.old.replies) self.old.waiting }
         ensures replies { self.new.replies ≡ uncovered_rest seen.now.local seen.now.remote self.old.replies }
     {
-        let waiting = self.text.len() - self.pending;
+        let waiting = self.parts.len() - self.pending;
         self.pending += take_covered(&mut self.held, seen, waiting);
     }
 
-    /// The bytes that were released and not yet sent.
-    pub fn pending(&self) -> &[u8]
-        ensures { result.now ≡ self.now.pending }
+    /// How many bytes were released and not yet sent.
+    pub fn pending_len(&self) -> usize
+        ensures { result ≡ length self.now.pending }
     {
-        &self.text.as_slice()[..self.pending]
+        self.pending
     }
 
-    /// Removes the first `n` of the pending bytes, which were sent.
+    /// The first of the bytes that were released and not yet sent: those that lie together. There are none only where none are pending.
+    pub fn pending(&self) -> &[u8]
+        ensures first { (rest : List ℕ) × (self.now.pending ≡ result.now ++ rest) }
+        ensures some { result.now ≡ [] → self.now.pending ≡ [] }
+    {
+        let first = self.parts.first();
+        &first[..self.pending.min(first.len())]
+    }
+
+    /// Removes the first `n` of the pending bytes, which were sent. They may end anywhere.
     pub fn sent(&mut self, n: usize)
         requires { n ≤ length self.old.pending }
         ensures pending { self.new.pending ≡ drop n self.old.pending }
         ensures waiting { self.new.waiting ≡ self.old.waiting }
         ensures replies { self.new.replies ≡ self.old.replies }
     {
-        self.text.advance(n);
+        self.parts.advance(n);
         self.pending -= n;
+    }
+
+    /// Appends the first `n` of the pending bytes to `out`, which takes them as sent. An `Err` changes nothing.
+    pub fn write_to(&mut self, n: usize, out: &mut Vec<u8>) -> Result<(), AllocError>
+        requires { n ≤ length self.old.pending }
+        ensures out { OnOk result (out.new.items ≡ out.old.items ++ take n self.old.pending) }
+        ensures pending { OnOk result (self.new.pending ≡ drop n self.old.pending) }
+        ensures waiting { self.new.waiting ≡ self.old.waiting }
+        ensures replies { self.new.replies ≡ self.old.replies }
+        ensures err { OnErr result ((self.new ≡ self.old) × (out.new.items ≡ out.old.items)) }
+    {
+        self.parts.move_to(n, out)?;
+        self.pending -= n;
+        Ok(())
     }
 }
 

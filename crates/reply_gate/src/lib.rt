@@ -3,6 +3,9 @@
 
 mod gate;
 mod held_text;
+mod parts;
+mod shared_part;
 
 pub use gate::Gate;
 pub use held_text::{HeldText, Seen};
+pub use parts::SHARED_BYTES;

@@ -1,6 +1,8 @@
 //! The acceptor's thread: it gives each connection a seat and its two threads, and joins those that have ended.
 ghost use Rattle.std.specs.Prelude.{◌≡◌};
 ghost use Rattle.std.specs.Arc.{arc_value};
+ghost use Rattle.clients.specs.contracts.writer.ReplyWriter as reply_writer;
+ghost use denote.Param.Send.{IsSend};
 
 use clients::{Asks, Cards, Connection, ReplyWriter, RequestReader, Tells, new_connection};
 use lobby::Entrance;
@@ -200,8 +202,20 @@ fn start_writer<R: Threads + Wait + Clock + Copy + Send + 'static>(
     exits: &Arc<Mutex<Vec<Exit>>>,
     place: usize,
 ) -> Option<JoinHandle<()>> {
+    writer_is_send();
     spawn(rt, alloc, writer, exits, Exit::Writer(place))
 }
+
+/// Shows that a writer may go to another thread. It does nothing. (Beside a bound `R: Send` the prover does not find it of a type so large.)
+fn writer_is_send()
+    ensures { IsSend reply_writer.the_row }
+{
+    is_send::<ReplyWriter>();
+}
+
+fn is_send<T: Send>()
+    ensures { IsSend T.row }
+{}
 
 fn start_reader<R: Threads + Wait + Clock + Copy + Send + 'static>(
     rt: R,

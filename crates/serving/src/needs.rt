@@ -1,6 +1,5 @@
 //! How much room a request may need.
-use cmd_table::CommandName;
-use kv_types::{Item, MAX_VALUE_BYTES, Request};
+use kv_types::{CommandName, Item, MAX_VALUE_BYTES, Request};
 
 /// How many bytes a value may have that a command makes of a number, and what else is not in the words.
 const MADE_BYTES: usize = 32;
@@ -90,11 +89,7 @@ pub(crate) fn asked_by(item: &Item) -> Asked {
 }
 
 fn asked_by_request(request: &Request) -> Asked {
-    let words = request.words();
-    let Some(word) = words.first() else {
-        return Asked::AtMost(Need::NONE);
-    };
-    match CommandName::listed(word.as_slice()) {
+    match request.name() {
         Some(CommandName::Multi) => Asked::Begins,
         Some(CommandName::Exec) => Asked::Runs,
         Some(CommandName::Discard) => Asked::Drops,

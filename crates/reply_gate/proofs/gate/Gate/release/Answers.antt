@@ -1,12 +1,13 @@
 use Rattle.std.proofs.Common.{◌≡◌, ◌+◌, arith, length-drop, ap}
 use Rattle.std.proofs.Math.Seq.{take-add}
 use Rattle.reply_gate.specs.Gate.{covered_bytes, held_bytes}
+use Rattle.reply_gate.specs.Parts.{all_bytes}
 use Rattle.reply_gate.proofs.HeldLemmas.{held_bytes-split}
 use Rattle.reply_gate.proofs.gate.Gate.release.Goals as goal
 
 pub invariant_of-self : goal.invariant_of-self
 invariant_of-self c =
-    let text = c.self.inside.text.items in
+    let text = all_bytes c.self.inside.parts in
     let p = c.self.inside.pending in
     let n = c.take_covered.result in
     let split = held_bytes-split c.args.seen.now.local c.args.seen.now.remote c.self.inside.held.items in
@@ -19,4 +20,4 @@ invariant_of-self c =
 pub returns-clause-pending : goal.returns-clause-pending
 returns-clause-pending c =
     rw (← c.self.view_is, c.take_covered.ensures.bytes)
-    (take-add c.self.inside.pending (covered_bytes c.args.seen.now.local c.args.seen.now.remote c.self.inside.held.items) c.self.inside.text.items)
+    (take-add c.self.inside.pending (covered_bytes c.args.seen.now.local c.args.seen.now.remote c.self.inside.held.items) (all_bytes c.self.inside.parts))

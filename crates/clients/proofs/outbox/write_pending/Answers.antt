@@ -1,0 +1,11 @@
+use Rattle.std.proofs.Common.{◌∙◌}
+use Rattle.clients.proofs.SendsLemmas.{sends-on}
+use Rattle.clients.proofs.outbox.write_pending.Goals as goal
+
+pub loop-gate-preserved : goal.loop-gate-preserved
+loop-gate-preserved g c = record {
+  sends = sends-on (g.W.Write.contents c.args.writer.now) (g.W.Write.contents c.loop-gate.writer) (g.W.Write.contents c.write_first.new.writer) c.args.gate.now.pending c.loop-gate.gate.pending c.write_first.new.gate.pending
+      c.loop-gate.invariant.sends c.in_ok-write_first.ensures.sends;
+  waiting = c.write_first.ensures.waiting ∙ c.loop-gate.invariant.waiting;
+  replies = c.write_first.ensures.replies ∙ c.loop-gate.invariant.replies;
+}
