@@ -1,5 +1,5 @@
 -- All connections are over, and their seats are free.
-use Rattle.std.proofs.Common.{◌≡◌, ℕ, suc, ◌+◌, ◌<◌, ◌≤◌, ◌++◌, true, false, nat_lt, List, [], ◌∷◌, length, map, take, Option, Some, None, slice_get, slice_index_or, slice_set, refl, sym, ap, subst, ◌∙◌, arith}
+use Rattle.std.proofs.Common.{◌≡◌, ℕ, suc, ◌+◌, ◌<◌, ◌≤◌, ◌++◌, true, false, nat_lt, List, [], ◌∷◌, length, map, take, Option, Some, None, Vec, Global, slice_get, slice_index_or, slice_set, refl, sym, ap, subst, ◌∙◌, arith}
 use Rattle.std.specs.Vec.{vec_capacity}
 use Rattle.std.proofs.Math.Seq.{map-set_same, take-append_seam}
 use Rattle.std.proofs.lemmas.Bool.{ltb-true, ltb-false}
@@ -9,8 +9,10 @@ use Rattle.model.specs.Call.{cut_at}
 use Rattle.machine.specs.Connection.{Connection as MachineConnection, left}
 use Rattle.connections.specs.declared.connection.Connection.{Connection}
 use Rattle.connections.specs.declared.connection.Connection.TheVariants.{Open, Over}
-use Rattle.connections.specs.declared.sessions.Sessions.{Sessions}
-use Rattle.connections.specs.Session.{ConnectionRefines, ConnectionsRefine, HasSeat, SeatsRefine, SessionsRefine, bytes_of, positions_of, released_of, seat_of, seats_of}
+use Rattle.connections.specs.declared.connections.Connections.{Connections}
+use Rattle.connections.specs.declared.transcript.Transcript.{Transcript}
+use Rattle.connections.specs.Session.{ConnectionRefines, ConnectionsRefine, HasSeat, SeatsRefine, SessionsRefine, positions_of, seat_of, seats_of}
+use Rattle.connections.proofs.SessionLemmas.{released_by}
 use Rattle.connections.proofs.SeatLemmas.{SeatsRefine-less, has-at, has-cleared, none-seated_past, seats-cleared}
 
 -- none of the first connections has a seat
@@ -46,21 +48,13 @@ pub over-seats : (book : Book) (codes : List Connection) (c : ℕ) (code new : C
 over-seats book codes c code new is was none stand =
     subst (SeatsRefine book.statuses) (sym (map-set_same seat_of codes c new code (none ∙ sym was ∙ ap seat_of is))) stand
 
--- nothing changed of what was written to any
-pub ended-released : (codes : List Connection) (c : ℕ) (code new : Connection) → code ≡ slice_index_or codes c code → bytes_of new ≡ bytes_of code → released_of (slice_set codes c new) ≡ released_of codes
-ended-released codes c code new is same = map-set_same bytes_of codes c new code (same ∙ ap bytes_of is)
-
 -- ---- all of them
 
-one-over : (calls later : List Call) (old new : Connection) (machine : MachineConnection) → ((seat : ℕ) → seat_of new ≡ Some seat → ⊥) → bytes_of new ≡ bytes_of old → ConnectionRefines calls old machine → ConnectionRefines later new (left machine)
-one-over calls later old (Open client) machine none same stands = absurd (none client.seat refl)
-one-over calls later (Open client) (Over released) machine none same stands = record { is_over = refl; bytes = same ∙ stands.outbound.released }
-one-over calls later (Over before) (Over released) machine none same stands = record { is_over = refl; bytes = same ∙ stands.bytes }
+one-over : (later : List Call) (new : Connection) (machine : MachineConnection) → ((seat : ℕ) → seat_of new ≡ Some seat → ⊥) → ConnectionRefines later new (left machine)
+one-over later (Open client) machine none = absurd (none client.seat refl)
+one-over later Over machine none = refl
 
-first-same : (a b : List ℕ) (more others : List (List ℕ)) → a ∷ more ≡ b ∷ others → (a ≡ b) × (more ≡ others)
-first-same a b more others e = (cc, cc)
-
-all-over : (calls later : List Call) (old new : List Connection) (machines : List MachineConnection) → ((c seat : ℕ) → HasSeat (seats_of new) c seat → ⊥) → released_of new ≡ released_of old
+all-over : (calls later : List Call) (old new : List Connection) (machines : List MachineConnection) → ((c seat : ℕ) → HasSeat (seats_of new) c seat → ⊥) → length new ≡ length old
     → ConnectionsRefine calls old machines → ConnectionsRefine later new (map left machines)
 all-over calls later [] [] [] none same stand = tt
 all-over calls later [] [] (machine ∷ machines) none same stand = absurd stand
@@ -68,27 +62,32 @@ all-over calls later [] (code' ∷ new) machines none same stand = cc
 all-over calls later (code ∷ old) [] machines none same stand = cc
 all-over calls later (code ∷ old) (code' ∷ new) [] none same stand = absurd stand
 all-over calls later (code ∷ old) (code' ∷ new) (machine ∷ machines) none same stand =
-    let both = first-same (bytes_of code') (bytes_of code) (released_of new) (released_of old) same in (
-      one-over calls later code code' machine (λ seat own. none 0 seat (ap Some own)) both.0 stand.0,
-      all-over calls later old new machines (λ c seat has. none (suc c) seat has) both.1 stand.1,
-    )
+    (one-over later code' machine (λ seat own. none 0 seat (ap Some own)), all-over calls later old new machines (λ c seat has. none (suc c) seat has) (omega (arith, same)) stand.1)
+
+left-released : (machines : List MachineConnection) → released_by (map left machines) ≡ released_by machines
+left-released [] = refl
+left-released (machine ∷ machines) = ap (λ (all : List (List ℕ)). machine.outbound.released ∷ all) (left-released machines)
 
 -- the connections and the list of calls after a crash
-pub crashed-stands : (old new : Sessions) (machines : List MachineConnection) (calls : List Call) (position : ℕ) → SessionsRefine old machines calls
+pub crashed-stands : (old new : Connections) (transcript after : Transcript) (machines : List MachineConnection) (calls : List Call) (position : ℕ) → SessionsRefine old transcript machines calls
     → (SeatsRefine old.lobby.statuses (seats_of old.connections.items) → SeatsRefine new.lobby.statuses (seats_of new.connections.items))
-    → ((c seat : ℕ) → HasSeat (seats_of new.connections.items) c seat → ⊥) → released_of new.connections.items ≡ released_of old.connections.items
-    → (old.positions.items ≡ positions_of old.calls.items → new.calls.items ≡ cut_at old.calls.items position)
-    → (old.positions.items ≡ positions_of old.calls.items → new.positions.items ≡ positions_of new.calls.items)
-    → (vec_capacity new.calls ≡ vec_capacity old.calls) × (vec_capacity new.positions ≡ vec_capacity old.positions) → new.replies.items ≡ old.replies.items
-    → SessionsRefine new (map left machines) (cut_at calls position)
-crashed-stands old new machines calls position stand seats none released calls_now positions_now room replies =
-    let before : old.positions.items ≡ positions_of old.calls.items = stand.positions ∙ ap positions_of (sym stand.calls_are) in
-    let now : new.calls.items ≡ cut_at calls position = calls_now before ∙ ap (λ (cs : List Call). cut_at cs position) stand.calls_are in
+    → ((c seat : ℕ) → HasSeat (seats_of new.connections.items) c seat → ⊥) → length new.connections.items ≡ length old.connections.items
+    → (transcript.positions.items ≡ positions_of transcript.calls.items → after.calls.items ≡ cut_at transcript.calls.items position)
+    → (transcript.positions.items ≡ positions_of transcript.calls.items → after.positions.items ≡ positions_of after.calls.items)
+    → (vec_capacity after.calls ≡ vec_capacity transcript.calls) × (vec_capacity after.positions ≡ vec_capacity transcript.positions) → after.released ≡ transcript.released → new.replies.items ≡ old.replies.items
+    → SessionsRefine new after (map left machines) (cut_at calls position)
+crashed-stands old new transcript after machines calls position stand seats none count calls_now positions_now room released replies =
+    let told = stand.told in
+    let before : transcript.positions.items ≡ positions_of transcript.calls.items = told.positions ∙ ap positions_of (sym told.calls_are) in
+    let now : after.calls.items ≡ cut_at calls position = calls_now before ∙ ap (λ (cs : List Call). cut_at cs position) told.calls_are in
     record {
       seats = seats stand.seats;
-      connections_stand = all-over calls (cut_at calls position) old.connections.items new.connections.items machines none released stand.connections_stand;
-      calls_are = now;
-      positions = positions_now before ∙ ap positions_of now;
-      positions_room = omega (arith, room.0, room.1, stand.positions_room);
+      connections_stand = all-over calls (cut_at calls position) old.connections.items new.connections.items machines none count stand.connections_stand;
+      told = record {
+        calls_are = now;
+        positions = positions_now before ∙ ap positions_of now;
+        positions_room = omega (arith, room.0, room.1, told.positions_room);
+        released = ap (λ (all : Vec (Vec ℕ Global) Global). map (λ (bytes : Vec ℕ Global). bytes.items) all.items) released ∙ told.released ∙ sym (left-released machines);
+      };
       no_reply = replies ∙ stand.no_reply;
     }

@@ -1,6 +1,5 @@
 -- Seats are given and given back.
-use Rattle.std.proofs.Common.{◌≡◌, ◌≢◌, ℕ, zero, suc, ◌+◌, ◌<◌, ◌≤◌, ◌++◌, Bool, true, false, not, cond, nat_lt, List, [], ◌∷◌, length, Option, Some, None, Vec, Global, is_some, All, inl, inr, ◌⊎◌, slice_get, slice_index_or, slice_set, refl, sym, ap, subst, ◌∙◌, arith}
-use Rattle.std.specs.Vec.{vec_capacity}
+use Rattle.std.proofs.Common.{◌≡◌, ◌≢◌, ℕ, zero, suc, ◌+◌, ◌<◌, ◌≤◌, ◌++◌, Bool, true, false, not, cond, nat_lt, List, [], ◌∷◌, length, Option, Some, None, Vec, Global, is_some, All, inl, inr, ◌⊎◌, slice_get, slice_index_or, slice_set, map, refl, sym, ap, ap₂, subst, ◌∙◌, arith}
 use Rattle.std.proofs.lemmas.Bool.{lt-ltb, le-ltb, both_ways}
 use Rattle.std.proofs.lemmas.List.{length-map, map-append}
 use Rattle.std.proofs.lemmas.List.Elements.{All-head, All-tail}
@@ -17,12 +16,13 @@ use Rattle.connections.specs.declared.outbound.Outbound.{Outbound}
 use Rattle.connections.specs.declared.connection.Client.{Client}
 use Rattle.connections.specs.declared.connection.Connection.{Connection}
 use Rattle.connections.specs.declared.connection.Connection.TheVariants.{Open, Over}
-use Rattle.connections.specs.declared.sessions.Sessions.{Sessions}
+use Rattle.connections.specs.declared.connections.Connections.{Connections}
+use Rattle.connections.specs.declared.transcript.Transcript.{Transcript}
 use Rattle.connections.specs.Going.{Goes}
 use Rattle.connections.specs.Asking.{AskingRefines}
 use Rattle.connections.specs.Outbound.{OutboundRefines}
-use Rattle.connections.specs.Session.{ConnectionRefines, ConnectionsRefine, HasSeat, KeepsSeats, SeatsRefine, SessionsRefine, SeatsFollow, IsListOf, bytes_of, count_seated, count_taken, seat_of, seats_of}
-use Rattle.connections.proofs.SessionLemmas.{ConnectionsRefine-changed, connection-stands, length-connections, room-same}
+use Rattle.connections.specs.Session.{ConnectionRefines, ConnectionsRefine, HasSeat, KeepsSeats, SeatsRefine, SessionsRefine, TranscriptRefines, SeatsFollow, IsListOf, count_seated, count_taken, seat_of, seats_of}
+use Rattle.connections.proofs.SessionLemmas.{ConnectionsRefine-changed, connection-stands, length-connections, told-changed, told-with, with_released}
 use Rattle.connections.proofs.SequencerLemmas.{follow-same}
 
 -- ---- the statuses
@@ -96,9 +96,9 @@ open-seated calls (Open client ∷ codes) (machine ∷ machines) stand =
     let rest = open-seated calls codes machines stand.1 in
     let one : count_open (machine ∷ machines) ≡ 1 + count_open machines = ap (λ b. cond b 1 0 + count_open machines) stand.0.is_open in
     omega (arith, rest, one)
-open-seated calls (Over released ∷ codes) (machine ∷ machines) stand =
+open-seated calls (Over ∷ codes) (machine ∷ machines) stand =
     let rest = open-seated calls codes machines stand.1 in
-    let none : count_open (machine ∷ machines) ≡ 0 + count_open machines = ap (λ b. cond b 1 0 + count_open machines) stand.0.is_over in
+    let none : count_open (machine ∷ machines) ≡ 0 + count_open machines = ap (λ b. cond b 1 0 + count_open machines) stand.0 in
     omega (arith, rest, none)
 
 -- the last has this seat, and the others have theirs
@@ -127,9 +127,9 @@ none-taken [] all = refl
 none-taken (free ∷ statuses) all = none-taken statuses (All-tail (λ (status : Status). status ≡ free) free statuses all)
 none-taken (taken ∷ statuses) all = let first : taken ≡ free = All-head (λ (status : Status). status ≡ free) taken statuses all in cc
 
-pub sessions-start : (sessions : Sessions) → All (λ status. status ≡ free) sessions.lobby.statuses → sessions.connections.items ≡ [] → sessions.calls.items ≡ [] → sessions.positions.items ≡ []
-    → vec_capacity sessions.calls ≤ vec_capacity sessions.positions → sessions.replies.items ≡ [] → SessionsRefine sessions [] []
-sessions-start sessions all_free none no_call no_position room no_reply =
+pub sessions-start : (sessions : Connections) (transcript : Transcript) → All (λ status. status ≡ free) sessions.lobby.statuses → sessions.connections.items ≡ [] → sessions.replies.items ≡ []
+    → TranscriptRefines transcript [] [] → SessionsRefine sessions transcript [] []
+sessions-start sessions transcript all_free none no_reply told =
     record {
       seats = subst (λ (codes : List Connection). SeatsRefine sessions.lobby.statuses (seats_of codes)) (sym none) (record {
         complete = sessions.lobby.complete;
@@ -138,9 +138,7 @@ sessions-start sessions all_free none no_call no_position room no_reply =
         count = none-taken sessions.lobby.statuses all_free;
       });
       connections_stand = subst (λ (codes : List Connection). ConnectionsRefine [] codes []) (sym none) tt;
-      calls_are = no_call;
-      positions = no_position;
-      positions_room = room;
+      told = told;
       no_reply = no_reply;
     }
 
@@ -176,8 +174,8 @@ ConnectionsRefine-push calls (other ∷ codes) [] code machine stand stands = ab
 ConnectionsRefine-push calls (first ∷ codes) (other ∷ machines) code machine stand stands = (stand.0, ConnectionsRefine-push calls codes machines code machine stand.1 stands)
 
 -- where a seat was free, a connection may enter
-pub may-enter : (machines : List MachineConnection) (list : List Call) (old : Sessions) (after : Book) (seat : ℕ) → SessionsRefine old machines list → Moves old.lobby seat free taken after → nat_lt (count_open machines) SEATS ≡ true
-may-enter machines list old after seat stand moves =
+pub may-enter : (machines : List MachineConnection) (list : List Call) (old : Connections) (transcript : Transcript) (after : Book) (seat : ℕ) → SessionsRefine old transcript machines list → Moves old.lobby seat free taken after → nat_lt (count_open machines) SEATS ≡ true
+may-enter machines list old transcript after seat stand moves =
     lt-ltb (count_open machines) SEATS (omega (
       arith,
       taken-lt old.lobby.statuses seat moves.was,
@@ -190,32 +188,34 @@ seats-pushed : (codes : List Connection) (client : Client) → seats_of (codes +
 seats-pushed codes client = map-append seat_of codes (Open client ∷ [])
 
 -- it took a free seat
-pub seated-goes : (machines : List MachineConnection) (list : List Call) (old new : Sessions) (seat : ℕ) (inbound : Asking) (outbound : Outbound) {Stayed : Type 0} → SessionsRefine old machines list
+pub seated-goes : (machines : List MachineConnection) (list : List Call) (old new : Connections) (transcript : Transcript) (seat : ℕ) (inbound : Asking) (outbound : Outbound) (released : Vec (Vec ℕ Global) Global) (bytes : Vec ℕ Global) {Stayed : Type 0}
+    → SessionsRefine old transcript machines list
     → Moves old.lobby seat free taken new.lobby → AskingRefines inbound new_connection.inbound → OutboundRefines list outbound new_connection.outbound
-    → new.connections.items ≡ old.connections.items ++ Open (record { seat = seat; inbound = inbound; outbound = outbound }) ∷ [] → new.calls ≡ old.calls → new.positions ≡ old.positions → new.replies.items ≡ old.replies.items
-    → Goes (nat_lt (count_open machines) SEATS) true (SessionsRefine new (machines ++ new_connection ∷ []) list) Stayed
-seated-goes machines list old new seat inbound outbound stand moves inbound_stands outbound_stands connections calls positions replies =
+    → new.connections.items ≡ old.connections.items ++ Open (record { seat = seat; inbound = inbound; outbound = outbound }) ∷ [] → released.items ≡ transcript.released.items ++ bytes ∷ [] → bytes.items ≡ [] → new.replies.items ≡ old.replies.items
+    → Goes (nat_lt (count_open machines) SEATS) true (SessionsRefine new (with_released transcript released) (machines ++ new_connection ∷ []) list) Stayed
+seated-goes machines list old new transcript seat inbound outbound released bytes stand moves inbound_stands outbound_stands connections pushed none replies =
     let client : Client = record { seat = seat; inbound = inbound; outbound = outbound } in
     record {
-      done = sym (may-enter machines list old new.lobby seat stand moves);
+      done = sym (may-enter machines list old transcript new.lobby seat stand moves);
       goes = λ _. record {
         seats = subst (SeatsRefine new.lobby.statuses) (sym (ap seats_of connections ∙ seats-pushed old.connections.items client)) (SeatsRefine-more old.lobby new.lobby (seats_of old.connections.items) seat stand.seats moves);
         connections_stand = subst (λ codes. ConnectionsRefine list codes (machines ++ new_connection ∷ [])) (sym connections)
             (ConnectionsRefine-push list old.connections.items machines (Open client) new_connection stand.connections_stand
             (record { is_open = refl; inbound = inbound_stands; outbound = outbound_stands }));
-        calls_are = ap (λ (v : Vec Call Global). v.items) calls ∙ stand.calls_are;
-        positions = ap (λ (v : Vec ℕ Global). v.items) positions ∙ stand.positions;
-        positions_room = room-same old new calls positions stand.positions_room;
+        told = told-with transcript released machines (machines ++ new_connection ∷ []) list
+            (ap (map (λ (bs : Vec ℕ Global). bs.items)) pushed ∙ map-append (λ (bs : Vec ℕ Global). bs.items) transcript.released.items (bytes ∷ [])
+            ∙ ap₂ (λ (all : List (List ℕ)) (one : List ℕ). all ++ one ∷ []) stand.told.released none
+            ∙ sym (map-append (λ (machine : MachineConnection). machine.outbound.released) machines (new_connection ∷ []))) stand.told;
         no_reply = replies ∙ stand.no_reply;
       };
       stays = λ not_did. cc;
     }
 
 -- and the sequencer finds its seat open, with an idle session, as it is before the first call of a connection
-pub seated-follow : (machines : List MachineConnection) (list : List Call) (old new : Sessions) (client : Client) (s s' : Sequencing) → IsListOf machines list → SessionsRefine old machines list → Moves old.lobby client.seat free taken new.lobby
+pub seated-follow : (machines : List MachineConnection) (list : List Call) (old new : Connections) (transcript : Transcript) (client : Client) (s s' : Sequencing) → IsListOf machines list → SessionsRefine old transcript machines list → Moves old.lobby client.seat free taken new.lobby
     → new.connections.items ≡ old.connections.items ++ Open client ∷ [] → MovesSeat s client.seat (Some idle_session) s'
     → SeatsFollow list (seats_of old.connections.items) s → SeatsFollow list (seats_of new.connections.items) s'
-seated-follow machines list old new client s s' sound stand moves connections opens follow =
+seated-follow machines list old new transcript client s s' sound stand moves connections opens follow =
     subst (λ (seats : List (Option ℕ)). SeatsFollow list seats s') (sym (ap seats_of connections ∙ seats-pushed old.connections.items client)) (record {
       by_call = λ c other has shut. elim (has-pushed seats client.seat c other has) [
         | inl before ↦ follow.by_call c other before (ap is_shut (sym (kept c other before)) ∙ shut)
@@ -244,10 +244,10 @@ seated-follow machines list old new client s s' sound stand moves connections op
         opens.sessions.others other (λ same. free-not_taken (slice_get old.lobby.statuses client.seat) moves.was (stand.seats.are_taken c client.seat (subst (HasSeat seats c) same has)))
 
 -- all seats are taken
-pub full-goes : (machines : List MachineConnection) (list : List Call) (old new : Sessions) {Moved : Type 0} → SessionsRefine old machines list → All (λ status. status ≡ taken) old.lobby.statuses
-    → new.lobby ≡ old.lobby → new.connections.items ≡ old.connections.items → new.calls ≡ old.calls → new.positions ≡ old.positions → new.replies.items ≡ old.replies.items
-    → Goes (nat_lt (count_open machines) SEATS) false Moved (SessionsRefine new machines list)
-full-goes machines list old new stand all lobby connections calls positions replies =
+pub full-goes : (machines : List MachineConnection) (list : List Call) (old new : Connections) (transcript : Transcript) {Moved : Type 0} → SessionsRefine old transcript machines list → All (λ status. status ≡ taken) old.lobby.statuses
+    → new.lobby ≡ old.lobby → new.connections.items ≡ old.connections.items → new.replies.items ≡ old.replies.items
+    → Goes (nat_lt (count_open machines) SEATS) false Moved (SessionsRefine new transcript machines list)
+full-goes machines list old new transcript stand all lobby connections replies =
     record {
       done = sym (le-ltb (count_open machines) SEATS (omega (
         arith,
@@ -261,9 +261,7 @@ full-goes machines list old new stand all lobby connections calls positions repl
         seats = subst (λ (lobby : Book). SeatsRefine lobby.statuses (seats_of new.connections.items)) (sym lobby)
             (subst (λ codes. SeatsRefine old.lobby.statuses (seats_of codes)) (sym connections) stand.seats);
         connections_stand = subst (λ codes. ConnectionsRefine list codes machines) (sym connections) stand.connections_stand;
-        calls_are = ap (λ (v : Vec Call Global). v.items) calls ∙ stand.calls_are;
-        positions = ap (λ (v : Vec ℕ Global). v.items) positions ∙ stand.positions;
-        positions_room = room-same old new calls positions stand.positions_room;
+        told = stand.told;
         no_reply = replies ∙ stand.no_reply;
       };
     }
@@ -279,9 +277,9 @@ set-back (x ∷ xs) zero old new was = ap (λ y. y ∷ xs) (sym (some-same x old
 set-back (x ∷ xs) (suc i) old new was = ap (λ ys. x ∷ ys) (set-back xs i old new was)
 
 -- the seat that was taken is given back
-pub returned-stands : (machines : List MachineConnection) (list : List Call) (old new : Sessions) (between : Book) (seat : ℕ) → Moves old.lobby seat free taken between → (slice_get between.statuses seat ≡ Some taken → Moves between seat taken free new.lobby)
-    → new.connections.items ≡ old.connections.items → new.calls ≡ old.calls → new.positions ≡ old.positions → new.replies.items ≡ old.replies.items → SessionsRefine old machines list → SessionsRefine new machines list
-returned-stands machines list old new between seat moves back connections calls positions replies stand =
+pub returned-stands : (machines : List MachineConnection) (list : List Call) (old new : Connections) (transcript : Transcript) (released : Vec (Vec ℕ Global) Global) (between : Book) (seat : ℕ) → Moves old.lobby seat free taken between → (slice_get between.statuses seat ≡ Some taken → Moves between seat taken free new.lobby)
+    → new.connections.items ≡ old.connections.items → released.items ≡ transcript.released.items → new.replies.items ≡ old.replies.items → SessionsRefine old transcript machines list → SessionsRefine new (with_released transcript released) machines list
+returned-stands machines list old new transcript released between seat moves back connections same_released replies stand =
     let returns = back (ap (λ statuses. slice_get statuses seat) moves.becomes ∙ get-set_same old.lobby.statuses seat free taken moves.was) in
     let same : new.lobby.statuses ≡ old.lobby.statuses =
     returns.becomes ∙ ap (λ statuses. slice_set statuses seat free) moves.becomes ∙ set-back old.lobby.statuses seat free taken moves.was in
@@ -289,9 +287,7 @@ returned-stands machines list old new between seat moves back connections calls 
       seats = subst (λ (statuses : List Status). SeatsRefine statuses (seats_of new.connections.items)) (sym same)
           (subst (λ codes. SeatsRefine old.lobby.statuses (seats_of codes)) (sym connections) stand.seats);
       connections_stand = subst (λ codes. ConnectionsRefine list codes machines) (sym connections) stand.connections_stand;
-      calls_are = ap (λ (v : Vec Call Global). v.items) calls ∙ stand.calls_are;
-      positions = ap (λ (v : Vec ℕ Global). v.items) positions ∙ stand.positions;
-      positions_room = room-same old new calls positions stand.positions_room;
+      told = told-with transcript released machines machines list (ap (map (λ (bs : Vec ℕ Global). bs.items)) same_released ∙ stand.told.released) stand.told;
       no_reply = replies ∙ stand.no_reply;
     }
 
@@ -323,25 +319,24 @@ has-at (first ∷ codes) zero seat code within is own = ap (λ (x : Connection).
 has-at (first ∷ codes) (suc c) seat code within is own = has-at codes c seat code (omega arith) is own
 
 -- its seat was taken
-pub own-taken : (machines : List MachineConnection) (list : List Call) (old : Sessions) (c seat : ℕ) (code : Connection) → SessionsRefine old machines list → c < length old.connections.items
+pub own-taken : (machines : List MachineConnection) (list : List Call) (old : Connections) (transcript : Transcript) (c seat : ℕ) (code : Connection) → SessionsRefine old transcript machines list → c < length old.connections.items
     → code ≡ slice_index_or old.connections.items c code → seat_of code ≡ Some seat → slice_get old.lobby.statuses seat ≡ Some taken
-own-taken machines list old c seat code stand within is own = stand.seats.are_taken c seat (has-at old.connections.items c seat code within is own)
+own-taken machines list old transcript c seat code stand within is own = stand.seats.are_taken c seat (has-at old.connections.items c seat code within is own)
 
-over-left : (calls : List Call) (old new : Connection) (machine : MachineConnection) → seat_of new ≡ None → bytes_of new ≡ bytes_of old → ConnectionRefines calls old machine → ConnectionRefines calls new (left machine)
-over-left calls old (Open client) machine none same stands = cc
-over-left calls (Open client) (Over released) machine none same stands = record { is_over = refl; bytes = same ∙ stands.outbound.released }
-over-left calls (Over before) (Over released) machine none same stands = record { is_over = refl; bytes = same ∙ stands.bytes }
+over-left : (calls : List Call) (new : Connection) (machine : MachineConnection) → seat_of new ≡ None → ConnectionRefines calls new (left machine)
+over-left calls (Open client) machine none = cc
+over-left calls Over machine none = refl
 
 open-seated_one : (calls : List Call) (code : Connection) (seat : ℕ) (machine : MachineConnection) → seat_of code ≡ Some seat → ConnectionRefines calls code machine → machine.is_open ≡ true
 open-seated_one calls (Open client) seat machine own stands = stands.is_open
-open-seated_one calls (Over released) seat machine own stands = cc
+open-seated_one calls Over seat machine own stands = cc
 
 -- the connection had a seat, which is free again
-pub left-goes : (machines : List MachineConnection) (list : List Call) (old new : Sessions) (c seat : ℕ) (code code' : Connection) {Stayed : Type 0} → SessionsRefine old machines list → c < length old.connections.items
-    → code ≡ slice_index_or old.connections.items c code → seat_of code ≡ Some seat → seat_of code' ≡ None → bytes_of code' ≡ bytes_of code
-    → Moves old.lobby seat taken free new.lobby → new.connections.items ≡ slice_set old.connections.items c code' → new.calls ≡ old.calls → new.positions ≡ old.positions → new.replies.items ≡ old.replies.items
-    → Goes (is_open_at machines c) true (SessionsRefine new (changed_at c left machines) list) Stayed
-left-goes machines list old new c seat code code' stand within is own none same moves connections calls positions replies =
+pub left-goes : (machines : List MachineConnection) (list : List Call) (old new : Connections) (transcript : Transcript) (c seat : ℕ) (code code' : Connection) {Stayed : Type 0} → SessionsRefine old transcript machines list → c < length old.connections.items
+    → code ≡ slice_index_or old.connections.items c code → seat_of code ≡ Some seat → seat_of code' ≡ None
+    → Moves old.lobby seat taken free new.lobby → new.connections.items ≡ slice_set old.connections.items c code' → new.replies.items ≡ old.replies.items
+    → Goes (is_open_at machines c) true (SessionsRefine new transcript (changed_at c left machines) list) Stayed
+left-goes machines list old new transcript c seat code code' stand within is own none moves connections replies =
     let codes = old.connections.items in
     let here = connection-stands list c codes machines code within is stand.connections_stand in
     record {
@@ -350,10 +345,8 @@ left-goes machines list old new c seat code code' stand within is own none same 
         seats = subst (SeatsRefine new.lobby.statuses) (sym (ap seats_of connections ∙ seats-cleared codes c code' none))
             (SeatsRefine-less old.lobby new.lobby (seats_of codes) c seat stand.seats (has-at codes c seat code within is own) moves);
         connections_stand = subst (λ codes'. ConnectionsRefine list codes' (changed_at c left machines)) (sym connections)
-            (ConnectionsRefine-changed list c codes machines code' left stand.connections_stand (over-left list code code' (get_connection machines c) none same here));
-        calls_are = ap (λ (v : Vec Call Global). v.items) calls ∙ stand.calls_are;
-        positions = ap (λ (v : Vec ℕ Global). v.items) positions ∙ stand.positions;
-        positions_room = room-same old new calls positions stand.positions_room;
+            (ConnectionsRefine-changed list c codes machines code' left stand.connections_stand (over-left list code' (get_connection machines c) none));
+        told = told-changed transcript machines list c left (λ machine. refl) stand.told;
         no_reply = replies ∙ stand.no_reply;
       };
       stays = λ not_did. cc;
@@ -386,10 +379,10 @@ closes-own codes c own code s s' is has moves seat seated =
     subst (λ n. MovesSeat s n None s') same moves
 
 -- the seats of the other connections are others, so they follow as before
-pub left-follow : (machines : List MachineConnection) (list : List Call) (old : Sessions) (c seat : ℕ) (code code' : Connection) (s s' : Sequencing) → SessionsRefine old machines list → c < length old.connections.items
+pub left-follow : (machines : List MachineConnection) (list : List Call) (old : Connections) (transcript : Transcript) (c seat : ℕ) (code code' : Connection) (s s' : Sequencing) → SessionsRefine old transcript machines list → c < length old.connections.items
     → code ≡ slice_index_or old.connections.items c code → seat_of code ≡ Some seat → seat_of code' ≡ None → MovesSeat s seat None s'
     → SeatsFollow list (seats_of old.connections.items) s → SeatsFollow list (seats_of (slice_set old.connections.items c code')) s'
-left-follow machines list old c seat code code' s s' stand within is own none closes follow =
+left-follow machines list old transcript c seat code code' s s' stand within is own none closes follow =
     let codes = old.connections.items in
     follow-same list (seats_of codes) (seats_of (slice_set codes c code')) s s' (λ d other has.
     let before = has-cleared (seats_of codes) c d other (subst (λ (seats : List (Option ℕ)). HasSeat seats d other) (seats-cleared codes c code' none) has) in (

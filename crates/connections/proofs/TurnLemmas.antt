@@ -1,5 +1,5 @@
 -- A turn of the sequencer takes the connections, the list of calls and the sequencer to those of the machine after it.
-use Rattle.std.proofs.Common.{◌≡◌, ◌≢◌, ℕ, zero, suc, ◌<◌, ◌≤◌, ◌++◌, ◌-◌, ◌&&◌, ◌==◌, Bool, true, false, nat_lt, List, [], ◌∷◌, length, take, drop, slice_get, slice_index_or, slice_set, Option, Some, None, Vec, Global, refl, sym, ap, ap₂, subst, ◌∙◌, arith}
+use Rattle.std.proofs.Common.{◌≡◌, ◌≢◌, ℕ, zero, suc, ◌<◌, ◌≤◌, ◌++◌, ◌-◌, ◌&&◌, ◌==◌, Bool, true, false, nat_lt, List, [], ◌∷◌, length, take, drop, slice_get, slice_index_or, slice_set, map, Option, Some, None, Vec, Global, refl, sym, ap, ap₂, subst, ◌∙◌, arith}
 use Rattle.std.specs.Vec.{vec_capacity}
 use Rattle.std.proofs.lemmas.Bool.{eqb-true, ltb-true, lt-ltb, and_from, both_ways, false_from_ne_true}
 use Rattle.std.specs.List.{list_any}
@@ -26,13 +26,14 @@ use Rattle.connections.specs.declared.connection.Connection.TheVariants.{Open}
 use Rattle.connections.specs.declared.asking.Asking.{Asking}
 use Rattle.connections.specs.declared.outbound.Made.{Made}
 use Rattle.connections.specs.declared.outbound.Outbound.{Outbound}
-use Rattle.connections.specs.declared.sessions.Sessions.{Sessions}
+use Rattle.connections.specs.declared.connections.Connections.{Connections}
+use Rattle.connections.specs.declared.transcript.Transcript.{Transcript}
 use Rattle.connections.specs.Asking.{AskingRefines}
 use Rattle.connections.specs.Outbound.{IsMade, AreMade, GateRefines, OutboundRefines}
 use Rattle.connections.specs.Running.{Runs}
 use Rattle.connections.specs.Session.{ClientRefines, ConnectionRefines, ConnectionsRefine, HasSeat, SeatsRefine, SessionsRefine, SeatsFollow, SequencerRefines, IsListOf, TakesTurn, seat_of, seats_of}
 use Rattle.connections.proofs.AskingLemmas.{same-stands}
-use Rattle.connections.proofs.SessionLemmas.{AreMade-grows, ConnectionsRefine-grows, ConnectionsRefine-replaced, connection-stands, none-open, over-goes, over-shut, room-same, same-seats, with_connection}
+use Rattle.connections.proofs.SessionLemmas.{AreMade-grows, ConnectionsRefine-grows, ConnectionsRefine-replaced, connection-stands, none-open, over-goes, over-shut, same-seats, told-changed, with_connection}
 use Rattle.connections.proofs.PositionsLemmas.{positions-pushed}
 use Rattle.connections.proofs.SeatLemmas.{has-at}
 use Rattle.connections.proofs.SequencerLemmas.{alike-state, follow-answered, open-before, sequencer-answered}
@@ -109,9 +110,9 @@ AreMade-push calls (m ∷ mades) [] made held are is = absurd are
 AreMade-push calls (m ∷ mades) (h ∷ helds) made held are is = (are.0, AreMade-push calls mades helds made held are.1 is)
 
 outbound-made : (calls : List Call) (call : Call) (position : ℕ) (old new : Outbound) (machine : MachineOutbound) → OutboundRefines calls old machine → position ≡ position_of (calls ++ call ∷ [])
-    → new.made.items ≡ old.made.items ++ record { call = length calls; position = position } ∷ [] → new.gate ≡ old.gate → new.released ≡ old.released → new.seen ≡ old.seen
+    → new.made.items ≡ old.made.items ++ record { call = length calls; position = position } ∷ [] → new.gate ≡ old.gate → new.seen ≡ old.seen
     → OutboundRefines (calls ++ call ∷ []) new (with_made (record { reply = call.reply; position = position_of (calls ++ call ∷ []) }) machine)
-outbound-made calls call position old new machine stands at made gate released seen =
+outbound-made calls call position old new machine stands at made gate seen =
     let calls' = calls ++ call ∷ [] in
     let held : Held = record { reply = call.reply; position = position_of calls' } in
     let same : GateRefines new.gate machine = subst (λ g. GateRefines g machine) (sym gate) stands.gate in
@@ -120,7 +121,6 @@ outbound-made calls call position old new machine stands at made gate released s
       made = subst (λ (mades : List Made). AreMade calls' mades (machine.made ++ held ∷ [])) (sym made)
           (AreMade-push calls' old.made.items machine.made _ held (AreMade-grows calls (call ∷ []) old.made.items machine.made stands.made) is);
       gate = record { pending = same.pending; waiting = same.waiting; held = same.held };
-      released = ap (λ r. r.items) released ∙ stands.released;
       local = ap (λ s. s.local) seen ∙ stands.local;
       remote = ap (λ s. s.remote) seen ∙ stands.remote;
     }
@@ -200,59 +200,58 @@ none-wait (item ∷ items) e = absurd (omega (arith, eqb-true (suc (length items
 -- ---- no turn
 
 -- nothing changed where it is not enabled
-pub no-turn : (machines : List MachineConnection) (list : List Call) (closed c : ℕ) (sessions : Sessions) (s s' : Sequencing) → (may_turn machines c (position_of list - closed) ≡ true → ⊥)
-    → SessionsRefine sessions machines list → s' ≡ s → TakesTurn machines list closed c false sessions s s'
-no-turn machines list closed c sessions s s' never stands same = record {
+pub no-turn : (machines : List MachineConnection) (list : List Call) (closed c : ℕ) (sessions : Connections) (transcript : Transcript) (s s' : Sequencing) → (may_turn machines c (position_of list - closed) ≡ true → ⊥)
+    → SessionsRefine sessions transcript machines list → s' ≡ s → TakesTurn machines list closed c false sessions transcript s s'
+no-turn machines list closed c sessions transcript s s' never stands same = record {
   done = sym (false_from_ne_true (may_turn machines c (position_of list - closed)) never);
   goes = λ did. cc;
   stays = λ did. (stands, same);
 }
 
 -- there is no such connection
-pub no-turn-past : (machines : List MachineConnection) (list : List Call) (closed c : ℕ) (sessions : Sessions) (s : Sequencing) → length sessions.connections.items ≤ c → SessionsRefine sessions machines list → TakesTurn machines list closed c false sessions s s
-no-turn-past machines list closed c sessions s past stands =
-    no-turn machines list closed c sessions s s (λ e. both_ways (is_open_at machines c) (none-open machines list sessions c past stands) (enabled-open machines list closed c e)) stands refl
+pub no-turn-past : (machines : List MachineConnection) (list : List Call) (closed c : ℕ) (sessions : Connections) (transcript : Transcript) (s : Sequencing) → length sessions.connections.items ≤ c → SessionsRefine sessions transcript machines list → TakesTurn machines list closed c false sessions transcript s s
+no-turn-past machines list closed c sessions transcript s past stands =
+    no-turn machines list closed c sessions transcript s s (λ e. both_ways (is_open_at machines c) (none-open machines list sessions transcript c past stands) (enabled-open machines list closed c e)) stands refl
 
 -- the connection is over
-pub no-turn-over : (machines : List MachineConnection) (list : List Call) (closed c : ℕ) (sessions : Sessions) (code : Connection) (s : Sequencing) → seat_of code ≡ None → c < length sessions.connections.items → code ≡ slice_index_or sessions.connections.items c code
-    → SessionsRefine sessions machines list → TakesTurn machines list closed c false (with_connection sessions c code) s s
-no-turn-over machines list closed c sessions code s none lt is stands =
-    let shut = over-shut machines list sessions c code none lt is stands in
-    let stays = over-goes (λ b. b) machines list sessions c code code {Moved = Unit {0}} lt is none none refl refl stands in
-    no-turn machines list closed c (with_connection sessions c code) s s (λ e. both_ways (is_open_at machines c) shut (enabled-open machines list closed c e)) (stays.stays refl) refl
+pub no-turn-over : (machines : List MachineConnection) (list : List Call) (closed c : ℕ) (sessions : Connections) (transcript : Transcript) (code : Connection) (s : Sequencing) → seat_of code ≡ None → c < length sessions.connections.items → code ≡ slice_index_or sessions.connections.items c code
+    → SessionsRefine sessions transcript machines list → TakesTurn machines list closed c false (with_connection sessions c code) transcript s s
+no-turn-over machines list closed c sessions transcript code s none lt is stands =
+    let shut = over-shut machines list sessions transcript c code none lt is stands in
+    let stays = over-goes (λ b. b) machines list sessions transcript c code code {Moved = Unit {0}} lt is none none refl stands in
+    no-turn machines list closed c (with_connection sessions c code) transcript s s (λ e. both_ways (is_open_at machines c) shut (enabled-open machines list closed c e)) (stays.stays refl) refl
 
 -- the connection of a number that there is
-pub client-stands : (machines : List MachineConnection) (list : List Call) (c : ℕ) (sessions : Sessions) (code : Client) → SessionsRefine sessions machines list → c < length sessions.connections.items
+pub client-stands : (machines : List MachineConnection) (list : List Call) (c : ℕ) (sessions : Connections) (transcript : Transcript) (code : Client) → SessionsRefine sessions transcript machines list → c < length sessions.connections.items
     → Open code ≡ slice_index_or sessions.connections.items c (Open code) → ClientRefines list code (get_connection machines c)
-client-stands machines list c sessions code stands lt is = connection-stands list c sessions.connections.items machines (Open code) lt is stands.connections_stand
+client-stands machines list c sessions transcript code stands lt is = connection-stands list c sessions.connections.items machines (Open code) lt is stands.connections_stand
 
 -- what a turn leaves alone
-pub record LeavesRest (old new : Sessions) (c : ℕ) (code code' : Client) : Type 0 where
+pub record LeavesRest (old new : Connections) (c : ℕ) (code code' : Client) : Type 0 where
   pub lobby : new.lobby ≡ old.lobby
   pub connections : new.connections.items ≡ slice_set old.connections.items c (Open code')
   pub seat : code'.seat ≡ code.seat
   pub source : code'.inbound.source ≡ code.inbound.source
   pub gate : code'.outbound.gate ≡ code.outbound.gate
   pub seen : code'.outbound.seen ≡ code.outbound.seen
-  pub released : code'.outbound.released ≡ code.outbound.released
 
 -- no connection has another seat
-pub turn-seats : (old new : Sessions) (c : ℕ) (code code' : Client) → Open code ≡ slice_index_or old.connections.items c (Open code) → LeavesRest old new c code code' → seats_of new.connections.items ≡ seats_of old.connections.items
+pub turn-seats : (old new : Connections) (c : ℕ) (code code' : Client) → Open code ≡ slice_index_or old.connections.items c (Open code) → LeavesRest old new c code code' → seats_of new.connections.items ≡ seats_of old.connections.items
 turn-seats old new c code code' is rest = ap seats_of rest.connections ∙ same-seats old c (Open code) (Open code') is (ap Some rest.seat)
 
-turn-seated : (old new : Sessions) (c : ℕ) (code code' : Client) → Open code ≡ slice_index_or old.connections.items c (Open code) → LeavesRest old new c code code' → SeatsRefine old.lobby.statuses (seats_of old.connections.items)
+turn-seated : (old new : Connections) (c : ℕ) (code code' : Client) → Open code ≡ slice_index_or old.connections.items c (Open code) → LeavesRest old new c code code' → SeatsRefine old.lobby.statuses (seats_of old.connections.items)
     → SeatsRefine new.lobby.statuses (seats_of new.connections.items)
 turn-seated old new c code code' is rest stand =
     subst (λ (lobby : Book). SeatsRefine lobby.statuses (seats_of new.connections.items)) (sym rest.lobby) (subst (SeatsRefine old.lobby.statuses) (sym (turn-seats old new c code code' is rest)) stand)
 
 -- the sequencer ran nothing
-pub no-turn-unserved : (machines : List MachineConnection) (list : List Call) (closed c : ℕ) (old new : Sessions) (code code' : Client) (s s' : Sequencing) → c < length old.connections.items → Open code ≡ slice_index_or old.connections.items c (Open code)
-    → (MayRun code s → ⊥) → IsListOf machines list → SessionsRefine old machines list → SequencerRefines list closed s
+pub no-turn-unserved : (machines : List MachineConnection) (list : List Call) (closed c : ℕ) (old new : Connections) (transcript : Transcript) (code code' : Client) (s s' : Sequencing) → c < length old.connections.items → Open code ≡ slice_index_or old.connections.items c (Open code)
+    → (MayRun code s → ⊥) → IsListOf machines list → SessionsRefine old transcript machines list → SequencerRefines list closed s
     → SeatsFollow list (seats_of old.connections.items) s → LeavesRest old new c code code'
     → code'.inbound.asked.items ≡ code.inbound.asked.items → code'.inbound.waiting.items ≡ code.inbound.waiting.items → code'.outbound.made.items ≡ code.outbound.made.items
-    → new.calls ≡ old.calls → new.positions ≡ old.positions → new.replies.items ≡ [] → s' ≡ s → TakesTurn machines list closed c false new s s'
-no-turn-unserved machines list closed c old new code code' s s' lt is never sound stands sequencer follow rest asked_same waiting_same made_same calls_same positions_same replies same =
-    let here : ClientRefines list code (get_connection machines c) = client-stands machines list c old code stands lt is in
+    → new.replies.items ≡ [] → s' ≡ s → TakesTurn machines list closed c false new transcript s s'
+no-turn-unserved machines list closed c old new transcript code code' s s' lt is never sound stands sequencer follow rest asked_same waiting_same made_same replies same =
+    let here : ClientRefines list code (get_connection machines c) = client-stands machines list c old transcript code stands lt is in
     let own = has-at old.connections.items c code.seat (Open code) lt is refl in
     let machine = get_connection machines c in
     let at : ClientRefines list code' machine = record {
@@ -261,34 +260,31 @@ no-turn-unserved machines list closed c old new code code' s s' lt is never soun
       outbound = record {
         made = subst (λ (mades : List Made). AreMade list mades machine.outbound.made) (sym made_same) here.outbound.made;
         gate = subst (λ g. GateRefines g machine.outbound) (sym rest.gate) here.outbound.gate;
-        released = ap (λ r. r.items) rest.released ∙ here.outbound.released;
         local = ap (λ seen. seen.local) rest.seen ∙ here.outbound.local;
         remote = ap (λ seen. seen.remote) rest.seen ∙ here.outbound.remote;
       };
     } in
-    no-turn machines list closed c new s s' (λ e. never (enabled-runs machines list closed c code (seats_of old.connections.items) s sound sequencer follow own here e)) (record {
+    no-turn machines list closed c new transcript s s' (λ e. never (enabled-runs machines list closed c code (seats_of old.connections.items) s sound sequencer follow own here e)) (record {
       seats = turn-seated old new c code code' is rest stands.seats;
       connections_stand = subst (λ (codes : List Connection). ConnectionsRefine list codes machines) (sym rest.connections)
           (ConnectionsRefine-replaced list c old.connections.items machines (Open code') stands.connections_stand at);
-      calls_are = ap (λ (v : Vec Call Global). v.items) calls_same ∙ stands.calls_are;
-      positions = ap (λ (v : Vec ℕ Global). v.items) positions_same ∙ stands.positions;
-      positions_room = room-same old new calls_same positions_same stands.positions_room;
+      told = stands.told;
       no_reply = replies;
     }) same
 
 -- ---- a turn
 
 -- the sequencer ran the first item that waits
-pub turn-taken : (machines : List MachineConnection) (list : List Call) (closed c : ℕ) (old new : Sessions) (code code' : Client) (s s' : Sequencing) (held : Held) → c < length old.connections.items → Open code ≡ slice_index_or old.connections.items c (Open code)
-    → length code.outbound.made.items < PIPE_ITEMS → IsListOf machines list → SessionsRefine old machines list → SequencerRefines list closed s
+pub turn-taken : (machines : List MachineConnection) (list : List Call) (closed c : ℕ) (old new : Connections) (transcript after_it : Transcript) (code code' : Client) (s s' : Sequencing) (held : Held) → c < length old.connections.items → Open code ≡ slice_index_or old.connections.items c (Open code)
+    → length code.outbound.made.items < PIPE_ITEMS → IsListOf machines list → SessionsRefine old transcript machines list → SequencerRefines list closed s
     → SeatsFollow list (seats_of old.connections.items) s → LeavesRest old new c code code'
     → (runs : Runs s code.seat code.inbound.waiting.items held code'.inbound.waiting.items s')
-    → code'.inbound.asked.items ≡ drop 1 code.inbound.asked.items → code'.outbound.made.items ≡ code.outbound.made.items ++ record { call = length old.calls.items; position = held.position } ∷ []
-    → new.calls.items ≡ old.calls.items ++ call_of c runs.item held.reply ∷ [] → new.positions.items ≡ old.positions.items ++ held.position ∷ [] → vec_capacity new.calls ≤ vec_capacity new.positions
-    → new.replies.items ≡ [] → TakesTurn machines list closed c true new s s'
-turn-taken machines list closed c old new code code' s s' held lt is room sound stands sequencer follow rest runs asked_now made_now calls_now positions_now positions_room replies =
+    → code'.inbound.asked.items ≡ drop 1 code.inbound.asked.items → code'.outbound.made.items ≡ code.outbound.made.items ++ record { call = length transcript.calls.items; position = held.position } ∷ []
+    → after_it.calls.items ≡ transcript.calls.items ++ call_of c runs.item held.reply ∷ [] → after_it.positions.items ≡ transcript.positions.items ++ held.position ∷ [] → vec_capacity after_it.calls ≤ vec_capacity after_it.positions
+    → after_it.released ≡ transcript.released → new.replies.items ≡ [] → TakesTurn machines list closed c true new after_it s s'
+turn-taken machines list closed c old new transcript after_it code code' s s' held lt is room sound stands sequencer follow rest runs asked_now made_now calls_now positions_now positions_room released_same replies =
     let machine = get_connection machines c in
-    let here : ClientRefines list code machine = client-stands machines list c old code stands lt is in
+    let here : ClientRefines list code machine = client-stands machines list c old transcript code stands lt is in
     let own = has-at old.connections.items c code.seat (Open code) lt is refl in
     let call = call_of c runs.item held.reply in
     let calls' = list ++ call ∷ [] in
@@ -302,7 +298,7 @@ turn-taken machines list closed c old new code code' s s' held lt is room sound 
       inbound = inbound-taken code.inbound code'.inbound machine.inbound runs.item code'.inbound.waiting.items (drop 1 code.inbound.asked.items) here.inbound runs.first asks
           rest.source asked_now refl;
       outbound = outbound-made list call held.position code.outbound code'.outbound machine.outbound here.outbound (runs.position ∙ after.position)
-          (made_now ∙ ap (λ (calls : List Call). code.outbound.made.items ++ record { call = length calls; position = held.position } ∷ []) stands.calls_are) rest.gate rest.released rest.seen;
+          (made_now ∙ ap (λ (calls : List Call). code.outbound.made.items ++ record { call = length calls; position = held.position } ∷ []) stands.told.calls_are) rest.gate rest.seen;
     } in
     let taken = changed_at c (with_inbound taken_first) machines in
     let waits : (get_connection machines c).inbound.waiting ≡ runs.item ∷ code'.inbound.waiting.items = sym here.inbound.waits ∙ runs.first in
@@ -321,9 +317,14 @@ turn-taken machines list closed c old new code code' s s' held lt is room sound 
           connections_stand = subst (λ (codes : List Connection). ConnectionsRefine calls' codes (changed_at c (with_outbound (with_made reply)) taken)) (sym rest.connections)
               (stand-changed calls' old.connections.items machines c (Open code') (with_inbound taken_first) (with_outbound (with_made reply))
               (ConnectionsRefine-grows list (call ∷ []) old.connections.items machines stands.connections_stand) at);
-          calls_are = calls_now ∙ ap (λ (calls : List Call). calls ++ call ∷ []) stands.calls_are;
-          positions = positions_now ∙ positions-pushed old.positions.items list call held.position stands.positions (runs.position ∙ after.position);
-          positions_room = positions_room;
+          told = record {
+            calls_are = calls_now ∙ ap (λ (calls : List Call). calls ++ call ∷ []) stands.told.calls_are;
+            positions = positions_now ∙ positions-pushed transcript.positions.items list call held.position stands.told.positions (runs.position ∙ after.position);
+            positions_room = positions_room;
+            released = ap (λ (all : Vec (Vec ℕ Global) Global). map (λ (bytes : Vec ℕ Global). bytes.items) all.items) released_same
+                ∙ (told-changed transcript taken list c (with_outbound (with_made reply)) (λ machine. refl)
+                (told-changed transcript machines list c (with_inbound taken_first) (λ machine. refl) stands.told)).released;
+          };
           no_reply = replies;
         },
         after,

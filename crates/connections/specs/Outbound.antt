@@ -1,4 +1,4 @@
--- How a connection's outbound half stands for what was made, and for what went out.
+-- How a connection's outbound half stands for what was made, and for what waits to go out.
 use Rattle.std.specs.Prelude.{◌≡◌, ℕ, Bool, true, false, nat_le, List, [], ◌∷◌, length, slice_get, Some}
 use Rattle.kv_types.specs.declared.reply.Held.{Held}
 use Rattle.kv_types.specs.Reply.{text_of}
@@ -40,7 +40,6 @@ pub record GateRefines (gate : Gate) (machine : Machine) : Type 0 where
 pub record OutboundRefines (calls : List Call) (code : Outbound) (machine : Machine) : Type 0 where
   pub made : AreMade calls code.made.items machine.made
   pub gate : GateRefines code.gate machine
-  pub released : code.released.items ≡ machine.released
   pub local : code.seen.local ≡ machine.local
   pub remote : code.seen.remote ≡ machine.remote
 
@@ -56,8 +55,8 @@ pub record LetsOut (calls : List Call) (new : Outbound) (did : Bool) (machine : 
   pub out : did ≡ true → OutboundRefines calls new (having_released machine)
   pub stays : did ≡ false → OutboundRefines calls new machine
 
--- `n` bytes were written, or fewer were pending
-pub record Writes (n : ℕ) (calls : List Call) (new : Outbound) (did : Bool) (machine : Machine) : Type 0 where
+-- `n` bytes were written, or fewer were pending; these were released by then
+pub record Writes (n : ℕ) (calls : List Call) (new : Outbound) (released : List ℕ) (did : Bool) (machine : Machine) : Type 0 where
   pub done : did ≡ nat_le n (length machine.pending)
-  pub out : did ≡ true → OutboundRefines calls new (written n machine)
-  pub stays : did ≡ false → OutboundRefines calls new machine
+  pub out : did ≡ true → OutboundRefines calls new (written n machine) × (released ≡ (written n machine).released)
+  pub stays : did ≡ false → OutboundRefines calls new machine × (released ≡ machine.released)

@@ -23,26 +23,18 @@ use Rattle.connections.specs.Outbound.{OutboundRefines}
 use Rattle.connections.specs.declared.connection.Client.{Client}
 use Rattle.connections.specs.declared.connection.Connection.{Connection}
 use Rattle.connections.specs.declared.connection.Connection.TheVariants.{Open, Over}
-use Rattle.connections.specs.declared.sessions.Sessions.{Sessions}
+use Rattle.connections.specs.declared.connections.Connections.{Connections}
+use Rattle.connections.specs.declared.transcript.Transcript.{Transcript}
 
 -- ---- connections
 
 -- the seat of a connection, which has one while it is open
 abbrev pub seat_of : Connection → Option ℕ
 seat_of (Open client) = Some client.seat
-seat_of (Over released) = None
+seat_of Over = None
 
 abbrev pub seats_of : List Connection → List (Option ℕ)
 seats_of = map seat_of
-
--- the bytes that were written to a connection
-abbrev pub bytes_of : Connection → List ℕ
-bytes_of (Open client) = client.outbound.released.items
-bytes_of (Over released) = released.items
-
--- the bytes released to each connection
-abbrev pub released_of : List Connection → List (List ℕ)
-released_of = map bytes_of
 
 -- an open connection
 pub record ClientRefines (calls : List Call) (code : Client) (machine : MachineConnection) : Type 0 where
@@ -50,14 +42,10 @@ pub record ClientRefines (calls : List Call) (code : Client) (machine : MachineC
   pub inbound : AskingRefines code.inbound machine.inbound
   pub outbound : OutboundRefines calls code.outbound machine.outbound
 
--- one that is over: nothing is left of it but what was written to it
-pub record OverRefines (released : List ℕ) (machine : MachineConnection) : Type 0 where
-  pub is_over : machine.is_open ≡ false
-  pub bytes : released ≡ machine.outbound.released
-
+-- one that is over has nothing left
 abbrev pub ConnectionRefines : List Call → Connection → MachineConnection → Type 0
 ConnectionRefines calls (Open client) machine = ClientRefines calls client machine
-ConnectionRefines calls (Over released) machine = OverRefines released.items machine
+ConnectionRefines calls Over machine = machine.is_open ≡ false
 
 -- each of them, the first being connection 0
 abbrev pub ConnectionsRefine : List Call → List Connection → List MachineConnection → Type 0
@@ -107,20 +95,29 @@ positions_of = positions_from start_state 0
 
 -- ---- connections and calls
 
--- the connections and the list of calls are these; no reply is left between two events
-pub record SessionsRefine (code : Sessions) (connections : List MachineConnection) (calls : List Call) : Type 0 where
-  pub seats : SeatsRefine code.lobby.statuses (seats_of code.connections.items)
-  pub connections_stand : ConnectionsRefine calls code.connections.items connections
+-- the bytes released to each connection
+abbrev pub released_of : Transcript → List (List ℕ)
+released_of transcript = map (λ bytes. bytes.items) transcript.released.items
+
+-- the list of calls is this one, with the position after each, and the released bytes are those of these connections
+pub record TranscriptRefines (code : Transcript) (connections : List MachineConnection) (calls : List Call) : Type 0 where
   pub calls_are : code.calls.items ≡ calls
   pub positions : code.positions.items ≡ positions_of calls
   -- there is room for a position wherever there is room for a call
   pub positions_room : vec_capacity code.calls ≤ vec_capacity code.positions
+  pub released : released_of code ≡ map (λ connection. connection.outbound.released) connections
+
+-- the connections and the list of calls are these; no reply is left between two events
+pub record SessionsRefine (code : Connections) (transcript : Transcript) (connections : List MachineConnection) (calls : List Call) : Type 0 where
+  pub seats : SeatsRefine code.lobby.statuses (seats_of code.connections.items)
+  pub connections_stand : ConnectionsRefine calls code.connections.items connections
+  pub told : TranscriptRefines transcript connections calls
   pub no_reply : code.replies.items ≡ []
 
 -- the list of calls and the released bytes are as they were
-pub record TellsTheSame (old new : Sessions) : Type 0 where
+pub record TellsTheSame (old new : Transcript) : Type 0 where
   pub calls : new.calls.items ≡ old.calls.items
-  pub released : released_of new.connections.items ≡ released_of old.connections.items
+  pub released : released_of new ≡ released_of old
 
 -- at most one call was added, in the room that there was
 pub record AddsOne (old new : Vec Call Global) : Type 0 where
@@ -175,8 +172,8 @@ called_at c call list machines =
     changed_at c (with_outbound (with_made (record { reply = call.reply; position = position_of (list ++ call ∷ []) }))) (changed_at c (with_inbound taken_first) machines)
 
 -- the outcome of a turn: the sequencer ran the first waiting item, or nothing changed
-pub record TakesTurn (machines : List MachineConnection) (list : List Call) (closed c : ℕ) (did : Bool) (sessions : Sessions) (old new : Sequencing) : Type 0 where
+pub record TakesTurn (machines : List MachineConnection) (list : List Call) (closed c : ℕ) (did : Bool) (sessions : Connections) (transcript : Transcript) (old new : Sequencing) : Type 0 where
   pub done : did ≡ may_turn machines c (position_of list - closed)
-  pub goes : did ≡ true → (call : Call) × IsNextCall machines list c call × SessionsRefine sessions (called_at c call list machines) (list ++ call ∷ [])
+  pub goes : did ≡ true → (call : Call) × IsNextCall machines list c call × SessionsRefine sessions transcript (called_at c call list machines) (list ++ call ∷ [])
       × SequencerRefines (list ++ call ∷ []) closed new × SeatsFollow (list ++ call ∷ []) (seats_of sessions.connections.items) new
-  pub stays : did ≡ false → SessionsRefine sessions machines list × (new ≡ old)
+  pub stays : did ≡ false → SessionsRefine sessions transcript machines list × (new ≡ old)

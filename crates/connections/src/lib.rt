@@ -3,8 +3,9 @@
 
 mod asking;
 mod connection;
+mod connections;
 mod outbound;
-mod sessions;
+mod transcript;
 
-pub use connection::{Client, Connection};
-pub use sessions::Sessions;
+pub use connections::Connections;
+pub use transcript::Transcript;

@@ -24,8 +24,6 @@ pub(crate) struct Outbound {
     pub(crate) made: LocalPipe<Made>,
     pub(crate) gate: Gate,
     pub(crate) seen: Seen,
-    /// All bytes that were written to the connection.
-    pub(crate) released: Vec<u8>,
 }
 
 impl Outbound {
@@ -42,7 +40,6 @@ impl Outbound {
                 local: 0,
                 remote: 0,
             },
-            released: Vec::new(alloc),
         })
     }
 
@@ -52,7 +49,6 @@ impl Outbound {
         ensures cause { IfErr result (λ refusal. refusal ≡ Refusal.Memory) }
         ensures some { OnErr result (self.old.made.items ≢ []) }
         ensures same { OnErr result (self.new ≡ self.old) }
-        ensures released { self.new.released ≡ self.old.released }
     {
         let Some(made) = self.made.first() else {
             return Ok(false);
@@ -70,7 +66,6 @@ impl Outbound {
     pub(crate) fn read(&mut self, mark: Mark, marks: Seen)
         ensures stands { (calls : List Call) (machine : Machine) → OutboundRefines calls self.old machine
             → OutboundRefines calls self.new (having_seen mark marks.local marks.remote machine) }
-        ensures released { self.new.released ≡ self.old.released }
     {
         match mark {
             Mark::Local => self.seen.local = marks.local,
@@ -89,28 +84,20 @@ impl Outbound {
         true
     }
 
-    /// Writes `n` of the pending bytes to the connection, if there are that many. Returns whether it did.
-    pub(crate) fn write(&mut self, n: u64) -> Result<bool, Refusal>
-        ensures stands { IfOk result (λ did. (calls : List Call) (machine : Machine) → OutboundRefines calls self.old machine → Writes n calls self.new did machine) }
+    /// Writes `n` of the pending bytes to the connection, behind those that were released to it, if there are that many. Returns whether it did.
+    pub(crate) fn write(&mut self, released: &mut Vec<u8>, n: u64) -> Result<bool, Refusal>
+        ensures stands { IfOk result (λ did. (calls : List Call) (machine : Machine) → OutboundRefines calls self.old machine
+            → released.old.items ≡ machine.released → Writes n calls self.new released.new.items did machine) }
         ensures cause { IfErr result (λ refusal. refusal ≡ Refusal.Memory) }
         ensures enough { OnErr result (n ≤ length self.old.gate.pending) }
-        ensures released { OnErr result (self.new.released.items ≡ self.old.released.items) }
+        ensures released { OnErr result (released.new.items ≡ released.old.items) }
         ensures same { OnErr result ((calls : List Call) (machine : Machine) → OutboundRefines calls self.old machine → OutboundRefines calls self.new machine) }
     {
-        let pending = self.gate.pending();
         let count = n as usize;
-        if count > pending.len() {
+        if count > self.gate.pending_len() {
             return Ok(false);
         }
-        self.released.extend_from_slice(&pending[..count])?;
-        self.gate.sent(count);
+        self.gate.write_to(count, released)?;
         Ok(true)
-    }
-
-    /// All bytes that were written to the connection.
-    pub(crate) fn into_released(self) -> Vec<u8>
-        ensures { result ≡ self.released }
-    {
-        self.released
     }
 }

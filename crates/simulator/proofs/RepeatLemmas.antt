@@ -1,5 +1,5 @@
 -- A list to which the same element is added repeatedly.
-use Rattle.std.proofs.Common.{◌≡◌, ℕ, ◌+◌, List, [], ◌∷◌, ◌++◌, length, replicate, ap, ap₂, refl, sym, ◌∙◌}
+use Rattle.std.proofs.Common.{◌≡◌, ℕ, ◌+◌, List, [], ◌∷◌, ◌++◌, replicate, ap, ap₂, refl, sym, ◌∙◌}
 use Rattle.std.proofs.lemmas.List.{append-nil, append_assoc, length-append, replicate_more}
 use Rattle.std.specs.List.{AllByRecursion}
 use Rattle.machine.specs.declared.event.Event.{Event}

@@ -50,7 +50,7 @@ fn run(rt: &HostRuntime) -> Result<(), SimulatorError> {
     let hash_builder = RandomState::new(rt).map_err(SimulatorError::Random)?;
     let mut out = BufWriter::new(alloc, rt.stdout())?;
     let played = play(alloc, &mut out, &options, &script, hash_builder)?;
-    report(alloc, &mut out, &options, script.schedule.lines(), played)?;
+    report(alloc, &mut out, &options, script.schedule.lines(), &played)?;
     out.flush()?;
     Ok(())
 }

@@ -8,24 +8,41 @@ use crate::options::Options;
 use crate::report::write_event;
 use crate::schedule::Schedule;
 use crate::script::{Failure, Script};
-use connections::Connection;
+use connections::Transcript;
 use kv_types::Refusal;
 use machine::{Event, Node};
+use model::Call;
 use mv_keyspace::{Keyspace, ListKeyspace, MvKeyspace};
 use pmem::{Crashing, Pmem, SimPmem};
 use std::alloc::{AllocError, Global};
 use std::hash::RandomState;
 use std::io::Write;
 use wbl_engine::WblEngine;
-use world::{EarlyEnd, Pair, Parts, Stepper, Trace, run};
+use world::{EarlyEnd, History, Pair, Stepper, Trace, run};
 
 /// What was played.
 #[derive(Drop)]
 pub struct Played {
     /// Where it ended before its last event, if it did.
     pub ended: Option<EarlyEnd>,
-    /// What the pair left.
-    pub parts: Parts<SimPmem>,
+    pub told: Told,
+    /// The primary's device.
+    pub primary: SimPmem,
+    /// The standby's device.
+    pub standby: SimPmem,
+}
+
+/// What the events gave.
+#[derive(Drop)]
+pub struct Told {
+    /// The list of calls.
+    pub calls: Vec<Call>,
+    /// The bytes that were released to each connection, by its number.
+    pub released: Vec<Vec<u8>>,
+    /// The bytes of all frames that passed over the link, in the order of their sending.
+    pub frames: Vec<Vec<u8>>,
+    /// The bytes of the acknowledgements that the standby made, in order.
+    pub acknowledgements: Vec<Vec<u8>>,
 }
 
 /// Plays the events over two new devices, and prints each that was reached before the next one happens. Where the run ends early, the crashes that
@@ -47,7 +64,7 @@ pub fn play<W: Write>(
     } else {
         play_over::<W, MvKeyspace>(alloc, out, primary, standby, schedule, hash_builder)?
     };
-    if played.parts.primary.starved() || played.parts.standby.starved() {
+    if played.primary.starved() || played.standby.starved() {
         return Err(SimulatorError::Memory);
     }
     let reached = match played.ended {
@@ -56,7 +73,7 @@ pub fn play<W: Write>(
         Some(EarlyEnd::AtEvent(number, _)) => number,
     };
     if let Some(unplayed) = schedule.events().get(reached..) {
-        crash_devices(alloc, &mut played.parts, unplayed)?;
+        crash_devices(alloc, &mut played, unplayed)?;
     }
     Ok(played)
 }
@@ -88,16 +105,38 @@ fn play_over<W: Write, K: Keyspace + Drop>(
     hash_builder: RandomState,
 ) -> Result<Played, SimulatorError> {
     match Pair::<WblEngine<SimPmem>, K>::open(alloc, primary, standby, 0, hash_builder) {
-        Ok(pair) => {
+        Ok((pair, history)) => {
             let mut pair = pair;
-            let ended = play_each(out, &mut pair, schedule);
-            let parts = pair.into_parts();
+            let mut history = history;
+            let ended = play_each(out, &mut pair, &mut history, schedule);
+            let (primary, standby) = pair.into_devices();
             Ok(Played {
                 ended: ended?,
-                parts,
+                told: told_by(history),
+                primary,
+                standby,
             })
         }
         Err((refusal, primary, standby)) => Ok(unplayed(alloc, refusal, primary, standby)),
+    }
+}
+
+/// What a history tells.
+fn told_by(history: History) -> Told {
+    let History {
+        transcript: Transcript {
+            calls,
+            positions: _positions,
+            released,
+        },
+        frames,
+        acknowledgements,
+    } = history;
+    Told {
+        calls,
+        released,
+        frames,
+        acknowledgements,
     }
 }
 
@@ -123,28 +162,18 @@ fn play_whole<W: Write>(
     for (number, (did, line)) in done.iter().zip(schedule.lines()).enumerate() {
         write_event(out, number, *line, *did)?;
     }
-    let connections = all_over(alloc, released)?;
     let (primary, standby) = first_two(devices);
     Ok(Played {
         ended,
-        parts: Parts {
+        told: Told {
             calls,
-            connections,
+            released,
             frames,
             acknowledgements,
-            primary,
-            standby,
         },
+        primary,
+        standby,
     })
-}
-
-/// Connections that are over, to which these bytes were released.
-fn all_over(alloc: Global, released: Vec<Vec<u8>>) -> Result<Vec<Connection>, AllocError> {
-    let mut connections = Vec::with_capacity(alloc, released.len())?;
-    for bytes in released {
-        connections.push(Connection::Over(bytes))?;
-    }
-    Ok(connections)
 }
 
 /// The first two devices.
@@ -161,14 +190,14 @@ fn first_two(devices: Vec<SimPmem>) -> (SimPmem, SimPmem)
 fn unplayed(alloc: Global, refusal: Refusal, primary: SimPmem, standby: SimPmem) -> Played {
     Played {
         ended: Some(EarlyEnd::AtFormatting(refusal)),
-        parts: Parts {
+        told: Told {
             calls: Vec::new(alloc),
-            connections: Vec::new(alloc),
+            released: Vec::new(alloc),
             frames: Vec::new(alloc),
             acknowledgements: Vec::new(alloc),
-            primary,
-            standby,
         },
+        primary,
+        standby,
     }
 }
 
@@ -176,13 +205,14 @@ fn unplayed(alloc: Global, refusal: Refusal, primary: SimPmem, standby: SimPmem)
 fn play_each<W: Write, S: Stepper>(
     out: &mut W,
     stepper: &mut S,
+    history: &mut History,
     schedule: &Schedule,
 ) -> Result<Option<EarlyEnd>, SimulatorError>
-    requires world { HasWorld (S.parts stepper.old) }
+    requires world { HasWorld (S.parts stepper.old history.old) }
 {
     let events = schedule.events().iter().zip(schedule.lines());
     for (number, (event, line)) in events.enumerate() {
-        match stepper.step(event) {
+        match stepper.step(history, event) {
             Ok(did) => write_event(out, number, *line, did)?,
             Err(refusal) => return Ok(Some(EarlyEnd::AtEvent(number, refusal))),
         }
@@ -191,16 +221,12 @@ fn play_each<W: Write, S: Stepper>(
 }
 
 /// Crashes the devices that these events crash, one after another.
-fn crash_devices(
-    alloc: Global,
-    parts: &mut Parts<SimPmem>,
-    events: &[Event],
-) -> Result<(), AllocError> {
+fn crash_devices(alloc: Global, played: &mut Played, events: &[Event]) -> Result<(), AllocError> {
     for event in events {
         if let Event::Crash(node, picks) = event {
             match node {
-                Node::Primary => crash_device(alloc, &mut parts.primary, picks.as_slice())?,
-                Node::Standby => crash_device(alloc, &mut parts.standby, picks.as_slice())?,
+                Node::Primary => crash_device(alloc, &mut played.primary, picks.as_slice())?,
+                Node::Standby => crash_device(alloc, &mut played.standby, picks.as_slice())?,
             }
         }
     }

@@ -5,14 +5,13 @@ use crate::options::Options;
 use crate::play::Played;
 use crate::quoted::Quoted;
 use crate::wire_report::{write_acknowledgements, write_frames};
-use connections::Connection;
 use kv_types::{Item, Refusal, Reply};
 use model::Call;
 use resp_codec::write_reply;
 use std::alloc::{AllocError, Global};
 use std::io;
 use std::io::Write;
-use world::{EarlyEnd, Parts};
+use world::EarlyEnd;
 
 /// Prints the calls, the released bytes, the frames, the acknowledgements, what both nodes hold and how the run of the events of these lines ended.
 pub fn report<W: Write>(
@@ -20,23 +19,15 @@ pub fn report<W: Write>(
     out: &mut W,
     options: &Options,
     lines: &[u64],
-    played: Played,
+    played: &Played,
 ) -> Result<(), SimulatorError> {
-    let Played { ended, parts } = played;
-    let Parts {
-        calls,
-        connections,
-        frames,
-        acknowledgements,
-        primary,
-        standby,
-    } = parts;
-    write_calls(alloc, out, calls.as_slice())?;
-    write_released(out, connections)?;
-    write_frames(alloc, out, frames.as_slice())?;
-    write_acknowledgements(alloc, out, acknowledgements.as_slice())?;
-    write_nodes(alloc, out, options, &primary, &standby)?;
-    write_end(out, lines, ended)?;
+    let told = &played.told;
+    write_calls(alloc, out, told.calls.as_slice())?;
+    write_released(out, told.released.as_slice())?;
+    write_frames(alloc, out, told.frames.as_slice())?;
+    write_acknowledgements(alloc, out, told.acknowledgements.as_slice())?;
+    write_nodes(alloc, out, options, &played.primary, &played.standby)?;
+    write_end(out, lines, played.ended)?;
     Ok(())
 }
 
@@ -59,9 +50,8 @@ fn write_calls<W: Write>(alloc: Global, out: &mut W, calls: &[Call]) -> Result<(
 }
 
 /// The bytes that were released to each connection.
-fn write_released<W: Write>(out: &mut W, connections: Vec<Connection>) -> io::Result<()> {
-    for (number, connection) in connections.into_iter().enumerate() {
-        let bytes = connection.into_released();
+fn write_released<W: Write>(out: &mut W, released: &[Vec<u8>]) -> io::Result<()> {
+    for (number, bytes) in released.iter().enumerate() {
         let quoted = Quoted(bytes.as_slice());
         writeln!(out, "connection {number}: released {quoted}")?;
     }

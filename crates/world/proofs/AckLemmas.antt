@@ -67,8 +67,6 @@ drop-above position from (suc n) (group ∷ groups) to chain = elim (cases_lt po
 frames-above : (epoch : ℕ) (calls : List Call) (position from : ℕ) (frames : List Frame) (groups : List Span) (to : ℕ) → AreFramesOf epoch calls frames groups → IsChain from groups to
     → AreFramesOf epoch calls (frames_above position frames) (above position groups)
 frames-above epoch calls position from [] [] to are chain = tt
-frames-above epoch calls position from [] (group ∷ groups) to are chain = absurd are
-frames-above epoch calls position from (frame ∷ frames) [] to are chain = absurd are
 frames-above epoch calls position from (frame ∷ frames) (group ∷ groups) to are chain = elim (cases_lt position group.after) [
   | inl lt ↦
       let stays = ap (λ b. cond b (frames_above position frames) (frame ∷ frames)) (lt-leb frame.after position (omega (arith, lt, are.0.after))) in
@@ -79,6 +77,7 @@ frames-above epoch calls position from (frame ∷ frames) (group ∷ groups) to 
       subst (λ (gs : List Span). AreFramesOf epoch calls (frames_above position (frame ∷ frames)) gs) (sym (above-low position group groups le))
       (subst (λ (fs : List Frame). AreFramesOf epoch calls fs (above position groups)) (sym goes) (frames-above epoch calls position group.after frames groups to are.1 chain.2))
 ]
+frames-above epoch calls position from frames groups to are chain = absurd are
 
 pub knows : (calls : List Call) (code : Stream) (handed : Waiting Group) (remote position : ℕ) (machine : Machine) (from to : ℕ) → LinkRefines calls code handed remote machine
     → IsChain from machine.kept to

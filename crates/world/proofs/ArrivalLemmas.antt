@@ -8,10 +8,9 @@ use Rattle.model.specs.Standing.{Holder}
 use Rattle.machine.specs.Event.{World, Frame as Sent, Acknowledgement, delivered, option_items, with_standby, with_acknowledged, without_first}
 use Rattle.frames.specs.declared.frame.Frame.{Frame}
 use Rattle.stream_codec.specs.Message.{Sent as Told, IsSent, sent_of_frame, sent_text}
-use Rattle.world.specs.declared.arrivals.Arrivals.{Arrivals}
 use Rattle.connections.specs.Going.{Goes}
 use Rattle.world.specs.Link.{IsFrameOf, IsFrameSent, AreFramesRead, AreFramesSent, AreAcksSent}
-use Rattle.world.specs.Standby.{Node, ArrivalsRefine, AppliesFirst}
+use Rattle.world.specs.Standby.{Arrived, Node, ArrivalsRefine, AppliesFirst}
 use Rattle.world.proofs.FrameLemmas.{AreFramesRead-grows, AreFramesRead-push, IsFrameOf-copy, copy_of_read, frame_of_number, length-sent}
 use Rattle.world.proofs.StandbyLemmas.{Took}
 
@@ -24,7 +23,7 @@ ReadsAs bytes read = (sent : Told) → IsSent sent → bytes ≡ sent_text sent 
 pub same_found : {X : Type 0} {a b : X} {found : Option X} → found ≡ Some a → found ≡ Some b → a ≡ b
 same_found in_a in_b = cc
 
-pub delivers : (epoch : ℕ) (texts : List (Vec ℕ Global)) (w : World) (i : ℕ) (bytes : Vec ℕ Global) (frame : Frame) (old new : Arrivals) → i < length texts → slice_get texts i ≡ Some bytes
+pub delivers : (epoch : ℕ) (texts : List (Vec ℕ Global)) (w : World) (i : ℕ) (bytes : Vec ℕ Global) (frame : Frame) (old new : Arrived) → i < length texts → slice_get texts i ≡ Some bytes
     → ReadsAs bytes.items (sent_of_frame frame)
     → new.delivered.items ≡ old.delivered.items ++ frame ∷ [] → new.acknowledgements.items ≡ old.acknowledgements.items
     → ArrivalsRefine epoch w.primary.calls old w.standby.waiting w.wire.acknowledgements → AreFramesSent epoch w.primary.calls texts w.wire.frames
@@ -46,7 +45,7 @@ delivers epoch texts w i bytes frame old new lt found reads items acks stands ar
       stays = λ did. cc;
     }
 
-pub delivers_none : (epoch : ℕ) (texts : List (Vec ℕ Global)) (w : World) (i : ℕ) (arrivals : Arrivals) → length texts ≤ i
+pub delivers_none : (epoch : ℕ) (texts : List (Vec ℕ Global)) (w : World) (i : ℕ) (arrivals : Arrived) → length texts ≤ i
     → ArrivalsRefine epoch w.primary.calls arrivals w.standby.waiting w.wire.acknowledgements → AreFramesSent epoch w.primary.calls texts w.wire.frames
     → Goes (nat_lt i (length w.wire.frames)) false (ArrivalsRefine epoch w.primary.calls arrivals (delivered (option_items (slice_get w.wire.frames i)) w.standby).waiting w.wire.acknowledgements)
     (ArrivalsRefine epoch w.primary.calls arrivals w.standby.waiting w.wire.acknowledgements)
@@ -85,14 +84,14 @@ pub starts_with : (items : List Frame) (frame : Frame) → 0 < length items → 
 starts_with [] frame some e = absurd (omega arith)
 starts_with (first ∷ rest) frame some e = ap (λ f. f ∷ rest) (sym e)
 
-pub first-frame : (epoch : ℕ) (w : World) (arrivals : Arrivals) (frame : Frame) → 0 < length arrivals.delivered.items → frame ≡ get_or arrivals.delivered.items 0 frame
+pub first-frame : (epoch : ℕ) (w : World) (arrivals : Arrived) (frame : Frame) → 0 < length arrivals.delivered.items → frame ≡ get_or arrivals.delivered.items 0 frame
     → ArrivalsRefine epoch w.primary.calls arrivals w.standby.waiting w.wire.acknowledgements → FirstFrame epoch w.primary.calls frame (drop 1 arrivals.delivered.items) w.standby.waiting
 first-frame epoch w arrivals frame some e stands =
     first_of epoch w.primary.calls frame (drop 1 arrivals.delivered.items) w.standby.waiting
     (subst (λ (frames : List Frame). AreFramesRead epoch w.primary.calls frames w.standby.waiting) (starts_with arrivals.delivered.items frame some e) stands.delivered)
 
 -- the standby took the first frame
-pub applies : (holder : Holder) (epoch : ℕ) (w : World) (frame : Frame) (acks : List Acknowledgement) (old new : Arrivals) (before after : Node)
+pub applies : (holder : Holder) (epoch : ℕ) (w : World) (frame : Frame) (acks : List Acknowledgement) (old new : Arrived) (before after : Node)
     → new.delivered.items ≡ drop 1 old.delivered.items → AreAcksSent new.acknowledgements.items (w.wire.acknowledgements ++ acks)
     → (first : FirstFrame epoch w.primary.calls frame (drop 1 old.delivered.items) w.standby.waiting)
     → Took holder epoch w.primary.calls first.span (without_first w.standby) acks before after → AppliesFirst holder epoch w true new before after
@@ -115,7 +114,7 @@ applies holder epoch w frame acks old new before after items told first took =
 
 -- ---- the list of calls grows
 
-pub ArrivalsRefine-grows : (epoch : ℕ) (calls more : List Call) (code : Arrivals) (waiting : List Sent) (told : List Acknowledgement) → ArrivalsRefine epoch calls code waiting told
+pub ArrivalsRefine-grows : (epoch : ℕ) (calls more : List Call) (code : Arrived) (waiting : List Sent) (told : List Acknowledgement) → ArrivalsRefine epoch calls code waiting told
     → ArrivalsRefine epoch (calls ++ more) code waiting told
 ArrivalsRefine-grows epoch calls more code waiting told stands =
     record { delivered = AreFramesRead-grows epoch calls more code.delivered.items waiting stands.delivered; acknowledged = stands.acknowledged }

@@ -1,5 +1,5 @@
 -- Closing a group or a free list: what it takes from the sequencer, and what it adds to the queue.
-use Rattle.std.proofs.Common.{◌≡◌, ◌≢◌, ◌⊎◌, ℕ, ◌+◌, ◌-◌, ◌<◌, ◌≤◌, ◌++◌, ◌||◌, Bool, true, false, cond, nat_lt, List, [], ◌∷◌, length, Option, suc, refl, sym, ap, ap₂, subst, ◌∙◌, arith, add-zero, inl, inr, le_refl}
+use Rattle.std.proofs.Common.{rules, ◌≡◌, ◌≢◌, ◌⊎◌, ℕ, ◌+◌, ◌-◌, ◌<◌, ◌≤◌, ◌++◌, ◌||◌, Bool, true, false, cond, nat_lt, List, ◌∷◌, length, Option, suc, refl, sym, ap, ap₂, subst, ◌∙◌, arith, add-zero, inl, inr, le_refl, []}
 use Rattle.std.proofs.lemmas.Bool.{and_from, false_from_ne_true, le-ltb, lt-ltb, ltb-true, or_cases, or_left, or_right}
 use Rattle.std.specs.List.{flat_map}
 use Rattle.kv_types.specs.declared.change.Change.{Change}
@@ -85,13 +85,7 @@ newest-within calls from newest (part ∷ parts) are some =
 -- all parts leave
 pub sequencer-handed : (calls : List Call) (closed : ℕ) (old new : Sequencing) (group : Group) → SequencerRefines calls closed old → HandsOut old group new → SequencerRefines calls (position_of calls) new
 sequencer-handed calls closed old new group stands hands =
-    subst (SequencerRefines calls (position_of calls)) (sym hands.after) (record {
-      table = stands.table;
-      position = stands.position;
-      before = stands.position;
-      waiting = tt;
-      count = add-zero (position_of calls);
-    })
+    subst (SequencerRefines calls (position_of calls)) (sym hands.after) (search (rules, stands.table, stands.position, add-zero (position_of calls)))
 
 pub follow-handed : (calls : List Call) (seats : List (Option ℕ)) (old new : Sequencing) (group : Group) → HandsOut old group new → SeatsFollow calls seats old → SeatsFollow calls seats new
 follow-handed calls seats old new group hands follow =
@@ -100,13 +94,7 @@ follow-handed calls seats old new group hands follow =
 -- all that is listed leaves
 pub sequencer-listed : (calls : List Call) (closed : ℕ) (old new : Sequencing) (list : FreeList) → SequencerRefines calls closed old → HandsList old list new → SequencerRefines calls closed new
 sequencer-listed calls closed old new list stands hands =
-    subst (SequencerRefines calls closed) (sym hands.after) (record {
-      table = stands.table;
-      position = stands.position;
-      before = stands.before;
-      waiting = stands.waiting;
-      count = stands.count;
-    })
+    subst (SequencerRefines calls closed) (sym hands.after) (search (rules, stands))
 
 pub follow-listed : (calls : List Call) (seats : List (Option ℕ)) (old new : Sequencing) (list : FreeList) → HandsList old list new → SeatsFollow calls seats old → SeatsFollow calls seats new
 follow-listed calls seats old new list hands follow =
@@ -129,21 +117,15 @@ IsGroupOf-handed calls closed old new group stands hands =
 pub AreWorkOf-push : (calls : List Call) (items : List Work) (works : List MachineWork) (item : Work) (last : MachineWork) → AreWorkOf calls items works → IsWorkOf calls item last
     → AreWorkOf calls (items ++ item ∷ []) (works ++ last ∷ [])
 AreWorkOf-push calls [] [] item last are is = (is, tt)
-AreWorkOf-push calls [] (first ∷ works) item last are is = absurd are
-AreWorkOf-push calls (first ∷ items) [] item last are is = absurd are
 AreWorkOf-push calls (first ∷ items) (w ∷ works) item last are is = (are.0, AreWorkOf-push calls items works item last are.1 is)
+AreWorkOf-push calls items works item last are is = absurd are
 
 length-queue : (calls : List Call) (items : List Work) (works : List MachineWork) → AreWorkOf calls items works → length items ≡ length works
 length-queue calls [] [] are = refl
-length-queue calls [] (w ∷ works) are = absurd are
-length-queue calls (item ∷ items) [] are = absurd are
 length-queue calls (item ∷ items) (w ∷ works) are = ap suc (length-queue calls items works are.1)
+length-queue calls items works are = absurd are
 
 -- ---- where one of the two may be closed
-
-none-of : {X : Type 0} (xs : List X) → (xs ≢ [] → ⊥) → length xs ≡ 0
-none-of [] none = refl
-none-of (x ∷ xs) none = absurd (none (λ e. cc))
 
 some-of : {X : Type 0} (xs : List X) → xs ≢ [] → 0 < length xs
 some-of [] some = absurd (some refl)

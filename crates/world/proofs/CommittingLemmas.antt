@@ -1,5 +1,5 @@
 -- The committer and its engine still refine the machine's after each step.
-use Rattle.std.proofs.Common.{◌≡◌, ◌⊎◌, inl, inr, true≢false, ℕ, ◌+◌, ◌-◌, ◌<◌, ◌≤◌, ◌++◌, Bool, true, false, List, [], ◌∷◌, length, map, Result, Err, IfErr, IsErrOf, refl, sym, ap, ap₂, subst, ◌∙◌, arith}
+use Rattle.std.proofs.Common.{rules, ◌≡◌, ◌⊎◌, inl, inr, true≢false, ℕ, ◌+◌, ◌-◌, ◌<◌, ◌≤◌, ◌++◌, Bool, true, false, List, [], ◌∷◌, length, map, Result, Err, IfErr, IsErrOf, refl, sym, ap, ap₂, subst, ◌∙◌, arith}
 use Rattle.std.proofs.lemmas.List.{map-append}
 use Rattle.pmem.specs.Device.{State}
 use Rattle.pmem.specs.Crash.{IsImage}
@@ -50,22 +50,13 @@ use Rattle.world.proofs.RecallGroups.{remembers-committed}
 
 StageRefines-grows : (calls more : List Call) (code : Stage) (machine : MachineStage) → StageRefines calls code machine → StageRefines (calls ++ more) code machine
 StageRefines-grows calls more Ready machine_stage.Ready stands = tt
-StageRefines-grows calls more Ready (machine_stage.Durable span) stands = absurd stands
-StageRefines-grows calls more Ready (machine_stage.Shown span) stands = absurd stands
-StageRefines-grows calls more (Durable group) machine_stage.Ready stands = absurd stands
 StageRefines-grows calls more (Durable group) (machine_stage.Durable span) stands = IsGroupOf-grows calls more group span stands
-StageRefines-grows calls more (Durable group) (machine_stage.Shown span) stands = absurd stands
-StageRefines-grows calls more (Shown group) machine_stage.Ready stands = absurd stands
-StageRefines-grows calls more (Shown group) (machine_stage.Durable span) stands = absurd stands
 StageRefines-grows calls more (Shown group) (machine_stage.Shown span) stands = IsGroupOf-grows calls more group span stands
+StageRefines-grows calls more code machine stands = absurd stands
 
 pub CommittingRefines-grows : (calls more : List Call) (code : Committing) (machine : Machine) → CommittingRefines calls code machine → CommittingRefines (calls ++ more) code machine
-CommittingRefines-grows calls more code machine stands = record {
-  work = AreWorkOf-grows calls more code.waiting.items machine.waiting stands.work;
-  aside = stands.aside;
-  stage_is = StageRefines-grows calls more code.stage machine.stage stands.stage_is;
-  local_is = stands.local_is;
-}
+CommittingRefines-grows calls more code machine stands =
+    search (rules, AreWorkOf-grows calls more code.waiting.items machine.waiting stands.work, StageRefines-grows calls more code.stage machine.stage stands.stage_is, stands)
 
 -- ---- a group that waits behind free lists
 
@@ -244,10 +235,7 @@ commit-limit holder w old lists group new device contents is_faulted takes exhau
   where
     reached : (more : ℕ) → Exhausts contents group → length group.parts.items ≤ more → last_position contents.current.position group.parts.items ≡ contents.current.position + more
         → (COUNTER_LIMIT ≤ contents.current.cp + more + 1 + STAMP_WINDOW) ⊎ (COUNTER_LIMIT ≤ contents.current.position + more) ⊎ (COUNTER_LIMIT ≤ contents.current.number + 1)
-    reached more (inl stamps) few own = inl (omega (arith, stamps, few))
-    reached more (inr (inl position)) few own = inr (inl (omega (arith, position, own)))
-    reached more (inr (inr (inl number))) few own = inr (inr number)
-    reached more (inr (inr (inr rises))) few own = absurd (omega (arith, rises.0, takes.own))
+    reached more exhausts few own = grind (arith, exhausts, takes.own)
 
 -- the engine refused to commit: a fence failed, or a counter is at its limit
 pub commit-ends : (holder : Holder) (w : World) (old : Committing) (lists : List FreeList) (group : Group) (new : Committing) (device device' : State) (contents : Contents) (is_faulted : Bool)
@@ -301,42 +289,33 @@ raise-goes w old new group position stayed durable waiting beside shows local st
     }
   where
     may : (machine : MachineStage) → StageRefines w.primary.calls (Durable group) machine → is_durable machine ≡ true
-    may machine_stage.Ready stands = absurd stands
     may (machine_stage.Durable span) stands = refl
-    may (machine_stage.Shown span) stands = absurd stands
+    may machine stands = absurd stands
 
     stage_shown : (machine : MachineStage) → StageRefines w.primary.calls (Durable group) machine → StageRefines w.primary.calls (Shown group) (shown machine)
-    stage_shown machine_stage.Ready stands = absurd stands
     stage_shown (machine_stage.Durable span) stands = stands
-    stage_shown (machine_stage.Shown span) stands = absurd stands
+    stage_shown machine stands = absurd stands
 
 -- no group has committed that was not shown
 pub raise-none : (calls : List Call) (stage : Stage) (machine : MachineStage) → ((group : Group) → stage ≡ Durable group → ⊥) → StageRefines calls stage machine → false ≡ is_durable machine
-raise-none calls Ready machine_stage.Ready none stands = refl
 raise-none calls Ready (machine_stage.Durable span) none stands = absurd stands
-raise-none calls Ready (machine_stage.Shown span) none stands = refl
 raise-none calls (Durable group) machine none stands = absurd (none group refl)
-raise-none calls (Shown group) machine_stage.Ready none stands = refl
 raise-none calls (Shown group) (machine_stage.Durable span) none stands = absurd stands
-raise-none calls (Shown group) (machine_stage.Shown span) none stands = refl
+raise-none calls stage machine none stands = refl
 
 -- no group was shown that was not handed on
 pub hand-none : (calls : List Call) (stage : Stage) (machine : MachineStage) → ((group : Group) → stage ≡ Shown group → ⊥) → StageRefines calls stage machine → false ≡ is_shown machine
-hand-none calls Ready machine_stage.Ready none stands = refl
-hand-none calls Ready (machine_stage.Durable span) none stands = refl
 hand-none calls Ready (machine_stage.Shown span) none stands = absurd stands
-hand-none calls (Durable group) machine_stage.Ready none stands = refl
-hand-none calls (Durable group) (machine_stage.Durable span) none stands = refl
 hand-none calls (Durable group) (machine_stage.Shown span) none stands = absurd stands
 hand-none calls (Shown group) machine none stands = absurd (none group refl)
+hand-none calls stage machine none stands = refl
 
 -- ---- a group handed on
 
 pub AreGroupsOf-push : (calls : List Call) (groups : List Group) (spans : List Span) (group : Group) (span : Span) → AreGroupsOf calls groups spans → IsGroupOf calls group span → AreGroupsOf calls (groups ++ group ∷ []) (spans ++ span ∷ [])
 AreGroupsOf-push calls [] [] group span are is = (is, tt)
-AreGroupsOf-push calls [] (s ∷ spans) group span are is = absurd are
-AreGroupsOf-push calls (g ∷ groups) [] group span are is = absurd are
 AreGroupsOf-push calls (g ∷ groups) (s ∷ spans) group span are is = (are.0, AreGroupsOf-push calls groups spans group span are.1 is)
+AreGroupsOf-push calls groups spans group span are is = absurd are
 
 -- the machine has shown the span of the group in hand
 record ShowsSpan (calls : List Call) (group : Group) (machine : MachineStage) : Type 0 where
@@ -345,9 +324,8 @@ record ShowsSpan (calls : List Call) (group : Group) (machine : MachineStage) : 
   pub is : IsGroupOf calls group span
 
 shows-span : (calls : List Call) (group : Group) (machine : MachineStage) → StageRefines calls (Shown group) machine → ShowsSpan calls group machine
-shows-span calls group machine_stage.Ready stands = absurd stands
-shows-span calls group (machine_stage.Durable span) stands = absurd stands
 shows-span calls group (machine_stage.Shown span) stands = record { span = span; shows = refl; is = stands }
+shows-span calls group machine stands = absurd stands
 
 -- the link has room for the group in hand
 pub hand-room : (w : World) (stage : Stage) (group : Group) (link : List Group) → stage ≡ Shown group → Sound w → StageRefines w.primary.calls stage w.primary.committer.stage

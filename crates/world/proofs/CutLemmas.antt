@@ -1,5 +1,5 @@
 -- A crash of the primary cuts the list of calls: what stands at positions up to the cut still stands.
-use Rattle.std.proofs.Common.{◌≡◌, ℕ, ◌≤◌, inl, inr, Bool, List, [], ◌∷◌, All, Vec, Global, sym, ap, subst, ◌∙◌, arith}
+use Rattle.std.proofs.Common.{rules, ◌≡◌, ℕ, ◌≤◌, inl, inr, Bool, List, ◌∷◌, All, Vec, Global, sym, ap, subst, ◌∙◌, arith, []}
 use Rattle.std.proofs.lemmas.Bool.{cases_lt}
 use Rattle.std.proofs.lemmas.List.Elements.{All-head, All-tail}
 use Rattle.kv_types.specs.Keyspace.{play_all}
@@ -14,10 +14,9 @@ use Rattle.machine.specs.Event.{Span, Frame as Sent, Acknowledgement}
 use Rattle.machine.specs.Sound.{IsFrameWithin}
 use Rattle.machine.proofs.GrowLemmas.{cuts-stay}
 use Rattle.frames.specs.declared.frame.Frame.{Frame}
-use Rattle.world.specs.declared.arrivals.Arrivals.{Arrivals}
 use Rattle.world.specs.Committing.{AreContentsAt, EngineStands, IsDown}
 use Rattle.world.specs.Link.{LiesWithin, IsFrameOf, IsFrameRead, AreFramesRead, AreFramesSent}
-use Rattle.world.specs.Standby.{Node, StandbyStands, ArrivalsRefine}
+use Rattle.world.specs.Standby.{Arrived, Node, StandbyStands, ArrivalsRefine}
 
 -- the keyspace up to the cut is that of the whole list
 pub keyspace_after-cut_at-cut : (calls : List Call) (n p : ℕ) → p ≤ n → keyspace_after (cut_at (cut_at calls n) p) ≡ keyspace_after (cut_at calls p)
@@ -30,23 +29,13 @@ keyspace_after-cut_at-cut calls n p le =
 -- ---- nodes
 
 pub AreContentsAt-cut : (holder : Holder) (calls : List Call) (n p : ℕ) (contents : Contents) → p ≤ n → AreContentsAt holder calls p contents → AreContentsAt holder (cut_at calls n) p contents
-AreContentsAt-cut holder calls n p contents le are = record {
-  at = are.at;
-  role_is = are.role_is;
-  epoch_is = are.epoch_is;
-  lines_are = are.lines_are;
-  consistent = are.consistent;
-  map = subst (IsMapOf contents.versions (entries_of_lines contents.lines)) (sym (keyspace_after-cut_at-cut calls n p le)) are.map;
-}
+AreContentsAt-cut holder calls n p contents le are =
+    search (rules, subst (IsMapOf contents.versions (entries_of_lines contents.lines)) (sym (keyspace_after-cut_at-cut calls n p le)) are.map, are)
 
 pub EngineStands-cut : (holder : Holder) (calls : List Call) (n p : ℕ) (device : State) (contents : Contents) (is_faulted : Bool) → p ≤ n
     → EngineStands holder calls p device contents is_faulted → EngineStands holder (cut_at calls n) p device contents is_faulted
-EngineStands-cut holder calls n p device contents is_faulted le stands = record {
-  contents_at = AreContentsAt-cut holder calls n p contents le stands.contents_at;
-  lawful = stands.lawful;
-  sound = stands.sound;
-  durable = stands.durable;
-}
+EngineStands-cut holder calls n p device contents is_faulted le stands =
+    search (rules, AreContentsAt-cut holder calls n p contents le stands.contents_at, stands)
 
 -- with the contents that it had
 abbrev pub IsDown-cut : (holder : Holder) (calls : List Call) (n p : ℕ) (device : State) → p ≤ n → IsDown holder calls p device → IsDown holder (cut_at calls n) p device
@@ -60,13 +49,8 @@ IsDown-cut holder calls n p device le down = record {
 }
 
 pub StandbyStands-cut : (holder : Holder) (epoch : ℕ) (calls : List Call) (n p : ℕ) (node : Node) → p ≤ n → StandbyStands holder epoch calls p node → StandbyStands holder epoch (cut_at calls n) p node
-StandbyStands-cut holder epoch calls n p node le stands = record {
-  engine = EngineStands-cut holder calls n p node.device node.contents node.is_faulted le stands.engine;
-  follows = stands.follows;
-  table = stands.table ∙ sym (keyspace_after-cut_at-cut calls n p le);
-  epoch_is = stands.epoch_is;
-  epoch_held = stands.epoch_held;
-}
+StandbyStands-cut holder epoch calls n p node le stands =
+    search (rules, EngineStands-cut holder calls n p node.device node.contents node.is_faulted le stands.engine, stands.table ∙ sym (keyspace_after-cut_at-cut calls n p le), stands)
 
 -- ---- frames
 
@@ -75,38 +59,31 @@ LiesWithin-cut calls n span le is = record { rising = is.rising; within = omega 
 
 IsFrameOf-cut : (epoch : ℕ) (calls : List Call) (n : ℕ) (frame : Frame) (span : Span) → span.after ≤ n → IsFrameOf epoch calls frame span → IsFrameOf epoch (cut_at calls n) frame span
 IsFrameOf-cut epoch calls n frame span le is =
-    record {
-      span_within = LiesWithin-cut calls n span le is.span_within;
-      epoch_is = is.epoch_is;
-      before = is.before;
-      after = is.after;
-      plays = ap (λ s. play_all s frame.changes.items) (keyspace_after-cut_at-cut calls n span.before (omega (arith, le, is.span_within.rising))) ∙ is.plays
-          ∙ sym (keyspace_after-cut_at-cut calls n span.after le);
-      size = is.size;
-    }
+    let plays : play_all (keyspace_after (cut_at (cut_at calls n) span.before)) frame.changes.items ≡ keyspace_after (cut_at (cut_at calls n) span.after) =
+    ap (λ s. play_all s frame.changes.items) (keyspace_after-cut_at-cut calls n span.before (omega (arith, le, is.span_within.rising))) ∙ is.plays
+    ∙ sym (keyspace_after-cut_at-cut calls n span.after le) in
+    search (rules, LiesWithin-cut calls n span le is.span_within, plays, is)
 
 IsFrameRead-cut : (epoch : ℕ) (calls : List Call) (n : ℕ) (frame : Frame) (sent : Sent) → IsFrameWithin epoch n sent → IsFrameRead epoch calls frame sent → IsFrameRead epoch (cut_at calls n) frame sent
 IsFrameRead-cut epoch calls n frame sent within is = record { epoch_is = is.epoch_is; has = IsFrameOf-cut epoch calls n frame sent.span within.span.within is.has }
 
 pub AreFramesRead-cut : (epoch : ℕ) (calls : List Call) (n : ℕ) (frames : List Frame) (sent : List Sent) → All (IsFrameWithin epoch n) sent → AreFramesRead epoch calls frames sent → AreFramesRead epoch (cut_at calls n) frames sent
 AreFramesRead-cut epoch calls n [] [] within are = tt
-AreFramesRead-cut epoch calls n [] (one ∷ sent) within are = absurd are
-AreFramesRead-cut epoch calls n (frame ∷ frames) [] within are = absurd are
 AreFramesRead-cut epoch calls n (frame ∷ frames) (one ∷ sent) within are = (
   IsFrameRead-cut epoch calls n frame one (All-head (IsFrameWithin epoch n) one sent within) are.0,
   AreFramesRead-cut epoch calls n frames sent (All-tail (IsFrameWithin epoch n) one sent within) are.1,
 )
+AreFramesRead-cut epoch calls n frames sent within are = absurd are
 
 pub AreFramesSent-cut : (epoch : ℕ) (calls : List Call) (n : ℕ) (texts : List (Vec ℕ Global)) (sent : List Sent) → All (IsFrameWithin epoch n) sent → AreFramesSent epoch calls texts sent → AreFramesSent epoch (cut_at calls n) texts sent
 AreFramesSent-cut epoch calls n [] [] within are = tt
-AreFramesSent-cut epoch calls n [] (one ∷ sent) within are = absurd are
-AreFramesSent-cut epoch calls n (bytes ∷ texts) [] within are = absurd are
 AreFramesSent-cut epoch calls n (bytes ∷ texts) (one ∷ sent) within are = (
   record { frame = are.0.frame; text = are.0.text; may = are.0.may; is = IsFrameRead-cut epoch calls n are.0.frame one (All-head (IsFrameWithin epoch n) one sent within) are.0.is },
   AreFramesSent-cut epoch calls n texts sent (All-tail (IsFrameWithin epoch n) one sent within) are.1,
 )
+AreFramesSent-cut epoch calls n texts sent within are = absurd are
 
-pub ArrivalsRefine-cut : (epoch : ℕ) (calls : List Call) (n : ℕ) (code : Arrivals) (waiting : List Sent) (told : List Acknowledgement) → All (IsFrameWithin epoch n) waiting
+pub ArrivalsRefine-cut : (epoch : ℕ) (calls : List Call) (n : ℕ) (code : Arrived) (waiting : List Sent) (told : List Acknowledgement) → All (IsFrameWithin epoch n) waiting
     → ArrivalsRefine epoch calls code waiting told → ArrivalsRefine epoch (cut_at calls n) code waiting told
 ArrivalsRefine-cut epoch calls n code waiting told within stands =
     record { delivered = AreFramesRead-cut epoch calls n code.delivered.items waiting within stands.delivered; acknowledged = stands.acknowledged }

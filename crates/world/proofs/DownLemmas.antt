@@ -1,11 +1,11 @@
 -- The images of nodes that crashed: what a crash leaves of an engine over the list of calls, and what a reopening makes of it.
-use Rattle.std.proofs.Common.{◌≡◌, ◌⊎◌, inl, inr, ℕ, ◌+◌, ◌≤◌, Bool, false, nat_eq, List, [], ◌∷◌, ◌++◌, length, drop, refl, sym, ap, subst, ◌∙◌, arith}
+use Rattle.std.proofs.Common.{◌≡◌, ◌⊎◌, inl, inr, ℕ, ◌+◌, ◌≤◌, Bool, false, nat_eq, List, ◌∷◌, ◌++◌, length, drop, refl, sym, ap, subst, ◌∙◌, arith, [], rules}
 use Rattle.std.proofs.lemmas.Bool.{cases_lt, cond-false, cond-true, eqb-true}
 use Rattle.std.proofs.lemmas.List.{length-append, length-drop}
 use Rattle.kv_types.specs.declared.place.EntryNo.{EntryNo}
 use Rattle.kv_types.specs.declared.refusal.Refusal.{Refusal}
 use Rattle.kv_types.specs.declared.refusal.Refusal.TheVariants.{Exhausted, Memory}
-use Rattle.pmem.specs.Device.{State, Word, Older, Only, IsOlder}
+use Rattle.pmem.specs.Device.{State, Word}
 use Rattle.pmem.specs.Crash.{IsImage, IsSettled, image_of}
 use Rattle.pmem.specs.Runs.{LeavesOnly}
 use Rattle.pmem.proofs.Leaving.{LeavesOnly-weaken}
@@ -33,17 +33,7 @@ use Rattle.world.proofs.EngineLemmas.{AreContentsAt-grows, Opens-engine, keeps-o
 
 -- ---- words with one candidate
 
--- a crash leaves of each of them what loads return
-pub settled-only : (words : ℕ → Word) → IsSettled words → (word : ℕ) → Only (words word) (image_of words word)
-settled-only words settled word =
-    record {
-      only = λ y may. elim may [
-        | inl newest ↦ newest
-        | inr older ↦ absurd (subst (λ (others : List Older). IsOlder others y) (settled word) older)
-      ];
-    }
-
--- so they have one image
+-- they have one image
 pub settled-image : (words : ℕ → Word) (image : Image) → IsSettled words → IsImage words image → image ≡ image_of words
 settled-image words image settled is =
     let each : (word : ℕ) → image word ≡ image_of words word = IsImage-settled words image settled is in
@@ -81,14 +71,8 @@ Opens-down holder calls p device down = λ image is.
 
 -- while it is, the list may grow
 pub IsDown-grows : (holder : Holder) (calls more : List Call) (p : ℕ) (device : State) → p ≤ position_of calls → IsDown holder calls p device → IsDown holder (calls ++ more) p device
-IsDown-grows holder calls more p device le down = record {
-  contents = down.contents;
-  contents_at = AreContentsAt-grows holder calls more p down.contents le down.contents_at;
-  lawful = down.lawful;
-  keeps = down.keeps;
-  settled = down.settled;
-  sized = down.sized;
-}
+IsDown-grows holder calls more p device le down =
+    search (rules, AreContentsAt-grows holder calls more p down.contents le down.contents_at, down)
 
 -- ---- a reopening
 

@@ -1,5 +1,5 @@
 -- An engine over the list of calls: what its contents say of images, and how they stay and move with the list.
-use Rattle.std.proofs.Common.{◌≡◌, ℕ, ◌+◌, ◌-◌, ◌≤◌, Bool, List, ◌++◌, inl, inr, refl, sym, ap, subst, ◌∙◌, arith}
+use Rattle.std.proofs.Common.{rules, ◌≡◌, ℕ, ◌+◌, ◌-◌, ◌≤◌, Bool, List, ◌++◌, inl, inr, refl, sym, ap, subst, ◌∙◌, arith}
 use Rattle.kv_types.specs.Keyspace.{play_all}
 use Rattle.pmem.specs.Device.{State}
 use Rattle.pmem.proofs.Leaving.{none_leaves}
@@ -59,23 +59,13 @@ moves-same holder calls p q old new same stands = subst (λ (d : State). Moves h
 -- ---- while the list grows
 
 pub AreContentsAt-grows : (holder : Holder) (calls more : List Call) (p : ℕ) (contents : Contents) → p ≤ position_of calls → AreContentsAt holder calls p contents → AreContentsAt holder (calls ++ more) p contents
-AreContentsAt-grows holder calls more p contents le are = record {
-  at = are.at;
-  role_is = are.role_is;
-  epoch_is = are.epoch_is;
-  lines_are = are.lines_are;
-  consistent = are.consistent;
-  map = subst (IsMapOf contents.versions (entries_of_lines contents.lines)) (sym (keyspace_after-cut_at-append calls more p le)) are.map;
-}
+AreContentsAt-grows holder calls more p contents le are =
+    search (rules, subst (IsMapOf contents.versions (entries_of_lines contents.lines)) (sym (keyspace_after-cut_at-append calls more p le)) are.map, are)
 
 pub EngineStands-grows : (holder : Holder) (calls more : List Call) (p : ℕ) (device : State) (contents : Contents) (is_faulted : Bool) → p ≤ position_of calls
     → EngineStands holder calls p device contents is_faulted → EngineStands holder (calls ++ more) p device contents is_faulted
-EngineStands-grows holder calls more p device contents is_faulted le stands = record {
-  contents_at = AreContentsAt-grows holder calls more p contents le stands.contents_at;
-  lawful = stands.lawful;
-  sound = stands.sound;
-  durable = stands.durable;
-}
+EngineStands-grows holder calls more p device contents is_faulted le stands =
+    search (rules, AreContentsAt-grows holder calls more p contents le stands.contents_at, stands)
 
 -- ---- one group further
 

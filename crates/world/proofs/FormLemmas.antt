@@ -1,9 +1,8 @@
 -- New images, the tables and heaps with which they begin, and a primary that nothing waits for.
-use Rattle.std.proofs.Common.{◌≡◌, ℕ, ◌<◌, ◌≤◌, ◌⊎◌, ◌↔◌, Bool, true, false, true≢false, IsTrue, ◌∙◌, List, [], ◌∷◌, length, Ok, Err, refl, sym, ap, subst, arith, inl, inr, Vec, Global}
+use Rattle.std.proofs.Common.{rules, ◌≡◌, ℕ, ◌<◌, ◌≤◌, ◌⊎◌, ◌↔◌, Bool, true, false, true≢false, IsTrue, ◌∙◌, List, ◌∷◌, length, Ok, Err, refl, sym, ap, subst, arith, inl, inr, Vec, Global, []}
 use Rattle.std.proofs.lemmas.Bool.{cases_lt}
-use Rattle.multi_watch.specs.Sessions.{Sessions}
 use Rattle.model.specs.Image.{entries_of_lines, first_extent_line}
-use Rattle.model.specs.declared.image.TheConstants.{COUNTER_LIMIT, MAX_LINES, MIN_LINES}
+use Rattle.model.specs.declared.image.TheConstants.{MAX_LINES, MIN_LINES}
 use Rattle.model.specs.Group.{AreEnded, Contents}
 use Rattle.model.specs.declared.group.Group.{Group}
 use Rattle.model.specs.declared.work.FreeList.{FreeList}
@@ -25,14 +24,14 @@ use Rattle.wbl_engine.specs.declared.freeing.Freed.{Freed}
 use Rattle.wbl_engine.specs.Contents.{IsNew, IsDurable}
 use Rattle.wbl_engine.specs.Formatting.{IsFormatting}
 use Rattle.wbl_engine.proofs.LawfulLemmas.{new_lawful}
-use Rattle.redis_core.specs.Sequencing.{Expects, Sequencing, IsAheadOf, Underlies, starts}
+use Rattle.redis_core.specs.Sequencing.{Expects, Sequencing, IsAheadOf, Underlies}
 use Rattle.standby_stream.specs.Stream.{Stream, new_stream}
 use Rattle.standby.proofs.NewLemmas.{HasAll, new-table, left-new, new-consistent, follows-new}
 use Rattle.standby.specs.Following.{Follows}
 use Rattle.machine.specs.Event.{new_committer}
 use Rattle.machine.proofs.RunLemmas.{sound-start}
 use Rattle.kv_types.specs.declared.refusal.Refusal.{Refusal}
-use Rattle.kv_types.specs.declared.refusal.Refusal.TheVariants.{Exhausted, Fault, Memory, WrongSize}
+use Rattle.kv_types.specs.declared.refusal.Refusal.TheVariants.{Fault, WrongSize}
 use Rattle.world.specs.Cause.{IsWrongSize, UnformedBy}
 use Rattle.group_commit.specs.declared.stage.Stage.{Stage}
 use Rattle.group_commit.specs.declared.stage.Stage.TheVariants.{Ready}
@@ -50,30 +49,11 @@ use Rattle.world.proofs.RecallLemmas.{remembers-new}
 
 -- ---- the sequencer
 
-pub sequencer-starts : (sessions : Sessions) (s : Sequencing) (table : Table) (room : Room) (ended : List EntryNo) → table ≡ [] → s ≡ starts table room ended 0 FIRST_EPOCH sessions → SequencerRefines [] 0 s
-sequencer-starts sessions s table room ended empty same =
-    subst (SequencerRefines [] 0) (sym same)
-    (record {
-      table = ap records empty;
-      position = refl;
-      before = refl;
-      waiting = tt;
-      count = refl;
-    })
-
--- a sequencer at position 0 was refused only when out of memory
-pub only-memory : (refusal : Refusal) → (refusal ≡ Exhausted) ⊎ (refusal ≡ Memory) → (refusal ≡ Exhausted → COUNTER_LIMIT ≤ 0) → refusal ≡ Memory
-only-memory refusal (inl exhausted) limit = absurd (omega (arith, limit exhausted))
-only-memory refusal (inr memory) limit = memory
-
 -- where nothing waits, is aside or was told, the sequencer alone leads on from the contents
 pub leads-nothing : (contents : Contents) (waiting : List Work) (aside : List FreeList) (s : Sequencing) (notices : List Freed) → waiting ≡ [] → aside ≡ [] → notices ≡ []
     → IsAheadOf s contents → Expects s contents [] [] → AreEnded contents s.ended → Leads contents waiting aside s notices
 leads-nothing contents waiting aside s notices none_waits none_aside none_told ahead expects listed =
-    subst (λ (items : List Work). Leads contents items aside s notices) (sym none_waits)
-    (subst (λ (lists : List FreeList). Leads contents [] lists s notices) (sym none_aside)
-    (subst (λ (told : List Freed). Leads contents [] [] s told) (sym none_told)
-    (record { work_is = tt; epochs = tt; stands = ahead; expects = expects; aside_ended = tt; listed = listed })))
+    simp (none_waits, none_aside, none_told) (record { work_is = tt; epochs = tt; stands = ahead; expects = expects; aside_ended = tt; listed = listed })
 
 -- a committer with nothing in hand, which nothing waits for, is a new one
 pub committing-nothing : (calls : List Call) (position : ℕ) (code : Committing) → code.waiting.items ≡ [] → code.aside ≡ [] → code.stage ≡ Ready → code.local ≡ position
@@ -145,25 +125,14 @@ standby-new lines epoch role node many few new durable sound all empty none same
 pub new-own : (lines lines' : ℕ) (role : Role) (contents : Contents) → lines ≡ lines' → IsNew lines role contents → IsNew lines' contents.current.role contents
 new-own lines lines' role contents same new =
     subst (λ n. IsNew n contents.current.role contents) same
-    (record {
-      number = new.number;
-      position = new.position;
-      cp = new.cp;
-      cd = new.cd;
-      epoch = new.epoch;
-      role_is = refl;
-      gaps = new.gaps;
-      line_count = new.line_count;
-      versions = new.versions;
-      is_free = new.is_free;
-    })
+    (search (rules, new))
 
 -- where there is no connection, no seat has anything to follow
 none-seated : (codes : List Connection) → ConnectionsRefine [] codes [] → (s : Sequencing) → SeatsFollow [] (seats_of codes) s
 none-seated [] stand s = record { by_call = λ c seat has shut. cc; session = λ c seat has. cc }
 none-seated (code ∷ codes) stand s = absurd stand
 
-pub pair-starts : (first second : Holder) (pair : Pair) → SessionsRefine pair.sessions [] [] → SequencerRefines [] 0 pair.sequencer
+pub pair-starts : (first second : Holder) (pair : Pair) → SessionsRefine pair.sessions pair.transcript [] [] → SequencerRefines [] 0 pair.sequencer
     → (pair.sequencer.ended ≡ []) × (pair.sequencer.newest ≡ 0)
     → pair.committing.waiting.items ≡ [] → pair.committing.aside ≡ [] → pair.committing.stage ≡ Ready → pair.committing.local ≡ 0 → pair.notices ≡ [] → EngineStands first [] 0 pair.device pair.contents pair.is_faulted
     → pair.contents.current.gaps.items ≡ [] → IsAheadOf pair.sequencer pair.contents → Expects pair.sequencer pair.contents [] [] → pair.link ≡ new_stream FIRST_EPOCH → pair.handed.items ≡ [] → pair.remote ≡ 0 → pair.opening.position ≡ 0 → pair.frames ≡ []

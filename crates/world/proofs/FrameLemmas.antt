@@ -1,10 +1,9 @@
 -- Frames, the spans of the groups that they carry, and the list of calls that both are of.
-use Rattle.std.proofs.Common.{◌≡◌, ℕ, zero, suc, ◌<◌, List, [], ◌∷◌, ◌++◌, length, Some, Vec, Global, true, nat_lt, slice_index_or, refl, sym, ap, subst, ◌∙◌, arith}
+use Rattle.std.proofs.Common.{◌≡◌, ℕ, zero, suc, ◌<◌, List, [], ◌∷◌, ◌++◌, length, Some, Vec, Global, true, nat_lt, slice_index_or, refl, sym, ap, subst, ◌∙◌, arith, rules, ap₂}
 use Rattle.std.proofs.lemmas.Bool.{ltb-true}
 use Rattle.std.proofs.lemmas.Option.{slice_get-get_or}
 use Rattle.std.specs.Prelude.{slice_get}
 use Rattle.model.specs.declared.call.Call.{Call}
-use Rattle.kv_types.specs.declared.change.Change.{Change}
 use Rattle.kv_types.specs.Change.{changes_size}
 use Rattle.kv_types.specs.Keyspace.{play_all}
 use Rattle.model.specs.Call.{cut_at, keyspace_after}
@@ -12,7 +11,7 @@ use Rattle.model.proofs.CallsLemmas.{keyspace_after-cut_at-append, position_of_g
 use Rattle.machine.specs.Event.{Span, Frame as Sent, Acknowledgement}
 use Rattle.frames.specs.declared.frame.Frame.{Frame}
 use Rattle.frames.specs.Copy.{IsCopy}
-use Rattle.stream_codec.specs.Message.{Sent as Told, Changes, Acknowledged, IsSent, IsWithinLimits, sent_of_frame, sent_of_ack}
+use Rattle.stream_codec.specs.Message.{Acknowledged, IsSent, IsWithinLimits, sent_of_frame, sent_of_ack}
 use Rattle.frames.specs.declared.ack.Ack.{Ack}
 use Rattle.world.specs.Standby.{told_by}
 use Rattle.world.specs.Link.{LiesWithin, IsFrameOf, AreFramesOf, IsFrameRead, AreFramesRead, IsFrameSent, AreFramesSent, IsAckSent, AreAcksSent}
@@ -25,60 +24,49 @@ LiesWithin-grows calls more span is = record { rising = is.rising; within = omeg
 IsFrameOf-grows : (epoch : ℕ) (calls more : List Call) (frame : Frame) (span : Span) → IsFrameOf epoch calls frame span → IsFrameOf epoch (calls ++ more) frame span
 IsFrameOf-grows epoch calls more frame span is =
     let within = is.span_within in
-    record {
-      span_within = LiesWithin-grows calls more span within;
-      epoch_is = is.epoch_is;
-      before = is.before;
-      after = is.after;
-      plays = ap (λ s. play_all s frame.changes.items) (keyspace_after-cut_at-append calls more span.before (omega (arith, within.rising, within.within))) ∙ is.plays
-          ∙ sym (keyspace_after-cut_at-append calls more span.after within.within);
-      size = is.size;
-    }
+    let plays : play_all (keyspace_after (cut_at (calls ++ more) span.before)) frame.changes.items ≡ keyspace_after (cut_at (calls ++ more) span.after) =
+    ap (λ s. play_all s frame.changes.items) (keyspace_after-cut_at-append calls more span.before (omega (arith, within.rising, within.within))) ∙ is.plays
+    ∙ sym (keyspace_after-cut_at-append calls more span.after within.within) in
+    search (rules, LiesWithin-grows calls more span within, plays, is)
 
 pub AreFramesOf-grows : (epoch : ℕ) (calls more : List Call) (frames : List Frame) (spans : List Span) → AreFramesOf epoch calls frames spans → AreFramesOf epoch (calls ++ more) frames spans
 AreFramesOf-grows epoch calls more [] [] are = tt
-AreFramesOf-grows epoch calls more [] (span ∷ spans) are = absurd are
-AreFramesOf-grows epoch calls more (frame ∷ frames) [] are = absurd are
 AreFramesOf-grows epoch calls more (frame ∷ frames) (span ∷ spans) are = (IsFrameOf-grows epoch calls more frame span are.0, AreFramesOf-grows epoch calls more frames spans are.1)
+AreFramesOf-grows epoch calls more frames spans are = absurd are
 
 IsFrameRead-grows : (epoch : ℕ) (calls more : List Call) (frame : Frame) (sent : Sent) → IsFrameRead epoch calls frame sent → IsFrameRead epoch (calls ++ more) frame sent
 IsFrameRead-grows epoch calls more frame sent is = record { epoch_is = is.epoch_is; has = IsFrameOf-grows epoch calls more frame sent.span is.has }
 
 pub AreFramesRead-grows : (epoch : ℕ) (calls more : List Call) (frames : List Frame) (sent : List Sent) → AreFramesRead epoch calls frames sent → AreFramesRead epoch (calls ++ more) frames sent
 AreFramesRead-grows epoch calls more [] [] are = tt
-AreFramesRead-grows epoch calls more [] (one ∷ sent) are = absurd are
-AreFramesRead-grows epoch calls more (frame ∷ frames) [] are = absurd are
 AreFramesRead-grows epoch calls more (frame ∷ frames) (one ∷ sent) are = (IsFrameRead-grows epoch calls more frame one are.0, AreFramesRead-grows epoch calls more frames sent are.1)
+AreFramesRead-grows epoch calls more frames sent are = absurd are
 
 pub AreFramesSent-grows : (epoch : ℕ) (calls more : List Call) (texts : List (Vec ℕ Global)) (sent : List Sent) → AreFramesSent epoch calls texts sent → AreFramesSent epoch (calls ++ more) texts sent
 AreFramesSent-grows epoch calls more [] [] are = tt
-AreFramesSent-grows epoch calls more [] (one ∷ sent) are = absurd are
-AreFramesSent-grows epoch calls more (bytes ∷ texts) [] are = absurd are
 AreFramesSent-grows epoch calls more (bytes ∷ texts) (one ∷ sent) are =
     (record { frame = are.0.frame; text = are.0.text; may = are.0.may; is = IsFrameRead-grows epoch calls more are.0.frame one are.0.is }, AreFramesSent-grows epoch calls more texts sent are.1)
+AreFramesSent-grows epoch calls more texts sent are = absurd are
 
 -- ---- frames are sent
 
 pub AreFramesOf-push : (epoch : ℕ) (calls : List Call) (frames : List Frame) (spans : List Span) (frame : Frame) (span : Span) → AreFramesOf epoch calls frames spans → IsFrameOf epoch calls frame span
     → AreFramesOf epoch calls (frames ++ frame ∷ []) (spans ++ span ∷ [])
 AreFramesOf-push epoch calls [] [] frame span are is = (is, tt)
-AreFramesOf-push epoch calls [] (s ∷ spans) frame span are is = absurd are
-AreFramesOf-push epoch calls (f ∷ frames) [] frame span are is = absurd are
 AreFramesOf-push epoch calls (f ∷ frames) (s ∷ spans) frame span are is = (are.0, AreFramesOf-push epoch calls frames spans frame span are.1 is)
+AreFramesOf-push epoch calls frames spans frame span are is = absurd are
 
 pub AreFramesSent-push : (epoch : ℕ) (calls : List Call) (texts : List (Vec ℕ Global)) (sent : List Sent) (bytes : Vec ℕ Global) (one : Sent) → AreFramesSent epoch calls texts sent → IsFrameSent epoch calls bytes.items one
     → AreFramesSent epoch calls (texts ++ bytes ∷ []) (sent ++ one ∷ [])
 AreFramesSent-push epoch calls [] [] bytes one are is = (is, tt)
-AreFramesSent-push epoch calls [] (s ∷ sent) bytes one are is = absurd are
-AreFramesSent-push epoch calls (t ∷ texts) [] bytes one are is = absurd are
 AreFramesSent-push epoch calls (t ∷ texts) (s ∷ sent) bytes one are is = (are.0, AreFramesSent-push epoch calls texts sent bytes one are.1 is)
+AreFramesSent-push epoch calls texts sent bytes one are is = absurd are
 
 pub AreFramesRead-push : (epoch : ℕ) (calls : List Call) (frames : List Frame) (sent : List Sent) (frame : Frame) (one : Sent) → AreFramesRead epoch calls frames sent → IsFrameRead epoch calls frame one
     → AreFramesRead epoch calls (frames ++ frame ∷ []) (sent ++ one ∷ [])
 AreFramesRead-push epoch calls [] [] frame one are is = (is, tt)
-AreFramesRead-push epoch calls [] (s ∷ sent) frame one are is = absurd are
-AreFramesRead-push epoch calls (f ∷ frames) [] frame one are is = absurd are
 AreFramesRead-push epoch calls (f ∷ frames) (s ∷ sent) frame one are is = (are.0, AreFramesRead-push epoch calls frames sent frame one are.1 is)
+AreFramesRead-push epoch calls frames sent frame one are is = absurd are
 
 -- what is true of a frame is true of a copy
 pub IsFrameOf-copy : (epoch : ℕ) (calls : List Call) (frame copy : Frame) (span : Span) → IsFrameOf epoch calls frame span → IsCopy frame copy → IsFrameOf epoch calls copy span
@@ -104,37 +92,19 @@ may_be_sent epoch calls frame span is within = record {
 
 -- and what reads as it is a copy of it
 pub copy_of_read : (frame read : Frame) → sent_of_frame read ≡ sent_of_frame frame → IsCopy frame read
-copy_of_read frame read same = record { epoch = ap epoch_in same; before = ap before_in same; after = ap after_in same; changes = ap changes_in same }
-  where
-    epoch_in : Told → ℕ
-    epoch_in (Changes epoch before after changes) = epoch
-    epoch_in (Acknowledged epoch position) = epoch
-
-    before_in : Told → ℕ
-    before_in (Changes epoch before after changes) = before
-    before_in (Acknowledged epoch position) = position
-
-    after_in : Told → ℕ
-    after_in (Changes epoch before after changes) = after
-    after_in (Acknowledged epoch position) = position
-
-    changes_in : Told → List Change
-    changes_in (Changes epoch before after changes) = changes
-    changes_in (Acknowledged epoch position) = []
+copy_of_read frame read same = record { epoch = cc; before = cc; after = cc; changes = cc }
 
 -- ---- frames and their spans
 
 pub length-frames : (epoch : ℕ) (calls : List Call) (frames : List Frame) (spans : List Span) → AreFramesOf epoch calls frames spans → length frames ≡ length spans
 length-frames epoch calls [] [] are = refl
-length-frames epoch calls [] (span ∷ spans) are = absurd are
-length-frames epoch calls (frame ∷ frames) [] are = absurd are
 length-frames epoch calls (frame ∷ frames) (span ∷ spans) are = ap suc (length-frames epoch calls frames spans are.1)
+length-frames epoch calls frames spans are = absurd are
 
 pub length-sent : (epoch : ℕ) (calls : List Call) (texts : List (Vec ℕ Global)) (sent : List Sent) → AreFramesSent epoch calls texts sent → length texts ≡ length sent
 length-sent epoch calls [] [] are = refl
-length-sent epoch calls [] (one ∷ sent) are = absurd are
-length-sent epoch calls (bytes ∷ texts) [] are = absurd are
 length-sent epoch calls (bytes ∷ texts) (one ∷ sent) are = ap suc (length-sent epoch calls texts sent are.1)
+length-sent epoch calls texts sent are = absurd are
 
 -- the bytes and the span of a number belong together
 pub record FrameOfNumber (epoch : ℕ) (calls : List Call) (texts : List (Vec ℕ Global)) (sent : List Sent) (number : ℕ) : Type 0 where
@@ -156,15 +126,13 @@ frame_of_number epoch calls (bytes ∷ texts) (one ∷ sent) (suc number) are lt
 
 pub AreAcksSent-push : (texts : List (Vec ℕ Global)) (told : List Acknowledgement) (bytes : Vec ℕ Global) (one : Acknowledgement) → AreAcksSent texts told → IsAckSent bytes.items one → AreAcksSent (texts ++ bytes ∷ []) (told ++ one ∷ [])
 AreAcksSent-push [] [] bytes one are is = (is, tt)
-AreAcksSent-push [] (a ∷ told) bytes one are is = absurd are
-AreAcksSent-push (t ∷ texts) [] bytes one are is = absurd are
 AreAcksSent-push (t ∷ texts) (a ∷ told) bytes one are is = (are.0, AreAcksSent-push texts told bytes one are.1 is)
+AreAcksSent-push texts told bytes one are is = absurd are
 
 pub length-acks : (texts : List (Vec ℕ Global)) (told : List Acknowledgement) → AreAcksSent texts told → length texts ≡ length told
 length-acks [] [] are = refl
-length-acks [] (one ∷ told) are = absurd are
-length-acks (bytes ∷ texts) [] are = absurd are
 length-acks (bytes ∷ texts) (one ∷ told) are = ap suc (length-acks texts told are.1)
+length-acks texts told are = absurd are
 
 -- the bytes and the acknowledgement of a number belong together
 pub record AckOfNumber (texts : List (Vec ℕ Global)) (told : List Acknowledgement) (number : ℕ) : Type 0 where
@@ -184,11 +152,7 @@ ack_of_number (bytes ∷ texts) (one ∷ told) (suc number) are lt =
 
 -- what reads as an acknowledgement tells it
 pub ack_of_read : (read : Ack) (told : Acknowledgement) → sent_of_ack read ≡ Acknowledged told.epoch told.position → told_by read ≡ told
-ack_of_read read told same = ap told_in same
-  where
-    told_in : Told → Acknowledgement
-    told_in (Changes epoch before after changes) = record { epoch = epoch; position = before }
-    told_in (Acknowledged epoch position) = record { epoch = epoch; position = position }
+ack_of_read read told same = ap₂ (λ e p. record { epoch = e; position = p }) (cc) (cc)
 
 -- what a look-up found
 pub found-there : {X : Type 0} (xs ys : List X) (n : ℕ) (x : X) → xs ≡ ys → true ≡ nat_lt n (length xs) → x ≡ slice_index_or xs n x → slice_get ys n ≡ Some x

@@ -5,7 +5,7 @@ use Rattle.std.proofs.lemmas.List.{append-nil}
 use Rattle.model.specs.declared.call.Call.{Call}
 use Rattle.model.specs.Call.{position_of}
 use Rattle.machine.specs.declared.event.Event.{Event}
-use Rattle.machine.specs.declared.event.Event.TheVariants.{Enter, Feed, Offer, Turn, CloseGroup, Commit, RaiseLocal, Hand, Free, AcceptFreed, ClearGap, OpenLink, Send, Deliver, Apply, AckDelivered, RaiseRemote, Hold, Read, Release, Write, Leave, Crash, Reopen}
+use Rattle.machine.specs.declared.event.Event.TheVariants.{Enter, Feed, Offer, Turn, CloseGroup, Apply, AckDelivered, Hold, Read, Release, Write, Leave, Crash, Reopen}
 use Rattle.machine.specs.declared.event.Mark.{Mark}
 use Rattle.machine.specs.declared.event.Mark.TheVariants.{Local, Remote}
 use Rattle.machine.specs.declared.event.Node.TheVariants as node
@@ -35,25 +35,8 @@ calls-happen w CloseGroup new h =
       | inl group ↦ of_calls w _ new group.1.now refl
       | inr list ↦ of_calls w _ new list.1 refl
     ]
-calls-happen w Enter new h = of_calls w _ new h refl
-calls-happen w (Feed c piece) new h = of_calls w _ new h refl
-calls-happen w (Offer c) new h = of_calls w _ new h refl
-calls-happen w Commit new h = of_calls w _ new h refl
-calls-happen w RaiseLocal new h = of_calls w _ new h refl
-calls-happen w Hand new h = of_calls w _ new h refl
-calls-happen w Free new h = of_calls w _ new h refl
-calls-happen w AcceptFreed new h = of_calls w _ new h refl
-calls-happen w ClearGap new h = of_calls w _ new h refl
-calls-happen w OpenLink new h = of_calls w _ new h refl
-calls-happen w Send new h = of_calls w _ new h refl
-calls-happen w (Deliver frame piece) new h = of_calls w _ new h refl
 calls-happen w (AckDelivered a) new h = of_calls w _ new h (told-calls w (slice_get w.wire.acknowledgements a))
-calls-happen w RaiseRemote new h = of_calls w _ new h refl
-calls-happen w (Hold c) new h = of_calls w _ new h refl
-calls-happen w (Read c mark) new h = of_calls w _ new h refl
-calls-happen w (Release c) new h = of_calls w _ new h refl
-calls-happen w (Write c n) new h = of_calls w _ new h refl
-calls-happen w (Leave c) new h = of_calls w _ new h refl
+calls-happen w event new h = of_calls w _ new h refl
 
 -- nothing is called where the event was not enabled
 calls-stay : (w : World) (event : Event) (calls : List Call) → calls ≡ w.primary.calls → CallsBy w event false calls
@@ -132,18 +115,8 @@ released-happens w CloseGroup new h =
       | inl group ↦ quiet w _ new group.1.now (λ c. refl)
       | inr list ↦ quiet w _ new list.1 (λ c. refl)
     ]
-released-happens w Commit new h = quiet w _ new h (λ c. refl)
-released-happens w RaiseLocal new h = quiet w _ new h (λ c. refl)
-released-happens w Hand new h = quiet w _ new h (λ c. refl)
-released-happens w Free new h = quiet w _ new h (λ c. refl)
-released-happens w AcceptFreed new h = quiet w _ new h (λ c. refl)
-released-happens w ClearGap new h = quiet w _ new h (λ c. refl)
-released-happens w OpenLink new h = quiet w _ new h (λ c. refl)
-released-happens w Send new h = quiet w _ new h (λ c. refl)
-released-happens w (Deliver frame piece) new h = quiet w _ new h (λ c. refl)
 released-happens w Apply new h = quiet w _ new h.now (λ c. refl)
 released-happens w (AckDelivered a) new h = quiet w _ new h (told-silent w (slice_get w.wire.acknowledgements a))
-released-happens w RaiseRemote new h = quiet w _ new h (λ c. refl)
 released-happens w (Hold d) new h = quiet w _ new h (silent-outbound w d held_first (λ outbound. refl))
 released-happens w (Read d mark) new h = quiet w _ new h (silent-outbound w d (having_read mark w) (silent-read w mark))
 released-happens w (Release d) new h = quiet w _ new h (silent-outbound w d having_released (λ outbound. refl))
@@ -153,6 +126,7 @@ released-happens w (Crash node.Primary picks) new h = quiet w _ new h (λ c. ap 
 released-happens w (Crash node.Standby picks) new h = quiet w _ new h (λ c. refl)
 released-happens w (Reopen node.Primary) new h = quiet w _ new h.1 (λ c. refl)
 released-happens w (Reopen node.Standby) new h = quiet w _ new h (λ c. refl)
+released-happens w event new h = quiet w _ new h (λ c. refl)
 
 -- nothing is released where the event was not enabled
 released-stays : (w : World) (event : Event) (c : ℕ) → released_by w event false c ≡ []

@@ -26,12 +26,10 @@ IsGroupOf-grows calls more group span is = record {
 
 pub AreGroupsOf-grows : (calls more : List Call) (groups : List Group) (spans : List Span) → AreGroupsOf calls groups spans → AreGroupsOf (calls ++ more) groups spans
 AreGroupsOf-grows calls more [] [] are = tt
-AreGroupsOf-grows calls more [] (span ∷ spans) are = absurd are
-AreGroupsOf-grows calls more (group ∷ groups) [] are = absurd are
 AreGroupsOf-grows calls more (group ∷ groups) (span ∷ spans) are = (IsGroupOf-grows calls more group span are.0, AreGroupsOf-grows calls more groups spans are.1)
+AreGroupsOf-grows calls more groups spans are = absurd are
 
 pub length-groups : (calls : List Call) (groups : List Group) (spans : List Span) → AreGroupsOf calls groups spans → length groups ≡ length spans
 length-groups calls [] [] are = refl
-length-groups calls [] (span ∷ spans) are = absurd are
-length-groups calls (group ∷ groups) [] are = absurd are
 length-groups calls (group ∷ groups) (span ∷ spans) are = ap suc (length-groups calls groups spans are.1)
+length-groups calls groups spans are = absurd are

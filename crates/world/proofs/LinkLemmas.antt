@@ -1,5 +1,5 @@
 -- The link, and what it sends, go on standing for the machine's.
-use Rattle.std.proofs.Common.{◌≡◌, inl, inr, ℕ, zero, suc, ◌+◌, ◌-◌, ◌<◌, List, [], ◌∷◌, ◌++◌, length, take, drop, Option, Some, None, Result, Ok, Err, IfOk, IfErr, refl, sym, ap, ap₂, subst, ◌∙◌, nat_lt, ◌&&◌, ◌||◌, Bool, true, false, length-append, add-one, arith}
+use Rattle.std.proofs.Common.{rules, ◌≡◌, inl, inr, ℕ, zero, suc, ◌+◌, ◌-◌, ◌<◌, List, ◌∷◌, ◌++◌, length, take, drop, Option, Some, None, Result, Ok, Err, IfOk, IfErr, refl, sym, ap, ap₂, subst, ◌∙◌, nat_lt, ◌&&◌, ◌||◌, Bool, true, false, length-append, add-one, arith, []}
 use Rattle.std.proofs.Math.Bool.{and-false}
 use Rattle.std.proofs.Math.Nat.{eq-or-lt_of_le}
 use Rattle.std.proofs.lemmas.Bool.{cases_lt, lt-ltb, le-ltb}
@@ -26,16 +26,14 @@ use Rattle.world.proofs.FrameLemmas.{AreFramesOf-grows, AreFramesOf-push, length
 
 pub LinkRefines-grows : (calls more : List Call) (code : Stream) (handed : Waiting Group) (remote : ℕ) (machine : Machine) → LinkRefines calls code handed remote machine
     → LinkRefines (calls ++ more) code handed remote machine
-LinkRefines-grows calls more code handed remote machine stands = record {
-  waiting = AreGroupsOf-grows calls more handed.items machine.waiting stands.waiting;
-  none_pending = stands.none_pending;
-  delta = AreFramesOf-grows code.epoch calls more (option_items code.delta) machine.delta stands.delta;
-  kept = AreFramesOf-grows code.epoch calls more code.kept machine.kept stands.kept;
-  next_within = stands.next_within;
-  again = stands.again;
-  known = stands.known;
-  remote_is = stands.remote_is;
-}
+LinkRefines-grows calls more code handed remote machine stands =
+    search (
+      rules,
+      AreGroupsOf-grows calls more handed.items machine.waiting stands.waiting,
+      AreFramesOf-grows code.epoch calls more (option_items code.delta) machine.delta stands.delta,
+      AreFramesOf-grows code.epoch calls more code.kept machine.kept stands.kept,
+      stands,
+    )
 
 -- ---- what is sent next
 
@@ -166,16 +164,7 @@ module _ (calls : List Call) (code : Stream) (handed : Waiting Group) (remote : 
         is = at.is;
         link = link_so (record code { next = code.next + 1 }) handed
             (subst (λ (gs : List Span). LinkRefines calls (record code { next = code.next + 1 }) handed remote (sent_group gs machine)) (sym all)
-            (record {
-              waiting = stands.waiting;
-              none_pending = stands.none_pending;
-              delta = stands.delta;
-              kept = stands.kept;
-              next_within = omega arith;
-              again = ap (λ n. drop n machine.kept) (add-one code.next) ∙ at.behind;
-              known = stands.known;
-              remote_is = stands.remote_is;
-            }));
+            (search (rules, lt, ap (λ n. drop n machine.kept) (add-one code.next) ∙ at.behind, stands)));
       }
 
   sends-full : IsFull code → can_send machine ≡ false
@@ -229,16 +218,7 @@ module _ (calls : List Call) (code : Stream) (handed : Waiting Group) (remote : 
       record {
         may = may_so false (ap₂ (λ (gs gs' : List Span). is_nonempty gs || (is_nonempty gs' && nat_lt (length machine.kept) KEPT_GROUPS)) (nothing_again due.all_sent) nothing);
         epoch_is = refl;
-        link = record {
-          waiting = subst (λ groups. AreGroupsOf calls groups machine.waiting) (none.0 ∙ sym none.1) stands.waiting;
-          none_pending = stands.none_pending;
-          delta = stands.delta;
-          kept = stands.kept;
-          next_within = stands.next_within;
-          again = stands.again;
-          known = stands.known;
-          remote_is = stands.remote_is;
-        };
+        link = search (rules, subst (λ groups. AreGroupsOf calls groups machine.waiting) (none.0 ∙ sym none.1) stands.waiting, stands);
       }
 
   sends-framed : (found : Option Group) (given : Option ℕ) (new : Stream) (after : Waiting Group) → IsDue code → LocalTakes handed found after → Frames code found given new

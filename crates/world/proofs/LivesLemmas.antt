@@ -2,7 +2,7 @@
 use Rattle.std.proofs.Common.{◌≡◌, Bool, true, false, ◌&&◌, Option, slice_get, refl, sym, ap, subst, ◌∙◌, inl, inr, List, true≢false}
 use Rattle.model.specs.Standing.{Holder}
 use Rattle.machine.specs.declared.event.Event.{Event}
-use Rattle.machine.specs.declared.event.Event.TheVariants.{Enter, Feed, Offer, Turn, CloseGroup, Commit, RaiseLocal, Hand, Free, AcceptFreed, ClearGap, OpenLink, Send, Deliver, Apply, AckDelivered, RaiseRemote, Hold, Read, Release, Write, Leave, Crash, Reopen}
+use Rattle.machine.specs.declared.event.Event.TheVariants.{Turn, CloseGroup, OpenLink, Deliver, Apply, AckDelivered, Crash, Reopen}
 use Rattle.machine.specs.Event.{Acknowledgement, Frame, Standby, World, Happens, Takes, Running, is_enabled, may_happen, nodes_run, told, with_link, without_first}
 use Rattle.world.specs.Pair.{AreLives, NodesRefine, Pair, PairRefines, life_if}
 
@@ -68,29 +68,12 @@ plain-happens w Apply new plain h =
 plain-happens w (AckDelivered a) new plain h = of w _ new h (told-lives w (slice_get w.wire.acknowledgements a))
 plain-happens w (Crash node picks) new plain h = absurd (true≢false (sym plain))
 plain-happens w (Reopen node) new plain h = absurd (true≢false (sym plain))
-plain-happens w Enter new plain h = of w _ new h (record { restarts = refl; primary = refl; standby = refl; epoch = refl })
-plain-happens w (Feed c piece) new plain h = of w _ new h (record { restarts = refl; primary = refl; standby = refl; epoch = refl })
-plain-happens w (Offer c) new plain h = of w _ new h (record { restarts = refl; primary = refl; standby = refl; epoch = refl })
 plain-happens w CloseGroup new plain h =
     elim h [
       | inl group ↦ of w _ new group.1.now (record { restarts = refl; primary = refl; standby = refl; epoch = refl })
       | inr list ↦ of w _ new list.1 (record { restarts = refl; primary = refl; standby = refl; epoch = refl })
     ]
-plain-happens w Commit new plain h = of w _ new h (record { restarts = refl; primary = refl; standby = refl; epoch = refl })
-plain-happens w RaiseLocal new plain h = of w _ new h (record { restarts = refl; primary = refl; standby = refl; epoch = refl })
-plain-happens w Hand new plain h = of w _ new h (record { restarts = refl; primary = refl; standby = refl; epoch = refl })
-plain-happens w Free new plain h = of w _ new h (record { restarts = refl; primary = refl; standby = refl; epoch = refl })
-plain-happens w AcceptFreed new plain h = of w _ new h (record { restarts = refl; primary = refl; standby = refl; epoch = refl })
-plain-happens w ClearGap new plain h = of w _ new h (record { restarts = refl; primary = refl; standby = refl; epoch = refl })
-plain-happens w OpenLink new plain h = of w _ new h (record { restarts = refl; primary = refl; standby = refl; epoch = refl })
-plain-happens w Send new plain h = of w _ new h (record { restarts = refl; primary = refl; standby = refl; epoch = refl })
-plain-happens w (Deliver frame piece) new plain h = of w _ new h (record { restarts = refl; primary = refl; standby = refl; epoch = refl })
-plain-happens w RaiseRemote new plain h = of w _ new h (record { restarts = refl; primary = refl; standby = refl; epoch = refl })
-plain-happens w (Hold c) new plain h = of w _ new h (record { restarts = refl; primary = refl; standby = refl; epoch = refl })
-plain-happens w (Read c mark) new plain h = of w _ new h (record { restarts = refl; primary = refl; standby = refl; epoch = refl })
-plain-happens w (Release c) new plain h = of w _ new h (record { restarts = refl; primary = refl; standby = refl; epoch = refl })
-plain-happens w (Write c n) new plain h = of w _ new h (record { restarts = refl; primary = refl; standby = refl; epoch = refl })
-plain-happens w (Leave c) new plain h = of w _ new h (record { restarts = refl; primary = refl; standby = refl; epoch = refl })
+plain-happens w event new plain h = of w _ new h (record { restarts = refl; primary = refl; standby = refl; epoch = refl })
 
 pub lives-like : {first second : Holder} {serves follows : Bool} {w w' : World} → SameLives w w' → AreLives first second serves follows w → AreLives first second serves follows w'
 lives-like same lives = record {

@@ -1,5 +1,5 @@
 -- What closing a group or a free list does to the pair, of what it does to its sequencer and its queue.
-use Rattle.std.proofs.Common.{◌≡◌, inl, inr, ◌+◌, ◌++◌, [], ◌∷◌, Bool, true, false, List, length, Result, Ok, Err, IfOk, IfErr, OnErr, refl, sym, ap, ap₂, subst, ◌∙◌, append-nil, length-append, true≢false}
+use Rattle.std.proofs.Common.{rules, ◌≡◌, inl, inr, ◌+◌, ◌++◌, ◌∷◌, Bool, true, false, List, length, Result, Ok, Err, IfOk, IfErr, OnErr, refl, sym, ap, ap₂, subst, ◌∙◌, append-nil, length-append, true≢false, []}
 use Rattle.kv_types.specs.declared.refusal.Refusal.{Refusal}
 use Rattle.kv_types.specs.declared.refusal.Refusal.TheVariants.{Memory}
 use Rattle.pipes.specs.Waiting.{Waiting}
@@ -22,13 +22,13 @@ use Rattle.world.specs.Committing.{CommittingRefines, Leads}
 use Rattle.world.specs.GroupSpan.{AreWorkOf}
 use Rattle.world.specs.Recalling.{Remembers}
 use Rattle.connections.specs.Session.{SequencerRefines, seats_of}
-use Rattle.world.specs.Pair.{Pair, PartsRefine, PairRefines, Steps, Does}
-use Rattle.world.proofs.LivesLemmas.{enabled-is, nodes-refine, own-runs}
+use Rattle.world.specs.Pair.{FreeingRefines, Pair, PartsRefine, PairRefines, Steps, Does}
+use Rattle.world.proofs.LivesLemmas.{nodes-refine, own-runs}
 use Rattle.primary.proofs.LeadsLemmas.{Leads-group, Leads-list}
 use Rattle.world.proofs.ClosingLemmas.{AreWorkOf-push, IsGroupOf-handed, closes-group, closes-list, follow-handed, follow-listed, grouped, may-close, may-not-close, sequencer-handed, sequencer-listed}
 use Rattle.world.proofs.RecallGroups.{remembers-grouped}
 use Rattle.world.proofs.RecallLemmas.{remembers-listed}
-use Rattle.world.proofs.PairLemmas.{cut-same, goes-steps, none-added, tells, untouched}
+use Rattle.world.proofs.PairLemmas.{cut-same, goes-steps, none-added, stays-does, tells}
 
 -- what waits for the committer, and the sequencer
 abbrev pub with_work : Waiting Work → Sequencing → Pair → Pair
@@ -74,28 +74,23 @@ group-parts : (first second : Holder) (old : Pair) (waiting : Waiting Work) (seq
 group-parts first second old waiting sequencer w chain parts closes =
     let s = old.sequencer in
     let after = closes.hands.after in
+    let freeing : FreeingRefines sequencer old.notices old.contents (grouped s w).primary =
     record {
-      sessions = parts.sessions;
-      sequencer = sequencer-handed w.primary.calls w.primary.committer.closed s sequencer closes.group parts.sequencer closes.hands;
-      follow = follow-handed w.primary.calls (seats_of old.sessions.connections.items) s sequencer closes.group closes.hands parts.follow;
-      committing = group-committing first second old waiting sequencer w parts closes;
-      engine = parts.engine;
-      leads = Leads-group old.contents old.committing.waiting waiting old.committing.aside s sequencer old.notices parts.engine.contents_at.consistent parts.leads closes;
-      freeing = record {
-        ended = ap (λ (now : Sequencing). length now.ended) after ∙ length-append s.ended (ended_by_parts s.waiting) ∙ ap (λ n. n + length (ended_by_parts s.waiting)) parts.freeing.ended;
-        newest = ap (λ (now : Sequencing). now.newest) after;
-        notices_are = parts.freeing.notices_are;
-        gaps = parts.freeing.gaps;
-      };
-      remembers = Remembers-group w old.contents old.committing.waiting waiting old.committing.aside s sequencer old.notices chain parts.sequencer parts.committing.work
-          (Leads-group old.contents old.committing.waiting waiting old.committing.aside s sequencer old.notices parts.engine.contents_at.consistent parts.leads closes) closes parts.remembers;
-      opening = parts.opening;
-      epoch = parts.epoch;
-      link = parts.link;
-      frames = parts.frames;
-      arrivals = parts.arrivals;
-      standby = parts.standby;
-    }
+      ended = ap (λ (now : Sequencing). length now.ended) after ∙ length-append s.ended (ended_by_parts s.waiting) ∙ ap (λ n. n + length (ended_by_parts s.waiting)) parts.freeing.ended;
+      newest = ap (λ (now : Sequencing). now.newest) after;
+      notices_are = parts.freeing.notices_are;
+      gaps = parts.freeing.gaps;
+    } in
+    search (
+      rules,
+      freeing,
+      sequencer-handed w.primary.calls w.primary.committer.closed s sequencer closes.group parts.sequencer closes.hands,
+      follow-handed w.primary.calls (seats_of old.sessions.connections.items) s sequencer closes.group closes.hands parts.follow,
+      group-committing first second old waiting sequencer w parts closes,
+      Leads-group old.contents old.committing.waiting waiting old.committing.aside s sequencer old.notices parts.engine.contents_at.consistent parts.leads closes,
+      Remembers-group w old.contents old.committing.waiting waiting old.committing.aside s sequencer old.notices chain parts.sequencer parts.committing.work
+          (Leads-group old.contents old.committing.waiting waiting old.committing.aside s sequencer old.notices parts.engine.contents_at.consistent parts.leads closes) closes parts.remembers,
+    )
 
 -- ---- a free list
 
@@ -118,28 +113,23 @@ list-parts : (first second : Holder) (old : Pair) (waiting : Waiting Work) (sequ
 list-parts first second old waiting sequencer w parts closes =
     let s = old.sequencer in
     let after = closes.hands.after in
+    let freeing : FreeingRefines sequencer old.notices old.contents (listed w).primary =
     record {
-      sessions = parts.sessions;
-      sequencer = sequencer-listed w.primary.calls w.primary.committer.closed s sequencer closes.list parts.sequencer closes.hands;
-      follow = follow-listed w.primary.calls (seats_of old.sessions.connections.items) s sequencer closes.list closes.hands parts.follow;
-      committing = list-committing first second old waiting sequencer w parts closes;
-      engine = parts.engine;
-      leads = Leads-list old.contents old.committing.waiting waiting old.committing.aside s sequencer old.notices parts.leads closes;
-      freeing = record {
-        ended = ap (λ (now : Sequencing). length now.ended) after;
-        newest = ap (λ (now : Sequencing). now.newest) after ∙ parts.freeing.newest;
-        notices_are = parts.freeing.notices_are;
-        gaps = parts.freeing.gaps;
-      };
-      remembers = subst (λ (items : List Work). Remembers w.standby.position w.primary.committer.position w.primary.calls old.contents items old.committing.aside sequencer) (sym closes.last)
-          (remembers-listed w.standby.position w.primary.committer.position w.primary.calls old.contents old.committing.waiting.items old.committing.aside s sequencer closes.list closes.hands parts.remembers);
-      opening = parts.opening;
-      epoch = parts.epoch;
-      link = parts.link;
-      frames = parts.frames;
-      arrivals = parts.arrivals;
-      standby = parts.standby;
-    }
+      ended = ap (λ (now : Sequencing). length now.ended) after;
+      newest = ap (λ (now : Sequencing). now.newest) after ∙ parts.freeing.newest;
+      notices_are = parts.freeing.notices_are;
+      gaps = parts.freeing.gaps;
+    } in
+    search (
+      rules,
+      freeing,
+      sequencer-listed w.primary.calls w.primary.committer.closed s sequencer closes.list parts.sequencer closes.hands,
+      follow-listed w.primary.calls (seats_of old.sessions.connections.items) s sequencer closes.list closes.hands parts.follow,
+      list-committing first second old waiting sequencer w parts closes,
+      Leads-list old.contents old.committing.waiting waiting old.committing.aside s sequencer old.notices parts.leads closes,
+      subst (λ (items : List Work). Remembers w.standby.position w.primary.committer.position w.primary.calls old.contents items old.committing.aside sequencer) (sym closes.last)
+          (remembers-listed w.standby.position w.primary.committer.position w.primary.calls old.contents old.committing.waiting.items old.committing.aside s sequencer closes.list closes.hands parts.remembers),
+    )
 
 -- ---- one of the two, or none
 
@@ -163,20 +153,6 @@ close-steps first second old waiting sequencer w stands may (inr list) =
     close-to first second old waiting sequencer w (listed w) stands may (closes-list w old.sequencer stands.parts.sequencer list.none)
     (list-parts first second old waiting sequencer w stands.parts list)
 
-close-stays : (first second : Holder) (old : Pair) (w : World) → PairRefines first second old w → ¬ MayClose old.sequencer old.committing.waiting → Steps first second w events.CloseGroup false old old
-close-stays first second old w stands never =
-    let parts = stands.parts in
-    record {
-      world = w;
-      step = record {
-        done = sym (may-not-close w old.committing.waiting old.sequencer parts.committing.work parts.sequencer parts.freeing.ended never) ∙ sym (enabled-is (own-runs stands events.CloseGroup refl));
-        happens = λ did. absurd (true≢false (sym did));
-        stands = λ did. refl;
-      };
-      stands = nodes-refine stands;
-      moves = untouched first second old old w w refl refl (inl (stands.serves, parts));
-    }
-
 pub close-does : (old : Pair) (waiting : Waiting Work) (sequencer : Sequencing) (result : Result Bool Refusal)
     → IfOk result (λ did. did ≡ true → MayClose old.sequencer old.committing.waiting × ClosesOne old.sequencer old.committing.waiting sequencer waiting)
     → IfOk result (λ did. did ≡ false → (¬ MayClose old.sequencer old.committing.waiting) × (sequencer ≡ old.sequencer) × (waiting ≡ old.committing.waiting))
@@ -186,7 +162,7 @@ close-does old waiting sequencer (Err refusal) closed none memory refused =
     record {
       steps = tt;
       cut = λ first second w stands.
-          cut-same first second events.CloseGroup refusal old (with_work waiting sequencer old) w refl memory refl refl (tells old.sessions) (own-runs stands events.CloseGroup refl)
+          cut-same first second events.CloseGroup refusal old (with_work waiting sequencer old) w refl memory refl refl (tells old.transcript) (own-runs stands events.CloseGroup refl)
           (close-happens first second old w stands refused.0) (nodes-refine stands);
       calls = none-added _ _ refl;
     }
@@ -197,4 +173,5 @@ close-does old waiting sequencer (Ok false) closed none memory refused =
     let stayed = none refl in
     let same : with_work waiting sequencer old ≡ old = ap₂ (λ items s. with_work items s old) stayed.2 stayed.1 in
     subst (Does old events.CloseGroup (Ok false)) (sym same)
-    (record { steps = λ first second w stands. close-stays first second old w stands stayed.0; cut = tt; calls = none-added _ _ refl })
+    (stays-does old events.CloseGroup refl (λ first second w stands.
+    let parts = stands.parts in sym (may-not-close w old.committing.waiting old.sequencer parts.committing.work parts.sequencer parts.freeing.ended stayed.0)))

@@ -1,5 +1,5 @@
 -- What the events of the committer do to the pair, of what they do to its parts.
-use Rattle.std.proofs.Common.{◌≡◌, inl, Bool, true, false, List, [], ◌∷◌, ◌++◌, Ok, refl, sym, subst, ◌∙◌, true≢false}
+use Rattle.std.proofs.Common.{rules, ◌≡◌, inl, Bool, true, List, ◌∷◌, ◌++◌, Ok, refl, sym, subst, ◌∙◌, true≢false, []}
 use Rattle.kv_types.specs.declared.refusal.Refusal.{Refusal}
 use Rattle.kv_types.specs.declared.refusal.Refusal.TheVariants.{Memory, Fault, Exhausted}
 use Rattle.pipes.specs.Waiting.{Waiting}
@@ -7,12 +7,11 @@ use Rattle.model.specs.declared.group.Group.{Group}
 use Rattle.model.specs.declared.work.FreeList.{FreeList}
 use Rattle.model.specs.declared.work.Work.{Work}
 use Rattle.model.specs.Standing.{Holder}
-use Rattle.machine.specs.declared.event.Event.{Event}
 use Rattle.machine.specs.declared.event.Event.TheVariants as events
 use Rattle.machine.specs.Event.{Commits, Frees, Link as MachineLink, Work as MachineWork, World, Committer as MachineCommitter, Step, may_happen, committed_first, from_group, handed, handed_to, raised_local, ready_again, with_committer, with_link}
 use Rattle.machine.specs.Sound.{Sound}
 use Rattle.machine.proofs.SoundEvents.{sound-step}
-use Rattle.world.proofs.LivesLemmas.{Runs, enabled-is, is_own, lives-step, nodes-refine, own-runs}
+use Rattle.world.proofs.LivesLemmas.{Runs, enabled-is, lives-step, own-runs}
 use Rattle.connections.specs.Going.{Goes}
 use Rattle.world.specs.GroupSpan.{AreGroupsOf}
 use Rattle.world.specs.Cause.{Stretch, Breaks, RestsAtLimit, EndsBy, Resting}
@@ -20,24 +19,10 @@ use Rattle.world.specs.Committing.{Committing, EngineStands, Leads, NearOnly, Co
 use Rattle.world.specs.Link.{LinkRefines}
 use Rattle.world.specs.Recalling.{Remembers}
 use Rattle.connections.specs.Session.{SequencerRefines}
-use Rattle.world.specs.Pair.{Pair, PartsRefine, PairRefines, Steps, Does}
+use Rattle.world.specs.Pair.{Pair, PartsRefine, Steps, Does}
 use Rattle.world.proofs.EngineLemmas.{moves-same}
-use Rattle.world.proofs.PairLemmas.{Opens-standby, goes-map, goes-steps, none-added, untouched}
-
--- ---- an event that is not enabled
-
-pub stays-does : (old : Pair) (event : Event) → is_own event ≡ true → ((first second : Holder) (w : World) → PairRefines first second old w → false ≡ may_happen w event) → Does old event (Ok false) old
-stays-does old event own never =
-    record {
-      steps = λ first second w stands. record {
-        world = w;
-        step = record { done = never first second w stands ∙ sym (enabled-is (own-runs stands event own)); happens = λ did. absurd (true≢false (sym did)); stands = λ did. refl };
-        stands = nodes-refine stands;
-        moves = untouched first second old old w w refl refl (inl (stands.serves, stands.parts));
-      };
-      cut = tt;
-      calls = none-added _ _ refl;
-    }
+use Rattle.world.proofs.PairLink.{link-alone}
+use Rattle.world.proofs.PairLemmas.{Opens-standby, goes-map, goes-steps, none-added}
 
 -- ---- a group committed
 
@@ -82,25 +67,16 @@ pub shown-parts : (first second : Holder) (old : Pair) (committing : Committing)
     → committing.aside ≡ old.committing.aside → CommittingRefines w.primary.calls committing committer → committer.closed ≡ w.primary.committer.closed → committer.position ≡ w.primary.committer.position
     → PartsRefine first second (with_committing committing old) (with_committer committer w)
 shown-parts first second old committing w committer parts waiting aside committing_stands closed position =
-    record {
-      sessions = parts.sessions;
-      sequencer = subst (λ n. SequencerRefines w.primary.calls n old.sequencer) (sym closed) parts.sequencer;
-      follow = parts.follow;
-      committing = committing_stands;
-      engine = subst (λ p. EngineStands first w.primary.calls p old.device old.contents old.is_faulted) (sym position) parts.engine;
-      leads = subst (λ (waits : Waiting Work). Leads old.contents waits.items committing.aside old.sequencer old.notices) (sym waiting)
-          (subst (λ (lists : List FreeList). Leads old.contents old.committing.waiting.items lists old.sequencer old.notices) (sym aside) parts.leads);
-      freeing = record { ended = parts.freeing.ended; newest = parts.freeing.newest; notices_are = parts.freeing.notices_are; gaps = parts.freeing.gaps };
-      remembers = subst (λ p. Remembers w.standby.position p w.primary.calls old.contents committing.waiting.items committing.aside old.sequencer) (sym position)
+    search (
+      rules,
+      subst (λ n. SequencerRefines w.primary.calls n old.sequencer) (sym closed) parts.sequencer,
+      subst (λ p. EngineStands first w.primary.calls p old.device old.contents old.is_faulted) (sym position) parts.engine,
+      subst (λ (waits : Waiting Work). Leads old.contents waits.items committing.aside old.sequencer old.notices) (sym waiting)
+          (subst (λ (lists : List FreeList). Leads old.contents old.committing.waiting.items lists old.sequencer old.notices) (sym aside) parts.leads),
+      subst (λ p. Remembers w.standby.position p w.primary.calls old.contents committing.waiting.items committing.aside old.sequencer) (sym position)
           (subst (λ (waits : Waiting Work). Remembers w.standby.position w.primary.committer.position w.primary.calls old.contents waits.items committing.aside old.sequencer) (sym waiting)
-          (subst (λ (lists : List FreeList). Remembers w.standby.position w.primary.committer.position w.primary.calls old.contents old.committing.waiting.items lists old.sequencer) (sym aside) parts.remembers));
-      opening = parts.opening;
-      epoch = parts.epoch;
-      link = parts.link;
-      frames = parts.frames;
-      arrivals = parts.arrivals;
-      standby = parts.standby;
-    }
+          (subst (λ (lists : List FreeList). Remembers w.standby.position w.primary.committer.position w.primary.calls old.contents old.committing.waiting.items lists old.sequencer) (sym aside) parts.remembers)),
+    )
 
 pub raise-does : (old : Pair) (committing : Committing) (did : Bool)
     → ((w : World) → CommittingRefines w.primary.calls old.committing w.primary.committer → old.contents.current.position ≡ w.primary.committer.position
@@ -137,42 +113,8 @@ hand-does old committing waiting did go same aside =
           goes-steps first second w (with_link (handed_to (handed w.primary.committer.stage) w.primary.link) (with_committer (ready_again w.primary.committer) w)) events.Hand did
           old (with_handed committing waiting old) refl refl stands.sound (own-runs stands events.Hand refl) stands.serves refl
           (goes-map (go w stands.sound parts.committing parts.link.waiting)
-          (λ moved.
-          let shown = shown-parts first second old committing w (ready_again w.primary.committer) parts same aside moved.0 refl refl in
-          record {
-            sessions = shown.sessions;
-            sequencer = shown.sequencer;
-            follow = shown.follow;
-            committing = shown.committing;
-            engine = shown.engine;
-            leads = shown.leads;
-            freeing = record { ended = parts.freeing.ended; newest = parts.freeing.newest; notices_are = parts.freeing.notices_are; gaps = parts.freeing.gaps };
-            remembers = shown.remembers;
-            opening = parts.opening;
-            epoch = parts.epoch;
-            link = waits (handed_to (handed w.primary.committer.stage) w.primary.link) w parts.link refl moved.1;
-            frames = parts.frames;
-            arrivals = parts.arrivals;
-            standby = parts.standby;
-          })
-          (λ stayed.
-          let shown = shown-parts first second old committing w w.primary.committer parts same aside stayed.0 refl refl in
-          record {
-            sessions = shown.sessions;
-            sequencer = shown.sequencer;
-            follow = shown.follow;
-            committing = shown.committing;
-            engine = shown.engine;
-            leads = shown.leads;
-            freeing = record { ended = parts.freeing.ended; newest = parts.freeing.newest; notices_are = parts.freeing.notices_are; gaps = parts.freeing.gaps };
-            remembers = shown.remembers;
-            opening = parts.opening;
-            epoch = parts.epoch;
-            link = waits w.primary.link w parts.link refl stayed.1;
-            frames = parts.frames;
-            arrivals = parts.arrivals;
-            standby = parts.standby;
-          }));
+          (λ moved. on w (ready_again w.primary.committer) (handed_to (handed w.primary.committer.stage) w.primary.link) parts moved.0 refl refl refl moved.1)
+          (λ stayed. on w w.primary.committer w.primary.link parts stayed.0 refl refl refl stayed.1));
       cut = tt;
       calls = none-added _ _ refl;
     }
@@ -181,13 +123,11 @@ hand-does old committing waiting did go same aside =
         → AreGroupsOf w.primary.calls waiting.items link.waiting → LinkRefines w.primary.calls old.link waiting old.remote link
     waits link w stands same_rest groups =
         subst (λ (l : MachineLink). LinkRefines w.primary.calls old.link waiting old.remote l) same_rest
-        (record {
-          waiting = groups;
-          none_pending = stands.none_pending;
-          delta = stands.delta;
-          kept = stands.kept;
-          next_within = stands.next_within;
-          again = stands.again;
-          known = stands.known;
-          remote_is = stands.remote_is;
-        })
+        (search (rules, stands))
+
+    on : {first second : Holder} (w : World) (committer : MachineCommitter) (link : MachineLink) → PartsRefine first second old w → CommittingRefines w.primary.calls committing committer → committer.closed ≡ w.primary.committer.closed
+        → committer.position ≡ w.primary.committer.position → record w.primary.link { waiting = link.waiting } ≡ link → AreGroupsOf w.primary.calls waiting.items link.waiting
+        → PartsRefine first second (with_handed committing waiting old) (with_link link (with_committer committer w))
+    on {first} {second} w committer link parts stands closed position same_rest groups =
+        link-alone first second (with_committing committing old) waiting old.link old.remote (with_committer committer w) link (shown-parts first second old committing w committer parts same aside stands closed position) refl
+        (waits link w parts.link same_rest groups)

@@ -1,5 +1,5 @@
 -- What a crash of a node does to the pair.
-use Rattle.std.proofs.Common.{◌≡◌, inl, inr, ℕ, ◌≤◌, Bool, true, false, not, ◌&&◌, List, [], map, Ok, Vec, Global, All, refl, sym, ap, subst, ◌∙◌, arith, true≢false}
+use Rattle.std.proofs.Common.{rules, le_refl, ◌≡◌, inr, ℕ, ◌≤◌, Bool, true, false, not, ◌&&◌, List, map, Ok, Vec, Global, All, refl, sym, ap, subst, ◌∙◌, arith, true≢false, []}
 use Rattle.pmem.specs.Device.{State}
 use Rattle.pmem.specs.Crash.{IsImage, IsSettled, image_of}
 use Rattle.pmem.specs.Runs.{LeavesOnly}
@@ -15,10 +15,10 @@ use Rattle.machine.specs.Sound.{IsFrameWithin}
 use Rattle.machine.proofs.SoundEvents.{sound-step}
 use Rattle.world.specs.Committing.{Committing}
 use Rattle.connections.specs.Session.{AddsOne, HasSeat, SessionsRefine, seats_of}
-use Rattle.world.specs.Standby.{ArrivalsRefine, Node, StandbyRefines}
+use Rattle.world.specs.Standby.{Arrived, ArrivalsRefine, Node, StandbyRefines}
 use Rattle.world.specs.Pair.{Acts, AreLives, DownRefine, EitherRefines, NodesRefine, Pair, Steps, life_if}
-use Rattle.world.specs.declared.arrivals.Arrivals.{Arrivals}
-use Rattle.connections.specs.declared.sessions.Sessions.{Sessions}
+use Rattle.connections.specs.declared.connections.Connections.{Connections}
+use Rattle.connections.specs.declared.transcript.Transcript.{Transcript}
 use Rattle.world.proofs.CutLemmas.{AreFramesSent-cut, ArrivalsRefine-cut, IsDown-cut, StandbyStands-cut}
 use Rattle.world.proofs.MovesLemmas.{moves-cut}
 use Rattle.machine.proofs.GroupLemmas.{chain-le, frames_within-weaker}
@@ -27,7 +27,7 @@ use Rattle.world.proofs.EngineLemmas.{moves-same}
 use Rattle.world.proofs.LivesLemmas.{serves-as}
 use Rattle.world.proofs.PairLemmas.{none-added, primary-stands, primary-within, standby-stands}
 use Rattle.world.proofs.PairLives.{stays-acts}
-use Rattle.world.proofs.PairStandby.{arrivals-stand, follower}
+use Rattle.world.proofs.PairStandby.{arrivals-stand, follower, standby-either}
 use Rattle.world.proofs.RecallLemmas.{recalls-crashed}
 use Rattle.frames.specs.declared.frame.Frame.{Frame}
 use Rattle.world.specs.Link.{AreAcksSent, AreFramesRead}
@@ -65,10 +65,10 @@ pub record HasCrashed (lines : ℕ) (old new : State) : Type 0 where
 
 -- ---- the primary
 
--- its sessions, its committer and its engine once it crashed
-abbrev pub with_crashed_primary : Sessions → Committing → State → Contents → Bool → Pair → Pair
-with_crashed_primary sessions committing device contents is_faulted pair =
-    record pair { sessions = sessions; committing = committing; device = device; contents = contents; is_faulted = is_faulted; primary_runs = false }
+-- its sessions, its transcript, its committer and its engine once it crashed
+abbrev pub with_crashed_primary : Connections → Transcript → Committing → State → Contents → Bool → Pair → Pair
+with_crashed_primary sessions transcript committing device contents is_faulted pair =
+    record pair { sessions = sessions; transcript = transcript; committing = committing; device = device; contents = contents; is_faulted = is_faulted; primary_runs = false }
 
 StandbyRefines-cut : (holder : Holder) (epoch : ℕ) (calls : List Call) (p n : ℕ) (node : Node) (runs : Bool) → p ≤ n → StandbyRefines holder epoch calls p node runs
     → StandbyRefines holder epoch (cut_at calls n) p node runs
@@ -77,16 +77,16 @@ StandbyRefines-cut holder epoch calls p n node runs le refines = record {
   down = λ down. IsDown-cut holder calls n p node.device le (refines.down down);
 }
 
-pub primary-crashes : (old : Pair) (sessions : Sessions) (committing : Committing) (device : State) (contents : Contents) (is_faulted : Bool) (picks : Vec ℕ Global) (position : ℕ)
+pub primary-crashes : (old : Pair) (sessions : Connections) (transcript : Transcript) (committing : Committing) (device : State) (contents : Contents) (is_faulted : Bool) (picks : Vec ℕ Global) (position : ℕ)
     → old.primary_runs ≡ true → position ≡ old.contents.current.position → HasCrashed old.contents.lines old.device device
-    → ((w : World) → SessionsRefine old.sessions w.primary.connections w.primary.calls → SessionsRefine sessions (map left w.primary.connections) (cut_at w.primary.calls position))
-    → ((c seat : ℕ) → ¬ HasSeat (seats_of sessions.connections.items) c seat) → AddsOne old.sessions.calls sessions.calls
-    → Acts old (events.Crash node.Primary picks) (Ok true) (with_crashed_primary sessions committing device contents is_faulted old)
-primary-crashes old sessions committing device contents is_faulted picks position runs at has ends unseated added =
+    → ((w : World) → SessionsRefine old.sessions old.transcript w.primary.connections w.primary.calls → SessionsRefine sessions transcript (map left w.primary.connections) (cut_at w.primary.calls position))
+    → ((c seat : ℕ) → ¬ HasSeat (seats_of sessions.connections.items) c seat) → AddsOne old.transcript.calls transcript.calls
+    → Acts old (events.Crash node.Primary picks) (Ok true) (with_crashed_primary sessions transcript committing device contents is_faulted old)
+primary-crashes old sessions transcript committing device contents is_faulted picks position runs at has ends unseated added =
     record { steps = steps; cut = tt; calls = added }
   where
     new : Pair
-    new = with_crashed_primary sessions committing device contents is_faulted old
+    new = with_crashed_primary sessions transcript committing device contents is_faulted old
 
     steps : (first second : Holder) (w : World) → NodesRefine first second old w → Steps first second w (events.Crash node.Primary picks) true old new
     steps first second w stands =
@@ -104,7 +104,7 @@ primary-crashes old sessions committing device contents is_faulted picks positio
         let image = IsDown-cut first calls p p device (omega arith) (down-crashed first calls p old.device device old.contents old.is_faulted parts.engine has.sized has.settled has.image has.lines_are) in
         let down : DownRefine first second new w' =
         record {
-          sessions = subst (λ n. SessionsRefine sessions (map left w.primary.connections) (cut_at calls n)) here (ends w parts.sessions);
+          sessions = subst (λ n. SessionsRefine sessions transcript (map left w.primary.connections) (cut_at calls n)) here (ends w parts.sessions);
           unseated = unseated;
           committer = refl;
           link = refl;
@@ -128,15 +128,7 @@ primary-crashes old sessions committing device contents is_faulted picks positio
           step = step;
           stands = record {
             sound = sound-step w event true w' step sound;
-            lives = record {
-              restarts = stands.lives.restarts;
-              primary = refl;
-              standby = stands.lives.standby;
-              first_role = stands.lives.first_role;
-              second_role = stands.lives.second_role;
-              first_epoch = stands.lives.first_epoch;
-              second_epoch = stands.lives.second_epoch;
-            };
+            lives = search (rules, stands.lives);
             parts = refines;
           };
           moves = record {
@@ -147,10 +139,10 @@ primary-crashes old sessions committing device contents is_faulted picks positio
 
 -- ---- the standby
 
-abbrev pub with_crashed_standby : Arrivals → Node → Pair → Pair
+abbrev pub with_crashed_standby : Arrived → Node → Pair → Pair
 with_crashed_standby arrivals node pair = record pair { arrivals = arrivals; standby = node; standby_runs = false }
 
-pub standby-crashes : (old : Pair) (arrivals : Arrivals) (node' : Node) (picks : Vec ℕ Global) → old.standby_runs ≡ true → HasCrashed old.standby.contents.lines old.standby.device node'.device
+pub standby-crashes : (old : Pair) (arrivals : Arrived) (node' : Node) (picks : Vec ℕ Global) → old.standby_runs ≡ true → HasCrashed old.standby.contents.lines old.standby.device node'.device
     → arrivals.delivered.items ≡ [] → arrivals.acknowledgements ≡ old.arrivals.acknowledgements
     → Acts old (events.Crash node.Standby picks) (Ok true) (with_crashed_standby arrivals node' old)
 standby-crashes old arrivals node' picks follows has lost told =
@@ -174,62 +166,13 @@ standby-crashes old arrivals node' picks follows has lost told =
           acknowledged = subst (λ (acks : Vec (Vec ℕ Global) Global). AreAcksSent acks.items w.wire.acknowledgements) (sym told) (arrivals-stand stands.parts).acknowledged;
         } in
         let down : StandbyRefines second old.link.epoch calls p node' false = record { stands = λ up. absurd (true≢false (sym up)); down = λ is. image } in
-        let refines : EitherRefines first second new w' =
-        elim stands.parts [
-          | inl up ↦ inl (
-            up.0,
-            record {
-              sessions = up.1.sessions;
-              sequencer = up.1.sequencer;
-              follow = up.1.follow;
-              committing = up.1.committing;
-              engine = up.1.engine;
-              leads = up.1.leads;
-              freeing = up.1.freeing;
-              remembers = up.1.remembers;
-              opening = up.1.opening;
-              epoch = up.1.epoch;
-              link = up.1.link;
-              frames = up.1.frames;
-              arrivals = empty;
-              standby = down;
-            },
-          )
-          | inr fallen ↦ inr (
-            fallen.0,
-            record {
-              sessions = fallen.1.sessions;
-              unseated = fallen.1.unseated;
-              committer = fallen.1.committer;
-              link = fallen.1.link;
-              ends = fallen.1.ends;
-              newest = fallen.1.newest;
-              none_told = fallen.1.none_told;
-              image = fallen.1.image;
-              gaps = fallen.1.gaps;
-              opened = fallen.1.opened;
-              recalls = fallen.1.recalls;
-              epoch = fallen.1.epoch;
-              frames = fallen.1.frames;
-              arrivals = empty;
-              standby = down;
-            },
-          )
-        ] in
+        let refines : EitherRefines first second new w' = standby-either first second old arrivals node' false w w'.standby w.wire.acknowledgements (le_refl p) stands.parts empty down in
         record {
           world = w';
           step = step;
           stands = record {
             sound = sound-step w event true w' step stands.sound;
-            lives = record {
-              restarts = stands.lives.restarts;
-              primary = stands.lives.primary;
-              standby = refl;
-              first_role = stands.lives.first_role;
-              second_role = stands.lives.second_role;
-              first_epoch = stands.lives.first_epoch;
-              second_epoch = stands.lives.second_epoch;
-            };
+            lives = search (rules, stands.lives);
             parts = refines;
           };
           moves = record {

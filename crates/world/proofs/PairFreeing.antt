@@ -1,8 +1,8 @@
 -- What freeing, clearing a gap and telling the sequencer of it do to the pair, of what they do to its parts.
 use mathlib.Core.Path.{fun_ext}
-use Rattle.std.proofs.Common.{◌≡◌, ◌⊎◌, ◌+◌, ◌-◌, ◌<◌, ◌≤◌, ℕ, inl, inr, Bool, true, false, not, ◌&&◌, ◌||◌, cond, nat_lt, List, [], ◌∷◌, ◌++◌, length, map, drop, Result, Ok, Err, Vec, Global, refl, sym, ap, ap₂, subst, ◌∙◌, arith, append-nil, le_refl, length-append, true≢false}
-use Rattle.std.specs.Coded.{le_prop}
+use Rattle.std.proofs.Common.{rules, ◌≡◌, ◌⊎◌, ◌+◌, ◌-◌, ◌<◌, ◌≤◌, ℕ, inl, inr, Bool, true, false, not, ◌&&◌, ◌||◌, cond, nat_lt, List, ◌∷◌, ◌++◌, length, map, drop, Result, Ok, Err, Vec, Global, refl, sym, ap, ap₂, subst, ◌∙◌, arith, append-nil, le_refl, length-append, true≢false, []}
 use Rattle.std.specs.List.{IsDistinct}
+use Rattle.std.proofs.lemmas.List.{length-drop}
 use Rattle.std.proofs.lemmas.Bool.{cases_lt, le-ltb, lt-ltb, leb-true, ltb-true}
 use Rattle.kv_types.specs.declared.place.EntryNo.{EntryNo}
 use Rattle.kv_types.specs.declared.place.Extent.{Extent}
@@ -20,7 +20,7 @@ use Rattle.model.specs.declared.work.FreeList.{FreeList}
 use Rattle.model.specs.declared.work.Work.{Work}
 use Rattle.model.specs.declared.work.Work.TheVariants as work
 use Rattle.model.specs.Call.{cut_at, is_nonempty, keyspace_after}
-use Rattle.model.specs.Group.{AreEnded, Contents, Versions, after_free, extents_of, without}
+use Rattle.model.specs.Group.{AreEnded, Contents, Versions, after_free, without}
 use Rattle.model.specs.Image.{Image, IsMapOf, entries_of_lines}
 use Rattle.model.proofs.RecordLemmas.{HasRecord-lines}
 use Rattle.model.specs.Standing.{Holder}
@@ -33,56 +33,51 @@ use Rattle.pipes.specs.Waiting.{Waiting, LocalTakes}
 use Rattle.redis_core.specs.Sequencing.{Expects, IsAheadOf, Sequencing, TakesBack}
 use Rattle.standby_stream.specs.declared.opening.Opening.{Opening}
 use Rattle.standby_stream.specs.Stream.{Stream}
-use Rattle.group_commit.specs.Group.{after_work, groups_of, lists_of}
+use Rattle.group_commit.specs.Group.{groups_of, lists_of}
 use Rattle.group_commit.specs.Working.{ClearsGap, FreesFirst, IsDrained, TakesLists, TurnsReady, entries_of_lists}
 use Rattle.group_commit.specs.declared.committer.Committer.{Committer}
 use Rattle.group_commit.specs.declared.stage.Done.{Done}
 use Rattle.group_commit.specs.declared.stage.Done.TheVariants as done
 use Rattle.group_commit.specs.declared.stage.Stage.{Stage}
-use Rattle.group_commit.specs.declared.stage.Stage.TheVariants.{Ready, Durable, Shown}
+use Rattle.group_commit.specs.declared.stage.Stage.TheVariants.{Ready}
 use Rattle.group_commit.proofs.FreedLemmas.{AllEnded-listed, AreEnded-first}
 use Rattle.group_commit.proofs.GroupsLemmas.{Same-is}
 use Rattle.group_commit.proofs.WorkLemmas.{EndsLists-none, TakesLists-items, groups_of-lists, lists_of-lists}
-use Rattle.pipes.specs.declared.limits.TheConstants as limits
 use Rattle.machine.specs.declared.event.TheConstants.{PIPE_ITEMS}
 use Rattle.machine.specs.declared.event.Event.{Event}
 use Rattle.machine.specs.declared.event.Event.TheVariants as events
 use Rattle.machine.specs.Event.{Work as MachineWork, World, Happens, Step, has_room, may_happen, reached_lists}
 use Rattle.machine.specs.Event as machine
 use Rattle.machine.proofs.SoundEvents.{sound-step}
-use Rattle.world.specs.Cause.{EndsBy, asks_memory, IsAtLimit, RestsAtLimit}
-use Rattle.world.specs.Committing.{AreContentsAt, EngineStands, Leads, NearOnly, OpensAt, OpensAtEither, StageRefines, entries_told, extents_told, next_primary}
+use Rattle.world.specs.Cause.{Breaks, EndsBy, Resting, asks_memory, IsAtLimit, RestsAtLimit}
+use Rattle.world.specs.Committing.{AreContentsAt, CommittingRefines, EngineStands, Leads, OpensAt, OpensAtEither, StageRefines, next_primary}
 use Rattle.world.specs.GroupSpan.{AreWorkOf, positions_of_lists}
-use Rattle.world.specs.Pair.{Does, IsCut, Pair, PairRefines, PartsRefine, Steps}
+use Rattle.world.specs.Pair.{Does, FreeingRefines, IsCut, Pair, PairRefines, PartsRefine, Steps}
 use Rattle.world.specs.Effect.{ClearsOldest, FreesOldest}
 use Rattle.world.specs.Queue.{has_group, is_first_within, is_ready_now, link_has_room, may_clear_now, may_commit_now, may_free_now, reached_now}
 use Rattle.world.specs.Recalling.{Remembers}
 use Rattle.connections.specs.Session.{SeatsFollow, SequencerRefines, seats_of}
-use Rattle.world.specs.Standby.{Node}
-use Rattle.world.specs.declared.arrivals.Arrivals.{Arrivals}
-use Rattle.connections.specs.declared.sessions.Sessions.{Sessions}
+use Rattle.world.specs.Standby.{Arrived, Node}
+use Rattle.connections.specs.declared.connections.Connections.{Connections}
+use Rattle.connections.specs.declared.transcript.Transcript.{Transcript}
 use Rattle.primary.specs.Leading.{AreLaid}
 use Rattle.primary.proofs.AheadLemmas.{laid-engine}
 use Rattle.world.proofs.EngineLemmas.{Opens-engine, keeps-opens, moves-same}
 use Rattle.primary.proofs.FreedQueue.{Leads-accepted, Leads-aside, Leads-cleared, Leads-freed}
 use Rattle.world.proofs.LivesLemmas.{Runs, enabled-is, is_own, lives-step, nodes-refine, own-runs}
-use Rattle.world.proofs.PairLemmas.{Led, Opens-standby, cut-for, cut-same, goes-steps, none-added, rests-primary, rests-standby, tells, untouched}
+use Rattle.world.proofs.PairLemmas.{Led, Opens-standby, cut-for, cut-same, goes-steps, none-added, rests-primary, rests-standby, stays-does, tells}
 use Rattle.world.proofs.QueueLemmas.{clear-enabled, free-enabled, reached-positions, room-link}
 use Rattle.world.proofs.RecallLemmas.{remembers-aside, remembers-freed, remembers-on, remembers-same}
+use Rattle.world.proofs.PairTurns.{Waiting-same, is-ready, may-parts}
 
 -- ---- the engine
 
 -- the contents are as they were at their position, without some versions that have ended
 contents-without : (holder : Holder) (calls : List Call) (p : ℕ) (contents : Contents) (gone : ℕ → Bool) → AllEnded gone contents.versions → AreContentsAt holder calls p contents
     → AreContentsAt holder calls p (without gone contents)
-contents-without holder calls p contents gone ended are = record {
-  at = are.at;
-  role_is = are.role_is;
-  epoch_is = are.epoch_is;
-  lines_are = are.lines_are;
-  consistent = consistent_without contents gone are.consistent;
-  map = IsMapOf-contents_without contents gone _ ended are.map;
-}
+contents-without holder calls p contents gone ended are =
+    let map = IsMapOf-contents_without contents gone _ ended are.map in
+    search (rules, consistent_without contents gone are.consistent, map, are)
 
 engine-freed : (holder : Holder) (calls : List Call) (p : ℕ) (device device' : State) (contents contents' : Contents) (is_faulted is_faulted' : Bool) (entries : List EntryNo) → AreEnded contents entries
     → Same (after_free entries contents) contents' → IsDurable device' contents' → is_faulted' ≡ false → EngineStands holder calls p device contents is_faulted
@@ -105,17 +100,6 @@ freed-moments holder calls p device device' contents entries ended are lawful mo
     (λ image keeps.
     let gone : AllEnded keeps.0 contents.versions = λ i is. AllEnded-listed contents entries ended i (keeps.1 i is) in
     keeps-opens holder calls p (without keeps.0 contents) image (contents-without holder calls p contents keeps.0 gone are) (lawful_without contents keeps.0 gone lawful) keeps.2) moments
-
--- and under a record with one gap less
-contents-under : (holder : Holder) (calls : List Call) (p : ℕ) (contents : Contents) → AreContentsAt holder calls p contents → AreContentsAt holder calls p (cleared_contents contents)
-contents-under holder calls p contents are = record {
-  at = are.at;
-  role_is = are.role_is;
-  epoch_is = are.epoch_is;
-  lines_are = are.lines_are;
-  consistent = record { free = are.consistent.free; beyond = are.consistent.beyond };
-  map = are.map;
-}
 
 engine-cleared : (holder : Holder) (calls : List Call) (p : ℕ) (device device' : State) (contents contents' : Contents) (is_faulted is_faulted' : Bool) (entries : List EntryNo)
     → Clears contents entries contents' → contents.current.number + 1 < COUNTER_LIMIT → IsDurable device' contents' → is_faulted' ≡ false → EngineStands holder calls p device contents is_faulted
@@ -161,16 +145,9 @@ cleared-moments holder calls p device device' contents are lawful room moments =
     LeavesOnly-weaken (OpensAt holder calls p)
     (λ image either. elim either [
       | inl keeps ↦ keeps-opens holder calls p contents image are lawful keeps
-      | inr keeps ↦ keeps-opens holder calls p (cleared_contents contents) image (contents-under holder calls p contents are)
+      | inr keeps ↦ keeps-opens holder calls p (cleared_contents contents) image (search (rules, are, are.consistent))
           (lawful_cleared contents (cleared_contents contents) [] (clears-none contents) room lawful) keeps
     ]) moments
-
-near : (holder : Holder) (calls : List Call) (p next : ℕ) (device device' : State) → LeavesOnly device device' (OpensAt holder calls p) → NearOnly holder calls p next device device'
-near holder calls p next device device' moments = LeavesOnly-weaken (OpensAtEither holder calls p next) (λ image stands. inl stands) moments
-
-failed : (is_faulted : Bool) (before after : ℕ) → is_faulted ≡ false → (is_faulted ≡ true) ⊎ (before < after) → before < after
-failed is_faulted before after sound (inl was) = absurd (true≢false (sym was ∙ sound))
-failed is_faulted before after sound (inr now) = now
 
 -- ---- an event of the primary's engine
 
@@ -196,84 +173,42 @@ primary-steps event first second w w' old new own stands runs follows device' fa
       };
     }
 
--- an event that is not enabled
-idle-steps : (first second : Holder) (old : Pair) (event : Event) (w : World) → is_own event ≡ true → PairRefines first second old w → false ≡ may_happen w event → Steps first second w event false old old
-idle-steps first second old event w own stands never = record {
-  world = w;
-  step = record { done = never ∙ sym (enabled-is (own-runs stands event own)); happens = λ did. absurd (true≢false (sym did)); stands = λ did. refl };
-  stands = nodes-refine stands;
-  moves = untouched first second old old w w refl refl (inl (stands.serves, stands.parts));
-}
-
-pub idle-does : (old : Pair) (event : Event) → is_own event ≡ true → ((first second : Holder) (w : World) → PairRefines first second old w → false ≡ may_happen w event) → Does old event (Ok false) old
-idle-does old event own never = record { steps = λ first second w stands. idle-steps first second old event w own stands (never first second w stands); cut = tt; calls = none-added _ _ refl }
-
 -- ---- the sequencer is told
 
 abbrev pub with_accepted : Sequencing → List Freed → Pair → Pair
 with_accepted sequencer notices pair = record pair { sequencer = sequencer; notices = notices }
 
--- nothing but its heap has changed
-in_room : (P : Sequencing → Type 0) (old new : Sequencing) (entries : List EntryNo) (extents : List Extent) → TakesBack old entries extents new → P (record old { room = new.room }) → P new
-in_room P old new entries extents takes holds = subst P (sym takes.after) holds
-
-accept-parts : (first second : Holder) (old : Pair) (sequencer : Sequencing) (notice : Freed) (rest : List Freed) (w : World) → old.notices ≡ notice ∷ rest
-    → TakesBack old.sequencer notice.entries.items notice.extents.items sequencer
-    → ((c : Contents) (e : List EntryNo) (x : List Extent) → IsAheadOf old.sequencer c → Expects old.sequencer c (notice.entries.items ++ e) (notice.extents.items ++ x) → IsAheadOf sequencer c × Expects sequencer c e x)
-    → PartsRefine first second old w → PartsRefine first second (with_accepted sequencer rest old) (machine.accepted w)
-accept-parts first second old sequencer notice rest w told takes expected parts =
-    let entries = notice.entries.items in
-    let extents = notice.extents.items in
-    let calls = w.primary.calls in
-    let seats = seats_of old.sessions.connections.items in
-    let many = ap length (sym told) ∙ parts.freeing.notices_are in
-    record {
-      sessions = parts.sessions;
-      sequencer = in_room (SequencerRefines calls w.primary.committer.closed) old.sequencer sequencer entries extents takes (record {
-        table = parts.sequencer.table;
-        position = parts.sequencer.position;
-        before = parts.sequencer.before;
-        waiting = parts.sequencer.waiting;
-        count = parts.sequencer.count;
-      });
-      follow = in_room (SeatsFollow calls seats) old.sequencer sequencer entries extents takes (record { by_call = parts.follow.by_call; session = parts.follow.session });
-      committing = parts.committing;
-      engine = parts.engine;
-      leads = Leads-accepted old.contents old.committing.waiting.items old.committing.aside old.sequencer sequencer notice rest
-          (subst (Leads old.contents old.committing.waiting.items old.committing.aside old.sequencer) told parts.leads) takes expected;
-      freeing = record {
-        ended = ap (λ (s : Sequencing). length s.ended) takes.after ∙ parts.freeing.ended;
-        newest = ap (λ (s : Sequencing). s.newest) takes.after ∙ parts.freeing.newest;
-        notices_are = omega (arith, many);
-        gaps = parts.freeing.gaps;
-      };
-      remembers = remembers-on w.standby.position w.standby.position w.primary.committer.position calls old.contents old.committing.waiting.items old.committing.aside old.sequencer sequencer (le_refl w.standby.position)
-          (ap (λ (s : Sequencing). s.ended) takes.after) (ap (λ (s : Sequencing). s.newest) takes.after) parts.remembers;
-      opening = parts.opening;
-      epoch = parts.epoch;
-      link = parts.link;
-      frames = parts.frames;
-      arrivals = parts.arrivals;
-      standby = parts.standby;
-    }
-
 pub accept-does : (old : Pair) (sequencer : Sequencing) (notice : Freed) (rest : List Freed) → old.notices ≡ notice ∷ rest
     → TakesBack old.sequencer notice.entries.items notice.extents.items sequencer
     → ((c : Contents) (e : List EntryNo) (x : List Extent) → IsAheadOf old.sequencer c → Expects old.sequencer c (notice.entries.items ++ e) (notice.extents.items ++ x) → IsAheadOf sequencer c × Expects sequencer c e x)
     → Does old events.AcceptFreed (Ok true) (with_accepted sequencer rest old)
-accept-does old sequencer notice rest told takes expected =
-    record {
-      steps = λ first second w stands.
-          let some = ap length (sym told) ∙ stands.parts.freeing.notices_are in
-          goes-steps first second w (machine.accepted w) events.AcceptFreed true old (with_accepted sequencer rest old) refl refl stands.sound (own-runs stands events.AcceptFreed refl) stands.serves refl
-          (record {
-            done = sym (lt-ltb 0 w.primary.notices (omega (arith, some)));
-            goes = λ did. accept-parts first second old sequencer notice rest w told takes expected stands.parts;
-            stays = λ did. absurd (true≢false did);
-          });
-      cut = tt;
-      calls = none-added _ _ refl;
-    }
+accept-does old sequencer notice rest told takes expected = record { steps = steps; cut = tt; calls = none-added _ _ refl }
+  where
+    parts-then : (first second : Holder) (w : World) → PartsRefine first second old w → PartsRefine first second (with_accepted sequencer rest old) (machine.accepted w)
+    parts-then first second w parts =
+        let calls = w.primary.calls in
+        let many = ap length (sym told) ∙ parts.freeing.notices_are in
+        let newest = ap (λ (s : Sequencing). s.newest) takes.after in
+        let ended = ap (λ (s : Sequencing). s.ended) takes.after in
+        let freeing : FreeingRefines sequencer rest old.contents (machine.accepted w).primary =
+        record { ended = ap length ended ∙ parts.freeing.ended; newest = newest ∙ parts.freeing.newest; notices_are = omega (arith, many); gaps = parts.freeing.gaps } in
+        let stand : SequencerRefines calls w.primary.committer.closed (record old.sequencer { room = sequencer.room }) = search (rules, parts.sequencer) in
+        search (
+          rules,
+          freeing,
+          subst (SequencerRefines calls w.primary.committer.closed) (sym takes.after) stand,
+          subst (SeatsFollow calls (seats_of old.sessions.connections.items)) (sym takes.after) (record { by_call = parts.follow.by_call; session = parts.follow.session }),
+          Leads-accepted old.contents old.committing.waiting.items old.committing.aside old.sequencer sequencer notice rest
+              (subst (Leads old.contents old.committing.waiting.items old.committing.aside old.sequencer) told parts.leads) takes expected,
+          remembers-on w.standby.position w.standby.position w.primary.committer.position calls old.contents old.committing.waiting.items old.committing.aside old.sequencer sequencer
+              (le_refl w.standby.position) ended newest parts.remembers,
+        )
+
+    steps : (first second : Holder) (w : World) → PairRefines first second old w → Steps first second w events.AcceptFreed true old (with_accepted sequencer rest old)
+    steps first second w stands =
+        let some = ap length (sym told) ∙ stands.parts.freeing.notices_are in
+        goes-steps first second w (machine.accepted w) events.AcceptFreed true old (with_accepted sequencer rest old) refl refl stands.sound (own-runs stands events.AcceptFreed refl) stands.serves refl
+        (record { done = sym (lt-ltb 0 w.primary.notices (omega (arith, some))); goes = λ did. parts-then first second w stands.parts; stays = λ did. absurd (true≢false did) })
 
 pub no_notices : (notices : List Freed) → length notices ≡ 0 → notices ≡ []
 no_notices [] none = refl
@@ -283,21 +218,10 @@ no_notices (notice ∷ notices) none = absurd (omega (arith, none))
 pub accept-none : (old : Pair) (notices : List Freed) → old.notices ≡ [] → notices ≡ [] → Does old events.AcceptFreed (Ok false) (record old { notices = notices })
 accept-none old notices none none' =
     subst (λ (told : List Freed). Does old events.AcceptFreed (Ok false) (record old { notices = told })) (none ∙ sym none')
-    (idle-does old events.AcceptFreed refl (λ first second w stands.
+    (stays-does old events.AcceptFreed refl (λ first second w stands.
     let few = ap length (sym none) ∙ stands.parts.freeing.notices_are in sym (le-ltb 0 w.primary.notices (omega (arith, few)))))
 
--- what the sequencer requires of the first notice
-pub accept-expected : (first second : Holder) (old : Pair) (w : World) (notice : Freed) (rest : List Freed) → old.notices ≡ notice ∷ rest → PartsRefine first second old w
-    → (c : Contents) × (e : List EntryNo) × (x : List Extent) × IsAheadOf old.sequencer c × Expects old.sequencer c (notice.entries.items ++ e) (notice.extents.items ++ x)
-accept-expected first second old w notice rest told parts =
-    let leads = subst (Leads old.contents old.committing.waiting.items old.committing.aside old.sequencer) told parts.leads in
-    (after_work old.contents old.committing.waiting.items, entries_told rest, extents_told rest, leads.stands, leads.expects)
-
 -- ---- what a turn found in the queue
-
-Waiting-same : {T : Type 0} (a b : Waiting T) → a.items ≡ b.items → a ≡ b
-Waiting-same {T} a b same =
-    subst (λ (items : List T). (within : length items ≤ limits.PIPE_ITEMS) → a ≡ record { items = items; within = within }) same (λ within. ap (λ w. record a { within = w }) (le_prop a.within within)) b.within
 
 -- the free lists that were reached stand aside, and what is left waits
 record Drained (aside lists : List FreeList) (before after : Waiting Work) (handed : List Group) : Type 0 where
@@ -318,12 +242,8 @@ has-drained before between after aside lists handed takes (inl (some, ends)) =
     record {
       reached = ap (λ (room : Bool). cond room (aside ++ lists_of before.items) aside) has ∙ ap (λ (xs : List FreeList). aside ++ xs) lists_are;
       left = none.1 ∙ sym (ap (λ (room : Bool). cond room [] before.items) has);
-      leads = λ contents s notices leads.
-          subst (λ (items : List Work). Leads contents items (aside ++ lists) s notices) (sym none.1)
-          (subst (λ (xs : List FreeList). Leads contents [] (aside ++ xs) s notices) lists_are (Leads-aside contents before.items aside s notices groups leads));
-      remembers = λ low position calls contents s remembers.
-          subst (λ (items : List Work). Remembers low position calls contents items (aside ++ lists) s) (sym none.1)
-          (subst (λ (xs : List FreeList). Remembers low position calls contents [] (aside ++ xs) s) lists_are (remembers-aside low position calls contents before.items aside s groups remembers));
+      leads = λ contents s notices leads. rw (none.1, ← lists_are) (Leads-aside contents before.items aside s notices groups leads);
+      remembers = λ low position calls contents s remembers. rw (none.1, ← lists_are) (remembers-aside low position calls contents before.items aside s groups remembers);
     }
 has-drained before between after aside lists handed takes (inr (full, nothing, same)) =
     let has : link_has_room handed.items ≡ false = le-ltb (length handed.items) PIPE_ITEMS (let within = handed.within in omega (arith, full, within)) in
@@ -332,12 +252,8 @@ has-drained before between after aside lists handed takes (inr (full, nothing, s
     record {
       reached = ap (λ (room : Bool). cond room (aside ++ lists_of before.items) aside) has ∙ all;
       left = items ∙ sym (ap (λ (room : Bool). cond room [] before.items) has);
-      leads = λ contents s notices leads.
-          subst (λ (items : List Work). Leads contents items (aside ++ lists) s notices) (sym items)
-          (subst (λ (xs : List FreeList). Leads contents before.items xs s notices) all leads);
-      remembers = λ low position calls contents s remembers.
-          subst (λ (items : List Work). Remembers low position calls contents items (aside ++ lists) s) (sym items)
-          (subst (λ (xs : List FreeList). Remembers low position calls contents before.items xs s) all remembers);
+      leads = λ contents s notices leads. rw (items, ← all) leads;
+      remembers = λ low position calls contents s remembers. rw (items, ← all) remembers;
     }
 
 group_behind : (lists : List FreeList) (group : Group) (others : List Work) → has_group (map work.Free lists ++ work.Commit group ∷ others) ≡ true
@@ -352,83 +268,41 @@ work_left calls room room' items works same are = subst (λ (b : Bool). AreWorkO
     by true = tt
     by false = are
 
-all_three : (a b c : Bool) → (a && b && c) ≡ true → (a ≡ true) × (b ≡ true) × (c ≡ true)
-all_three true true true e = (refl, refl, refl)
-all_three true true false e = cc
-all_three true false c e = cc
-all_three false b c e = cc
-
-not_true : (a : Bool) → not a ≡ true → a ≡ false
-not_true true e = sym e
-not_true false e = refl
-
 within_first : (high : ℕ) (lists : List FreeList) → is_first_within high lists ≡ true → (list : FreeList) × (rest : List FreeList) × (lists ≡ list ∷ rest) × (list.position ≤ high)
 within_first high [] within = absurd (true≢false (sym within))
 within_first high (list ∷ rest) within = (list, rest, refl, leb-true list.position high within)
-
-first-within : (high : ℕ) (list : FreeList) (rest : List FreeList) → is_first_within high (list ∷ rest) ≡ true → list.position ≤ high
-first-within high list rest within = leb-true list.position high within
 
 nothing_left : {X : Type 0} (xs : List X) → not (is_nonempty xs) ≡ true → xs ≡ []
 nothing_left [] e = refl
 nothing_left (x ∷ xs) e = cc
 
-some_gap : (gaps : ℕ) → nat_lt 0 gaps ≡ true → 0 < gaps
-some_gap gaps e = ltb-true 0 gaps e
-
-all_five : (a b c d e : Bool) → (a && b && c && d && e) ≡ true → (b ≡ true) × (c ≡ true) × (d ≡ true) × (e ≡ true)
-all_five true true true true true is = (refl, refl, refl, refl)
-all_five true true true true false is = cc
-all_five true true true false e is = cc
-all_five true true false d e is = cc
-all_five true false c d e is = cc
-all_five false b c d e is = cc
-
 clears_alone : (stage : Stage) (aside : List FreeList) (items : List Work) (handed : List Group) (gaps : ℕ) → may_clear_now stage aside items handed gaps ≡ true
     → (link_has_room handed ≡ true) × (items ≡ []) × (aside ≡ []) × (0 < gaps)
 clears_alone stage aside items handed gaps may =
-    let told = all_five (is_ready_now stage) (link_has_room handed) (not (is_nonempty items)) (not (is_nonempty aside)) (nat_lt 0 gaps) may in
-    (told.0, nothing_left items told.1, nothing_left aside told.2, some_gap gaps told.3)
+    let last = may-parts (is_ready_now stage && link_has_room handed && not (is_nonempty items)) (not (is_nonempty aside)) (nat_lt 0 gaps) may in
+    let first = may-parts (is_ready_now stage) (link_has_room handed) (not (is_nonempty items)) last.0 in (first.1, nothing_left items first.2, nothing_left aside last.1, ltb-true 0 gaps last.2)
 
-no_lists : (lists : List FreeList) (items : List Work) → [] ≡ map work.Free lists ++ items → lists ≡ []
-no_lists [] items is = refl
-no_lists (list ∷ lists) items is = cc
-
-no_rest : (lists : List FreeList) (items : List Work) → [] ≡ map work.Free lists ++ items → items ≡ []
-no_rest [] items is = sym is
-no_rest (list ∷ lists) items is = cc
-
-room_left : (handed : List Group) → link_has_room handed ≡ true → PIPE_ITEMS - length handed ≡ 0 → ⊥
-room_left handed room full = let some = ltb-true (length handed) PIPE_ITEMS room in omega (arith, some, full)
-
-one_less : {X : Type 0} (xs : List X) (n : ℕ) → length xs ≡ n → length (drop 1 xs) ≡ n - 1
-one_less [] n is = omega (arith, is)
-one_less (x ∷ xs) n is = omega (arith, is)
-
-ready_so : (stage : Stage) → is_ready_now stage ≡ true → stage ≡ Ready
-ready_so Ready is = refl
-ready_so (Durable group) is = absurd (true≢false (sym is))
-ready_so (Shown group) is = absurd (true≢false (sym is))
+none_there : (lists : List FreeList) (items : List Work) → [] ≡ map work.Free lists ++ items → (lists ≡ []) × (items ≡ [])
+none_there [] items is = (refl, sym is)
+none_there (list ∷ lists) items is = cc
 
 pub free-ready : (stage : Stage) (aside : List FreeList) (items : List Work) (handed : List Group) (remote : ℕ) → may_free_now stage aside items handed remote ≡ true → stage ≡ Ready
 free-ready stage aside items handed remote may =
-    ready_so stage (all_three (is_ready_now stage) (not (may_commit_now stage items handed)) (is_first_within remote (reached_now aside items handed)) may).0
-
-first_of : (a b c d e : Bool) → (a && b && c && d && e) ≡ true → a ≡ true
-first_of true b c d e is = refl
-first_of false b c d e is = cc
+    is-ready stage (may-parts (is_ready_now stage) (not (may_commit_now stage items handed)) (is_first_within remote (reached_now aside items handed)) may).0
 
 pub clear-ready : (stage : Stage) (aside : List FreeList) (items : List Work) (handed : List Group) (gaps : ℕ) → may_clear_now stage aside items handed gaps ≡ true → stage ≡ Ready
 clear-ready stage aside items handed gaps may =
-    ready_so stage (first_of (is_ready_now stage) (link_has_room handed) (not (is_nonempty items)) (not (is_nonempty aside)) (nat_lt 0 gaps) may)
+    let last = may-parts (is_ready_now stage && link_has_room handed && not (is_nonempty items)) (not (is_nonempty aside)) (nat_lt 0 gaps) may in
+    is-ready stage (may-parts (is_ready_now stage) (link_has_room handed) (not (is_nonempty items)) last.0).0
 
 -- ---- a turn of a committer that is ready
 
-module _ {E : Type 0} (device : E → State) (contents : E → Contents) (is_faulted : E → Bool) (sessions : Sessions) (sequencer : Sequencing) (link : Stream) (opening : Opening) (remote : ℕ) (frames : List (Vec ℕ Global)) (arrivals : Arrivals) (standby : Node) (primary_runs standby_runs : Bool) where
+module _ {E : Type 0} (device : E → State) (contents : E → Contents) (is_faulted : E → Bool) (sessions : Connections) (transcript : Transcript) (sequencer : Sequencing) (link : Stream) (opening : Opening) (remote : ℕ) (frames : List (Vec ℕ Global)) (arrivals : Arrived) (standby : Node) (primary_runs standby_runs : Bool) where
   -- a pair with this committer, with this work waiting for it, with these notices and with these groups at the link
   abbrev pub pair_with : Committer E → Waiting Work → List Freed → Waiting Group → Pair
   pair_with committer waiting notices handed = record {
     sessions = sessions;
+    transcript = transcript;
     sequencer = sequencer;
     committing = record { waiting = waiting; aside = committer.aside.items; stage = committer.stage; local = committer.local };
     notices = notices;
@@ -455,10 +329,39 @@ module _ {E : Type 0} (device : E → State) (contents : E → Contents) (is_fau
       record {
         steps = tt;
         cut = λ first second w stands.
-            cut-same first second event refusal (pair_with before waiting notices handed) (pair_with after waiting' notices' handed') w asks memory (ap device same) refl (tells sessions)
+            cut-same first second event refusal (pair_with before waiting notices handed) (pair_with after waiting' notices' handed') w asks memory (ap device same) refl (tells transcript)
             (own-runs stands event own) (enabled first second w stands) (nodes-refine stands);
         calls = none-added _ _ refl;
       }
+
+  -- a fence of the engine's device failed
+  fault-does : (event : Event) → is_own event ≡ true → (before after : Committer E) (waiting waiting' : Waiting Work) (notices : List Freed) (handed : Waiting Group) (refusal : Refusal)
+      → refusal ≡ Fault
+      → ((first second : Holder) (w : World) (old new : Pair) → Led first second old new w Breaks Resting → EndsBy Fault event (Led first second old new w))
+      → (is_faulted before.engine ≡ true) ⊎ ((device before.engine).failures < (device after.engine).failures)
+      → ((first second : Holder) (w : World) → PairRefines first second (pair_with before waiting notices handed) w → may_happen w event ≡ true)
+      → ((first second : Holder) (w : World) → PartsRefine first second (pair_with before waiting notices handed) w
+      → LeavesOnly (device before.engine) (device after.engine) (OpensAt first w.primary.calls w.primary.committer.position))
+      → Does (pair_with before waiting notices handed) event (Err refusal) (pair_with after waiting' notices handed)
+  fault-does event own before after waiting waiting' notices handed refusal fault breaks fails enabled moments = record { steps = tt; cut = cut; calls = none-added _ _ refl }
+    where
+      old : Pair
+      old = pair_with before waiting notices handed
+
+      new : Pair
+      new = pair_with after waiting' notices handed
+
+      cut : (first second : Holder) (w : World) → PairRefines first second old w → IsCut first second event refusal old new w
+      cut first second w stands =
+          let failed : (device before.engine).failures < (device after.engine).failures =
+          elim fails [
+            | inl was ↦ absurd (true≢false (sym was ∙ stands.parts.engine.sound))
+            | inr now ↦ now
+          ] in
+          let leaves = LeavesOnly-weaken (OpensAtEither first w.primary.calls w.primary.committer.position (next_primary w)) (λ image at. inl at) (moments first second w stands.parts) in
+          cut-for first second event refusal old new w (nodes-refine stands) (tells transcript) (enabled-is (own-runs stands event own) ∙ enabled first second w stands)
+          (subst (λ (r : Refusal). EndsBy r event (Led first second old new w)) (sym fault)
+          (breaks first second w old new (record { leaves = leaves; failures = failed }, rests-standby first second old w (nodes-refine stands))))
 
   -- ---- a list is freed
 
@@ -484,7 +387,7 @@ module _ {E : Type 0} (device : E → State) (contents : E → Contents) (is_fau
     reached = reached_now before.aside.items waiting.items handed.items
 
     told : (is_ready_now before.stage ≡ true) × (not (may_commit_now before.stage waiting.items handed.items) ≡ true) × (is_first_within remote reached ≡ true)
-    told = all_three (is_ready_now before.stage) (not (may_commit_now before.stage waiting.items handed.items)) (is_first_within remote reached) may
+    told = may-parts (is_ready_now before.stage) (not (may_commit_now before.stage waiting.items handed.items)) (is_first_within remote reached) may
 
     no_group : (lists : List FreeList) (between after : Waiting Work) (group : Group) → 0 < PIPE_ITEMS - length handed.items → TakesLists LocalTakes waiting lists between
         → between.items ≡ work.Commit group ∷ after.items → ⊥
@@ -494,13 +397,16 @@ module _ {E : Type 0} (device : E → State) (contents : E → Contents) (is_fau
         ap has_group (TakesLists-items waiting between lists takes ∙ ap (λ (rest : List Work). map work.Free lists ++ rest) gives) ∙ group_behind lists group after.items in
         let commits : may_commit_now before.stage waiting.items handed.items ≡ true =
         ap (λ (b : Bool). b && has_group waiting.items && link_has_room handed.items) told.0 ∙ ap (λ (b : Bool). b && link_has_room handed.items) has ∙ room in
-        true≢false (sym commits ∙ not_true _ told.1)
+        true≢false (sym (ap not (sym commits) ∙ told.1))
 
-    came-free : (after : Committer E) (waiting' : Waiting Work) (result : Result Done Refusal)
-        → TurnsReady device contents is_faulted LocalTakes before waiting (PIPE_ITEMS - length handed.items) remote result after waiting'
+    came-free : (after : Committer E) (waiting' : Waiting Work) (handed' : Waiting Group) (result : Result Done Refusal) → handed'.items ≡ handed.items
+        → TurnsReady device contents is_faulted LocalTakes before waiting (PIPE_ITEMS - length handed'.items) remote result after waiting'
         → Frees after waiting' result ⊎ ((result ≡ Err Memory) × (after.engine ≡ before.engine))
-    came-free after waiting' result turns = by
+    came-free after waiting' handed' result offered given = by
       where
+        turns : TurnsReady device contents is_faulted LocalTakes before waiting (PIPE_ITEMS - length handed.items) remote result after waiting'
+        turns = subst (λ (items : List Group). TurnsReady device contents is_faulted LocalTakes before waiting (PIPE_ITEMS - length items) remote result after waiting') offered given
+
         reaches : (xs : List FreeList) → reached ≡ xs → (list : FreeList) × (rest : List FreeList) × (xs ≡ list ∷ rest) × (list.position ≤ remote)
         reaches xs is = within_first remote xs (ap (is_first_within remote) (sym is) ∙ told.2)
 
@@ -540,7 +446,7 @@ module _ {E : Type 0} (device : E → State) (contents : E → Contents) (is_fau
       -- the standby has passed it
       passed-then : (result : Result Done Refusal) (frees : Frees after waiting' result) (first second : Holder) (w : World) → PairRefines first second old w → frees.list.position ≤ w.standby.position
       passed-then result frees first second w stands =
-          let due = first-within remote frees.list frees.rest (ap (is_first_within remote) (sym (frees.drains.reached ∙ frees.is)) ∙ told.2) in
+          let due = leb-true frees.list.position remote (ap (is_first_within remote) (sym (frees.drains.reached ∙ frees.is)) ∙ told.2) in
           omega (arith, due, stands.parts.link.remote_is, stands.sound.link.remote, stands.sound.standby.known)
 
       moments-then : (result : Result Done Refusal) (frees : Frees after waiting' result) (first second : Holder) (w : World) → PartsRefine first second old w
@@ -549,9 +455,9 @@ module _ {E : Type 0} (device : E → State) (contents : E → Contents) (is_fau
           freed-moments first w.primary.calls w.primary.committer.position (device before.engine) (device after.engine) old.contents frees.list.entries.items
           (ended-then result frees first second w parts) parts.engine.contents_at parts.engine.lawful (frees.frees.moments parts.engine.sound)
 
-      free-parts : (places : Freed) (frees : Frees after waiting' (Ok (done.Freed places))) (first second : Holder) (w : World) → PairRefines first second old w
-          → PartsRefine first second (pair_with after waiting' (notices ++ places ∷ []) handed) (machine.freed w)
-      free-parts places frees first second w stands =
+      free-parts : (ok : Done) (frees : Frees after waiting' (Ok ok)) (first second : Holder) (w : World) → PairRefines first second old w
+          → PartsRefine first second (pair_with after waiting' (notices ++ frees.frees.answer.0 ∷ []) handed) (machine.freed w)
+      free-parts ok frees first second w stands =
           let parts = stands.parts in
           let calls = w.primary.calls in
           let low = w.standby.position in
@@ -559,150 +465,104 @@ module _ {E : Type 0} (device : E → State) (contents : E → Contents) (is_fau
           let it = frees.frees in
           let entries = frees.list.entries.items in
           let answer = it.answer in
-          let same : answer.0 ≡ places = let is = answer.1 in cc in
-          let entries_are : places.entries.items ≡ entries = ap (λ (p : Freed). p.entries.items) (sym same) ∙ answer.2 in
-          let extents_are : places.extents.items ≡ extents_of old.contents.versions entries = ap (λ (p : Freed). p.extents.items) (sym same) ∙ answer.3 in
+          let places = answer.0 in
           let consistent = parts.engine.contents_at.consistent in
           let laid : AreLaid old.contents = laid-engine old.device old.contents consistent parts.engine.lawful parts.engine.durable in
-          let ended = ended-then (Ok (done.Freed places)) frees first second w parts in
+          let ended = ended-then (Ok ok) frees first second w parts in
+          let new = pair_with after waiting' (notices ++ places ∷ []) handed in
+          let moved = Same-is (after_free entries old.contents) (contents after.engine) it.moved in
           let reached_is : positions_of_lists (frees.list ∷ frees.rest) ≡ reached_lists w =
           ap positions_of_lists (sym (frees.drains.reached ∙ frees.is)) ∙ reached-positions w old.committing handed.items parts.committing parts.link.waiting in
           let many = parts.freeing.notices_are in
+          let committing : CommittingRefines calls new.committing (machine.freed w).primary.committer =
           record {
-            sessions = parts.sessions;
-            sequencer = parts.sequencer;
-            follow = parts.follow;
-            committing = record {
-              work = subst (λ (items : List Work). AreWorkOf calls items (cond (has_room w.primary.link.waiting) [] w.primary.committer.waiting)) (sym frees.drains.left)
-                  (work_left calls (link_has_room handed.items) (has_room w.primary.link.waiting) waiting.items w.primary.committer.waiting (room-link calls handed.items w.primary.link.waiting parts.link.waiting)
-                  parts.committing.work);
-              aside = ap positions_of_lists it.aside ∙ ap (drop 1) reached_is;
-              stage_is = subst (λ (stage : Stage). StageRefines calls stage w.primary.committer.stage) (ready ∙ sym it.stage) parts.committing.stage_is;
-              local_is = it.local ∙ parts.committing.local_is;
-            };
-            engine = engine-freed first calls w.primary.committer.position (device before.engine) (device after.engine) old.contents (contents after.engine) (is_faulted before.engine) (is_faulted after.engine) entries
-                ended it.moved it.durable it.sound.0 parts.engine;
-            leads = subst (λ (c : Contents). Leads c waiting'.items after.aside.items sequencer (notices ++ places ∷ [])) (sym (Same-is (after_free entries old.contents) (contents after.engine) it.moved))
-                (subst (λ (xs : List FreeList). Leads (after_free entries old.contents) waiting'.items xs sequencer (notices ++ places ∷ [])) (sym it.aside)
-                (Leads-freed old.contents waiting'.items frees.list frees.rest sequencer notices places consistent laid
-                (leads-then (Ok (done.Freed places)) frees first second w parts) entries_are extents_are));
-            freeing = record {
-              ended = parts.freeing.ended;
-              newest = parts.freeing.newest;
-              notices_are = let one = length-append notices (places ∷ []) in omega (arith, one, many);
-              gaps = ap (λ (r : Record). length r.gaps.items) it.moved.current ∙ parts.freeing.gaps;
-            };
-            remembers = subst (λ (c : Contents). Remembers low p calls c waiting'.items after.aside.items sequencer) (sym (Same-is (after_free entries old.contents) (contents after.engine) it.moved))
-                (subst (λ (xs : List FreeList). Remembers low p calls (after_free entries old.contents) waiting'.items xs sequencer) (sym it.aside)
-                (remembers-freed low p calls old.contents waiting'.items frees.list frees.rest sequencer (passed-then (Ok (done.Freed places)) frees first second w stands) ended
-                (subst (λ (xs : List FreeList). Remembers low p calls old.contents waiting'.items xs sequencer) frees.is
-                (frees.drains.remembers low p calls old.contents sequencer parts.remembers))));
-            opening = parts.opening;
-            epoch = parts.epoch;
-            link = parts.link;
-            frames = parts.frames;
-            arrivals = parts.arrivals;
-            standby = parts.standby;
-          }
+            work = subst (λ (items : List Work). AreWorkOf calls items (cond (has_room w.primary.link.waiting) [] w.primary.committer.waiting)) (sym frees.drains.left)
+                (work_left calls (link_has_room handed.items) (has_room w.primary.link.waiting) waiting.items w.primary.committer.waiting (room-link calls handed.items w.primary.link.waiting parts.link.waiting)
+                parts.committing.work);
+            aside = ap positions_of_lists it.aside ∙ ap (drop 1) reached_is;
+            stage_is = subst (λ (stage : Stage). StageRefines calls stage w.primary.committer.stage) (ready ∙ sym it.stage) parts.committing.stage_is;
+            local_is = it.local ∙ parts.committing.local_is;
+          } in
+          let freeing : FreeingRefines sequencer new.notices new.contents (machine.freed w).primary =
+          record {
+            ended = parts.freeing.ended;
+            newest = parts.freeing.newest;
+            notices_are = let one = length-append notices (places ∷ []) in omega (arith, one, many);
+            gaps = ap (λ (r : Record). length r.gaps.items) it.moved.current ∙ parts.freeing.gaps;
+          } in
+          let leads : Leads new.contents waiting'.items after.aside.items sequencer new.notices =
+          rw (moved, it.aside)
+          (Leads-freed old.contents waiting'.items frees.list frees.rest sequencer notices places consistent laid (leads-then (Ok ok) frees first second w parts) answer.2 answer.3) in
+          let remembers : Remembers low p calls new.contents waiting'.items after.aside.items sequencer =
+          rw (moved, it.aside)
+          (remembers-freed low p calls old.contents waiting'.items frees.list frees.rest sequencer (passed-then (Ok ok) frees first second w stands) ended
+          (subst (λ (xs : List FreeList). Remembers low p calls old.contents waiting'.items xs sequencer) frees.is (frees.drains.remembers low p calls old.contents sequencer parts.remembers))) in
+          search (
+            rules,
+            parts,
+            committing,
+            engine-freed first calls p (device before.engine) (device after.engine) old.contents (contents after.engine) (is_faulted before.engine) (is_faulted after.engine) entries
+                ended it.moved it.durable it.sound.0 parts.engine,
+            leads,
+            freeing,
+            remembers,
+          )
 
-      freed-does : (places : Freed) → Frees after waiting' (Ok (done.Freed places)) → Does old events.Free (Ok true) (pair_with after waiting' (notices ++ places ∷ []) handed)
-      freed-does places frees = record {
+      freed-does : (ok : Done) (frees : Frees after waiting' (Ok ok)) → Does old events.Free (Ok true) (pair_with after waiting' (notices ++ frees.frees.answer.0 ∷ []) handed)
+      freed-does ok frees = record {
         steps = λ first second w stands.
-            primary-steps events.Free first second w (machine.freed w) old (pair_with after waiting' (notices ++ places ∷ []) handed) refl stands refl refl refl frees.frees.sound.1 refl
-            (sym (free_may first second w stands)) (moments-then (Ok (done.Freed places)) frees first second w stands.parts) (free-parts places frees first second w stands);
+            primary-steps events.Free first second w (machine.freed w) old (pair_with after waiting' (notices ++ frees.frees.answer.0 ∷ []) handed) refl stands refl refl refl frees.frees.sound.1 refl
+            (sym (free_may first second w stands)) (moments-then (Ok ok) frees first second w stands.parts) (free-parts ok frees first second w stands);
         cut = tt;
         calls = none-added _ _ refl;
       }
 
       broke-does : (refusal : Refusal) → Frees after waiting' (Err refusal) → Does old events.Free (Err refusal) (pair_with after waiting' notices handed)
       broke-does refusal frees = elim frees.frees.causes [
-        | inl fault ↦ record { steps = tt; cut = λ first second w stands. broke first second w stands fault; calls = none-added _ _ refl }
+        | inl fault ↦ fault-does events.Free refl before after waiting waiting' notices handed refusal fault (λ first second w old' new leads. leads) (frees.frees.fault (ap Err fault)) free_may
+            (moments-then (Err refusal) frees)
         | inr memory ↦ refused-does events.Free refl refl before after waiting waiting' notices notices handed handed refusal memory (frees.frees.memory (ap Err memory)) free_may
       ]
-        where
-          broke : (first second : Holder) (w : World) → PairRefines first second old w → refusal ≡ Fault → IsCut first second events.Free refusal old (pair_with after waiting' notices handed) w
-          broke first second w stands fault =
-              let new = pair_with after waiting' notices handed in
-              let calls = w.primary.calls in
-              let p = w.primary.committer.position in
-              cut-for first second events.Free refusal old new w (nodes-refine stands) (tells sessions) (enabled-is (own-runs stands events.Free refl) ∙ free_may first second w stands)
-              (subst (λ (r : Refusal). EndsBy r events.Free (Led first second old new w)) (sym fault) (
-                record {
-                  leaves = near first calls p (next_primary w) old.device new.device (moments-then (Err refusal) frees first second w stands.parts);
-                  failures = failed old.is_faulted old.device.failures new.device.failures stands.parts.engine.sound (frees.frees.fault (ap Err fault));
-                },
-                rests-standby first second old w (nodes-refine stands),
-              ))
 
-  -- what the turn did to the pair
-  pub free-does : (before after : Committer E) (waiting waiting' : Waiting Work) (notices : List Freed) (handed handed' : Waiting Group) (places : Freed) (answer : Done) (notices' : List Freed) → answer ≡ done.Freed places → notices' ≡ notices ++ places ∷ []
-      → before.stage ≡ Ready → may_free_now before.stage before.aside.items waiting.items handed.items remote ≡ true → handed'.items ≡ handed.items
-      → TurnsReady device contents is_faulted LocalTakes before waiting (PIPE_ITEMS - length handed'.items) remote (Ok answer) after waiting'
-      → Does (pair_with before waiting notices handed) events.Free (Ok true) (pair_with after waiting' notices' handed')
-  free-does before after waiting waiting' notices handed handed' places answer notices' is pushed ready may offered turns =
-      let same = Waiting-same handed handed' (sym offered) in
-      subst (λ (told : List Freed). Does (pair_with before waiting notices handed) events.Free (Ok true) (pair_with after waiting' told handed')) (sym pushed)
-      (subst (λ (h : Waiting Group). Does (pair_with before waiting notices handed) events.Free (Ok true) (pair_with after waiting' (notices ++ places ∷ []) h)) same
-      (elim (came-free before waiting notices handed may after waiting' (Ok (done.Freed places)) turned) [
-        | inl frees ↦ freed-does before waiting notices handed may after waiting' ready places frees
-        | inr refused ↦ absurd (let no = refused.0 in cc)
-      ]))
-    where
-      turned : TurnsReady device contents is_faulted LocalTakes before waiting (PIPE_ITEMS - length handed.items) remote (Ok (done.Freed places)) after waiting'
-      turned =
-          subst (λ (items : List Group). TurnsReady device contents is_faulted LocalTakes before waiting (PIPE_ITEMS - length items) remote (Ok (done.Freed places)) after waiting') offered
-          (subst (λ (d : Done). TurnsReady device contents is_faulted LocalTakes before waiting (PIPE_ITEMS - length handed'.items) remote (Ok d) after waiting') is turns)
-
-  -- it freed something
-  pub free-told : (before after : Committer E) (waiting waiting' : Waiting Work) (handed handed' : Waiting Group) (answer : Done)
-      → may_free_now before.stage before.aside.items waiting.items handed.items remote ≡ true → handed'.items ≡ handed.items
-      → TurnsReady device contents is_faulted LocalTakes before waiting (PIPE_ITEMS - length handed'.items) remote (Ok answer) after waiting'
-      → (places : Freed) × (answer ≡ done.Freed places)
-  free-told before after waiting waiting' handed handed' answer may offered turns =
-      elim (came-free before waiting [] handed may after waiting' (Ok answer)
-      (subst (λ (items : List Group). TurnsReady device contents is_faulted LocalTakes before waiting (PIPE_ITEMS - length items) remote (Ok answer) after waiting') offered turns)) [
-        | inl frees ↦ (frees.frees.answer.0, frees.frees.answer.1)
-        | inr refused ↦ absurd (let no = refused.0 in cc)
-      ]
-
-  -- it freed the first list that it had reached, and tells of that
-  pub free-effect : (before after : Committer E) (waiting waiting' : Waiting Work) (notices : List Freed) (handed handed' : Waiting Group) (places : Freed) (answer : Done) (notices' : List Freed) → answer ≡ done.Freed places → notices' ≡ notices ++ places ∷ []
-      → may_free_now before.stage before.aside.items waiting.items handed.items remote ≡ true → handed'.items ≡ handed.items
-      → TurnsReady device contents is_faulted LocalTakes before waiting (PIPE_ITEMS - length handed'.items) remote (Ok answer) after waiting'
-      → FreesOldest (reached_now before.aside.items waiting.items handed.items) (contents before.engine) notices (contents after.engine) notices'
-  free-effect before after waiting waiting' notices handed handed' places answer notices' is pushed may offered turns =
-      elim (came-free before waiting notices handed may after waiting' (Ok answer)
-      (subst (λ (items : List Group). TurnsReady device contents is_faulted LocalTakes before waiting (PIPE_ITEMS - length items) remote (Ok answer) after waiting') offered turns)) [
+      -- it did so, and tells of that
+      pub free-done : (handed' : Waiting Group) (answer : Done) → handed'.items ≡ handed.items → TurnsReady device contents is_faulted LocalTakes before waiting (PIPE_ITEMS - length handed'.items) remote (Ok answer) after waiting'
+          → (places : Freed) × (answer ≡ done.Freed places)
+          × ((given : Freed) (notices' : List Freed) → answer ≡ done.Freed given → notices' ≡ notices ++ given ∷ []
+          → Does old events.Free (Ok true) (pair_with after waiting' notices' handed') × FreesOldest reached (contents before.engine) notices (contents after.engine) notices')
+      free-done handed' answer offered turns = elim (came-free after waiting' handed' (Ok answer) offered turns) [
         | inl frees ↦
-            let told = frees.frees.answer in
-            let same : told.0 ≡ places = let one = sym told.1 ∙ is in cc in
-            record {
-              list = frees.list;
-              rest = frees.rest;
-              lists_are = frees.drains.reached ∙ frees.is;
-              freed = frees.frees.moved;
-              places = places;
-              told = pushed;
-              entries = ap (λ (p : Freed). p.entries.items) (sym same) ∙ told.2;
-              extents = ap (λ (p : Freed). p.extents.items) (sym same) ∙ told.3;
-            }
+            let told = frees.frees.answer in (
+              told.0,
+              told.1,
+              λ given notices' is pushed.
+                  let same : told.0 ≡ given = let both = sym told.1 ∙ is in cc in
+                  let more : notices' ≡ notices ++ told.0 ∷ [] = pushed ∙ ap (λ (p : Freed). notices ++ p ∷ []) (sym same) in (
+                    subst (λ (xs : List Freed). Does old events.Free (Ok true) (pair_with after waiting' xs handed')) (sym more)
+                        (subst (λ (h : Waiting Group). Does old events.Free (Ok true) (pair_with after waiting' (notices ++ told.0 ∷ []) h)) (Waiting-same handed handed' (sym offered)) (freed-does answer frees)),
+                    record {
+                      list = frees.list;
+                      rest = frees.rest;
+                      lists_are = frees.drains.reached ∙ frees.is;
+                      freed = frees.frees.moved;
+                      places = told.0;
+                      told = more;
+                      entries = told.2;
+                      extents = told.3;
+                    },
+                  ),
+            )
         | inr refused ↦ absurd (let no = refused.0 in cc)
       ]
 
-  -- it was refused
-  pub free-ends : (before after : Committer E) (waiting waiting' : Waiting Work) (notices : List Freed) (handed handed' : Waiting Group) (refusal : Refusal)
-      → before.stage ≡ Ready → may_free_now before.stage before.aside.items waiting.items handed.items remote ≡ true → handed'.items ≡ handed.items
-      → TurnsReady device contents is_faulted LocalTakes before waiting (PIPE_ITEMS - length handed'.items) remote (Err refusal) after waiting'
-      → Does (pair_with before waiting notices handed) events.Free (Err refusal) (pair_with after waiting' notices handed')
-  free-ends before after waiting waiting' notices handed handed' refusal ready may offered turns =
-      let same = Waiting-same handed handed' (sym offered) in
-      subst (λ (h : Waiting Group). Does (pair_with before waiting notices handed) events.Free (Err refusal) (pair_with after waiting' notices h)) same
-      (elim (came-free before waiting notices handed may after waiting' (Err refusal)
-      (subst (λ (items : List Group). TurnsReady device contents is_faulted LocalTakes before waiting (PIPE_ITEMS - length items) remote (Err refusal) after waiting') offered turns)) [
-        | inl frees ↦ broke-does before waiting notices handed may after waiting' ready refusal frees
-        | inr refused ↦
-            refused-does events.Free refl refl before after waiting waiting' notices notices handed handed refusal (let is = refused.0 in cc) refused.1 (free_may before waiting notices handed may)
-      ])
+      -- it was refused
+      pub free-ends : (handed' : Waiting Group) (refusal : Refusal) → handed'.items ≡ handed.items → TurnsReady device contents is_faulted LocalTakes before waiting (PIPE_ITEMS - length handed'.items) remote (Err refusal) after waiting'
+          → Does old events.Free (Err refusal) (pair_with after waiting' notices handed')
+      free-ends handed' refusal offered turns =
+          subst (λ (h : Waiting Group). Does old events.Free (Err refusal) (pair_with after waiting' notices h)) (Waiting-same handed handed' (sym offered))
+          (elim (came-free after waiting' handed' (Err refusal) offered turns) [
+            | inl frees ↦ broke-does refusal frees
+            | inr refused ↦ refused-does events.Free refl refl before after waiting waiting' notices notices handed handed refusal (let is = refused.0 in cc) refused.1 free_may
+          ])
 
   -- room for the notice was refused
   pub free-roomless : (before : Committer E) (waiting : Waiting Work) (notices notices' : List Freed) (handed : Waiting Group) (refusal : Refusal) → refusal ≡ Memory
@@ -715,7 +575,7 @@ module _ {E : Type 0} (device : E → State) (contents : E → Contents) (is_fau
   pub free-idle : (before : Committer E) (waiting : Waiting Work) (notices : List Freed) (handed : Waiting Group) → may_free_now before.stage before.aside.items waiting.items handed.items remote ≡ false
       → Does (pair_with before waiting notices handed) events.Free (Ok false) (pair_with before waiting notices handed)
   free-idle before waiting notices handed may =
-      idle-does (pair_with before waiting notices handed) events.Free refl (λ first second w stands.
+      stays-does (pair_with before waiting notices handed) events.Free refl (λ first second w stands.
       sym may ∙ free-enabled w (pair_with before waiting notices handed).committing handed.items remote stands.parts.committing stands.parts.link.waiting stands.parts.link.remote_is)
 
   -- ---- a gap is cleared
@@ -737,35 +597,35 @@ module _ {E : Type 0} (device : E → State) (contents : E → Contents) (is_fau
       pub left : waiting'.items ≡ []
       pub clears : ClearsGap device contents is_faulted before result after
 
-    came-clear : (after : Committer E) (waiting' : Waiting Work) (result : Result Done Refusal)
-        → TurnsReady device contents is_faulted LocalTakes before waiting (PIPE_ITEMS - length handed.items) remote result after waiting'
+    came-clear : (after : Committer E) (waiting' : Waiting Work) (handed' : Waiting Group) (result : Result Done Refusal) → handed'.items ≡ handed.items
+        → TurnsReady device contents is_faulted LocalTakes before waiting (PIPE_ITEMS - length handed'.items) remote result after waiting'
         → ClearsOne after waiting' result ⊎ ((result ≡ Err Memory) × (after.engine ≡ before.engine))
-    came-clear after waiting' result turns = by
+    came-clear after waiting' handed' result offered given = by
       where
-        items : [] ≡ map work.Free turns.lists ++ turns.between.items
-        items = sym alone.1 ∙ TakesLists-items waiting turns.between turns.lists turns.takes
+        turns : TurnsReady device contents is_faulted LocalTakes before waiting (PIPE_ITEMS - length handed.items) remote result after waiting'
+        turns = subst (λ (items : List Group). TurnsReady device contents is_faulted LocalTakes before waiting (PIPE_ITEMS - length items) remote result after waiting') offered given
+
+        empty : (turns.lists ≡ []) × (turns.between.items ≡ [])
+        empty = none_there turns.lists turns.between.items (sym alone.1 ∙ TakesLists-items waiting turns.between turns.lists turns.takes)
 
         none : before.aside.items ++ turns.lists ≡ []
-        none = ap₂ (λ (a b : List FreeList). a ++ b) alone.2 (no_lists turns.lists turns.between.items items)
-
-        rest : turns.between.items ≡ []
-        rest = no_rest turns.lists turns.between.items items
+        none = ap₂ (λ (a b : List FreeList). a ++ b) alone.2 empty.0
 
         by : ClearsOne after waiting' result ⊎ ((result ≡ Err Memory) × (after.engine ≡ before.engine))
         by = elim turns.came [
-          | inl (group, some, gives, commits, set_aside) ↦ absurd (let is = sym rest ∙ gives in cc)
+          | inl (group, some, gives, commits, set_aside) ↦ absurd (let is = sym empty.1 ∙ gives in cc)
           | inr (inl (drains, list, others, is, due, frees)) ↦ absurd (let no = sym none ∙ is in cc)
           | inr (inr (inl (some, gives, nothing, clears))) ↦ inl record { left = gives.1; clears = clears }
           | inr (inr (inr (inl (drains, idle)))) ↦ absurd (elim (idle.none none) [
-            | inl full ↦ room_left handed.items alone.0 full
+            | inl full ↦ let some = ltb-true (length handed.items) PIPE_ITEMS alone.0 in omega (arith, some, full)
             | inr gapless ↦ let some = alone.3 in let few = ap length gapless in omega (arith, some, few)
           ])
           | inr (inr (inr (inr (some, same, refuses)))) ↦ inr (refuses.answer, refuses.engine)
         ]
 
     module _ (after : Committer E) (waiting' : Waiting Work) (ready : before.stage ≡ Ready) where
-      below_limit : (places : Freed) → ClearsOne after waiting' (Ok (done.Cleared places)) → is_faulted before.engine ≡ false → (contents before.engine).current.number + 1 < COUNTER_LIMIT
-      below_limit places one sound = elim (cases_lt ((contents before.engine).current.number + 1) COUNTER_LIMIT) [
+      below_limit : (ok : Done) → ClearsOne after waiting' (Ok ok) → is_faulted before.engine ≡ false → (contents before.engine).current.number + 1 < COUNTER_LIMIT
+      below_limit ok one sound = elim (cases_lt ((contents before.engine).current.number + 1) COUNTER_LIMIT) [
         | inl below ↦ below
         | inr over ↦ absurd (let no = one.clears.exhausts sound over in cc)
       ]
@@ -784,68 +644,62 @@ module _ {E : Type 0} (device : E → State) (contents : E → Contents) (is_fau
                 (Opens-engine first calls p (device before.engine) from.contents (is_faulted before.engine) parts.engine))
           ]
 
-      clear-parts : (places : Freed) → ClearsOne after waiting' (Ok (done.Cleared places)) → (first second : Holder) (w : World) → PairRefines first second from w
-          → PartsRefine first second (pair_with after waiting' (notices ++ places ∷ []) handed) (machine.cleared w)
-      clear-parts places one first second w stands =
+      clear-parts : (ok : Done) (one : ClearsOne after waiting' (Ok ok)) → (first second : Holder) (w : World) → PairRefines first second from w
+          → PartsRefine first second (pair_with after waiting' (notices ++ one.clears.answer.0 ∷ []) handed) (machine.cleared w)
+      clear-parts ok one first second w stands =
           let parts = stands.parts in
           let calls = w.primary.calls in
           let low = w.standby.position in
           let p = w.primary.committer.position in
           let it = one.clears in
           let answer = it.answer in
-          let same : answer.0 ≡ places = let is = answer.1 in cc in
-          let none : places.extents.items ≡ [] = ap (λ (p : Freed). p.extents.items) (sym same) ∙ answer.2 in
-          let clears : Clears from.contents places.entries.items (contents after.engine) = subst (λ (p : Freed). Clears from.contents p.entries.items (contents after.engine)) same answer.3 in
+          let places = answer.0 in
+          let clears = answer.3 in
           let many = parts.freeing.notices_are in
           let gaps = parts.freeing.gaps in
+          let new = pair_with after waiting' (notices ++ places ∷ []) handed in
+          let committing : CommittingRefines calls new.committing (machine.cleared w).primary.committer =
           record {
-            sessions = parts.sessions;
-            sequencer = parts.sequencer;
-            follow = parts.follow;
-            committing = record {
-              work = subst (λ (items : List Work). AreWorkOf calls items w.primary.committer.waiting) (alone.1 ∙ sym one.left) parts.committing.work;
-              aside = ap positions_of_lists (it.aside ∙ sym alone.2) ∙ parts.committing.aside;
-              stage_is = subst (λ (stage : Stage). StageRefines calls stage w.primary.committer.stage) (ready ∙ sym it.stage) parts.committing.stage_is;
-              local_is = it.local ∙ parts.committing.local_is;
-            };
-            engine = engine-cleared first calls w.primary.committer.position (device before.engine) (device after.engine) from.contents (contents after.engine) (is_faulted before.engine) (is_faulted after.engine)
-                places.entries.items clears (below_limit places one parts.engine.sound) it.durable it.sound.0 parts.engine;
-            leads = subst (λ (items : List Work). Leads (contents after.engine) items after.aside.items sequencer (notices ++ places ∷ [])) (sym one.left)
-                (subst (λ (xs : List FreeList). Leads (contents after.engine) [] xs sequencer (notices ++ places ∷ [])) (sym it.aside)
-                (Leads-cleared from.contents (contents after.engine) sequencer notices places
-                (subst (λ (items : List Work). Leads from.contents items [] sequencer notices) alone.1
-                (subst (λ (xs : List FreeList). Leads from.contents waiting.items xs sequencer notices) alone.2 parts.leads)) clears none));
-            freeing = record {
-              ended = parts.freeing.ended;
-              newest = parts.freeing.newest;
-              notices_are = let one = length-append notices (places ∷ []) in omega (arith, one, many);
-              gaps = ap (λ (r : Record). length r.gaps.items) clears.current ∙ one_less from.contents.current.gaps.items w.primary.gaps gaps;
-            };
-            remembers = subst (λ (items : List Work). Remembers low p calls (contents after.engine) items after.aside.items sequencer) (sym one.left)
-                (subst (λ (xs : List FreeList). Remembers low p calls (contents after.engine) [] xs sequencer) (sym it.aside)
-                (remembers-same low p calls from.contents (contents after.engine) [] [] sequencer clears.versions
-                (subst (λ (items : List Work). Remembers low p calls from.contents items [] sequencer) alone.1
-                (subst (λ (xs : List FreeList). Remembers low p calls from.contents waiting.items xs sequencer) alone.2 parts.remembers))));
-            opening = parts.opening;
-            epoch = parts.epoch;
-            link = parts.link;
-            frames = parts.frames;
-            arrivals = parts.arrivals;
-            standby = parts.standby;
-          }
+            work = subst (λ (items : List Work). AreWorkOf calls items w.primary.committer.waiting) (alone.1 ∙ sym one.left) parts.committing.work;
+            aside = ap positions_of_lists (it.aside ∙ sym alone.2) ∙ parts.committing.aside;
+            stage_is = subst (λ (stage : Stage). StageRefines calls stage w.primary.committer.stage) (ready ∙ sym it.stage) parts.committing.stage_is;
+            local_is = it.local ∙ parts.committing.local_is;
+          } in
+          let freeing : FreeingRefines sequencer new.notices new.contents (machine.cleared w).primary =
+          record {
+            ended = parts.freeing.ended;
+            newest = parts.freeing.newest;
+            notices_are = let one = length-append notices (places ∷ []) in omega (arith, one, many);
+            gaps = ap (λ (r : Record). length r.gaps.items) clears.current ∙ length-drop 1 from.contents.current.gaps.items ∙ ap (λ (n : ℕ). n - 1) gaps;
+          } in
+          let leads : Leads new.contents waiting'.items after.aside.items sequencer new.notices =
+          rw (one.left, it.aside) (Leads-cleared from.contents new.contents sequencer notices places (rw (alone.1, alone.2) at parts.leads) clears answer.2) in
+          let remembers : Remembers low p calls new.contents waiting'.items after.aside.items sequencer =
+          rw (one.left, it.aside) (remembers-same low p calls from.contents new.contents [] [] sequencer clears.versions (rw (alone.1, alone.2) at parts.remembers)) in
+          search (
+            rules,
+            parts,
+            committing,
+            engine-cleared first calls p (device before.engine) (device after.engine) from.contents (contents after.engine) (is_faulted before.engine) (is_faulted after.engine)
+                places.entries.items clears (below_limit ok one parts.engine.sound) it.durable it.sound.0 parts.engine,
+            leads,
+            freeing,
+            remembers,
+          )
 
-      cleared-does : (places : Freed) → ClearsOne after waiting' (Ok (done.Cleared places)) → Does from events.ClearGap (Ok true) (pair_with after waiting' (notices ++ places ∷ []) handed)
-      cleared-does places one = record {
+      cleared-does : (ok : Done) (one : ClearsOne after waiting' (Ok ok)) → Does from events.ClearGap (Ok true) (pair_with after waiting' (notices ++ one.clears.answer.0 ∷ []) handed)
+      cleared-does ok one = record {
         steps = λ first second w stands.
-            primary-steps events.ClearGap first second w (machine.cleared w) from (pair_with after waiting' (notices ++ places ∷ []) handed) refl stands refl refl refl one.clears.sound.1 refl
-            (sym (clear_may first second w stands)) (cleared-then (Ok (done.Cleared places)) one first second w stands.parts) (clear-parts places one first second w stands);
+            primary-steps events.ClearGap first second w (machine.cleared w) from (pair_with after waiting' (notices ++ one.clears.answer.0 ∷ []) handed) refl stands refl refl refl one.clears.sound.1 refl
+            (sym (clear_may first second w stands)) (cleared-then (Ok ok) one first second w stands.parts) (clear-parts ok one first second w stands);
         cut = tt;
         calls = none-added _ _ refl;
       }
 
       cut-clear : (refusal : Refusal) → ClearsOne after waiting' (Err refusal) → Does from events.ClearGap (Err refusal) (pair_with after waiting' notices handed)
       cut-clear refusal one = elim one.clears.causes [
-        | inl fault ↦ record { steps = tt; cut = λ first second w stands. broke first second w stands fault; calls = none-added _ _ refl }
+        | inl fault ↦ fault-does events.ClearGap refl before after waiting waiting' notices handed refusal fault (λ first second w old' new leads. leads) (one.clears.fault (ap Err fault)) clear_may
+            (cleared-then (Err refusal) one)
         | inr (inl limit) ↦ record { steps = tt; cut = λ first second w stands. ends first second w stands limit; calls = none-added _ _ refl }
         | inr (inr memory) ↦ refused-does events.ClearGap refl refl before after waiting waiting' notices notices handed handed refusal memory (one.clears.memory (ap Err memory)) clear_may
       ]
@@ -853,95 +707,54 @@ module _ {E : Type 0} (device : E → State) (contents : E → Contents) (is_fau
           new : Pair
           new = pair_with after waiting' notices handed
 
-          broke : (first second : Holder) (w : World) → PairRefines first second from w → refusal ≡ Fault → IsCut first second events.ClearGap refusal from new w
-          broke first second w stands fault =
-              cut-for first second events.ClearGap refusal from new w (nodes-refine stands) (tells sessions) (enabled-is (own-runs stands events.ClearGap refl) ∙ clear_may first second w stands)
-              (subst (λ (r : Refusal). EndsBy r events.ClearGap (Led first second from new w)) (sym fault) (
-                record {
-                  leaves = near first w.primary.calls w.primary.committer.position (next_primary w) from.device new.device (cleared-then (Err refusal) one first second w stands.parts);
-                  failures = failed from.is_faulted from.device.failures new.device.failures stands.parts.engine.sound (one.clears.fault (ap Err fault));
-                },
-                rests-standby first second from w (nodes-refine stands),
-              ))
-
           ends : (first second : Holder) (w : World) → PairRefines first second from w → refusal ≡ Exhausted → IsCut first second events.ClearGap refusal from new w
           ends first second w stands limit =
               let told = one.clears.exhausted (ap Err limit) in
               let same : new.device ≡ from.device = ap device told.1 in
               let at : (image : Image) → IsImage from.device.words image → IsAtLimit first.lines (next_primary w - w.primary.committer.position) (next_primary w - w.primary.committer.position) image =
               λ image is. record { current = from.contents.current; has_record = HasRecord-lines stands.parts.engine.contents_at.lines_are (stands.parts.engine.durable image is).has_record; reached = inr (inr told.0) } in
-              cut-for first second events.ClearGap refusal from new w (nodes-refine stands) (tells sessions) (enabled-is (own-runs stands events.ClearGap refl) ∙ clear_may first second w stands)
+              cut-for first second events.ClearGap refusal from new w (nodes-refine stands) (tells transcript) (enabled-is (own-runs stands events.ClearGap refl) ∙ clear_may first second w stands)
               (subst (λ (r : Refusal). EndsBy r events.ClearGap (Led first second from new w)) (sym limit) (
                 subst (λ (d : State). RestsAtLimit first w.primary.calls w.primary.committer.position (next_primary w) from.device d) (sym same)
                     (record { rests = rests-primary first second from w (nodes-refine stands); limit = at }),
                 rests-standby first second from w (nodes-refine stands),
               ))
 
-  -- what the turn did to the pair
-  pub clear-does : (before after : Committer E) (waiting waiting' : Waiting Work) (notices : List Freed) (handed handed' : Waiting Group) (places : Freed) (answer : Done) (notices' : List Freed) → answer ≡ done.Cleared places → notices' ≡ notices ++ places ∷ []
-      → before.stage ≡ Ready → may_clear_now before.stage before.aside.items waiting.items handed.items (length (contents before.engine).current.gaps.items) ≡ true → handed'.items ≡ handed.items
-      → TurnsReady device contents is_faulted LocalTakes before waiting (PIPE_ITEMS - length handed'.items) remote (Ok answer) after waiting'
-      → Does (pair_with before waiting notices handed) events.ClearGap (Ok true) (pair_with after waiting' notices' handed')
-  clear-does before after waiting waiting' notices handed handed' places answer notices' is pushed ready may offered turns =
-      let same = Waiting-same handed handed' (sym offered) in
-      subst (λ (told : List Freed). Does (pair_with before waiting notices handed) events.ClearGap (Ok true) (pair_with after waiting' told handed')) (sym pushed)
-      (subst (λ (h : Waiting Group). Does (pair_with before waiting notices handed) events.ClearGap (Ok true) (pair_with after waiting' (notices ++ places ∷ []) h)) same
-      (elim (came-clear before waiting notices handed may after waiting' (Ok (done.Cleared places)) turned) [
-        | inl one ↦ cleared-does before waiting notices handed may after waiting' ready places one
-        | inr refused ↦ absurd (let no = refused.0 in cc)
-      ]))
-    where
-      turned : TurnsReady device contents is_faulted LocalTakes before waiting (PIPE_ITEMS - length handed.items) remote (Ok (done.Cleared places)) after waiting'
-      turned =
-          subst (λ (items : List Group). TurnsReady device contents is_faulted LocalTakes before waiting (PIPE_ITEMS - length items) remote (Ok (done.Cleared places)) after waiting') offered
-          (subst (λ (d : Done). TurnsReady device contents is_faulted LocalTakes before waiting (PIPE_ITEMS - length handed'.items) remote (Ok d) after waiting') is turns)
-
-  -- it cleared one
-  pub clear-told : (before after : Committer E) (waiting waiting' : Waiting Work) (handed handed' : Waiting Group) (answer : Done)
-      → may_clear_now before.stage before.aside.items waiting.items handed.items (length (contents before.engine).current.gaps.items) ≡ true → handed'.items ≡ handed.items
-      → TurnsReady device contents is_faulted LocalTakes before waiting (PIPE_ITEMS - length handed'.items) remote (Ok answer) after waiting'
-      → (places : Freed) × (answer ≡ done.Cleared places)
-  clear-told before after waiting waiting' handed handed' answer may offered turns =
-      elim (came-clear before waiting [] handed may after waiting' (Ok answer)
-      (subst (λ (items : List Group). TurnsReady device contents is_faulted LocalTakes before waiting (PIPE_ITEMS - length items) remote (Ok answer) after waiting') offered turns)) [
-        | inl one ↦ (one.clears.answer.0, one.clears.answer.1)
-        | inr refused ↦ absurd (let no = refused.0 in cc)
-      ]
-
-  -- it cleared the oldest, and tells of that
-  pub clear-effect : (before after : Committer E) (waiting waiting' : Waiting Work) (notices : List Freed) (handed handed' : Waiting Group) (places : Freed) (answer : Done) (notices' : List Freed) → answer ≡ done.Cleared places → notices' ≡ notices ++ places ∷ []
-      → may_clear_now before.stage before.aside.items waiting.items handed.items (length (contents before.engine).current.gaps.items) ≡ true → handed'.items ≡ handed.items
-      → TurnsReady device contents is_faulted LocalTakes before waiting (PIPE_ITEMS - length handed'.items) remote (Ok answer) after waiting'
-      → ClearsOldest (contents before.engine) notices (contents after.engine) notices'
-  clear-effect before after waiting waiting' notices handed handed' places answer notices' is pushed may offered turns =
-      elim (came-clear before waiting notices handed may after waiting' (Ok answer)
-      (subst (λ (items : List Group). TurnsReady device contents is_faulted LocalTakes before waiting (PIPE_ITEMS - length items) remote (Ok answer) after waiting') offered turns)) [
+      -- it did so, and tells of that
+      pub clear-done : (handed' : Waiting Group) (answer : Done) → handed'.items ≡ handed.items → TurnsReady device contents is_faulted LocalTakes before waiting (PIPE_ITEMS - length handed'.items) remote (Ok answer) after waiting'
+          → (places : Freed) × (answer ≡ done.Cleared places)
+          × ((given : Freed) (notices' : List Freed) → answer ≡ done.Cleared given → notices' ≡ notices ++ given ∷ []
+          → Does from events.ClearGap (Ok true) (pair_with after waiting' notices' handed') × ClearsOldest (contents before.engine) notices (contents after.engine) notices')
+      clear-done handed' answer offered turns = elim (came-clear after waiting' handed' (Ok answer) offered turns) [
         | inl one ↦
-            let told = one.clears.answer in
-            let same : told.0 ≡ places = let both = sym told.1 ∙ is in cc in
-            record {
-              places = places;
-              told = pushed;
-              cleared = subst (λ (p : Freed). Clears (contents before.engine) p.entries.items (contents after.engine)) same told.3;
-              extents = ap (λ (p : Freed). p.extents.items) (sym same) ∙ told.2;
-            }
+            let told = one.clears.answer in (
+              told.0,
+              told.1,
+              λ given notices' is pushed.
+                  let same : told.0 ≡ given = let both = sym told.1 ∙ is in cc in
+                  let more : notices' ≡ notices ++ told.0 ∷ [] = pushed ∙ ap (λ (p : Freed). notices ++ p ∷ []) (sym same) in (
+                    subst (λ (xs : List Freed). Does from events.ClearGap (Ok true) (pair_with after waiting' xs handed')) (sym more)
+                        (subst (λ (h : Waiting Group). Does from events.ClearGap (Ok true) (pair_with after waiting' (notices ++ told.0 ∷ []) h)) (Waiting-same handed handed' (sym offered)) (cleared-does answer one)),
+                    record {
+                      places = told.0;
+                      told = more;
+                      cleared = told.3;
+                      extents = told.2;
+                    },
+                  ),
+            )
         | inr refused ↦ absurd (let no = refused.0 in cc)
       ]
 
-  -- it was refused
-  pub clear-ends : (before after : Committer E) (waiting waiting' : Waiting Work) (notices : List Freed) (handed handed' : Waiting Group) (refusal : Refusal)
-      → before.stage ≡ Ready → may_clear_now before.stage before.aside.items waiting.items handed.items (length (contents before.engine).current.gaps.items) ≡ true → handed'.items ≡ handed.items
-      → TurnsReady device contents is_faulted LocalTakes before waiting (PIPE_ITEMS - length handed'.items) remote (Err refusal) after waiting'
-      → Does (pair_with before waiting notices handed) events.ClearGap (Err refusal) (pair_with after waiting' notices handed')
-  clear-ends before after waiting waiting' notices handed handed' refusal ready may offered turns =
-      let same = Waiting-same handed handed' (sym offered) in
-      subst (λ (h : Waiting Group). Does (pair_with before waiting notices handed) events.ClearGap (Err refusal) (pair_with after waiting' notices h)) same
-      (elim (came-clear before waiting notices handed may after waiting' (Err refusal)
-      (subst (λ (items : List Group). TurnsReady device contents is_faulted LocalTakes before waiting (PIPE_ITEMS - length items) remote (Err refusal) after waiting') offered turns)) [
-        | inl one ↦ cut-clear before waiting notices handed may after waiting' ready refusal one
-        | inr refused ↦
-            refused-does events.ClearGap refl refl before after waiting waiting' notices notices handed handed refusal (let is = refused.0 in cc) refused.1 (clear_may before waiting notices handed may)
-      ])
+      -- it was refused
+      pub clear-ends : (handed' : Waiting Group) (refusal : Refusal) → handed'.items ≡ handed.items → TurnsReady device contents is_faulted LocalTakes before waiting (PIPE_ITEMS - length handed'.items) remote (Err refusal) after waiting'
+          → Does from events.ClearGap (Err refusal) (pair_with after waiting' notices handed')
+      clear-ends handed' refusal offered turns =
+          subst (λ (h : Waiting Group). Does from events.ClearGap (Err refusal) (pair_with after waiting' notices h)) (Waiting-same handed handed' (sym offered))
+          (elim (came-clear after waiting' handed' (Err refusal) offered turns) [
+            | inl one ↦ cut-clear refusal one
+            | inr refused ↦ refused-does events.ClearGap refl refl before after waiting waiting' notices notices handed handed refusal (let is = refused.0 in cc) refused.1 clear_may
+          ])
 
   -- room for the notice was refused
   pub clear-roomless : (before : Committer E) (waiting : Waiting Work) (notices notices' : List Freed) (handed : Waiting Group) (refusal : Refusal) → refusal ≡ Memory
@@ -955,6 +768,6 @@ module _ {E : Type 0} (device : E → State) (contents : E → Contents) (is_fau
       → may_clear_now before.stage before.aside.items waiting.items handed.items (length (contents before.engine).current.gaps.items) ≡ false
       → Does (pair_with before waiting notices handed) events.ClearGap (Ok false) (pair_with before waiting notices handed)
   clear-idle before waiting notices handed may =
-      idle-does (pair_with before waiting notices handed) events.ClearGap refl (λ first second w stands.
+      stays-does (pair_with before waiting notices handed) events.ClearGap refl (λ first second w stands.
       sym may
       ∙ clear-enabled w (pair_with before waiting notices handed).committing handed.items (length (contents before.engine).current.gaps.items) stands.parts.committing stands.parts.link.waiting stands.parts.freeing.gaps)

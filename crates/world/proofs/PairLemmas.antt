@@ -1,5 +1,5 @@
 -- What each event does to a pair whose primary runs, of what it does to its parts.
-use Rattle.std.proofs.Common.{◌≡◌, inl, inr, ℕ, ◌≤◌, Bool, true, false, List, [], ◌∷◌, ◌++◌, length, slice_index_or, Result, Ok, Err, IfOk, IfErr, OnErr, Vec, Global, refl, sym, ap, ap₂, subst, ◌∙◌, arith, le_refl, true≢false}
+use Rattle.std.proofs.Common.{rules, ◌≡◌, inl, inr, ℕ, ◌≤◌, Bool, true, false, List, ◌∷◌, ◌++◌, length, slice_index_or, Result, Ok, Err, IfOk, IfErr, OnErr, Vec, Global, refl, sym, ap, ap₂, subst, ◌∙◌, arith, le_refl, true≢false, []}
 use Rattle.std.proofs.lemmas.List.{length-map}
 use Rattle.kv_types.specs.declared.refusal.Refusal.{Refusal}
 use Rattle.kv_types.specs.declared.refusal.Refusal.TheVariants.{Memory}
@@ -19,14 +19,14 @@ use Rattle.machine.proofs.SoundEvents.{sound-step}
 use Rattle.connections.specs.Going.{Goes}
 use Rattle.world.specs.Cause.{Stretch, EndsBy, asks_memory}
 use Rattle.world.specs.Committing.{Rests, Opens, next_primary, next_standby}
-use Rattle.connections.specs.Session.{HasSeat, IsListOf, SessionsRefine, SequencerRefines, SeatsFollow, KeepsSeats, AddsOne, StandsStill, TakesTurn, TellsTheSame, bytes_of, seats_of}
+use Rattle.connections.specs.Session.{IsListOf, SessionsRefine, SequencerRefines, SeatsFollow, KeepsSeats, AddsOne, StandsStill, TakesTurn, TellsTheSame, seats_of}
 use Rattle.world.specs.Pair.{Pair, EitherRefines, NodesRefine, PartsRefine, PairRefines, IsCut, MovesBoth, Steps, Does}
 use Rattle.world.specs.Standby.{Node, StandbyRefines}
 use Rattle.world.proofs.LivesLemmas.{Runs, enabled-is, is_own, lives-step, nodes-refine, own-runs}
-use Rattle.connections.specs.declared.connection.Connection.{Connection as CodeConnection}
-use Rattle.connections.specs.declared.sessions.Sessions.{Sessions}
+use Rattle.connections.specs.declared.connections.Connections.{Connections}
+use Rattle.connections.specs.declared.transcript.Transcript.{Transcript}
 use Rattle.world.specs.Step.{IsRoomier}
-use Rattle.connections.proofs.SessionLemmas.{length-connections, released-told}
+use Rattle.connections.proofs.SessionLemmas.{length-released, released-told}
 use Rattle.connections.proofs.SeatLemmas.{follow-kept}
 use Rattle.connections.proofs.SequencerLemmas.{still-same}
 use Rattle.world.proofs.StillLemmas.{freeing-still, leads-still}
@@ -49,12 +49,15 @@ pub Opens-standby : (holder : Holder) (epoch : ℕ) (calls : List Call) (positio
 Opens-standby holder epoch calls position node true refines = Opens-engine _ _ _ _ _ _ (refines.stands refl).engine
 Opens-standby holder epoch calls position node false refines = Opens-down holder calls position node.device (refines.down refl)
 
--- the standby's image, whether the primary runs or not
-pub standby-stands : (first second : Holder) (pair : Pair) (w : World) → EitherRefines first second pair w → Opens second w.primary.calls w.standby.position pair.standby.device
-standby-stands first second pair w parts = elim parts [
-  | inl up ↦ Opens-standby second pair.link.epoch w.primary.calls w.standby.position pair.standby pair.standby_runs up.1.standby
-  | inr down ↦ Opens-standby second pair.link.epoch w.primary.calls w.standby.position pair.standby pair.standby_runs down.1.standby
+-- the standby, whether the primary runs or not
+pub standby-refines : {first second : Holder} {pair : Pair} {w : World} → EitherRefines first second pair w → StandbyRefines second pair.link.epoch w.primary.calls w.standby.position pair.standby pair.standby_runs
+standby-refines parts = elim parts [
+  | inl up ↦ up.1.standby
+  | inr down ↦ down.1.standby
 ]
+
+pub standby-stands : (first second : Holder) (pair : Pair) (w : World) → EitherRefines first second pair w → Opens second w.primary.calls w.standby.position pair.standby.device
+standby-stands first second pair w parts = Opens-standby second pair.link.epoch w.primary.calls w.standby.position pair.standby pair.standby_runs (standby-refines parts)
 
 pub primary-stands : (first second : Holder) (pair : Pair) (w : World) → EitherRefines first second pair w → Opens first w.primary.calls w.primary.committer.position pair.device
 primary-stands first second pair w parts = elim parts [
@@ -62,7 +65,7 @@ primary-stands first second pair w parts = elim parts [
   | inr down ↦ Opens-down first w.primary.calls w.primary.committer.position pair.device down.1.image
 ]
 
-pub sessions-stand : {first second : Holder} {pair : Pair} {w : World} → EitherRefines first second pair w → SessionsRefine pair.sessions w.primary.connections w.primary.calls
+pub sessions-stand : {first second : Holder} {pair : Pair} {w : World} → EitherRefines first second pair w → SessionsRefine pair.sessions pair.transcript w.primary.connections w.primary.calls
 sessions-stand parts = elim parts [
   | inl up ↦ up.1.sessions
   | inr down ↦ down.1.sessions
@@ -120,28 +123,27 @@ Led first second old new w first_last second_last =
     first_last first w.primary.calls w.primary.committer.position (next_primary w) old.device new.device
     × second_last second w.primary.calls w.standby.position (next_standby w) old.standby.device new.standby.device
 
-pub cut-for : (first second : Holder) (event : Event) (refusal : Refusal) (old new : Pair) (w : World) → NodesRefine first second old w → TellsTheSame old.sessions new.sessions
+pub cut-for : (first second : Holder) (event : Event) (refusal : Refusal) (old new : Pair) (w : World) → NodesRefine first second old w → TellsTheSame old.transcript new.transcript
     → is_enabled w event ≡ true → EndsBy refusal event (Led first second old new w) → IsCut first second event refusal old new w
 cut-for first second event refusal old new w stands same enabled cause =
-    let sessions = sessions-stand stands.parts in
+    let told = (sessions-stand stands.parts).told in
     record {
       enabled = enabled;
-      calls = same.calls ∙ sessions.calls_are;
-      released = λ c. ap (λ (all : List (List ℕ)). slice_index_or all c []) same.released
-          ∙ released-told w.primary.calls old.sessions.connections.items w.primary.connections sessions.connections_stand c;
+      calls = same.calls ∙ told.calls_are;
+      released = λ c. ap (λ (all : List (List ℕ)). slice_index_or all c []) same.released ∙ released-told w.primary.calls old.transcript w.primary.connections told c;
       count = omega (
         arith,
-        length-connections w.primary.calls old.sessions.connections.items w.primary.connections sessions.connections_stand,
+        length-released w.primary.calls old.transcript w.primary.connections told,
         ap length same.released,
-        length-map old.sessions.connections.items bytes_of,
-        length-map new.sessions.connections.items bytes_of,
+        length-map old.transcript.released.items (λ (bytes : Vec ℕ Global). bytes.items),
+        length-map new.transcript.released.items (λ (bytes : Vec ℕ Global). bytes.items),
       );
       cause = cause;
     }
 
 -- memory was refused, and neither device was touched
 pub cut-same : (first second : Holder) (event : Event) (refusal : Refusal) (old new : Pair) (w : World) → asks_memory event ≡ true → refusal ≡ Memory → new.device ≡ old.device
-    → new.standby.device ≡ old.standby.device → TellsTheSame old.sessions new.sessions → Runs first second old.primary_runs old.standby_runs w event → may_happen w event ≡ true → NodesRefine first second old w
+    → new.standby.device ≡ old.standby.device → TellsTheSame old.transcript new.transcript → Runs first second old.primary_runs old.standby_runs w event → may_happen w event ≡ true → NodesRefine first second old w
     → IsCut first second event refusal old new w
 cut-same first second event refusal old new w asks memory device device' same runs enabled stands =
     cut-for first second event refusal old new w stands same (enabled-is runs ∙ enabled)
@@ -153,50 +155,66 @@ cut-same first second event refusal old new w asks memory device device' same ru
       ),
     ))
 
-pub tells : (sessions : Sessions) → TellsTheSame sessions sessions
-tells sessions = record { calls = refl; released = refl }
+pub tells : (transcript : Transcript) → TellsTheSame transcript transcript
+tells transcript = record { calls = refl; released = refl }
 
 -- no call was added
 pub none-added : (old new : Vec Call Global) → new ≡ old → AddsOne old new
 none-added old new same = subst (AddsOne old) (sym same) (record { one = omega arith; room = refl })
 
--- ---- what the connections do
+-- ---- an event that is not enabled
 
-abbrev pub with_sessions : Sessions → Pair → Pair
-with_sessions sessions pair = record pair { sessions = sessions }
-
-sessions-parts : (first second : Holder) (old : Pair) (sessions : Sessions) (connections : List Connection) (w : World) → PartsRefine first second old w
-    → KeepsSeats old.sessions.connections.items sessions.connections.items → SessionsRefine sessions connections w.primary.calls → PartsRefine first second (with_sessions sessions old) (with_connections connections w)
-sessions-parts first second old sessions connections w parts keeps stand =
+pub stays-does : (old : Pair) (event : Event) → is_own event ≡ true → ((first second : Holder) (w : World) → PairRefines first second old w → false ≡ may_happen w event) → Does old event (Ok false) old
+stays-does old event own never =
     record {
-      sessions = stand;
-      sequencer = parts.sequencer;
-      follow = follow-kept w.primary.calls old.sessions.connections.items sessions.connections.items old.sequencer keeps parts.follow;
-      committing = parts.committing;
-      engine = parts.engine;
-      leads = parts.leads;
-      freeing = freeing-still old.sequencer old.sequencer old.notices old.contents w.primary (with_connections connections w).primary (still-same old.sequencer old.sequencer refl) refl refl refl refl parts.freeing;
-      remembers = parts.remembers;
-      opening = parts.opening;
-      epoch = parts.epoch;
-      link = parts.link;
-      frames = parts.frames;
-      arrivals = parts.arrivals;
-      standby = parts.standby;
+      steps = λ first second w stands. record {
+        world = w;
+        step = record { done = never first second w stands ∙ sym (enabled-is (own-runs stands event own)); happens = λ did. absurd (true≢false (sym did)); stands = λ did. refl };
+        stands = nodes-refine stands;
+        moves = untouched first second old old w w refl refl (inl (stands.serves, stands.parts));
+      };
+      cut = tt;
+      calls = none-added _ _ refl;
     }
 
--- sessions with more room stand for the same world
-pub roomier-stands : (first second : Holder) (old : Pair) (sessions : Sessions) (w : World) → PartsRefine first second old w → IsRoomier old.sessions sessions → PartsRefine first second (with_sessions sessions old) w
-roomier-stands first second old sessions w parts roomier =
-    sessions-parts first second old sessions w.primary.connections w parts
-    (λ c seat has. subst (λ (v : Vec CodeConnection Global). HasSeat (seats_of v.items) c seat) roomier.connections has)
-    (roomier.stands w.primary.connections w.primary.calls parts.sessions)
+-- ---- what the connections do
+
+abbrev pub with_sessions : Connections → Transcript → Pair → Pair
+with_sessions sessions transcript pair = record pair { sessions = sessions; transcript = transcript }
+
+abbrev pub with_turn : Connections → Transcript → Sequencing → Pair → Pair
+with_turn sessions transcript sequencer pair = record pair { sessions = sessions; transcript = transcript; sequencer = sequencer }
+
+seats-parts : (first second : Holder) (old : Pair) (sessions : Connections) (transcript : Transcript) (sequencer : Sequencing) (connections : List Connection) (w : World) → PartsRefine first second old w
+    → SessionsRefine sessions transcript connections w.primary.calls → SequencerRefines w.primary.calls w.primary.committer.closed sequencer → SeatsFollow w.primary.calls (seats_of sessions.connections.items) sequencer
+    → StandsStill old.sequencer sequencer → PartsRefine first second (with_turn sessions transcript sequencer old) (with_connections connections w)
+seats-parts first second old sessions transcript sequencer connections w parts stand sequencer_stands follow still =
+    search (
+      rules,
+      leads-still old.contents old.committing.waiting.items old.committing.aside old.sequencer sequencer old.notices still parts.leads,
+      freeing-still old.sequencer sequencer old.notices old.contents w.primary (with_connections connections w).primary still refl refl refl refl parts.freeing,
+      remembers-on w.standby.position w.standby.position w.primary.committer.position w.primary.calls old.contents old.committing.waiting.items old.committing.aside old.sequencer sequencer (le_refl w.standby.position) still.ended still.newest parts.remembers,
+    )
+
+sessions-parts : (first second : Holder) (old : Pair) (sessions : Connections) (transcript : Transcript) (connections : List Connection) (w : World) → PartsRefine first second old w
+    → KeepsSeats old.sessions.connections.items sessions.connections.items → SessionsRefine sessions transcript connections w.primary.calls → PartsRefine first second (with_sessions sessions transcript old) (with_connections connections w)
+sessions-parts first second old sessions transcript connections w parts keeps stand =
+    seats-parts first second old sessions transcript old.sequencer connections w parts stand parts.sequencer
+    (follow-kept w.primary.calls old.sessions.connections.items sessions.connections.items old.sequencer keeps parts.follow) (still-same old.sequencer old.sequencer refl)
+
+-- a transcript with more room stands for the same world
+pub roomier-stands : (first second : Holder) (old : Pair) (transcript : Transcript) (w : World) → PartsRefine first second old w → IsRoomier old.transcript transcript
+    → PartsRefine first second (with_sessions old.sessions transcript old) w
+roomier-stands first second old transcript w parts roomier =
+    let stand = parts.sessions in
+    sessions-parts first second old old.sessions transcript w.primary.connections w parts (λ c seat has. has)
+    (record { seats = stand.seats; connections_stand = stand.connections_stand; told = roomier.stands w.primary.connections w.primary.calls stand.told; no_reply = stand.no_reply })
 
 -- What the sessions did, of all connections and every list that they stood for: they changed the connections so just where that was enabled.
-abbrev pub SessionsGo : (List Connection → Bool) → (List Connection → List Connection) → Bool → Sessions → Sessions → Type 0
-SessionsGo enabled change did old new =
-    (machines : List Connection) (list : List Call) → SessionsRefine old machines list
-    → Goes (enabled machines) did (SessionsRefine new (change machines) list) (SessionsRefine new machines list)
+abbrev pub SessionsGo : (List Connection → Bool) → (List Connection → List Connection) → Bool → Connections → Transcript → Connections → Transcript → Type 0
+SessionsGo enabled change did old transcript new transcript' =
+    (machines : List Connection) (list : List Call) → SessionsRefine old transcript machines list
+    → Goes (enabled machines) did (SessionsRefine new transcript' (change machines) list) (SessionsRefine new transcript' machines list)
 
 -- an event of the primary that is enabled by its connections alone, and changes nothing else
 pub record IsOfConnections (event : Event) (enabled : List Connection → Bool) (change : List Connection → List Connection) : Type 0 where
@@ -212,55 +230,55 @@ list-of w sound = record {
 }
 
 sessions-steps : (event : Event) (enabled : List Connection → Bool) (change : List Connection → List Connection) → IsOfConnections event enabled change
-    → (old : Pair) (sessions : Sessions) (did : Bool) → SessionsGo enabled change did old.sessions sessions → KeepsSeats old.sessions.connections.items sessions.connections.items
-    → (first second : Holder) (w : World) → PairRefines first second old w → Steps first second w event did old (with_sessions sessions old)
-sessions-steps event enabled change is old sessions did go keeps first second w stands =
+    → (old : Pair) (sessions : Connections) (transcript : Transcript) (did : Bool) → SessionsGo enabled change did old.sessions old.transcript sessions transcript → KeepsSeats old.sessions.connections.items sessions.connections.items
+    → (first second : Holder) (w : World) → PairRefines first second old w → Steps first second w event did old (with_sessions sessions transcript old)
+sessions-steps event enabled change is old sessions transcript did go keeps first second w stands =
     let went = go w.primary.connections w.primary.calls stands.parts.sessions in
-    goes-steps first second w (with_connections (change w.primary.connections) w) event did old (with_sessions sessions old) refl refl stands.sound (own-runs stands event is.own) stands.serves (is.happens w)
+    goes-steps first second w (with_connections (change w.primary.connections) w) event did old (with_sessions sessions transcript old) refl refl stands.sound (own-runs stands event is.own) stands.serves (is.happens w)
     (goes-map (record { done = went.done ∙ sym (is.may w); goes = went.goes; stays = went.stays })
-    (sessions-parts first second old sessions (change w.primary.connections) w stands.parts keeps)
-    (sessions-parts first second old sessions w.primary.connections w stands.parts keeps))
+    (sessions-parts first second old sessions transcript (change w.primary.connections) w stands.parts keeps)
+    (sessions-parts first second old sessions transcript w.primary.connections w stands.parts keeps))
 
 pub sessions-do : (event : Event) (enabled : List Connection → Bool) (change : List Connection → List Connection) → IsOfConnections event enabled change → asks_memory event ≡ true
-    → (old : Pair) (sessions : Sessions) (result : Result Bool Refusal) → IfOk result (λ did. SessionsGo enabled change did old.sessions sessions)
-    → OnErr result (TellsTheSame old.sessions sessions) → IfErr result (λ refusal. refusal ≡ Memory)
-    → OnErr result ((machines : List Connection) (list : List Call) → SessionsRefine old.sessions machines list → enabled machines ≡ true)
-    → KeepsSeats old.sessions.connections.items sessions.connections.items → sessions.calls ≡ old.sessions.calls → Does old event result (with_sessions sessions old)
-sessions-do event enabled change is asks old sessions (Ok did) go same memory may keeps calls =
-    record { steps = sessions-steps event enabled change is old sessions did go keeps; cut = tt; calls = none-added _ _ calls }
-sessions-do event enabled change is asks old sessions (Err refusal) go same memory may keeps calls =
+    → (old : Pair) (sessions : Connections) (transcript : Transcript) (result : Result Bool Refusal) → IfOk result (λ did. SessionsGo enabled change did old.sessions old.transcript sessions transcript)
+    → OnErr result (TellsTheSame old.transcript transcript) → IfErr result (λ refusal. refusal ≡ Memory)
+    → OnErr result ((machines : List Connection) (list : List Call) → SessionsRefine old.sessions old.transcript machines list → enabled machines ≡ true)
+    → KeepsSeats old.sessions.connections.items sessions.connections.items → transcript.calls ≡ old.transcript.calls → Does old event result (with_sessions sessions transcript old)
+sessions-do event enabled change is asks old sessions transcript (Ok did) go same memory may keeps calls =
+    record { steps = sessions-steps event enabled change is old sessions transcript did go keeps; cut = tt; calls = none-added _ _ calls }
+sessions-do event enabled change is asks old sessions transcript (Err refusal) go same memory may keeps calls =
     record {
       steps = tt;
       cut = λ first second w stands.
-          cut-same first second event refusal old (with_sessions sessions old) w asks memory refl refl same (own-runs stands event is.own)
+          cut-same first second event refusal old (with_sessions sessions transcript old) w asks memory refl refl same (own-runs stands event is.own)
           (is.may w ∙ may w.primary.connections w.primary.calls stands.parts.sessions) (nodes-refine stands);
       calls = none-added _ _ calls;
     }
 
 -- an event that cannot be refused
 pub sessions-did : (event : Event) (enabled : List Connection → Bool) (change : List Connection → List Connection) → IsOfConnections event enabled change
-    → (old : Pair) (sessions : Sessions) (did : Bool) → SessionsGo enabled change did old.sessions sessions → KeepsSeats old.sessions.connections.items sessions.connections.items → sessions.calls ≡ old.sessions.calls
-    → Does old event (Ok did) (with_sessions sessions old)
-sessions-did event enabled change is old sessions did go keeps calls =
-    record { steps = sessions-steps event enabled change is old sessions did go keeps; cut = tt; calls = none-added _ _ calls }
+    → (old : Pair) (sessions : Connections) (did : Bool) → SessionsGo enabled change did old.sessions old.transcript sessions old.transcript → KeepsSeats old.sessions.connections.items sessions.connections.items
+    → Does old event (Ok did) (with_sessions sessions old.transcript old)
+sessions-did event enabled change is old sessions did go keeps =
+    record { steps = sessions-steps event enabled change is old sessions old.transcript did go keeps; cut = tt; calls = none-added _ _ refl }
 
 -- a read is of the marks as they stand
-pub read-does : (c : ℕ) (mark : Mark) (local remote : ℕ) (old : Pair) (sessions : Sessions) (did : Bool) → local ≡ old.committing.local → remote ≡ old.remote
-    → SessionsGo (λ machines. is_open_at machines c) (changed_at c (with_outbound (having_seen mark local remote))) did old.sessions sessions
-    → KeepsSeats old.sessions.connections.items sessions.connections.items → sessions.calls ≡ old.sessions.calls → Does old (events.Read c mark) (Ok did) (with_sessions sessions old)
-read-does c mark local remote old sessions did local_is remote_is go keeps calls =
-    record { steps = steps; cut = tt; calls = none-added _ _ calls }
+pub read-does : (c : ℕ) (mark : Mark) (local remote : ℕ) (old : Pair) (sessions : Connections) (did : Bool) → local ≡ old.committing.local → remote ≡ old.remote
+    → SessionsGo (λ machines. is_open_at machines c) (changed_at c (with_outbound (having_seen mark local remote))) did old.sessions old.transcript sessions old.transcript
+    → KeepsSeats old.sessions.connections.items sessions.connections.items → Does old (events.Read c mark) (Ok did) (with_sessions sessions old.transcript old)
+read-does c mark local remote old sessions did local_is remote_is go keeps =
+    record { steps = steps; cut = tt; calls = none-added _ _ refl }
   where
-    steps : (first second : Holder) (w : World) → PairRefines first second old w → Steps first second w (events.Read c mark) did old (with_sessions sessions old)
+    steps : (first second : Holder) (w : World) → PairRefines first second old w → Steps first second w (events.Read c mark) did old (with_sessions sessions old.transcript old)
     steps first second w stands =
         let change : ℕ → ℕ → List Connection = λ l r. changed_at c (with_outbound (having_seen mark l r)) w.primary.connections in
         let now : List Connection = change w.primary.committer.local w.primary.link.remote in
         let marks : change local remote ≡ now = ap₂ change (local_is ∙ stands.parts.committing.local_is) (remote_is ∙ stands.parts.link.remote_is) in
         let went = go w.primary.connections w.primary.calls stands.parts.sessions in
-        goes-steps first second w (with_connections now w) (events.Read c mark) did old (with_sessions sessions old) refl refl stands.sound (own-runs stands (events.Read c mark) refl) stands.serves refl
+        goes-steps first second w (with_connections now w) (events.Read c mark) did old (with_sessions sessions old.transcript old) refl refl stands.sound (own-runs stands (events.Read c mark) refl) stands.serves refl
         (goes-map went
-        (λ stand. sessions-parts first second old sessions now w stands.parts keeps (subst (λ (connections : List Connection). SessionsRefine sessions connections w.primary.calls) marks stand))
-        (sessions-parts first second old sessions w.primary.connections w stands.parts keeps))
+        (λ stand. sessions-parts first second old sessions old.transcript now w stands.parts keeps (subst (λ (connections : List Connection). SessionsRefine sessions old.transcript connections w.primary.calls) marks stand))
+        (sessions-parts first second old sessions old.transcript w.primary.connections w stands.parts keeps))
 
 -- ---- the list grows
 
@@ -277,14 +295,11 @@ StandbyRefines-grows holder epoch calls more p node runs le refines = record {
   down = λ down. IsDown-grows holder calls more p node.device le (refines.down down);
 }
 
-abbrev pub with_turn : Sessions → Sequencing → Pair → Pair
-with_turn sessions sequencer pair = record pair { sessions = sessions; sequencer = sequencer }
-
-called-parts : (first second : Holder) (old : Pair) (sessions : Sessions) (sequencer : Sequencing) (w : World) (c : ℕ) (call : Call) → PairRefines first second old w
-    → SessionsRefine sessions (called c call w).primary.connections (w.primary.calls ++ call ∷ []) → SequencerRefines (w.primary.calls ++ call ∷ []) w.primary.committer.closed sequencer
+called-parts : (first second : Holder) (old : Pair) (sessions : Connections) (transcript : Transcript) (sequencer : Sequencing) (w : World) (c : ℕ) (call : Call) → PairRefines first second old w
+    → SessionsRefine sessions transcript (called c call w).primary.connections (w.primary.calls ++ call ∷ []) → SequencerRefines (w.primary.calls ++ call ∷ []) w.primary.committer.closed sequencer
     → SeatsFollow (w.primary.calls ++ call ∷ []) (seats_of sessions.connections.items) sequencer → StandsStill old.sequencer sequencer
-    → PartsRefine first second (with_turn sessions sequencer old) (called c call w)
-called-parts first second old sessions sequencer w c call stands sessions_stand sequencer_stands follow still =
+    → PartsRefine first second (with_turn sessions transcript sequencer old) (called c call w)
+called-parts first second old sessions transcript sequencer w c call stands sessions_stand sequencer_stands follow still =
     let parts = stands.parts in
     record {
       sessions = sessions_stand;
@@ -304,58 +319,44 @@ called-parts first second old sessions sequencer w c call stands sessions_stand 
       standby = StandbyRefines-grows second old.link.epoch w.primary.calls (call ∷ []) w.standby.position old.standby old.standby_runs (standby-within w stands.sound) parts.standby;
     }
 
-turn-steps : (first second : Holder) (old : Pair) (sessions : Sessions) (sequencer : Sequencing) (w : World) (c : ℕ) (did : Bool) → PairRefines first second old w
-    → TakesTurn w.primary.connections w.primary.calls w.primary.committer.closed c did sessions old.sequencer sequencer → KeepsSeats old.sessions.connections.items sessions.connections.items
+turn-steps : (first second : Holder) (old : Pair) (sessions : Connections) (transcript : Transcript) (sequencer : Sequencing) (w : World) (c : ℕ) (did : Bool) → PairRefines first second old w
+    → TakesTurn w.primary.connections w.primary.calls w.primary.committer.closed c did sessions transcript old.sequencer sequencer → KeepsSeats old.sessions.connections.items sessions.connections.items
     → StandsStill old.sequencer sequencer
-    → Steps first second w (events.Turn c) did old (with_turn sessions sequencer old)
-turn-steps first second old sessions sequencer w c true stands takes keeps still =
+    → Steps first second w (events.Turn c) did old (with_turn sessions transcript sequencer old)
+turn-steps first second old sessions transcript sequencer w c true stands takes keeps still =
     let moved = takes.goes refl in
     let call = moved.0 in
     let next = moved.1 in
     let w' = called c call w in
     let turns : Turns w c w' = record { call = call; connection = next.connection; first = next.first; reply = next.reply; now = refl } in
-    let parts : PartsRefine first second (with_turn sessions sequencer old) w' = called-parts first second old sessions sequencer w c call stands moved.2 moved.3 moved.4 still in
-    goes-steps first second w w' (events.Turn c) true old (with_turn sessions sequencer old) refl refl stands.sound (own-runs stands (events.Turn c) refl) stands.serves turns
+    let parts : PartsRefine first second (with_turn sessions transcript sequencer old) w' = called-parts first second old sessions transcript sequencer w c call stands moved.2 moved.3 moved.4 still in
+    goes-steps first second w w' (events.Turn c) true old (with_turn sessions transcript sequencer old) refl refl stands.sound (own-runs stands (events.Turn c) refl) stands.serves turns
     (record { done = takes.done; goes = λ did. parts; stays = λ did. absurd (true≢false did) })
-turn-steps first second old sessions sequencer w c false stands takes keeps still =
+turn-steps first second old sessions transcript sequencer w c false stands takes keeps still =
     let stayed = takes.stays refl in
-    let before = stands.parts in
-    let parts : PartsRefine first second (with_turn sessions sequencer old) w =
-    record {
-      sessions = stayed.0;
-      sequencer = subst (SequencerRefines w.primary.calls w.primary.committer.closed) (sym stayed.1) before.sequencer;
-      follow = subst (SeatsFollow w.primary.calls (seats_of sessions.connections.items)) (sym stayed.1)
-          (follow-kept w.primary.calls old.sessions.connections.items sessions.connections.items old.sequencer keeps before.follow);
-      committing = before.committing;
-      engine = before.engine;
-      leads = leads-still old.contents old.committing.waiting.items old.committing.aside old.sequencer sequencer old.notices still before.leads;
-      freeing = freeing-still old.sequencer sequencer old.notices old.contents w.primary w.primary still refl refl refl refl before.freeing;
-      remembers = remembers-on w.standby.position w.standby.position w.primary.committer.position w.primary.calls old.contents old.committing.waiting.items old.committing.aside old.sequencer sequencer (le_refl w.standby.position) still.ended still.newest before.remembers;
-      opening = before.opening;
-      epoch = before.epoch;
-      link = before.link;
-      frames = before.frames;
-      arrivals = before.arrivals;
-      standby = before.standby;
-    } in
+    let parts : PartsRefine first second (with_turn sessions transcript sequencer old) w =
+    seats-parts first second old sessions transcript sequencer w.primary.connections w stands.parts stayed.0
+    (subst (SequencerRefines w.primary.calls w.primary.committer.closed) (sym stayed.1) stands.parts.sequencer)
+    (subst (SeatsFollow w.primary.calls (seats_of sessions.connections.items)) (sym stayed.1)
+    (follow-kept w.primary.calls old.sessions.connections.items sessions.connections.items old.sequencer keeps stands.parts.follow)) still in
     let runs = own-runs stands (events.Turn c) refl in
     record {
       world = w;
       step = record { done = takes.done ∙ sym (enabled-is runs); happens = λ did. absurd (true≢false (sym did)); stands = λ did. refl };
       stands = record { sound = stands.sound; lives = stands.lives; parts = inl (stands.serves, parts) };
-      moves = untouched first second old (with_turn sessions sequencer old) w w refl refl (inl (stands.serves, parts));
+      moves = untouched first second old (with_turn sessions transcript sequencer old) w w refl refl (inl (stands.serves, parts));
     }
 
-pub turn-does : (old : Pair) (sessions : Sessions) (sequencer : Sequencing) (c : ℕ) (did : Bool)
-    → ((machines : List Connection) (list : List Call) (closed : ℕ) → IsListOf machines list → SessionsRefine old.sessions machines list → SequencerRefines list closed old.sequencer
-    → SeatsFollow list (seats_of old.sessions.connections.items) old.sequencer → TakesTurn machines list closed c did sessions old.sequencer sequencer)
+pub turn-does : (old : Pair) (sessions : Connections) (transcript : Transcript) (sequencer : Sequencing) (c : ℕ) (did : Bool)
+    → ((machines : List Connection) (list : List Call) (closed : ℕ) → IsListOf machines list → SessionsRefine old.sessions old.transcript machines list → SequencerRefines list closed old.sequencer
+    → SeatsFollow list (seats_of old.sessions.connections.items) old.sequencer → TakesTurn machines list closed c did sessions transcript old.sequencer sequencer)
     → KeepsSeats old.sessions.connections.items sessions.connections.items
     → StandsStill old.sequencer sequencer
-    → AddsOne old.sessions.calls sessions.calls → Does old (events.Turn c) (Ok did) (with_turn sessions sequencer old)
-turn-does old sessions sequencer c did takes keeps still calls =
+    → AddsOne old.transcript.calls transcript.calls → Does old (events.Turn c) (Ok did) (with_turn sessions transcript sequencer old)
+turn-does old sessions transcript sequencer c did takes keeps still calls =
     record {
       steps = λ first second w stands.
-          turn-steps first second old sessions sequencer w c did stands
+          turn-steps first second old sessions transcript sequencer w c did stands
           (takes w.primary.connections w.primary.calls w.primary.committer.closed (list-of w stands.sound) stands.parts.sessions stands.parts.sequencer stands.parts.follow) keeps still;
       cut = tt;
       calls = calls;
@@ -363,83 +364,62 @@ turn-does old sessions sequencer c did takes keeps still calls =
 
 -- ---- a connection enters or leaves
 
-seats-parts : (first second : Holder) (old : Pair) (sessions : Sessions) (sequencer : Sequencing) (connections : List Connection) (w : World) → PartsRefine first second old w
-    → SessionsRefine sessions connections w.primary.calls → SequencerRefines w.primary.calls w.primary.committer.closed sequencer → SeatsFollow w.primary.calls (seats_of sessions.connections.items) sequencer
-    → StandsStill old.sequencer sequencer → PartsRefine first second (with_turn sessions sequencer old) (with_connections connections w)
-seats-parts first second old sessions sequencer connections w parts stand sequencer_stands follow still =
-    record {
-      sessions = stand;
-      sequencer = sequencer_stands;
-      follow = follow;
-      committing = parts.committing;
-      engine = parts.engine;
-      leads = leads-still old.contents old.committing.waiting.items old.committing.aside old.sequencer sequencer old.notices still parts.leads;
-      freeing = freeing-still old.sequencer sequencer old.notices old.contents w.primary (with_connections connections w).primary still refl refl refl refl parts.freeing;
-      remembers = remembers-on w.standby.position w.standby.position w.primary.committer.position w.primary.calls old.contents old.committing.waiting.items old.committing.aside old.sequencer sequencer (le_refl w.standby.position) still.ended still.newest parts.remembers;
-      opening = parts.opening;
-      epoch = parts.epoch;
-      link = parts.link;
-      frames = parts.frames;
-      arrivals = parts.arrivals;
-      standby = parts.standby;
-    }
-
 -- what was done to the seats, of all connections and every list that they stood for
-abbrev pub SeatsGo : Sessions → Sequencing → Sessions → Sequencing → Type 0
-SeatsGo old s new s' =
-    (machines : List Connection) (list : List Call) → IsListOf machines list → SessionsRefine old machines list → SeatsFollow list (seats_of old.connections.items) s
+abbrev pub SeatsGo : Connections → Transcript → Sequencing → Connections → Sequencing → Type 0
+SeatsGo old transcript s new s' =
+    (machines : List Connection) (list : List Call) → IsListOf machines list → SessionsRefine old transcript machines list → SeatsFollow list (seats_of old.connections.items) s
     → SeatsFollow list (seats_of new.connections.items) s'
 
 seats-steps : (event : Event) (enabled : List Connection → Bool) (change : List Connection → List Connection) → IsOfConnections event enabled change
-    → (old : Pair) (sessions : Sessions) (sequencer : Sequencing) (did : Bool) → SessionsGo enabled change did old.sessions sessions → SeatsGo old.sessions old.sequencer sessions sequencer
+    → (old : Pair) (sessions : Connections) (transcript : Transcript) (sequencer : Sequencing) (did : Bool) → SessionsGo enabled change did old.sessions old.transcript sessions transcript → SeatsGo old.sessions old.transcript old.sequencer sessions sequencer
     → ((calls : List Call) (closed : ℕ) → SequencerRefines calls closed old.sequencer → SequencerRefines calls closed sequencer)
     → StandsStill old.sequencer sequencer
-    → (first second : Holder) (w : World) → PairRefines first second old w → Steps first second w event did old (with_turn sessions sequencer old)
-seats-steps event enabled change is old sessions sequencer did go follows sequencer_stands still first second w stands =
+    → (first second : Holder) (w : World) → PairRefines first second old w → Steps first second w event did old (with_turn sessions transcript sequencer old)
+seats-steps event enabled change is old sessions transcript sequencer did go follows sequencer_stands still first second w stands =
     let parts = stands.parts in
     let connections = w.primary.connections in
     let went = go connections w.primary.calls parts.sessions in
     let follow = follows connections w.primary.calls (list-of w stands.sound) parts.sessions parts.follow in
     let table = sequencer_stands w.primary.calls w.primary.committer.closed parts.sequencer in
-    goes-steps first second w (with_connections (change connections) w) event did old (with_turn sessions sequencer old) refl refl stands.sound (own-runs stands event is.own) stands.serves (is.happens w)
+    goes-steps first second w (with_connections (change connections) w) event did old (with_turn sessions transcript sequencer old) refl refl stands.sound (own-runs stands event is.own) stands.serves (is.happens w)
     (goes-map (record { done = went.done ∙ sym (is.may w); goes = went.goes; stays = went.stays })
-    (λ stand. seats-parts first second old sessions sequencer (change connections) w parts stand table follow still)
-    (λ stand. seats-parts first second old sessions sequencer w.primary.connections w parts stand table follow still))
+    (λ stand. seats-parts first second old sessions transcript sequencer (change connections) w parts stand table follow still)
+    (λ stand. seats-parts first second old sessions transcript sequencer w.primary.connections w parts stand table follow still))
 
-pub enter-does : (old : Pair) (sessions : Sessions) (sequencer : Sequencing) (result : Result Bool Refusal)
-    → IfOk result (λ did. SessionsGo may_enter (λ machines. machines ++ new_connection ∷ []) did old.sessions sessions)
-    → IfOk result (λ did. SeatsGo old.sessions old.sequencer sessions sequencer)
+pub enter-does : (old : Pair) (sessions : Connections) (transcript : Transcript) (sequencer : Sequencing) (result : Result Bool Refusal)
+    → IfOk result (λ did. SessionsGo may_enter (λ machines. machines ++ new_connection ∷ []) did old.sessions old.transcript sessions transcript)
+    → IfOk result (λ did. SeatsGo old.sessions old.transcript old.sequencer sessions sequencer)
     → ((calls : List Call) (closed : ℕ) → SequencerRefines calls closed old.sequencer → SequencerRefines calls closed sequencer)
     → StandsStill old.sequencer sequencer
-    → OnErr result (TellsTheSame old.sessions sessions) → IfErr result (λ refusal. refusal ≡ Memory)
-    → OnErr result ((machines : List Connection) (list : List Call) → SessionsRefine old.sessions machines list → may_enter machines ≡ true)
-    → sessions.calls ≡ old.sessions.calls → Does old events.Enter result (with_turn sessions sequencer old)
-enter-does old sessions sequencer (Ok did) go follows sequencer_stands still same memory enabled calls =
+    → OnErr result (TellsTheSame old.transcript transcript) → IfErr result (λ refusal. refusal ≡ Memory)
+    → OnErr result ((machines : List Connection) (list : List Call) → SessionsRefine old.sessions old.transcript machines list → may_enter machines ≡ true)
+    → transcript.calls ≡ old.transcript.calls → Does old events.Enter result (with_turn sessions transcript sequencer old)
+enter-does old sessions transcript sequencer (Ok did) go follows sequencer_stands still same memory enabled calls =
     record {
-      steps = seats-steps events.Enter may_enter (λ machines. machines ++ new_connection ∷ []) (record { own = refl; may = λ w. refl; happens = λ w. refl }) old sessions sequencer did go follows sequencer_stands still;
+      steps = seats-steps events.Enter may_enter (λ machines. machines ++ new_connection ∷ []) (record { own = refl; may = λ w. refl; happens = λ w. refl }) old sessions transcript sequencer did go follows sequencer_stands still;
       cut = tt;
       calls = none-added _ _ calls;
     }
-enter-does old sessions sequencer (Err refusal) go follows sequencer_stands still same memory enabled calls =
+enter-does old sessions transcript sequencer (Err refusal) go follows sequencer_stands still same memory enabled calls =
     record {
       steps = tt;
       cut = λ first second w stands.
-          cut-same first second events.Enter refusal old (with_turn sessions sequencer old) w refl memory refl refl same (own-runs stands events.Enter refl)
+          cut-same first second events.Enter refusal old (with_turn sessions transcript sequencer old) w refl memory refl refl same (own-runs stands events.Enter refl)
           (enabled w.primary.connections w.primary.calls stands.parts.sessions) (nodes-refine stands);
       calls = none-added _ _ calls;
     }
 
-pub leave-does : (old : Pair) (sessions : Sessions) (sequencer : Sequencing) (c : ℕ) (did : Bool)
-    → SessionsGo (λ machines. is_open_at machines c) (changed_at c left) did old.sessions sessions
-    → ((machines : List Connection) (list : List Call) → SessionsRefine old.sessions machines list → SeatsFollow list (seats_of old.sessions.connections.items) old.sequencer
+pub leave-does : (old : Pair) (sessions : Connections) (sequencer : Sequencing) (c : ℕ) (did : Bool)
+    → SessionsGo (λ machines. is_open_at machines c) (changed_at c left) did old.sessions old.transcript sessions old.transcript
+    → ((machines : List Connection) (list : List Call) → SessionsRefine old.sessions old.transcript machines list → SeatsFollow list (seats_of old.sessions.connections.items) old.sequencer
     → SeatsFollow list (seats_of sessions.connections.items) sequencer)
     → ((calls : List Call) (closed : ℕ) → SequencerRefines calls closed old.sequencer → SequencerRefines calls closed sequencer)
     → StandsStill old.sequencer sequencer
-    → sessions.calls ≡ old.sessions.calls → Does old (events.Leave c) (Ok did) (with_turn sessions sequencer old)
-leave-does old sessions sequencer c did go follows sequencer_stands still calls =
+    → Does old (events.Leave c) (Ok did) (with_turn sessions old.transcript sequencer old)
+leave-does old sessions sequencer c did go follows sequencer_stands still =
     record {
-      steps = seats-steps (events.Leave c) (λ machines. is_open_at machines c) (changed_at c left) (record { own = refl; may = λ w. refl; happens = λ w. refl }) old sessions sequencer did go
+      steps = seats-steps (events.Leave c) (λ machines. is_open_at machines c) (changed_at c left) (record { own = refl; may = λ w. refl; happens = λ w. refl }) old sessions old.transcript sequencer did go
           (λ machines list is stand follow. follows machines list stand follow) sequencer_stands still;
       cut = tt;
-      calls = none-added _ _ calls;
+      calls = none-added _ _ refl;
     }

@@ -1,5 +1,5 @@
 -- What the events of the link and its acknowledgements do to the pair, of what they do to its parts.
-use Rattle.std.proofs.Common.{◌≡◌, inl, ℕ, ◌≤◌, Bool, true, false, nat_eq, nat_lt, List, [], ◌∷◌, ◌++◌, length, take, ◌||◌, ◌&&◌, inr, slice_get, Option, Some, None, Result, Ok, Err, Vec, Global, ◌<◌, refl, sym, ap, ap₂, subst, ◌∙◌, arith, true≢false, cond, eq-eqb, All}
+use Rattle.std.proofs.Common.{rules, ◌≡◌, inl, ℕ, ◌≤◌, Bool, true, false, nat_eq, nat_lt, List, ◌∷◌, ◌++◌, length, take, ◌||◌, ◌&&◌, inr, slice_get, Option, Some, None, Result, Ok, Err, Vec, Global, ◌<◌, refl, sym, ap, ap₂, subst, ◌∙◌, arith, true≢false, cond, eq-eqb, All, []}
 use Rattle.std.proofs.lemmas.Bool.{cases_lt, lt-ltb, le-leb, le-ltb, ltb-false}
 use Rattle.std.proofs.lemmas.Option.{slice_get_within}
 use Rattle.kv_types.specs.declared.refusal.Refusal.{Refusal}
@@ -24,7 +24,7 @@ use Rattle.std.proofs.lemmas.List.Elements.{All-head}
 use Rattle.machine.specs.Sound.{IsToldWithin, Sound}
 use Rattle.machine.proofs.GroupLemmas.{chain-le}
 use Rattle.machine.proofs.StandbyLemmas.{all-at}
-use Rattle.world.proofs.LivesLemmas.{enabled-is, nodes-refine, own-runs}
+use Rattle.world.proofs.LivesLemmas.{nodes-refine, own-runs}
 use Rattle.world.specs.Link.{IsFrameOf, AreFramesOf, IsFrameSent, IsAckSent, AreFramesSent, LinkRefines}
 use Rattle.world.specs.Recalling.{OpeningLeads}
 use Rattle.world.specs.Standby.{StandbyRefines, ArrivalsRefine, told_by}
@@ -34,7 +34,7 @@ use Rattle.world.proofs.LinkLemmas.{Answers as LinkAnswers, sends}
 use Rattle.world.proofs.AckLemmas.{knows}
 use Rattle.world.proofs.ArrivalLemmas.{ReadsAs, same_found}
 use Rattle.world.proofs.OpeningLemmas.{opening-forgotten}
-use Rattle.world.proofs.PairLemmas.{cut-same, goes-steps, none-added, tells, untouched}
+use Rattle.world.proofs.PairLemmas.{cut-same, goes-steps, none-added, stays-does, tells}
 
 -- ---- the link
 
@@ -51,22 +51,14 @@ pub link-parts : (first second : Holder) (old : Pair) (waiting : Waiting Group) 
     → PartsRefine first second old w → link.epoch ≡ old.link.epoch → LinkRefines w.primary.calls link waiting remote machine → AreFramesSent old.link.epoch w.primary.calls frames passed
     → PartsRefine first second (with_frames waiting link remote frames old) (record w { primary = record w.primary { link = machine }; wire = record w.wire { frames = passed } })
 link-parts first second old waiting link remote frames w machine passed parts same link_stands frames_passed =
-    record {
-      sessions = parts.sessions;
-      sequencer = parts.sequencer;
-      follow = parts.follow;
-      committing = parts.committing;
-      engine = parts.engine;
-      leads = parts.leads;
-      freeing = freeing-linked parts.freeing;
-      remembers = parts.remembers;
-      opening = parts.opening;
-      epoch = same ∙ parts.epoch;
-      link = link_stands;
-      frames = subst (λ e. AreFramesSent e w.primary.calls frames passed) (sym same) frames_passed;
-      arrivals = subst (λ e. ArrivalsRefine e w.primary.calls old.arrivals w.standby.waiting w.wire.acknowledgements) (sym same) parts.arrivals;
-      standby = subst (λ e. StandbyRefines second e w.primary.calls w.standby.position old.standby old.standby_runs) (sym same) parts.standby;
-    }
+    search (
+      rules,
+      freeing-linked {link = machine} parts.freeing,
+      same ∙ parts.epoch,
+      subst (λ e. AreFramesSent e w.primary.calls frames passed) (sym same) frames_passed,
+      subst (λ e. ArrivalsRefine e w.primary.calls old.arrivals w.standby.waiting w.wire.acknowledgements) (sym same) parts.arrivals,
+      subst (λ e. StandbyRefines second e w.primary.calls w.standby.position old.standby old.standby_runs) (sym same) parts.standby,
+    )
 
 -- no frame passed
 pub link-alone : (first second : Holder) (old : Pair) (waiting : Waiting Group) (link : Stream) (remote : ℕ) (w : World) (machine : MachineLink) → PartsRefine first second old w
@@ -103,16 +95,7 @@ delta-does old link frame bytes frames given taken text within more =
           let span = one.0 in
           let after : MachineLink = record machine { delta = [] } in
           let passed : List Sent = w.wire.frames ++ framed epoch (span ∷ []) in
-          let now : LinkRefines calls (record old.link { delta = None }) old.handed old.remote after = record {
-            waiting = parts.link.waiting;
-            none_pending = parts.link.none_pending;
-            delta = tt;
-            kept = parts.link.kept;
-            next_within = parts.link.next_within;
-            again = parts.link.again;
-            known = parts.link.known;
-            remote_is = parts.link.remote_is;
-          } in
+          let now : LinkRefines calls (record old.link { delta = None }) old.handed old.remote after = search (rules, parts.link) in
           let w' = record w { primary = record w.primary { link = after }; wire = record w.wire { frames = passed } } in
           let moved : PartsRefine first second (with_frames old.handed link old.remote frames old) w' =
           subst (λ (fs : List (Vec ℕ Global)). PartsRefine first second (with_frames old.handed link old.remote fs old) w') (sym more)
@@ -188,7 +171,7 @@ send-cut old waiting link frames result refusal is memory enabled =
     (record {
       steps = tt;
       cut = λ first second w stands.
-          cut-same first second events.Send refusal old (with_frames waiting link old.remote frames old) w refl memory refl refl (tells old.sessions) (own-runs stands events.Send refl) (enabled w stands.sound.legal stands.parts.link) (nodes-refine stands);
+          cut-same first second events.Send refusal old (with_frames waiting link old.remote frames old) w refl memory refl refl (tells old.transcript) (own-runs stands events.Send refl) (enabled w stands.sound.legal stands.parts.link) (nodes-refine stands);
       calls = none-added _ _ refl;
     })
 
@@ -214,26 +197,13 @@ with_mark remote opening pair = record pair { remote = remote; opening = opening
 opening-parts : (first second : Holder) (old : Pair) (known : ℕ) (opening : Opening) (w : World) → Sound w → known ≡ w.primary.link.known → opening.position ≡ old.opening.position
     → (known < old.opening.position → opening ≡ old.opening) → PartsRefine first second old w → PartsRefine first second (with_opening opening old) w
 opening-parts first second old known opening w sound highest same kept parts =
-    record {
-      sessions = parts.sessions;
-      sequencer = parts.sequencer;
-      follow = parts.follow;
-      committing = parts.committing;
-      engine = parts.engine;
-      leads = parts.leads;
-      freeing = parts.freeing;
-      remembers = parts.remembers;
-      opening = elim (cases_lt known old.opening.position) [
-        | inl below ↦ subst (OpeningLeads w.standby.position w.primary.opened w.primary.calls) (sym (kept below)) parts.opening
-        | inr passed ↦ opening-forgotten w.standby.position w.primary.opened w.primary.calls old.opening opening same
-            (let behind = sound.standby.known in let at = parts.opening.position_is in omega (arith, passed, at, highest, behind)) parts.opening
-      ];
-      epoch = parts.epoch;
-      link = parts.link;
-      frames = parts.frames;
-      arrivals = parts.arrivals;
-      standby = parts.standby;
-    }
+    let told : OpeningLeads w.standby.position w.primary.opened w.primary.calls opening =
+    elim (cases_lt known old.opening.position) [
+      | inl below ↦ subst (OpeningLeads w.standby.position w.primary.opened w.primary.calls) (sym (kept below)) parts.opening
+      | inr passed ↦ opening-forgotten w.standby.position w.primary.opened w.primary.calls old.opening opening same
+          (let behind = sound.standby.known in let at = parts.opening.position_is in omega (arith, passed, at, highest, behind)) parts.opening
+    ] in
+    search (rules, told)
 
 pub raise-does : (old : Pair) (known : ℕ) (did : Bool) (opening : Opening) → known ≡ old.link.known → did ≡ nat_lt old.remote known → opening.position ≡ old.opening.position
     → (known < old.opening.position → opening ≡ old.opening) → Does old events.RaiseRemote (Ok did) (with_mark known opening old)
@@ -247,17 +217,7 @@ raise-does old known did opening same is position kept =
           let told : PartsRefine first second (with_opening opening old) w = opening-parts first second old known opening w stands.sound highest position kept parts in
           let raised : (remote : ℕ) → known ≡ remote → PartsRefine first second (with_mark known opening old) (with_link (record machine { remote = remote }) w) =
           (λ remote at.
-          link-alone first second (with_opening opening old) old.handed old.link known w (record machine { remote = remote }) told refl
-          (record {
-            waiting = link.waiting;
-            none_pending = link.none_pending;
-            delta = link.delta;
-            kept = link.kept;
-            next_within = link.next_within;
-            again = link.again;
-            known = link.known;
-            remote_is = at;
-          })) in
+          link-alone first second (with_opening opening old) old.handed old.link known w (record machine { remote = remote }) told refl (search (rules, link))) in
           goes-steps first second w (with_link (raised_remote machine) w) events.RaiseRemote did old (with_mark known opening old) refl refl stands.sound (own-runs stands events.RaiseRemote refl) stands.serves refl
           (record {
             done = is ∙ ap₂ nat_lt link.remote_is highest;
@@ -325,24 +285,10 @@ ack-cut old n bytes result refusal is within found memory =
           let of = ack_of_number old.arrivals.acknowledgements.items w.wire.acknowledgements n told within in
           let one : IsAckSent bytes.items of.one = subst (λ (b : Vec ℕ Global). IsAckSent b.items of.one) (same_found of.bytes_stand found) of.is in
           let few : n < length w.wire.acknowledgements = omega (arith, within, length-acks old.arrivals.acknowledgements.items w.wire.acknowledgements told) in
-          cut-same first second (events.AckDelivered n) refusal old old w refl (memory of.one one) refl refl (tells old.sessions) (own-runs stands (events.AckDelivered n) refl) (lt-ltb n (length w.wire.acknowledgements) few) (nodes-refine stands);
+          cut-same first second (events.AckDelivered n) refusal old old w refl (memory of.one one) refl refl (tells old.transcript) (own-runs stands (events.AckDelivered n) refl) (lt-ltb n (length w.wire.acknowledgements) few) (nodes-refine stands);
       calls = none-added _ _ refl;
     })
 
 pub no-ack-does : (old : Pair) (n : ℕ) → length old.arrivals.acknowledgements.items ≤ n → Does old (events.AckDelivered n) (Ok false) old
-no-ack-does old n past =
-    record {
-      steps = λ first second w stands.
-          record {
-            world = w;
-            step = record {
-              done = sym (enabled-is (own-runs stands (events.AckDelivered n) refl) ∙ le-ltb n (length w.wire.acknowledgements) (omega (arith, past, length-acks old.arrivals.acknowledgements.items w.wire.acknowledgements stands.parts.arrivals.acknowledged)));
-              happens = λ did. absurd (true≢false (sym did));
-              stands = λ did. refl;
-            };
-            stands = nodes-refine stands;
-            moves = untouched first second old old w w refl refl (inl (stands.serves, stands.parts));
-          };
-      cut = tt;
-      calls = none-added _ _ refl;
-    }
+no-ack-does old n past = stays-does old (events.AckDelivered n) refl (λ first second w stands.
+    sym (le-ltb n (length w.wire.acknowledgements) (omega (arith, past, length-acks old.arrivals.acknowledgements.items w.wire.acknowledgements stands.parts.arrivals.acknowledged))))

@@ -1,6 +1,6 @@
 -- What the reopening of a node that crashed does to the pair.
 use mathlib.Core.Path.{fun_ext}
-use Rattle.std.proofs.Common.{◌≡◌, inl, inr, ℕ, Bool, true, false, ◌&&◌, List, [], length, Result, Ok, Err, refl, sym, ap, subst, ◌∙◌, arith, true≢false}
+use Rattle.std.proofs.Common.{rules, le_refl, ◌≡◌, inl, inr, ℕ, Bool, true, false, ◌&&◌, List, length, Result, Ok, Err, refl, sym, ap, subst, ◌∙◌, arith, true≢false, []}
 use Rattle.kv_types.specs.declared.refusal.Refusal.{Refusal}
 use Rattle.kv_types.specs.declared.refusal.Refusal.TheVariants.{Fault, Memory}
 use Rattle.pmem.specs.Device.{State}
@@ -44,11 +44,12 @@ use Rattle.world.specs.Pair.{Acts, AreLives, DownRefine, EitherRefines, IsCut, N
 use Rattle.world.proofs.DownLemmas.{restart-refused}
 use Rattle.world.proofs.EngineLemmas.{moves-same}
 use Rattle.world.proofs.FormLemmas.{committing-nothing, leads-nothing}
-use Rattle.world.proofs.PairLemmas.{Led, cut-for, none-added, primary-stands, rests-primary, rests-standby, standby-stands, tells}
+use Rattle.world.proofs.PairLemmas.{Led, cut-for, none-added, primary-stands, rests-primary, rests-standby, standby-stands, tells, standby-refines}
 use Rattle.world.proofs.OpenedLemmas.{IsNotOpened, IsOpened, opened-breaks, opened-gaps, opened-limit, opened-moves, opened-rests, opened-stands, opened-versions, table-there}
 use Rattle.world.proofs.OpeningLemmas.{have_their_lines, in_order, opening-opened}
 use Rattle.world.proofs.RecallLemmas.{remembers-opened}
 use Rattle.world.proofs.PairLives.{stays-acts}
+use Rattle.world.proofs.PairStandby.{arrivals-stand, link-epoch, standby-either}
 
 -- ---- a node that runs
 
@@ -77,18 +78,6 @@ standby-runs-on old runs = stays-acts old (events.Reopen node.Standby) (λ first
 abbrev pub with_standby_node : Node → Bool → Pair → Pair
 with_standby_node node runs pair = record pair { standby = node; standby_runs = runs }
 
-standby-image : {first second : Holder} {pair : Pair} {w : World} → pair.standby_runs ≡ false → EitherRefines first second pair w → IsDown second w.primary.calls w.standby.position pair.standby.device
-standby-image fallen parts = elim parts [
-  | inl up ↦ up.1.standby.down fallen
-  | inr down ↦ down.1.standby.down fallen
-]
-
-pair-epoch : {first second : Holder} {pair : Pair} {w : World} → EitherRefines first second pair w → pair.link.epoch ≡ w.primary.epoch
-pair-epoch parts = elim parts [
-  | inl up ↦ up.1.epoch
-  | inr down ↦ down.1.epoch
-]
-
 pub standby-reopens : (old : Pair) (node' : Node) → old.standby_runs ≡ false → IsOpened role.Standby old.standby.device node'.device node'.contents node'.is_faulted
     → Follows node'.contents node'.table node'.room node'.ended → node'.epoch ≡ node'.contents.current.epoch → Acts old (events.Reopen node.Standby) (Ok true) (with_standby_node node' true old)
 standby-reopens old node' fallen opened follows own = record { steps = steps; cut = tt; calls = none-added _ _ refl }
@@ -102,12 +91,12 @@ standby-reopens old node' fallen opened follows own = record { steps = steps; cu
         let calls = w.primary.calls in
         let p = w.standby.position in
         let lives = stands.lives in
-        let down = standby-image fallen stands.parts in
+        let down = (standby-refines stands.parts).down fallen in
         let mine : IsOpened second.role old.standby.device node'.device node'.contents node'.is_faulted =
         subst (λ r. IsOpened r old.standby.device node'.device node'.contents node'.is_faulted) (sym lives.second_role) opened in
         let engine = opened-stands second calls p old.standby.device node'.device node'.contents node'.is_faulted down mine in
         let at = engine.contents_at in
-        let ours : second.epoch ≡ old.link.epoch = lives.second_epoch ∙ sym (pair-epoch stands.parts) in
+        let ours : second.epoch ≡ old.link.epoch = lives.second_epoch ∙ sym (link-epoch stands.parts) in
         let stood : StandbyStands second old.link.epoch calls p node' =
         record {
           engine = engine;
@@ -125,56 +114,8 @@ standby-reopens old node' fallen opened follows own = record { steps = steps; cu
           step = step;
           stands = record {
             sound = sound-step w event true w' step stands.sound;
-            lives = record {
-              restarts = lives.restarts;
-              primary = lives.primary;
-              standby = refl;
-              first_role = lives.first_role;
-              second_role = lives.second_role;
-              first_epoch = lives.first_epoch;
-              second_epoch = lives.second_epoch;
-            };
-            parts = elim stands.parts [
-              | inl up ↦ inl (
-                up.0,
-                record {
-                  sessions = up.1.sessions;
-                  sequencer = up.1.sequencer;
-                  follow = up.1.follow;
-                  committing = up.1.committing;
-                  engine = up.1.engine;
-                  leads = up.1.leads;
-                  freeing = up.1.freeing;
-                  remembers = up.1.remembers;
-                  opening = up.1.opening;
-                  epoch = up.1.epoch;
-                  link = up.1.link;
-                  frames = up.1.frames;
-                  arrivals = up.1.arrivals;
-                  standby = refined;
-                },
-              )
-              | inr lost ↦ inr (
-                lost.0,
-                record {
-                  sessions = lost.1.sessions;
-                  unseated = lost.1.unseated;
-                  committer = lost.1.committer;
-                  link = lost.1.link;
-                  ends = lost.1.ends;
-                  newest = lost.1.newest;
-                  none_told = lost.1.none_told;
-                  image = lost.1.image;
-                  gaps = lost.1.gaps;
-                  opened = lost.1.opened;
-                  recalls = lost.1.recalls;
-                  epoch = lost.1.epoch;
-                  frames = lost.1.frames;
-                  arrivals = lost.1.arrivals;
-                  standby = refined;
-                },
-              )
-            ];
+            lives = search (rules, lives);
+            parts = standby-either first second old old.arrivals node' true w w'.standby w.wire.acknowledgements (le_refl p) stands.parts (arrivals-stand stands.parts) refined;
           };
           moves = record {
             primary = moves-same first calls w.primary.committer.position w.primary.committer.position old.device old.device refl (primary-stands first second old w stands.parts);
@@ -203,7 +144,7 @@ standby-reopening-cut old node' result refusal is fallen refused =
         let p = w.standby.position in
         let next = next_standby w in
         let device = old.standby.device in
-        let down = standby-image fallen stands.parts in
+        let down = (standby-refines stands.parts).down fallen in
         let here = rests-primary first second old w stands in
         let memory : refusal ≡ Memory → node'.device.failures ≡ device.failures → EndsBy refusal event (Led first second old new w) =
         λ is same. subst (λ (r : Refusal). EndsBy r event (Led first second old new w)) (sym is) (refl, (here, opened-rests second calls p device node'.device down refused.moments same)) in
@@ -219,7 +160,7 @@ standby-reopening-cut old node' result refusal is fallen refused =
                     (here, opened-limit second calls p next device node'.device full.1.0 down refused.moments why.1 full.1.1 full.1.2)
               ]
         ] in
-        cut-for first second event refusal old new w stands (tells old.sessions) (standby-opens stands.lives ∙ opens_if old.standby_runs fallen) ends
+        cut-for first second event refusal old new w stands (tells old.transcript) (standby-opens stands.lives ∙ opens_if old.standby_runs fallen) ends
       where
         memory_no_fault : Memory ≡ Fault → ⊥
         memory_no_fault is = cc
@@ -352,15 +293,7 @@ primary-reopens old sequencer committing notices device contents is_faulted hand
           step = step;
           stands = record {
             sound = sound-step w event true w' step stands.sound;
-            lives = record {
-              restarts = lives.restarts;
-              primary = refl;
-              standby = lives.standby;
-              first_role = lives.first_role;
-              second_role = lives.second_role;
-              first_epoch = lives.first_epoch;
-              second_epoch = lives.second_epoch;
-            };
+            lives = search (rules, lives);
             parts = refines;
           };
           moves = record {
@@ -409,7 +342,7 @@ primary-reopening-cut old committing device' contents is_faulted result refusal 
                     (opened-limit first calls p next device device' full.1.0 down refused.moments why.1 full.1.1 full.1.2, there)
               ]
         ] in
-        cut-for first second event refusal old new w stands (tells old.sessions) (primary-opens stands.lives ∙ opens_if old.primary_runs fallen) ends
+        cut-for first second event refusal old new w stands (tells old.transcript) (primary-opens stands.lives ∙ opens_if old.primary_runs fallen) ends
       where
         memory_no_fault : Memory ≡ Fault → ⊥
         memory_no_fault is = cc

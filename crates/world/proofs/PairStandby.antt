@@ -1,5 +1,5 @@
 -- What the events of the standby do to the pair, of what they do to its parts.
-use Rattle.std.proofs.Common.{◌≡◌, ◌&&◌, inl, inr, ℕ, Bool, true, false, List, [], ◌∷◌, ◌++◌, length, slice_get, cond, Option, Some, None, Result, Ok, Err, IfOk, IfErr, OnErr, Vec, Global, ◌<◌, ◌≤◌, refl, sym, ap, subst, ◌∙◌, arith, le_refl, true≢false, ap₂}
+use Rattle.std.proofs.Common.{rules, ◌≡◌, ◌&&◌, inl, inr, ℕ, Bool, true, false, List, ◌∷◌, ◌++◌, length, slice_get, cond, Option, Some, None, Result, Ok, Err, IfOk, IfErr, OnErr, Vec, Global, ◌<◌, ◌≤◌, refl, sym, ap, subst, ◌∙◌, arith, le_refl, true≢false, ap₂, []}
 use Rattle.std.proofs.lemmas.Bool.{cases_lt, le-ltb, lt-ltb}
 use Rattle.kv_types.specs.declared.refusal.Refusal.{Refusal}
 use Rattle.kv_types.specs.declared.refusal.Refusal.TheVariants.{Memory, Fault, Exhausted}
@@ -17,7 +17,7 @@ use Rattle.standby_stream.specs.Stream.{Stream}
 use Rattle.machine.specs.declared.event.Event.{Event}
 use Rattle.machine.specs.declared.event.Event.TheVariants as events
 use Rattle.model.specs.declared.call.Call.{Call}
-use Rattle.machine.specs.Event.{World, Primary, Standby as MachineStandby, Acknowledgement, Applies, Span, Step, due_delta, is_running, nodes_run, may_happen, opened_link, acknowledgement_of, delivered, option_items, told, with_link, with_standby, with_acknowledged}
+use Rattle.machine.specs.Event.{World, Standby as MachineStandby, Acknowledgement, Applies, Span, Step, due_delta, is_running, nodes_run, may_happen, opened_link, acknowledgement_of, delivered, option_items, told, with_link, with_standby, with_acknowledged}
 use Rattle.machine.specs.Sound.{Sound}
 use Rattle.machine.proofs.GrowLemmas.{grows-step}
 use Rattle.machine.proofs.SoundEvents.{sound-step}
@@ -26,72 +26,47 @@ use Rattle.connections.specs.Going.{Goes}
 use Rattle.world.specs.Cause.{Stretch, Breaks, RestsAtFrameLimit, EndsBy, Resting}
 use Rattle.world.specs.Committing.{NearOnly, Moves, next_standby}
 use Rattle.world.specs.Link.{IsFrameOf, AreFramesOf, LinkRefines, AreFramesSent}
-use Rattle.world.specs.Recalling.{OpeningLeads, RecallsEach, Remembers}
-use Rattle.world.specs.Standby.{Node, StandbyStands, StandbyRefines, ArrivalsRefine, AppliesFirst, told_by}
-use Rattle.world.specs.Pair.{Pair, DownRefine, EitherRefines, NodesRefine, PartsRefine, PairRefines, Steps, Acts, Does, life_if}
-use Rattle.world.specs.declared.arrivals.Arrivals.{Arrivals}
+use Rattle.world.specs.Recalling.{OpeningLeads}
+use Rattle.world.specs.Standby.{Arrived, Node, StandbyStands, StandbyRefines, ArrivalsRefine, AppliesFirst, told_by}
+use Rattle.world.specs.Pair.{Pair, EitherRefines, NodesRefine, PartsRefine, PairRefines, Steps, Acts, Does, life_if}
 use Rattle.world.proofs.EngineLemmas.{moves-same}
 use Rattle.world.proofs.FrameLemmas.{length-sent}
-use Rattle.world.proofs.PairLemmas.{Led, cut-for, cut-same, goes-either, goes-map, goes-steps, none-added, primary-stands, rests-primary, tells, untouched}
+use Rattle.world.proofs.PairLemmas.{Led, cut-for, cut-same, goes-either, goes-map, goes-steps, none-added, primary-stands, rests-primary, standby-refines, tells, untouched}
 use Rattle.world.proofs.PairLink.{link-alone}
 use Rattle.world.proofs.OpeningLemmas.{opening-on}
 use Rattle.world.proofs.RecallLemmas.{recalls-still, remembers-on}
 
 -- ---- the standby
 
-abbrev pub with_arrivals : Arrivals → Pair → Pair
+abbrev pub with_arrivals : Arrived → Pair → Pair
 with_arrivals arrivals pair = record pair { arrivals = arrivals }
 
-abbrev pub with_opened : Arrivals → Stream → Pair → Pair
+abbrev pub with_opened : Arrived → Stream → Pair → Pair
 with_opened arrivals link pair = record pair { arrivals = arrivals; link = link }
 
-arrivals-parts : (first second : Holder) (old : Pair) (arrivals : Arrivals) (w : World) (machine : MachineStandby) (told : List Acknowledgement) → PartsRefine first second old w → machine.position ≡ w.standby.position
-    → ArrivalsRefine old.link.epoch w.primary.calls arrivals machine.waiting told
-    → PartsRefine first second (with_arrivals arrivals old) (record w { standby = machine; wire = record w.wire { acknowledgements = told } })
-arrivals-parts first second old arrivals w machine told parts position arrivals_stand =
-    record {
-      sessions = parts.sessions;
-      sequencer = parts.sequencer;
-      follow = parts.follow;
-      committing = parts.committing;
-      engine = parts.engine;
-      leads = parts.leads;
-      freeing = parts.freeing;
-      remembers = subst (λ p. Remembers p w.primary.committer.position w.primary.calls old.contents old.committing.waiting.items old.committing.aside old.sequencer) (sym position) parts.remembers;
-      opening = subst (λ p. OpeningLeads p w.primary.opened w.primary.calls old.opening) (sym position) parts.opening;
-      epoch = parts.epoch;
-      link = parts.link;
-      frames = parts.frames;
-      arrivals = arrivals_stand;
-      standby = subst (λ p. StandbyRefines second old.link.epoch w.primary.calls p old.standby old.standby_runs) (sym position) parts.standby;
-    }
+abbrev pub with_standby_as : Arrived → Node → Bool → Pair → Pair
+with_standby_as arrivals node runs pair = record pair { arrivals = arrivals; standby = node; standby_runs = runs }
+
+-- the standby, and what it told, are others, and it is no further back
+standby-parts : (first second : Holder) (old : Pair) (arrivals : Arrived) (node : Node) (runs : Bool) (w : World) (machine : MachineStandby) (told : List Acknowledgement) → w.standby.position ≤ machine.position
+    → PartsRefine first second old w → ArrivalsRefine old.link.epoch w.primary.calls arrivals machine.waiting told → StandbyRefines second old.link.epoch w.primary.calls machine.position node runs
+    → PartsRefine first second (with_standby_as arrivals node runs old) (record w { standby = machine; wire = record w.wire { acknowledgements = told } })
+standby-parts first second old arrivals node runs w machine told later parts arrivals_stand node_stands =
+    search (
+      rules,
+      remembers-on w.standby.position machine.position w.primary.committer.position w.primary.calls old.contents old.committing.waiting.items old.committing.aside old.sequencer old.sequencer later refl refl parts.remembers,
+      opening-on w.standby.position machine.position w.primary.opened w.primary.calls old.opening later parts.opening,
+    )
 
 -- whether the primary runs or not
-arrivals-either : (first second : Holder) (old : Pair) (arrivals : Arrivals) (w : World) (machine : MachineStandby) (told : List Acknowledgement) → EitherRefines first second old w → machine.position ≡ w.standby.position
-    → ArrivalsRefine old.link.epoch w.primary.calls arrivals machine.waiting told
-    → EitherRefines first second (with_arrivals arrivals old) (record w { standby = machine; wire = record w.wire { acknowledgements = told } })
-arrivals-either first second old arrivals w machine told parts position arrivals_stand = elim parts [
-  | inl up ↦ inl (up.0, arrivals-parts first second old arrivals w machine told up.1 position arrivals_stand)
-  | inr down ↦ inr (
-    down.0,
-    record {
-      sessions = down.1.sessions;
-      unseated = down.1.unseated;
-      committer = down.1.committer;
-      link = down.1.link;
-      ends = down.1.ends;
-      newest = down.1.newest;
-      none_told = down.1.none_told;
-      image = down.1.image;
-      gaps = down.1.gaps;
-      opened = down.1.opened;
-      recalls = subst (λ p. RecallsEach p w.primary.committer.position w.primary.calls down.1.image.contents) (sym position) down.1.recalls;
-      epoch = down.1.epoch;
-      frames = down.1.frames;
-      arrivals = arrivals_stand;
-      standby = subst (λ p. StandbyRefines second old.link.epoch w.primary.calls p old.standby old.standby_runs) (sym position) down.1.standby;
-    },
-  )
+pub standby-either : (first second : Holder) (old : Pair) (arrivals : Arrived) (node : Node) (runs : Bool) (w : World) (machine : MachineStandby) (told : List Acknowledgement) → w.standby.position ≤ machine.position
+    → EitherRefines first second old w → ArrivalsRefine old.link.epoch w.primary.calls arrivals machine.waiting told → StandbyRefines second old.link.epoch w.primary.calls machine.position node runs
+    → EitherRefines first second (with_standby_as arrivals node runs old) (record w { standby = machine; wire = record w.wire { acknowledgements = told } })
+standby-either first second old arrivals node runs w machine told later parts arrivals_stand node_stands = elim parts [
+  | inl up ↦ inl (up.0, standby-parts first second old arrivals node runs w machine told later up.1 arrivals_stand node_stands)
+  | inr down ↦
+      let lost = down.1 in
+      inr (down.0, search (rules, recalls-still w.standby.position machine.position w.primary.committer.position w.primary.calls lost.image.contents later lost.recalls))
 ]
 
 frames-stand : {first second : Holder} {pair : Pair} {w : World} → EitherRefines first second pair w → AreFramesSent pair.link.epoch w.primary.calls pair.frames w.wire.frames
@@ -110,10 +85,7 @@ arrivals-stand parts = elim parts [
 -- a standby that runs
 pub follower : {first second : Holder} {pair : Pair} {w : World} → pair.standby_runs ≡ true → EitherRefines first second pair w
     → StandbyStands second pair.link.epoch w.primary.calls w.standby.position pair.standby
-follower follows parts = elim parts [
-  | inl up ↦ up.1.standby.stands follows
-  | inr down ↦ down.1.standby.stands follows
-]
+follower follows parts = (standby-refines parts).stands follows
 
 pub link-epoch : {first second : Holder} {pair : Pair} {w : World} → EitherRefines first second pair w → pair.link.epoch ≡ w.primary.epoch
 link-epoch parts = elim parts [
@@ -142,7 +114,7 @@ both-run {first} {second} {pair} {w} follows stands =
     standby-runs follows (nodes-refine stands) events.OpenLink (λ runs. ap (λ b. b && is_running w.standby.life) (ap is_running (serving stands)) ∙ runs) refl
 
 -- the standby told its position
-abbrev pub Acknowledges : Ack → Arrivals → Arrivals → Type 0
+abbrev pub Acknowledges : Ack → Arrived → Arrived → Type 0
 Acknowledges ack old new =
     (epoch : ℕ) (w : World) → ArrivalsRefine epoch w.primary.calls old w.standby.waiting w.wire.acknowledgements → told_by ack ≡ acknowledgement_of w.standby
     → ArrivalsRefine epoch w.primary.calls new w.standby.waiting (w.wire.acknowledgements ++ acknowledgement_of w.standby ∷ [])
@@ -193,7 +165,7 @@ delta-frames epoch low opened calls opening delta leads is = elim (cases_lt low 
       (subst (λ (d : Option Frame). AreFramesOf epoch calls (option_items d) []) (sym (is.none (omega (arith, passed, leads.position_is)))) tt)
 ]
 
-pub open-does : (old : Pair) (arrivals : Arrivals) (link : Stream) (ack : Ack) (delta : Option Frame) → old.standby_runs ≡ true
+pub open-does : (old : Pair) (arrivals : Arrived) (link : Stream) (ack : Ack) (delta : Option Frame) → old.standby_runs ≡ true
     → ack ≡ record { epoch = old.standby.epoch; position = old.standby.contents.current.position } → Acknowledges ack old.arrivals arrivals → IsDue old.link.epoch old.opening ack.position delta
     → link ≡ record old.link { next = 0; delta = delta } → Does old events.OpenLink (Ok true) (with_opened arrivals link old)
 open-does old arrivals link ack delta follows is acknowledges due reopened =
@@ -205,7 +177,7 @@ open-does old arrivals link ack delta follows is acknowledges due reopened =
           let own : told_by ack ≡ acknowledgement_of w.standby = ap₂ (λ e p. record { epoch = e; position = p }) epoch position in
           let told = acknowledges old.link.epoch w parts.arrivals own in
           let w' = with_acknowledged (acknowledgement_of w.standby ∷ []) w in
-          let heard : PartsRefine first second (with_arrivals arrivals old) w' = arrivals-parts first second old arrivals w w.standby (w.wire.acknowledgements ++ acknowledgement_of w.standby ∷ []) parts refl told in
+          let heard : PartsRefine first second (with_arrivals arrivals old) w' = standby-parts first second old arrivals old.standby old.standby_runs w w.standby (w.wire.acknowledgements ++ acknowledgement_of w.standby ∷ []) (le_refl w.standby.position) parts told parts.standby in
           let machine = opened_link (due_delta w.standby.position w.primary.opened) w.primary.link in
           let opened : LinkRefines w.primary.calls (record old.link { next = 0; delta = delta }) old.handed old.remote machine = record {
             waiting = parts.link.waiting;
@@ -226,17 +198,17 @@ open-does old arrivals link ack delta follows is acknowledges due reopened =
       calls = none-added _ _ refl;
     }
 
-pub open-cut : (old : Pair) (arrivals : Arrivals) (result : Result Bool Refusal) (refusal : Refusal) → old.standby_runs ≡ true → result ≡ Err refusal → refusal ≡ Memory
+pub open-cut : (old : Pair) (arrivals : Arrived) (result : Result Bool Refusal) (refusal : Refusal) → old.standby_runs ≡ true → result ≡ Err refusal → refusal ≡ Memory
     → Does old events.OpenLink result (with_arrivals arrivals old)
 open-cut old arrivals result refusal follows is memory =
     subst (λ (r : Result Bool Refusal). Does old events.OpenLink r (with_arrivals arrivals old)) (sym is)
     (record {
       steps = tt;
-      cut = λ first second w stands. cut-same first second events.OpenLink refusal old (with_arrivals arrivals old) w refl memory refl refl (tells old.sessions) (both-run follows stands) refl (nodes-refine stands);
+      cut = λ first second w stands. cut-same first second events.OpenLink refusal old (with_arrivals arrivals old) w refl memory refl refl (tells old.transcript) (both-run follows stands) refl (nodes-refine stands);
       calls = none-added _ _ refl;
     })
 
-pub deliver-acts : (old : Pair) (arrivals : Arrivals) (texts : List (Vec ℕ Global)) (frame piece : ℕ) (result : Result Bool Refusal) → old.standby_runs ≡ true → texts ≡ old.frames
+pub deliver-acts : (old : Pair) (arrivals : Arrived) (texts : List (Vec ℕ Global)) (frame piece : ℕ) (result : Result Bool Refusal) → old.standby_runs ≡ true → texts ≡ old.frames
     → IfOk result (λ did. (epoch : ℕ) (w : World) → ArrivalsRefine epoch w.primary.calls old.arrivals w.standby.waiting w.wire.acknowledgements
     → AreFramesSent epoch w.primary.calls texts w.wire.frames
     → Goes (may_happen w (events.Deliver frame piece)) did
@@ -254,8 +226,8 @@ deliver-acts old arrivals texts frame piece (Ok did) follows same go memory some
           goes-either first second w (with_standby came w) (events.Deliver frame piece) did old (with_arrivals arrivals old) refl refl stands.sound
           (standby-runs follows stands (events.Deliver frame piece) (λ runs. runs) refl) refl
           (goes-map (go epoch w (arrivals-stand parts) (subst (λ (all : List (Vec ℕ Global)). AreFramesSent epoch calls all w.wire.frames) (sym same) (frames-stand parts)))
-          (λ moved. arrivals-either first second old arrivals w came w.wire.acknowledgements parts refl moved)
-          (λ stayed. arrivals-either first second old arrivals w w.standby w.wire.acknowledgements parts refl stayed));
+          (λ moved. standby-either first second old arrivals old.standby old.standby_runs w came w.wire.acknowledgements (le_refl w.standby.position) parts moved (standby-refines parts))
+          (λ stayed. standby-either first second old arrivals old.standby old.standby_runs w w.standby w.wire.acknowledgements (le_refl w.standby.position) parts stayed (standby-refines parts)));
       cut = tt;
       calls = none-added _ _ refl;
     }
@@ -266,64 +238,21 @@ deliver-acts old arrivals texts frame piece (Err refusal) follows same go memory
           let sent = frames-stand stands.parts in
           let is : frame < length w.wire.frames = omega (arith, some, ap length same, length-sent old.link.epoch w.primary.calls old.frames w.wire.frames sent) in
           let refused : refusal ≡ Memory = memory old.link.epoch w (subst (λ (all : List (Vec ℕ Global)). AreFramesSent old.link.epoch w.primary.calls all w.wire.frames) (sym same) sent) in
-          cut-same first second (events.Deliver frame piece) refusal old (with_arrivals arrivals old) w refl refused refl refl (tells old.sessions)
+          cut-same first second (events.Deliver frame piece) refusal old (with_arrivals arrivals old) w refl refused refl refl (tells old.transcript)
           (standby-runs follows stands (events.Deliver frame piece) (λ runs. runs) refl) (lt-ltb frame (length w.wire.frames) is) stands;
       calls = none-added _ _ refl;
     }
 
-abbrev pub with_node : Arrivals → Node → Pair → Pair
+abbrev pub with_node : Arrived → Node → Pair → Pair
 with_node arrivals node pair = record pair { arrivals = arrivals; standby = node }
 
-node-either : (first second : Holder) (old : Pair) (arrivals : Arrivals) (node : Node) (w w' : World) → old.standby_runs ≡ true → EitherRefines first second old w → w'.primary ≡ w.primary
-    → w'.wire.frames ≡ w.wire.frames → w.standby.position ≤ w'.standby.position
-    → ArrivalsRefine old.link.epoch w.primary.calls arrivals w'.standby.waiting w'.wire.acknowledgements → StandbyStands second old.link.epoch w.primary.calls w'.standby.position node
-    → EitherRefines first second (with_node arrivals node old) w'
-node-either first second old arrivals node w w' follows parts primary frames later arrivals_stand node_stands =
-    let calls = ap (λ (p : Primary). p.calls) primary in
-    let node_refines : StandbyRefines second old.link.epoch w'.primary.calls w'.standby.position node old.standby_runs =
-    record { stands = λ runs. subst (λ (l : List Call). StandbyStands second old.link.epoch l w'.standby.position node) (sym calls) node_stands; down = λ down. absurd (true≢false (sym follows ∙ down)) } in
-    let arrive = subst (λ (l : List Call). ArrivalsRefine old.link.epoch l arrivals w'.standby.waiting w'.wire.acknowledgements) (sym calls) arrivals_stand in
-    elim parts [
-      | inl up ↦
-          let at : (p : Primary) → p ≡ w.primary → PartsRefine first second (with_node arrivals node old) (record w' { primary = p }) = λ p same. rw same (record {
-            sessions = up.1.sessions;
-            sequencer = up.1.sequencer;
-            follow = up.1.follow;
-            committing = up.1.committing;
-            engine = up.1.engine;
-            leads = up.1.leads;
-            freeing = up.1.freeing;
-            remembers = remembers-on w.standby.position w'.standby.position w.primary.committer.position w.primary.calls old.contents old.committing.waiting.items old.committing.aside old.sequencer old.sequencer later refl refl up.1.remembers;
-            opening = opening-on w.standby.position w'.standby.position w.primary.opened w.primary.calls old.opening later up.1.opening;
-            epoch = up.1.epoch;
-            link = up.1.link;
-            frames = subst (AreFramesSent old.link.epoch w.primary.calls old.frames) (sym frames) up.1.frames;
-            arrivals = arrivals_stand;
-            standby = record { stands = λ runs. node_stands; down = λ down. absurd (true≢false (sym follows ∙ down)) };
-          }) in
-          inl (up.0, at w'.primary primary)
-      | inr down ↦
-          let at : (p : Primary) → p ≡ w.primary → DownRefine first second (with_node arrivals node old) (record w' { primary = p }) = λ p same. rw same (record {
-            sessions = down.1.sessions;
-            unseated = down.1.unseated;
-            committer = down.1.committer;
-            link = down.1.link;
-            ends = down.1.ends;
-            newest = down.1.newest;
-            none_told = down.1.none_told;
-            image = down.1.image;
-            gaps = down.1.gaps;
-            opened = down.1.opened;
-            recalls = recalls-still w.standby.position w'.standby.position w.primary.committer.position w.primary.calls down.1.image.contents later down.1.recalls;
-            epoch = down.1.epoch;
-            frames = subst (AreFramesSent old.link.epoch w.primary.calls old.frames) (sym frames) down.1.frames;
-            arrivals = arrivals_stand;
-            standby = record { stands = λ runs. node_stands; down = λ down. absurd (true≢false (sym follows ∙ down)) };
-          }) in
-          inr (down.0, at w'.primary primary)
-    ]
+node-either : (first second : Holder) (old : Pair) (arrivals : Arrived) (node : Node) (w : World) (machine : MachineStandby) (told : List Acknowledgement) → old.standby_runs ≡ true → EitherRefines first second old w
+    → w.standby.position ≤ machine.position → ArrivalsRefine old.link.epoch w.primary.calls arrivals machine.waiting told → StandbyStands second old.link.epoch w.primary.calls machine.position node
+    → EitherRefines first second (with_node arrivals node old) (record w { standby = machine; wire = record w.wire { acknowledgements = told } })
+node-either first second old arrivals node w machine told follows parts later arrivals_stand node_stands =
+    standby-either first second old arrivals node old.standby_runs w machine told later parts arrivals_stand (record { stands = λ runs. node_stands; down = λ down. absurd (true≢false (sym follows ∙ down)) })
 
-apply-steps : (first second : Holder) (old : Pair) (arrivals : Arrivals) (node : Node) (w : World) (did : Bool) → old.standby_runs ≡ true → NodesRefine first second old w
+apply-steps : (first second : Holder) (old : Pair) (arrivals : Arrived) (node : Node) (w : World) (did : Bool) → old.standby_runs ≡ true → NodesRefine first second old w
     → AppliesFirst second old.link.epoch w did arrivals old.standby node → Steps first second w events.Apply did old (with_node arrivals node old)
 apply-steps first second old arrivals node w true follows stands applies =
     let moved = applies.goes refl in
@@ -338,7 +267,7 @@ apply-steps first second old arrivals node w true follows stands applies =
       stands = record {
         sound = sound-step w events.Apply true w' step stands.sound;
         lives = lives-step runs happens;
-        parts = node-either first second old arrivals node w w' follows stands.parts refl refl (grows-step w events.Apply true w' step stands.sound).standby_position
+        parts = node-either first second old arrivals node w applied.standby (w.wire.acknowledgements ++ applied.told) follows stands.parts (grows-step w events.Apply true w' step stands.sound).standby_position
             (subst (λ (x : World). ArrivalsRefine old.link.epoch w.primary.calls arrivals x.standby.waiting x.wire.acknowledgements) applied.now moved.2)
             (subst (λ (x : World). StandbyStands second old.link.epoch w.primary.calls x.standby.position node) applied.now moved.3);
       };
@@ -349,7 +278,7 @@ apply-steps first second old arrivals node w true follows stands applies =
     }
 apply-steps first second old arrivals node w false follows stands applies =
     let stayed = applies.stays refl in
-    let parts = node-either first second old arrivals node w w follows stands.parts refl refl (le_refl w.standby.position) stayed.0
+    let parts = node-either first second old arrivals node w w.standby w.wire.acknowledgements follows stands.parts (le_refl w.standby.position) stayed.0
     (subst (StandbyStands second old.link.epoch w.primary.calls w.standby.position) (sym stayed.1) (follower follows stands.parts)) in
     let runs = standby-runs follows stands events.Apply (λ runs. runs) refl in
     record {
@@ -366,7 +295,7 @@ ends-apply Fault P Q both ends = both Breaks ends
 ends-apply Exhausted P Q both ends = both RestsAtFrameLimit ends
 ends-apply refusal P Q both ends = absurd ends
 
-pub apply-acts : (old : Pair) (arrivals : Arrivals) (node : Node) (result : Result Bool Refusal) → old.standby_runs ≡ true
+pub apply-acts : (old : Pair) (arrivals : Arrived) (node : Node) (result : Result Bool Refusal) → old.standby_runs ≡ true
     → IfOk result (λ did. (holder : Holder) (w : World) → Sound w → old.standby.epoch ≡ w.standby.epoch → ArrivalsRefine old.standby.epoch w.primary.calls old.arrivals w.standby.waiting w.wire.acknowledgements
     → StandbyStands holder old.standby.epoch w.primary.calls w.standby.position old.standby
     → AppliesFirst holder old.standby.epoch w did arrivals old.standby node)
@@ -409,7 +338,7 @@ apply-acts old arrivals node result follows applies only cuts = go result applie
           cut = λ first second w stands.
               let new = with_node arrivals node old in
               let cut = cuts second w stands.sound (own-epoch first second old w follows stands) (arrive first second w stands) (stand first second w stands) in
-              cut-for first second events.Apply refusal old new w stands (tells old.sessions) (enabled-is (standby-runs follows stands events.Apply (λ runs. runs) refl) ∙ cut.0)
+              cut-for first second events.Apply refusal old new w stands (tells old.transcript) (enabled-is (standby-runs follows stands events.Apply (λ runs. runs) refl) ∙ cut.0)
               (ends-apply refusal (λ _ last. last second w.primary.calls w.standby.position (next_standby w) old.standby.device node.device) (Led first second old new w)
               (λ last broken. (rests-primary first second old w stands, broken)) cut.1);
           calls = none-added _ _ refl;

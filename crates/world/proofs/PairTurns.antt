@@ -1,5 +1,5 @@
 -- What the turns of the committer do to the pair: its own clauses refine the machine's events.
-use Rattle.std.proofs.Common.{◌≡◌, ◌⊎◌, ◌-◌, ◌<◌, ◌≤◌, ℕ, Bool, true, false, ◌&&◌, List, [], ◌∷◌, ◌++◌, length, map, Some, Result, Ok, Err, inl, inr, refl, sym, ap, subst, ◌∙◌, append-nil, arith, true≢false, Vec, Global}
+use Rattle.std.proofs.Common.{◌≡◌, ◌⊎◌, ◌-◌, ◌<◌, ◌≤◌, ℕ, Bool, true, false, ◌&&◌, List, ◌∷◌, ◌++◌, length, map, Some, Result, Ok, Err, inl, inr, refl, sym, ap, subst, ◌∙◌, append-nil, arith, true≢false, Vec, Global, []}
 use Rattle.std.proofs.lemmas.Bool.{ltb-true}
 use Rattle.std.specs.Coded.{le_prop}
 use Rattle.pmem.specs.Device.{State}
@@ -34,14 +34,14 @@ use Rattle.world.specs.Committing.{EngineStands, CommittingRefines, next_primary
 use Rattle.world.specs.Queue.{has_group, is_done, is_ready_now, link_has_room, may_commit_now}
 use Rattle.world.specs.Recalling.{Remembers}
 use Rattle.connections.specs.Session.{SequencerRefines}
-use Rattle.world.specs.Standby.{Node}
+use Rattle.world.specs.Standby.{Arrived, Node}
 use Rattle.world.specs.Pair.{Pair, PartsRefine, PairRefines, Steps, Does}
-use Rattle.world.specs.declared.arrivals.Arrivals.{Arrivals}
-use Rattle.connections.specs.declared.sessions.Sessions.{Sessions}
+use Rattle.connections.specs.declared.connections.Connections.{Connections}
+use Rattle.connections.specs.declared.transcript.Transcript.{Transcript}
 use Rattle.world.proofs.CommittingLemmas.{Leads-committed, Remembers-committed, TakesGroup, commit-ends, commit-goes, commit-moments, hand-goes, hand-none, hand-room, raise-goes, raise-none, takes-group}
 use Rattle.world.proofs.LivesLemmas.{enabled-is, nodes-refine, own-runs}
-use Rattle.world.proofs.PairLemmas.{Led, cut-for, cut-same, none-added, rests-standby, tells}
-use Rattle.world.proofs.PairCommitting.{commit-steps, ends-commit, hand-does, raise-does, same_closed, stays-does}
+use Rattle.world.proofs.PairLemmas.{Led, cut-for, cut-same, none-added, rests-standby, stays-does, tells}
+use Rattle.world.proofs.PairCommitting.{commit-steps, ends-commit, hand-does, raise-does, same_closed}
 use Rattle.world.proofs.QueueLemmas.{commit-enabled, no_group-lists}
 
 -- a turn did something
@@ -59,7 +59,7 @@ committed_not_refused : {done : Done} {refusal : Refusal} → Ok done ≡ Err re
 committed_not_refused same = cc
 
 -- what waits in a pipe is all that there is of it
-Waiting-same : {T : Type 0} (a b : Waiting T) → a.items ≡ b.items → a ≡ b
+pub Waiting-same : {T : Type 0} (a b : Waiting T) → a.items ≡ b.items → a ≡ b
 Waiting-same a b same =
     subst (λ items. (within : length items ≤ limits.PIPE_ITEMS) → a ≡ record { items = items; within = within }) same (λ within. ap (λ w. record a { within = w }) (le_prop a.within within)) b.within
 
@@ -71,7 +71,7 @@ record MayCommit (stage : Stage) (items : List Work) (handed : List Group) : Typ
   some : has_group items ≡ true
   room : length handed < PIPE_ITEMS
 
-may-parts : (a b c : Bool) → (a && b && c) ≡ true → (a ≡ true) × (b ≡ true) × (c ≡ true)
+pub may-parts : (a b c : Bool) → (a && b && c) ≡ true → (a ≡ true) × (b ≡ true) × (c ≡ true)
 may-parts true true true may = (refl, refl, refl)
 may-parts true true false may = absurd (true≢false (sym may))
 may-parts true false c may = absurd (true≢false (sym may))
@@ -82,7 +82,7 @@ may-commit stage items handed may =
     let parts = may-parts (is_ready_now stage) (has_group items) (link_has_room handed) (sym may) in
     record { ready = parts.0; some = parts.1; room = ltb-true (length handed) PIPE_ITEMS parts.2 }
 
-is-ready : (stage : Stage) → is_ready_now stage ≡ true → stage ≡ Ready
+pub is-ready : (stage : Stage) → is_ready_now stage ≡ true → stage ≡ Ready
 is-ready Ready is = refl
 is-ready (Durable group) is = absurd (true≢false (sym is))
 is-ready (Shown group) is = absurd (true≢false (sym is))
@@ -101,11 +101,12 @@ none-drained : (room : ℕ) (before between after : Waiting Work) (lists : List 
 none-drained room before between after lists takes (inl drained) has some = none-ended before between lists takes (EndsLists-none before between after lists takes drained.1).0 some
 none-drained room before between after lists takes (inr full) has some = absurd (omega (arith, full.0, has))
 
-module _ {E : Type 0} (device : E → State) (contents : E → Contents) (is_faulted : E → Bool) (sessions : Sessions) (sequencer : Sequencing) (notices : List Freed) (link : Stream) (opening : Opening) (remote : ℕ) (frames : List (Vec ℕ Global)) (arrivals : Arrivals) (standby : Node) (primary_runs standby_runs : Bool) where
+module _ {E : Type 0} (device : E → State) (contents : E → Contents) (is_faulted : E → Bool) (sessions : Connections) (transcript : Transcript) (sequencer : Sequencing) (notices : List Freed) (link : Stream) (opening : Opening) (remote : ℕ) (frames : List (Vec ℕ Global)) (arrivals : Arrived) (standby : Node) (primary_runs standby_runs : Bool) where
   -- a pair with this committer, with this work waiting for it, and with these groups at the link
   abbrev pub pair_of : Committer E → Waiting Work → Waiting Group → Pair
   pair_of committer work waiting = record {
     sessions = sessions;
+    transcript = transcript;
     sequencer = sequencer;
     committing = record { waiting = work; aside = committer.aside.items; stage = committer.stage; local = committer.local };
     notices = notices;
@@ -198,7 +199,7 @@ module _ {E : Type 0} (device : E → State) (contents : E → Contents) (is_fau
             let new = pair_of after works' handed in
             let parts = stands.parts in
             let takes = takes-first before after works works' handed lists group takes first second w parts in
-            cut-for first second events.Commit refusal old new w (nodes-refine stands) (tells sessions)
+            cut-for first second events.Commit refusal old new w (nodes-refine stands) (tells transcript)
             (enabled-is (own-runs stands events.Commit refl) ∙ sym (may ∙ commit-enabled w old.committing handed.items parts.committing parts.link.waiting))
             (ends-commit refusal (λ last _. last first w.primary.calls w.primary.committer.position (next_primary w) old.device new.device) (Led first second old new w)
             (λ last broken. (broken, rests-standby first second old w (nodes-refine stands)))
@@ -219,7 +220,7 @@ module _ {E : Type 0} (device : E → State) (contents : E → Contents) (is_fau
         cut = λ first second w stands.
             let old = pair_of before works handed in
             let parts = stands.parts in
-            cut-same first second events.Commit Memory old (pair_of after works' handed) w refl refl (ap device refuses.engine) refl (tells sessions) (own-runs stands events.Commit refl)
+            cut-same first second events.Commit Memory old (pair_of after works' handed) w refl refl (ap device refuses.engine) refl (tells transcript) (own-runs stands events.Commit refl)
             (sym (may ∙ commit-enabled w old.committing handed.items parts.committing parts.link.waiting)) (nodes-refine stands);
         calls = none-added _ _ refl;
       })

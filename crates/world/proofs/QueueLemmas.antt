@@ -1,5 +1,5 @@
 -- What waits for the committer stands for what waits for the machine's: the same may happen next, and a turn may take it.
-use Rattle.std.proofs.Common.{◌≡◌, ℕ, suc, Bool, true, false, not, ◌&&◌, cond, nat_lt, List, [], ◌∷◌, ◌++◌, length, map, refl, ap, ap₂, ◌∙◌}
+use Rattle.std.proofs.Common.{◌≡◌, ℕ, Bool, true, false, not, ◌&&◌, cond, nat_lt, List, [], ◌∷◌, ◌++◌, map, refl, ap, ap₂, ◌∙◌, rules}
 use Rattle.std.proofs.lemmas.List.{map-append}
 use Rattle.model.specs.declared.call.Call.{Call}
 use Rattle.model.specs.declared.group.Group.{Group}
@@ -7,7 +7,7 @@ use Rattle.model.specs.declared.work.FreeList.{FreeList}
 use Rattle.model.specs.declared.work.Work.{Work}
 use Rattle.model.specs.declared.work.Work.TheVariants as work
 use Rattle.model.specs.Call.{is_nonempty}
-use Rattle.group_commit.specs.Group.{groups_of, lists_before, lists_of}
+use Rattle.group_commit.specs.Group.{lists_of}
 use Rattle.group_commit.specs.declared.stage.Stage.{Stage}
 use Rattle.group_commit.specs.declared.stage.Stage.TheVariants.{Ready, Durable, Shown}
 use Rattle.machine.specs.declared.event.Event.TheVariants.{ClearGap, Free}
@@ -24,94 +24,43 @@ use Rattle.world.proofs.GroupSpanLemmas.{IsGroupOf-grows, length-groups}
 
 IsWorkOf-grows : (calls more : List Call) (item : Work) (work : MachineWork) → IsWorkOf calls item work → IsWorkOf (calls ++ more) item work
 IsWorkOf-grows calls more (work.Commit group) (Commits span) is = IsGroupOf-grows calls more group span is
-IsWorkOf-grows calls more (work.Commit group) (Frees position) is = absurd is
-IsWorkOf-grows calls more (work.Free list) (Commits span) is = absurd is
 IsWorkOf-grows calls more (work.Free list) (Frees position) is = is
+IsWorkOf-grows calls more item work is = absurd is
 
 pub AreWorkOf-grows : (calls more : List Call) (items : List Work) (works : List MachineWork) → AreWorkOf calls items works → AreWorkOf (calls ++ more) items works
 AreWorkOf-grows calls more [] [] are = tt
-AreWorkOf-grows calls more [] (work ∷ works) are = absurd are
-AreWorkOf-grows calls more (item ∷ items) [] are = absurd are
 AreWorkOf-grows calls more (item ∷ items) (work ∷ works) are = (IsWorkOf-grows calls more item work are.0, AreWorkOf-grows calls more items works are.1)
-
--- ---- items come
+AreWorkOf-grows calls more items works are = absurd are
 
 pub AreWorkOf-append : (calls : List Call) (items : List Work) (works : List MachineWork) (others : List Work) (more : List MachineWork) → AreWorkOf calls items works → AreWorkOf calls others more
     → AreWorkOf calls (items ++ others) (works ++ more)
 AreWorkOf-append calls [] [] others more are are' = are'
-AreWorkOf-append calls [] (work ∷ works) others more are are' = absurd are
-AreWorkOf-append calls (item ∷ items) [] others more are are' = absurd are
 AreWorkOf-append calls (item ∷ items) (work ∷ works) others more are are' = (are.0, AreWorkOf-append calls items works others more are.1 are')
-
-pub AreWorkOf-push : (calls : List Call) (items : List Work) (works : List MachineWork) (item : Work) (work : MachineWork) → AreWorkOf calls items works → IsWorkOf calls item work
-    → AreWorkOf calls (items ++ item ∷ []) (works ++ work ∷ [])
-AreWorkOf-push calls items works item work are is = AreWorkOf-append calls items works (item ∷ []) (work ∷ []) are (is, tt)
+AreWorkOf-append calls items works others more are are' = absurd are
 
 -- ---- what is in it
 
-pub length-work : (calls : List Call) (items : List Work) (works : List MachineWork) → AreWorkOf calls items works → length items ≡ length works
-length-work calls [] [] are = refl
-length-work calls [] (work ∷ works) are = absurd are
-length-work calls (item ∷ items) [] are = absurd are
-length-work calls (item ∷ items) (work ∷ works) are = ap suc (length-work calls items works are.1)
-
 pub nonempty-work : (calls : List Call) (items : List Work) (works : List MachineWork) → AreWorkOf calls items works → is_nonempty items ≡ is_nonempty works
 nonempty-work calls [] [] are = refl
-nonempty-work calls [] (work ∷ works) are = absurd are
-nonempty-work calls (item ∷ items) [] are = absurd are
 nonempty-work calls (item ∷ items) (work ∷ works) are = refl
-
-pub groups-work : (calls : List Call) (items : List Work) (works : List MachineWork) → AreWorkOf calls items works → AreGroupsOf calls (groups_of items) (spans_of works)
-groups-work calls [] [] are = tt
-groups-work calls [] (work ∷ works) are = absurd are
-groups-work calls (item ∷ items) [] are = absurd are
-groups-work calls (work.Commit group ∷ items) (Commits span ∷ works) are = (are.0, groups-work calls items works are.1)
-groups-work calls (work.Commit group ∷ items) (Frees position ∷ works) are = absurd are.0
-groups-work calls (work.Free list ∷ items) (Commits span ∷ works) are = absurd are.0
-groups-work calls (work.Free list ∷ items) (Frees position ∷ works) are = groups-work calls items works are.1
+nonempty-work calls items works are = absurd are
 
 pub lists-work : (calls : List Call) (items : List Work) (works : List MachineWork) → AreWorkOf calls items works → positions_of_lists (lists_of items) ≡ machine.lists_of works
 lists-work calls [] [] are = refl
-lists-work calls [] (work ∷ works) are = absurd are
-lists-work calls (item ∷ items) [] are = absurd are
 lists-work calls (work.Commit group ∷ items) (Commits span ∷ works) are = lists-work calls items works are.1
-lists-work calls (work.Commit group ∷ items) (Frees position ∷ works) are = absurd are.0
-lists-work calls (work.Free list ∷ items) (Commits span ∷ works) are = absurd are.0
 lists-work calls (work.Free list ∷ items) (Frees position ∷ works) are = ap₂ (λ (p : ℕ) (ps : List ℕ). p ∷ ps) are.0 (lists-work calls items works are.1)
-
-pub lists_before-work : (calls : List Call) (items : List Work) (works : List MachineWork) → AreWorkOf calls items works → positions_of_lists (lists_before items) ≡ machine.lists_before works
-lists_before-work calls [] [] are = refl
-lists_before-work calls [] (work ∷ works) are = absurd are
-lists_before-work calls (item ∷ items) [] are = absurd are
-lists_before-work calls (work.Commit group ∷ items) (Commits span ∷ works) are = refl
-lists_before-work calls (work.Commit group ∷ items) (Frees position ∷ works) are = absurd are.0
-lists_before-work calls (work.Free list ∷ items) (Commits span ∷ works) are = absurd are.0
-lists_before-work calls (work.Free list ∷ items) (Frees position ∷ works) are = ap₂ (λ (p : ℕ) (ps : List ℕ). p ∷ ps) are.0 (lists_before-work calls items works are.1)
+lists-work calls items works are = absurd (search (rules, are))
 
 pub has_group-work : (calls : List Call) (items : List Work) (works : List MachineWork) → AreWorkOf calls items works → has_group items ≡ is_nonempty (from_group works)
 has_group-work calls [] [] are = refl
-has_group-work calls [] (work ∷ works) are = absurd are
-has_group-work calls (item ∷ items) [] are = absurd are
 has_group-work calls (work.Commit group ∷ items) (Commits span ∷ works) are = refl
-has_group-work calls (work.Commit group ∷ items) (Frees position ∷ works) are = absurd are.0
-has_group-work calls (work.Free list ∷ items) (Commits span ∷ works) are = absurd are.0
 has_group-work calls (work.Free list ∷ items) (Frees position ∷ works) are = has_group-work calls items works are.1
+has_group-work calls items works are = absurd (search (rules, are))
 
 -- free lists alone are no group
 pub no_group-lists : (lists : List FreeList) → has_group (map work.Free lists) ≡ false
 no_group-lists [] = refl
 no_group-lists (list ∷ lists) = no_group-lists lists
-
--- where no group waits, free lists alone do
-pub lists-alone : (items : List Work) → has_group items ≡ false → items ≡ map work.Free (lists_of items)
-lists-alone [] none = refl
-lists-alone (work.Commit group ∷ items) none = cc
-lists-alone (work.Free list ∷ items) none = ap (λ xs. work.Free list ∷ xs) (lists-alone items none)
-
-pub groups-alone : (items : List Work) → has_group items ≡ false → groups_of items ≡ []
-groups-alone [] none = refl
-groups-alone (work.Commit group ∷ items) none = cc
-groups-alone (work.Free list ∷ items) none = groups-alone items none
 
 -- where nothing is aside, and the link has room, the first item that waits is the first free list that was reached
 pub reached-first : (aside : List FreeList) (items : List Work) (handed : List Group) (list : FreeList) (rest : List Work) → aside ≡ [] → link_has_room handed ≡ true → items ≡ work.Free list ∷ rest
@@ -123,14 +72,9 @@ reached-first aside items handed list rest none room first =
 
 pub ready-stage : (calls : List Call) (stage : Stage) (stage' : MachineStage) → StageRefines calls stage stage' → is_ready_now stage ≡ is_ready stage'
 ready-stage calls Ready machine_stage.Ready is = refl
-ready-stage calls Ready (machine_stage.Durable span) is = absurd is
-ready-stage calls Ready (machine_stage.Shown span) is = absurd is
-ready-stage calls (Durable group) machine_stage.Ready is = absurd is
 ready-stage calls (Durable group) (machine_stage.Durable span) is = refl
-ready-stage calls (Durable group) (machine_stage.Shown span) is = absurd is
-ready-stage calls (Shown group) machine_stage.Ready is = absurd is
-ready-stage calls (Shown group) (machine_stage.Durable span) is = absurd is
 ready-stage calls (Shown group) (machine_stage.Shown span) is = refl
+ready-stage calls stage stage' is = absurd is
 
 pub room-link : (calls : List Call) (handed : List Group) (spans : List Span) → AreGroupsOf calls handed spans → link_has_room handed ≡ has_room spans
 room-link calls handed spans are = ap (λ n. nat_lt n PIPE_ITEMS) (length-groups calls handed spans are)

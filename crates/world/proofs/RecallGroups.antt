@@ -155,7 +155,8 @@ recalls-map versions Counts entries position s map_is beyond = record {
     within i id value live (inr le) = absurd (not_live (beyond i le) live)
 
 -- where more count, no less is recalled
-recalls-more : (versions : Versions) (Counts More : ℕ → Type 0) (position : ℕ) (s : Keyspace) → ((i : ℕ) → Counts i → More i) → Recalls versions Counts position s → Recalls versions More position s
+pub recalls-more : (versions : Versions) (Counts More : ℕ → Type 0) (position : ℕ) (s : Keyspace) → ((i : ℕ) → Counts i → More i)
+    → Recalls versions Counts position s → Recalls versions More position s
 recalls-more versions Counts More position s more recalls = record { kept = λ id value found. by id (recalls.kept id value found); stayed = recalls.stayed }
   where
     by : (id : RecordId) → ((i : ℕ) × (other : List ℕ) × IsLive versions i id other) ⊎ ((i : ℕ) × IsGone versions i id × Counts i)

@@ -27,20 +27,11 @@ use Rattle.standby_stream.specs.Delta.{IsGone, Recalls}
 use Rattle.world.specs.GroupSpan.{AreWorkOf}
 use Rattle.world.specs.Recalling.{HoldsEnded, IsHeld, IsRecalled, RecallsEach, Remembers}
 use Rattle.world.proofs.ClosingLemmas.{last-open}
+use Rattle.world.proofs.RecallGroups.{recalls-more}
 use Rattle.world.proofs.CutLemmas.{keyspace_after-cut_at-cut}
 use Rattle.connections.proofs.SequencerLemmas.{AreOpen-grows}
 
 -- ---- where more entries count
-
-Recalls-wider : (versions : Versions) (Counts Others : ℕ → Type 0) (p : ℕ) (s : Keyspace) → ((i : ℕ) → Counts i → Others i) → Recalls versions Counts p s → Recalls versions Others p s
-Recalls-wider versions Counts Others p s wider recalls = record {
-  kept = λ id value is.
-      elim (recalls.kept id value is) [
-        | inl live ↦ inl live
-        | inr gone ↦ inr (gone.0, gone.1, wider gone.0 gone.2)
-      ];
-  stayed = recalls.stayed;
-}
 
 ended-wider : (Held Others : ℕ → ℕ → Type 0) (parts : List Part) → ((p i : ℕ) → Held p i → Others p i) → AllByRecursion (HoldsEnded Held) parts → AllByRecursion (HoldsEnded Others) parts
 ended-wider Held Others [] wider held = tt
@@ -61,7 +52,7 @@ Remembers-held low position calls contents items others aside beside old new gro
     let Others : ℕ → ℕ → Type 0 = IsHeld (beside ++ lists_of others) new.ended new.newest in
     record {
       earlier = λ p from below.
-          Recalls-wider contents.versions (Held p) (Others p) p (keyspace_after (cut_at calls p)) (held p) (remembers.earlier p from below);
+          recalls-more contents.versions (Held p) (Others p) p (keyspace_after (cut_at calls p)) (held p) (remembers.earlier p from below);
       groups = groups-wider Held Others calls (groups_of others) held (subst (AllByRecursion (IsRecalled Held calls)) groups remembers.groups);
     }
 
@@ -214,7 +205,7 @@ recalls-crashed low position calls contents new items aside s same remembers p f
     let moved = remembers-same low position calls contents new items aside s same remembers in
     let cut : keyspace_after (cut_at (cut_at calls position) p) ≡ keyspace_after (cut_at calls p) = keyspace_after-cut_at-cut calls position p (omega (arith, below)) in
     subst (Recalls new.versions (λ i. Unit {0}) p) (sym cut)
-    (Recalls-wider new.versions (IsHeld (aside ++ lists_of items) s.ended s.newest p) (λ i. Unit {0}) p (keyspace_after (cut_at calls p)) (λ i held. tt) (moved.earlier p from below))
+    (recalls-more new.versions (IsHeld (aside ++ lists_of items) s.ended s.newest p) (λ i. Unit {0}) p (keyspace_after (cut_at calls p)) (λ i held. tt) (moved.earlier p from below))
 
 -- ---- a crashed primary's image
 
@@ -228,7 +219,7 @@ pub remembers-opened : (low position : ℕ) (calls : List Call) (contents new : 
 remembers-opened low position calls contents new s same newest recalls =
     let opened : Remembers low position calls contents [] [] s = record {
       earlier = λ p from below.
-          Recalls-wider contents.versions (λ i. Unit {0}) (IsHeld [] s.ended s.newest p) p (keyspace_after (cut_at calls p))
+          recalls-more contents.versions (λ i. Unit {0}) (IsHeld [] s.ended s.newest p) p (keyspace_after (cut_at calls p))
           (λ i any. record { lists_are = tt; ended_is = λ listed. subst (λ (n : ℕ). p < n) (sym newest) below }) (recalls p from below);
       groups = tt;
     } in

@@ -1,6 +1,6 @@
 -- A run from event to event, and what is reported of it at its end.
 use Rattle.std.specs.Global.{Global}
-use Rattle.std.proofs.Common.{Vec, ◌≡◌, ◌⊎◌, ℕ, ◌≤◌, Bool, List, [], ◌∷◌, ◌++◌, length, take, slice_index_or, Option, Some, None, Err, refl, sym, ap, ap₂, subst, ◌∙◌, arith, le_refl, length-take, inl, inr, true, cond, nat_eq, eqb-true, All, false, ◌&&◌}
+use Rattle.std.proofs.Common.{Vec, ◌≡◌, ℕ, ◌≤◌, Bool, List, [], ◌∷◌, ◌++◌, length, take, slice_index_or, Option, Some, None, Err, refl, sym, ap, ap₂, subst, ◌∙◌, arith, le_refl, inl, inr, true, cond, nat_eq, eqb-true, All, false, ◌&&◌}
 use Rattle.pmem.specs.Device.{State}
 use Rattle.pmem.specs.Runs.{LeavesOnly}
 use Rattle.kv_types.specs.declared.refusal.Refusal.{Refusal}
@@ -23,7 +23,6 @@ use Rattle.std.proofs.lemmas.List.Elements.{All-head}
 use Rattle.machine.proofs.GrowLemmas.{grows-step}
 use Rattle.machine.proofs.WorkLemmas.{spans_of-from_group}
 use Rattle.machine.proofs.CoverLemmas.{covered-run}
-use Rattle.machine.proofs.CountLemmas.{few-connections}
 use Rattle.machine.proofs.PromiseLemmas.{released-held}
 use Rattle.machine.proofs.EveryRun.{promised-told}
 use Rattle.machine.proofs.RunLemmas.{run-push, last_world-push, sound-start}
@@ -39,7 +38,7 @@ use Rattle.connections.specs.Session.{released_of}
 use Rattle.world.proofs.EngineLemmas.{rests-same}
 use Rattle.world.proofs.PairLemmas.{primary-stands, sessions-stand, standby-stands}
 use Rattle.world.proofs.StepLemmas.{acks-sent, frames-sent}
-use Rattle.connections.proofs.SessionLemmas.{length-connections, released-told}
+use Rattle.connections.proofs.SessionLemmas.{released-told}
 
 -- ---- whose images they are
 
@@ -124,23 +123,6 @@ pub reaches-cut : (first second : Holder) (began : Pair) (events : List Event) (
 reaches-cut first second began events event refusal done pair pair' cuts frames acks after =
     record { before = pair; reaches = after.reaches; stands = after.stands; frames = frames-cut event refusal _ _ frames; acknowledgements = acks-cut event refusal _ _ acks; cut = cuts first second (last_world start after.reaches.worlds) after.stands }
 
--- ---- the connections are few
-
--- no more than there are events
-pub few-played : (first second : Holder) (began : Pair) (events : List Event) (ended : Option EarlyEnd) (done : List Bool) (pair : Pair) → Plays first second began events ended done pair
-    → length pair.sessions.connections.items ≤ length events
-few-played first second began events None done pair plays =
-    let w = last_world start plays.reaches.worlds in
-    omega (
-      arith,
-      few-connections true events done plays.reaches.worlds plays.reaches.run,
-      length-connections w.primary.calls pair.sessions.connections.items w.primary.connections (sessions-stand plays.stands.parts).connections_stand,
-    )
-few-played first second began events (Some (AtFormatting refusal)) done pair plays = absurd plays
-few-played first second began events (Some (AtEvent index refusal)) done pair plays =
-    let reaches = plays.2.reaches in
-    omega (arith, few-connections true (take index events) done reaches.worlds reaches.run, plays.2.cut.count, length-take index events)
-
 -- ---- the position of a node
 
 -- it never falls, what was released is within it, and the next position is no lower
@@ -184,22 +166,12 @@ of_standby =
 
 -- ---- the moments of a run
 
-moves-from : (holder : Holder) (calls : List Call) (p q : ℕ) (old new : State) → p ≤ q → Moves holder calls p q old new → FromOnly holder calls p old new
-moves-from holder calls p q old new le moves = LeavesOnly-weaken (λ image. (n : ℕ) × (p ≤ n) × OpensAt holder calls n image) either moves.leaves
-  where
-    either : (image : Image) → OpensAt holder calls p image ⊎ OpensAt holder calls q image → (n : ℕ) × (p ≤ n) × OpensAt holder calls n image
-    either image (inl before) = (p, le_refl p, before)
-    either image (inr after) = (q, le, after)
-
-rests-from : (holder : Holder) (calls : List Call) (p : ℕ) (old new : State) → Rests holder calls p old new → FromOnly holder calls p old new
-rests-from holder calls p old new rests = LeavesOnly-weaken (λ image. (n : ℕ) × (p ≤ n) × OpensAt holder calls n image) (λ image stands. (p, le_refl p, stands)) rests.leaves
-
 -- no crash of a last stretch leaves an image below the position
 abbrev IsLast : Stretch → Type 0
 IsLast last = (holder : Holder) (calls : List Call) (p q : ℕ) (old new : State) → p ≤ q → last holder calls p q old new → FromOnly holder calls p old new
 
 resting-from : IsLast Resting
-resting-from holder calls p q old new le rests = rests-from holder calls p old new rests
+resting-from holder calls p q old new le rests = LeavesOnly-weaken (λ image. (n : ℕ) × (p ≤ n) × OpensAt holder calls n image) (λ image stands. (p, le_refl p, stands)) rests.leaves
 
 near-from : (holder : Holder) (calls : List Call) (p q : ℕ) (old new : State) → p ≤ q → NearOnly holder calls p q old new → FromOnly holder calls p old new
 near-from holder calls p q old new le near = LeavesOnly-weaken (λ image. (n : ℕ) × (p ≤ n) × OpensAt holder calls n image) either near
@@ -243,7 +215,7 @@ moments-from touches last position next holder node from w (event ∷ events) (d
     let onward : LeavesOnly old new (OpensIn holder (position w) w (w' ∷ worlds)) =
     LeavesOnly-then
     (LeavesOnly-weaken (OpensIn holder (position w) w (w' ∷ worlds)) (λ image opens. inr (OpensIn-first holder (position w) w' worlds image opens))
-    (moves-from (holder w') w'.primary.calls (position w) (position w') old are.0 rises are.1))
+    (near-from (holder w') w'.primary.calls (position w) (position w') old are.0 rises are.1.leaves))
     (LeavesOnly-weaken (OpensIn holder (position w) w (w' ∷ worlds)) (λ image opens. inr (OpensIn-lower holder (position w) (position w') w' worlds image rises opens)) rest.from) in
     record {
       from = onward;
@@ -310,19 +282,19 @@ kept Last first_last second_last first second began events done calls released f
       standby_moments = subst (λ (worlds : List World). AreMoments touches_standby second_last standby_position next_standby (standby_holder second.lines) start events done worlds began.standby.device standby') (sym promised.1) standby_moments.moments;
     }
 
-played-whole : (first second : Holder) (began : Pair) (events : List Event) (done : List Bool) (pair : Pair) (released : List (List ℕ)) → released ≡ released_of pair.sessions.connections.items
+played-whole : (first second : Holder) (began : Pair) (events : List Event) (done : List Bool) (pair : Pair) (released : List (List ℕ)) → released ≡ released_of pair.transcript
     → StandsAfter first second began events done pair
-    → IsKept AnyWorld Resting Resting first.lines second.lines events done pair.sessions.calls.items released pair.frames pair.arrivals.acknowledgements.items began.device began.standby.device pair.device pair.standby.device
+    → IsKept AnyWorld Resting Resting first.lines second.lines events done pair.transcript.calls.items released pair.frames pair.arrivals.acknowledgements.items began.device began.standby.device pair.device pair.standby.device
 played-whole first second began events done pair released same after =
     let w = last_world start after.reaches.worlds in
     let parts = after.stands.parts in
     let sessions = sessions-stand parts in
-    let told = sessions.calls_are in
-    kept AnyWorld Resting Resting first second began events done pair.sessions.calls.items released pair.frames pair.arrivals.acknowledgements.items pair.device pair.standby.device pair.device pair.standby.device
+    let told = sessions.told in
+    kept AnyWorld Resting Resting first second began events done pair.transcript.calls.items released pair.frames pair.arrivals.acknowledgements.items pair.device pair.standby.device pair.device pair.standby.device
     resting-from resting-from after.reaches
     (record {
-      list = told;
-      bytes = λ c. ap (λ (all : List (List ℕ)). slice_index_or all c []) same ∙ released-told w.primary.calls pair.sessions.connections.items w.primary.connections sessions.connections_stand c;
+      list = told.calls_are;
+      bytes = λ c. ap (λ (all : List (List ℕ)). slice_index_or all c []) same ∙ released-told w.primary.calls pair.transcript w.primary.connections told c;
       primary_position = refl;
       standby_position = refl;
     })
@@ -339,13 +311,13 @@ breaks-from : IsLast Breaks
 breaks-from holder calls p q old new le breaks = near-from holder calls p q old new le breaks.leaves
 
 limit-from : IsLast RestsAtLimit
-limit-from holder calls p q old new le rests = rests-from holder calls p old new rests.rests
+limit-from holder calls p q old new le rests = resting-from holder calls p q old new le rests.rests
 
 frame-limit-from : IsLast RestsAtFrameLimit
-frame-limit-from holder calls p q old new le rests = rests-from holder calls p old new rests.rests
+frame-limit-from holder calls p q old new le rests = resting-from holder calls p q old new le rests.rests
 
 reopening-from : IsLast RestsBeforeReopening
-reopening-from holder calls p q old new le rests = rests-from holder calls p old new rests.rests
+reopening-from holder calls p q old new le rests = resting-from holder calls p q old new le rests.rests
 
 pub ends-as : (refusal : Refusal) (event : Event) (P Q : Stretch → Stretch → Type 0) → ((first_last second_last : Stretch) → IsLast first_last → IsLast second_last → P first_last second_last → Q first_last second_last)
     → EndsBy refusal event P → EndsBy refusal event Q
@@ -364,16 +336,16 @@ ends-as Exhausted (Reopen node_of.Standby) P Q so ends = so Resting RestsBeforeR
 ends-as refusal event P Q so ends = absurd ends
 
 played-cut : (first second : Holder) (began : Pair) (events : List Event) (event : Event) (refusal : Refusal) (done : List Bool) (pair : Pair) (released : List (List ℕ))
-    → released ≡ released_of pair.sessions.connections.items → IsCutAfter first second began events event refusal done pair
+    → released ≡ released_of pair.transcript → IsCutAfter first second began events event refusal done pair
     → EndsBy refusal event (λ first_last second_last.
-    IsKept (Enables event) first_last second_last first.lines second.lines events done pair.sessions.calls.items released pair.frames pair.arrivals.acknowledgements.items began.device began.standby.device pair.device pair.standby.device)
+    IsKept (Enables event) first_last second_last first.lines second.lines events done pair.transcript.calls.items released pair.frames pair.arrivals.acknowledgements.items began.device began.standby.device pair.device pair.standby.device)
 played-cut first second began events event refusal done pair released same after =
     let w = last_world start after.reaches.worlds in
     let before = after.before in
     let cut = after.cut in
     ends-as refusal event _ _
     (λ first_last second_last first_from second_from led.
-    kept (Enables event) first_last second_last first second began events done pair.sessions.calls.items released pair.frames pair.arrivals.acknowledgements.items before.device before.standby.device pair.device pair.standby.device
+    kept (Enables event) first_last second_last first second began events done pair.transcript.calls.items released pair.frames pair.arrivals.acknowledgements.items before.device before.standby.device pair.device pair.standby.device
     first_from second_from after.reaches
     (record {
       list = cut.calls;
@@ -390,19 +362,14 @@ played-cut first second began events event refusal done pair released same after
 
 pub plays-on : (first second : Holder) (began : Pair) (events : List Event) (ended : Option EarlyEnd) (done : List Bool) (pair : Pair) (calls : List Call) (released : List (List ℕ))
     (frames acknowledgements : List (Vec ℕ Global)) (primary standby : State)
-    → calls ≡ pair.sessions.calls.items → released ≡ released_of pair.sessions.connections.items → frames ≡ pair.frames → acknowledgements ≡ pair.arrivals.acknowledgements.items
+    → calls ≡ pair.transcript.calls.items → released ≡ released_of pair.transcript → frames ≡ pair.frames → acknowledgements ≡ pair.arrivals.acknowledgements.items
     → primary ≡ pair.device → standby ≡ pair.standby.device
     → Plays first second began events ended done pair → PlaysOn first second events ended done calls released frames acknowledgements began.device began.standby.device primary standby
 plays-on first second began events ended done pair calls released frames acknowledgements primary standby calls_same same frames_same acks_same primary_same standby_same plays =
-    subst (λ (xs : List Call). PlaysOn first second events ended done xs released frames acknowledgements began.device began.standby.device primary standby) (sym calls_same)
-    (subst (λ (texts : List (Vec ℕ Global)). PlaysOn first second events ended done pair.sessions.calls.items released texts acknowledgements began.device began.standby.device primary standby) (sym frames_same)
-    (subst (λ (texts : List (Vec ℕ Global)). PlaysOn first second events ended done pair.sessions.calls.items released pair.frames texts began.device began.standby.device primary standby) (sym acks_same)
-    (subst (λ (d : State). PlaysOn first second events ended done pair.sessions.calls.items released pair.frames pair.arrivals.acknowledgements.items began.device began.standby.device d standby) (sym primary_same)
-    (subst (λ (d : State). PlaysOn first second events ended done pair.sessions.calls.items released pair.frames pair.arrivals.acknowledgements.items began.device began.standby.device pair.device d)
-    (sym standby_same) (go ended plays)))))
+    simp (calls_same, frames_same, acks_same, primary_same, standby_same) (go ended plays)
   where
     go : (ended : Option EarlyEnd) → Plays first second began events ended done pair
-        → PlaysOn first second events ended done pair.sessions.calls.items released pair.frames pair.arrivals.acknowledgements.items began.device began.standby.device pair.device pair.standby.device
+        → PlaysOn first second events ended done pair.transcript.calls.items released pair.frames pair.arrivals.acknowledgements.items began.device began.standby.device pair.device pair.standby.device
     go None plays = played-whole first second began events done pair released same plays
     go (Some (AtFormatting refusal)) plays = absurd plays
     go (Some (AtEvent index refusal)) plays = (plays.0, plays.1, played-cut first second began (take index events) plays.0 refusal done pair released same plays.2)

@@ -1,5 +1,5 @@
 -- What the standby does with a frame of the list is what the machine's does with its span.
-use Rattle.std.proofs.Common.{◌≡◌, ◌≢◌, ℕ, Bool, IsTrue, ◌+◌, ◌-◌, ◌<◌, ◌≤◌, ◌⊎◌, ⊎_elim, inl, inr, false, List, [], ◌∷◌, ◌++◌, Result, Ok, Err, IfOk, IfErr, OnOk, OnErr, IsErrOf, refl, sym, ap, ap₂, subst, ◌∙◌, arith, cond, eq-eqb}
+use Rattle.std.proofs.Common.{◌≡◌, ◌≢◌, ℕ, Bool, IsTrue, ◌+◌, ◌-◌, ◌<◌, ◌≤◌, ◌⊎◌, ⊎_elim, inl, inr, false, List, [], ◌∷◌, ◌++◌, Result, Ok, Err, IfOk, IfErr, OnOk, OnErr, IsErrOf, refl, sym, ap, ap₂, subst, ◌∙◌, arith, cond, eq-eqb, rules}
 use Rattle.std.proofs.lemmas.Bool.{cases_lt, cases_eq}
 use Rattle.kv_types.specs.declared.refusal.Refusal.{Refusal}
 use Rattle.kv_types.specs.declared.refusal.Refusal.TheVariants.{WrongEpoch, PositionGap, Full, Memory, Fault, Exhausted}
@@ -46,14 +46,7 @@ StandbyStands-still holder epoch calls p q node stands = near-still holder calls
 AreContentsAt-without : (holder : Holder) (calls : List Call) (p : ℕ) (contents : Contents) (gone : ℕ → Bool) → ((i : ℕ) → IsTrue (gone i) → IsTrue (is_ended_version (contents.versions i)))
     → AreContentsAt holder calls p contents → AreContentsAt holder calls p (without gone contents)
 AreContentsAt-without holder calls p contents gone ended are =
-    record {
-      at = are.at;
-      role_is = are.role_is;
-      epoch_is = are.epoch_is;
-      lines_are = are.lines_are;
-      consistent = consistent_without contents gone are.consistent;
-      map = IsMapOf-contents_without contents gone (keyspace_after (cut_at calls p)) ended are.map;
-    }
+    search (rules, consistent_without contents gone are.consistent, IsMapOf-contents_without contents gone (keyspace_after (cut_at calls p)) ended are.map, are)
 
 pub without-opens : (holder : Holder) (calls : List Call) (p : ℕ) (contents : Contents) (entries : List EntryNo) (image : Image) → AreEnded contents entries → AreContentsAt holder calls p contents
     → AreLawful contents → KeepsWithoutSome entries contents image → OpensAt holder calls p image
@@ -129,15 +122,7 @@ GoesOn refusal = (refusal ≡ Full) ⊎ (refusal ≡ PositionGap) ⊎ (refusal �
 
 -- of what a frame that comes next may be refused for, only this leaves the standby going
 is_full : (refusal : Refusal) → (refusal ≡ Full) ⊎ (refusal ≡ PositionGap) ⊎ (refusal ≡ WrongEpoch) → (refusal ≡ Full) ⊎ (refusal ≡ Memory) ⊎ (refusal ≡ Fault) ⊎ (refusal ≡ Exhausted) → refusal ≡ Full
-is_full refusal (inl full) causes = full
-is_full refusal (inr (inl gap)) (inl full) = full
-is_full refusal (inr (inl gap)) (inr (inl memory)) = cc
-is_full refusal (inr (inl gap)) (inr (inr (inl fault))) = cc
-is_full refusal (inr (inl gap)) (inr (inr (inr exhausted))) = cc
-is_full refusal (inr (inr epoch)) (inl full) = full
-is_full refusal (inr (inr epoch)) (inr (inl memory)) = cc
-is_full refusal (inr (inr epoch)) (inr (inr (inl fault))) = cc
-is_full refusal (inr (inr epoch)) (inr (inr (inr exhausted))) = cc
+is_full refusal goes_on causes = grind (arith, goes_on, causes)
 
 pub refused-full : {P : Type 0} (result : Result Ack Refusal) (refusal : Refusal) → result ≡ Err refusal → GoesOn refusal
     → IfErr result (λ refusal. (refusal ≡ Full) ⊎ (refusal ≡ Memory) ⊎ (refusal ≡ Fault) ⊎ (refusal ≡ Exhausted)) → (result ≡ Err Full → P) → P
@@ -176,57 +161,35 @@ module _ (holder : Holder) (epoch : ℕ) (calls : List Call) (machine : Machine)
   keyspace_next : span.before ≡ machine.position → play_all (records old.table) frame.changes.items ≡ keyspace_after (cut_at calls span.after)
   keyspace_next e = ap (λ s. play_all s frame.changes.items) (stands.table ∙ ap (λ n. keyspace_after (cut_at calls n)) (sym e)) ∙ is.plays
 
+  -- the node stands at a position if its record and its table do
+  new_stands : (p : ℕ) → new.contents.current.position ≡ p → new.contents.current.role ≡ old.contents.current.role → new.contents.current.epoch ≡ old.contents.current.epoch
+      → new.contents.lines ≡ old.contents.lines → records new.table ≡ keyspace_after (cut_at calls p) → Follows new.contents new.table new.room new.ended → new.is_faulted ≡ false
+      → IsDurable new.device new.contents → AreLawful new.contents → new.epoch ≡ old.epoch → StandbyStands holder epoch calls p new
+  new_stands p position role epoch_same lines now follows sound durable lawful epoch_stays =
+      let contents_at : AreContentsAt holder calls p new.contents = record {
+        at = position;
+        role_is = role ∙ stands.engine.contents_at.role_is;
+        epoch_is = epoch_same ∙ stands.engine.contents_at.epoch_is;
+        lines_are = lines ∙ stands.engine.contents_at.lines_are;
+        consistent = follows.consistent;
+        map = subst (IsMapOf new.contents.versions (entries_of_lines new.contents.lines)) now
+            (map-from_table new.contents.versions (entries_of_lines new.contents.lines) new.table follows.consistent.beyond follows.table_is);
+      } in
+      search (rules, contents_at, follows, now, sound, durable, lawful, epoch_stays ∙ stands.epoch_is, stands.epoch_held)
+
   -- the whole frame was taken
   taken_stands : span.before ≡ machine.position → HasTaken frame old.contents new.contents old.table new.table → Follows new.contents new.table new.room new.ended → new.is_faulted ≡ false
       → IsDurable new.device new.contents → AreLawful new.contents → new.epoch ≡ old.epoch → StandbyStands holder epoch calls span.after new
-  taken_stands e taken follows sound durable lawful epoch_stays =
-      let now : records new.table ≡ keyspace_after (cut_at calls span.after) = taken.keyspace ∙ keyspace_next e in
-      record {
-        engine = record {
-          contents_at = record {
-            at = taken.position ∙ is.after;
-            role_is = taken.role ∙ stands.engine.contents_at.role_is;
-            epoch_is = taken.epoch ∙ is.epoch_is ∙ stands.epoch_held;
-            lines_are = taken.lines ∙ stands.engine.contents_at.lines_are;
-            consistent = follows.consistent;
-            map = subst (IsMapOf new.contents.versions (entries_of_lines new.contents.lines)) now
-                (map-from_table new.contents.versions (entries_of_lines new.contents.lines) new.table follows.consistent.beyond follows.table_is);
-          };
-          lawful = lawful;
-          sound = sound;
-          durable = durable;
-        };
-        follows = follows;
-        table = now;
-        epoch_is = epoch_stays ∙ stands.epoch_is;
-        epoch_held = stands.epoch_held;
-      }
+  taken_stands e taken =
+      new_stands span.after (taken.position ∙ is.after) taken.role (taken.epoch ∙ is.epoch_is ∙ stands.epoch_held ∙ sym stands.engine.contents_at.epoch_is) taken.lines
+      (taken.keyspace ∙ keyspace_next e)
 
   -- nothing changed, but that what had ended may be freed
   refused_stands : IsKept old new → Follows new.contents new.table new.room new.ended → new.is_faulted ≡ false → IsDurable new.device new.contents → AreLawful new.contents → new.epoch ≡ old.epoch
       → StandbyStands holder epoch calls machine.position new
-  refused_stands kept follows sound durable lawful epoch_stays =
-      let now : records new.table ≡ keyspace_after (cut_at calls machine.position) = ap records kept.table ∙ stands.table in
-      record {
-        engine = record {
-          contents_at = record {
-            at = ap (λ (r : Record). r.position) kept.current ∙ stands.engine.contents_at.at;
-            role_is = ap (λ (r : Record). r.role) kept.current ∙ stands.engine.contents_at.role_is;
-            epoch_is = ap (λ (r : Record). r.epoch) kept.current ∙ stands.engine.contents_at.epoch_is;
-            lines_are = kept.line_count ∙ stands.engine.contents_at.lines_are;
-            consistent = follows.consistent;
-            map = subst (IsMapOf new.contents.versions (entries_of_lines new.contents.lines)) now
-                (map-from_table new.contents.versions (entries_of_lines new.contents.lines) new.table follows.consistent.beyond follows.table_is);
-          };
-          lawful = lawful;
-          sound = sound;
-          durable = durable;
-        };
-        follows = follows;
-        table = now;
-        epoch_is = epoch_stays ∙ stands.epoch_is;
-        epoch_held = stands.epoch_held;
-      }
+  refused_stands kept =
+      new_stands machine.position (ap (λ (r : Record). r.position) kept.current ∙ at) (ap (λ (r : Record). r.role) kept.current) (ap (λ (r : Record). r.epoch) kept.current) kept.line_count
+      (ap records kept.table ∙ stands.table)
 
   -- an image without some of what had ended stands where the standby stood
   before_opens : (image : Image) → KeepsWithoutSome old.ended old.contents image → OpensAt holder calls machine.position image
@@ -430,10 +393,5 @@ module _ (holder : Holder) (epoch : ℕ) (calls : List Call) (machine : Machine)
 -- ---- the list of calls grows
 
 pub StandbyStands-grows : (holder : Holder) (epoch : ℕ) (calls more : List Call) (p : ℕ) (node : Node) → p ≤ position_of calls → StandbyStands holder epoch calls p node → StandbyStands holder epoch (calls ++ more) p node
-StandbyStands-grows holder epoch calls more p node le stands = record {
-  engine = EngineStands-grows holder calls more p node.device node.contents node.is_faulted le stands.engine;
-  follows = stands.follows;
-  table = stands.table ∙ sym (keyspace_after-cut_at-append calls more p le);
-  epoch_is = stands.epoch_is;
-  epoch_held = stands.epoch_held;
-}
+StandbyStands-grows holder epoch calls more p node le stands =
+    search (rules, EngineStands-grows holder calls more p node.device node.contents node.is_faulted le stands.engine, stands.table ∙ sym (keyspace_after-cut_at-append calls more p le), stands)

@@ -1,16 +1,15 @@
 -- From what an event did to a pair to what can be told of it.
-use Rattle.std.proofs.Common.{◌≡◌, ◌⊎◌, ℕ, ◌<◌, Vec, Global, ◌++◌, Bool, true, false, List, Result, Ok, Err, length, refl, sym, ap, subst, ◌∙◌, arith, inl, inr}
+use Rattle.std.proofs.Common.{◌≡◌, ◌⊎◌, ℕ, ◌<◌, Vec, Global, ◌++◌, Bool, true, false, List, Result, Ok, Err, length, map, refl, sym, ap, subst, ◌∙◌, arith, inl, inr, rules}
 use Rattle.std.specs.Vec.{vec_capacity}
 use Rattle.kv_types.specs.declared.refusal.Refusal.{Refusal}
 use Rattle.model.specs.Standing.{Holder}
 use Rattle.machine.specs.declared.event.Event.{Event}
-use Rattle.machine.specs.declared.event.Event.TheVariants.{AcceptFreed, Apply, ClearGap, CloseGroup, Crash, Free, OpenLink, Reopen, Send, Turn}
+use Rattle.machine.specs.declared.event.Event.TheVariants.{Apply, Crash, OpenLink, Reopen, Send, Turn}
 use Rattle.machine.specs.declared.event.Node.TheVariants as node
 use Rattle.machine.specs.Event.{World}
 use Rattle.machine.proofs.PromiseLemmas.{released-held}
 use Rattle.connections.specs.Session.{AddsOne, released_of}
-use Rattle.connections.specs.declared.connection.Connection.{Connection as CodeConnection}
-use Rattle.connections.specs.declared.sessions.Sessions.{Sessions}
+use Rattle.connections.specs.declared.transcript.Transcript.{Transcript}
 use Rattle.connections.proofs.SessionLemmas.{released-told}
 use Rattle.world.specs.Headline.{start}
 use Rattle.world.specs.Link.{AreAcksSent, AreFramesSent}
@@ -40,8 +39,8 @@ pub shows : (first second : Holder) (pair : Pair) (w : World) → NodesRefine fi
 shows first second pair w stands =
     let sessions = sessions-stand stands.parts in
     record {
-      calls = sessions.calls_are;
-      released = λ c. released-told w.primary.calls pair.sessions.connections.items w.primary.connections sessions.connections_stand c;
+      calls = sessions.told.calls_are;
+      released = λ c. released-told w.primary.calls pair.transcript w.primary.connections sessions.told c;
       frames = frames-sent first second pair w stands.parts;
       acknowledgements = acks-sent first second pair w stands.parts;
       primary = primary-stands first second pair w stands.parts;
@@ -87,11 +86,6 @@ acks-still Apply acks = refl
 acks-still event acks = refl
 
 effect-still : (event : Event) (pair : Pair) → Effect event (Ok false) pair pair
-effect-still CloseGroup pair = tt
-effect-still Free pair = tt
-effect-still AcceptFreed pair = tt
-effect-still ClearGap pair = tt
-effect-still Apply pair = tt
 effect-still (Crash node.Primary picks) pair = tt
 effect-still (Crash node.Standby picks) pair = tt
 effect-still (Reopen node.Primary) pair = tt
@@ -116,28 +110,20 @@ acts-is {old} {new} {event} {event'} {result} is acts leaves = subst (λ (e : Ev
 
 -- ---- a turn
 
-abbrev roomy : Sessions → Pair → Pair
-roomy sessions old = record old { sessions = sessions }
+abbrev roomy : Transcript → Pair → Pair
+roomy transcript old = record old { transcript = transcript }
 
 -- one step of the pair with room is one of the pair
-steps-from : (first second : Holder) (w : World) (event : Event) (did : Bool) (old : Pair) (sessions : Sessions) (new : Pair) → Steps first second w event did (roomy sessions old) new → Steps first second w event did old new
-steps-from first second w event did old sessions new steps = record {
-  world = steps.world;
-  step = steps.step;
-  stands = steps.stands;
-  moves = record { primary = steps.moves.primary; standby = steps.moves.standby };
-}
+steps-from : (first second : Holder) (w : World) (event : Event) (did : Bool) (old : Pair) (transcript : Transcript) (new : Pair) → Steps first second w event did (roomy transcript old) new → Steps first second w event did old new
+steps-from first second w event did old transcript new steps =
+    record { world = steps.world; step = steps.step; stands = steps.stands; moves = search (rules, steps.moves) }
 
-roomy-refines : (first second : Holder) (old : Pair) (sessions : Sessions) (w : World) → IsRoomier old.sessions sessions → PairRefines first second old w → PairRefines first second (roomy sessions old) w
-roomy-refines first second old sessions w roomier stands = record {
-  sound = stands.sound;
-  lives = stands.lives;
-  serves = stands.serves;
-  parts = roomier-stands first second old sessions w stands.parts roomier;
-}
+roomy-refines : (first second : Holder) (old : Pair) (transcript : Transcript) (w : World) → IsRoomier old.transcript transcript → PairRefines first second old w → PairRefines first second (roomy transcript old) w
+roomy-refines first second old transcript w roomier stands =
+    search (rules, roomier-stands first second old transcript w stands.parts roomier, stands)
 
-adds-roomy : (old sessions : Sessions) (new : Pair) → IsRoomier old sessions → length old.calls.items < vec_capacity old.calls → AddsOne sessions.calls new.sessions.calls → AddsOne old.calls new.sessions.calls
-adds-roomy old sessions new roomier room adds = record {
+adds-roomy : (old transcript : Transcript) (new : Pair) → IsRoomier old transcript → length old.calls.items < vec_capacity old.calls → AddsOne transcript.calls new.transcript.calls → AddsOne old.calls new.transcript.calls
+adds-roomy old transcript new roomier room adds = record {
   one = omega (arith, adds.one, ap length roomier.calls);
   room = adds.room ∙ roomier.enough (omega (arith, room, old.calls.ok.0));
 }
@@ -149,7 +135,7 @@ turn-step old c (Ok did) new runs turns leaves = record {
       (steps-from first second w (Turn c) did old turns.roomy new (turns.does.steps first second w (roomy-refines first second old turns.roomy w turns.is_roomier (serves-as runs stands))));
   refused = tt;
   leaves = leaves;
-  room = λ room. adds-roomy old.sessions turns.roomy new turns.is_roomier room.room turns.does.calls;
+  room = λ room. adds-roomy old.transcript turns.roomy new turns.is_roomier room.room turns.does.calls;
 }
 turn-step old c (Err refusal) new runs turns leaves =
     let same = turns.refused.2 in
@@ -160,15 +146,16 @@ turn-step old c (Err refusal) new runs turns leaves =
         turn = refl;
         memory = turns.refused.0;
         none = turns.refused.1;
-        calls = ap (λ (p : Pair). p.sessions.calls.items) same ∙ turns.is_roomier.calls;
-        released = ap (λ (p : Pair). released_of p.sessions.connections.items) same ∙ ap (λ (v : Vec CodeConnection Global). released_of v.items) turns.is_roomier.connections;
+        calls = ap (λ (p : Pair). p.transcript.calls.items) same ∙ turns.is_roomier.calls;
+        released = ap (λ (p : Pair). released_of p.transcript) same
+            ∙ ap (λ (all : Vec (Vec ℕ Global) Global). map (λ (bytes : Vec ℕ Global). bytes.items) all.items) turns.is_roomier.released;
         devices = (ap (λ (p : Pair). p.device) same, ap (λ (p : Pair). p.standby.device) same);
         stands = λ first second w stands.
             subst (λ (p : Pair). NodesRefine first second p w) (sym same)
             (nodes-refine (roomy-refines first second old turns.roomy w turns.is_roomier (serves-as runs stands)));
       });
       leaves = leaves;
-      room = λ room. absurd (omega (arith, room.room, turns.refused.1, old.sessions.calls.ok.0));
+      room = λ room. absurd (omega (arith, room.room, turns.refused.1, old.transcript.calls.ok.0));
     }
 
 pub turn-is : {old new : Pair} {event : Event} {c : ℕ} {result : Result Bool Refusal} {took : Bool} → event ≡ Turn c → took ≡ takes_part old.primary_runs old.standby_runs event → took ≡ true
@@ -184,7 +171,7 @@ pub cut-for-room : (old : Pair) (event : Event) (refusal : Refusal) (new : Pair)
     → ((first second : Holder) (w : World) → NodesRefine first second old w → WasCut first second w event refusal old new) ⊎ LacksRoom event refusal old new
     → (first second : Holder) (w : World) → NodesRefine first second old w → IsCut first second event refusal old new w
 cut-for-room old event refusal new room (inl cuts) first second w stands = (cuts first second w stands).cut
-cut-for-room old event refusal new room (inr lacks) first second w stands = absurd (omega (arith, room.room, lacks.none, old.sessions.calls.ok.0))
+cut-for-room old event refusal new room (inr lacks) first second w stands = absurd (omega (arith, room.room, lacks.none, old.transcript.calls.ok.0))
 
 -- and a pair to which an event happened stands for a world again
 pub goes-on : {old new : Pair} {event : Event} {did : Bool} → HasWorld old → IsStep old event (Ok did) new → HasWorld new

@@ -23,13 +23,15 @@ use Rattle.world.specs.Committing.{Committing, EngineStands, IsDown, Leads, Move
 use Rattle.world.specs.Link.{AreFramesSent, LinkRefines}
 use Rattle.world.specs.Recalling.{OpeningLeads, RecallsEach, Remembers}
 use Rattle.connections.specs.Session.{SessionsRefine, SequencerRefines, SeatsFollow, HasSeat, AddsOne, released_of, seats_of}
-use Rattle.world.specs.Standby.{Node, StandbyRefines, ArrivalsRefine}
-use Rattle.world.specs.declared.arrivals.Arrivals.{Arrivals}
-use Rattle.connections.specs.declared.sessions.Sessions.{Sessions}
+use Rattle.world.specs.Standby.{Arrived, Node, StandbyRefines, ArrivalsRefine}
+use Rattle.connections.specs.declared.connections.Connections.{Connections}
+use Rattle.connections.specs.declared.transcript.Transcript.{Transcript}
 
--- what a pair is made of
+-- what a pair is made of, with what happened to it
 pub record Pair : Type 0 where
-  pub sessions : Sessions
+  pub sessions : Connections
+  -- what was called and released
+  pub transcript : Transcript
   pub sequencer : Sequencing
   -- the committer's queue, and the committer
   pub committing : Committing
@@ -48,7 +50,7 @@ pub record Pair : Type 0 where
   pub remote : ℕ
   -- the bytes of all frames that passed over the link
   pub frames : List (Vec ℕ Global)
-  pub arrivals : Arrivals
+  pub arrivals : Arrived
   pub standby : Node
   -- whether each node runs; otherwise it is crashed, and nothing is said of what it held beside its image
   pub primary_runs : Bool
@@ -63,7 +65,7 @@ pub record FreeingRefines (s : Sequencing) (notices : List Freed) (contents : Co
 
 -- The parts of one whose primary runs refine those of the machine. The primary's image is that of the first holder, the standby's that of the second.
 pub record PartsRefine (first second : Holder) (pair : Pair) (w : World) : Type 0 where
-  pub sessions : SessionsRefine pair.sessions w.primary.connections w.primary.calls
+  pub sessions : SessionsRefine pair.sessions pair.transcript w.primary.connections w.primary.calls
   pub sequencer : SequencerRefines w.primary.calls w.primary.committer.closed pair.sequencer
   pub follow : SeatsFollow w.primary.calls (seats_of pair.sessions.connections.items) pair.sequencer
   pub committing : CommittingRefines w.primary.calls pair.committing w.primary.committer
@@ -80,7 +82,7 @@ pub record PartsRefine (first second : Holder) (pair : Pair) (w : World) : Type 
 
 -- The parts of one whose primary is crashed: of the primary there is its image.
 pub record DownRefine (first second : Holder) (pair : Pair) (w : World) : Type 0 where
-  pub sessions : SessionsRefine pair.sessions w.primary.connections w.primary.calls
+  pub sessions : SessionsRefine pair.sessions pair.transcript w.primary.connections w.primary.calls
   -- no seat is taken, nothing is on its way to the committer or the link, and the list ends at the image's position
   pub unseated : (c seat : ℕ) → ¬ HasSeat (seats_of pair.sessions.connections.items) c seat
   pub committer : w.primary.committer ≡ new_committer w.primary.committer.position
@@ -140,14 +142,14 @@ pub record HasWorld (pair : Pair) : Type 0 where
 
 -- there is room for one more call
 pub record HasRoom (pair : Pair) : Type 0 where
-  pub room : length pair.sessions.calls.items < vec_capacity pair.sessions.calls
+  pub room : length pair.transcript.calls.items < vec_capacity pair.transcript.calls
 
 -- An enabled event was cut for this cause: the list of calls and the released bytes are those of the world before it.
 pub record IsCut (first second : Holder) (event : Event) (refusal : Refusal) (old new : Pair) (w : World) : Type 0 where
   pub enabled : is_enabled w event ≡ true
-  pub calls : new.sessions.calls.items ≡ w.primary.calls
-  pub released : (c : ℕ) → slice_index_or (released_of new.sessions.connections.items) c [] ≡ released_in w c
-  pub count : length new.sessions.connections.items ≡ length w.primary.connections
+  pub calls : new.transcript.calls.items ≡ w.primary.calls
+  pub released : (c : ℕ) → slice_index_or (released_of new.transcript) c [] ≡ released_in w c
+  pub count : length new.transcript.released.items ≡ length w.primary.connections
   pub cause : EndsBy refusal event (λ first_last second_last.
       first_last first w.primary.calls w.primary.committer.position (next_primary w) old.device new.device
       × second_last second w.primary.calls w.standby.position (next_standby w) old.standby.device new.standby.device)
@@ -168,7 +170,7 @@ pub record Steps (first second : Holder) (w : World) (event : Event) (did : Bool
 pub record DoesTo (Refines : Holder → Holder → Pair → World → Type 0) (old : Pair) (event : Event) (result : Result Bool Refusal) (new : Pair) : Type 0 where
   pub steps : IfOk result (λ did. (first second : Holder) (w : World) → Refines first second old w → Steps first second w event did old new)
   pub cut : IfErr result (λ refusal. (first second : Holder) (w : World) → Refines first second old w → IsCut first second event refusal old new w)
-  pub calls : AddsOne old.sessions.calls new.sessions.calls
+  pub calls : AddsOne old.transcript.calls new.transcript.calls
 
 -- to one whose primary runs
 abbrev pub Does : Pair → Event → Result Bool Refusal → Pair → Type 0

@@ -1,5 +1,7 @@
 -- How the standby, and what waits for it, refine the machine's.
-use Rattle.std.specs.Prelude.{◌≡◌, ℕ, Bool, true, false, List}
+use Rattle.std.specs.Prelude.{◌≡◌, ℕ, Bool, true, false, List, Vec}
+use Rattle.std.specs.Global.{Global}
+use Rattle.std.specs.declared.collections.VecDeque.{VecDeque}
 use Rattle.pmem.specs.Device.{State}
 use Rattle.kv_types.specs.declared.place.EntryNo.{EntryNo}
 use Rattle.extent_heap.specs.Room.{Room}
@@ -11,6 +13,7 @@ use Rattle.mv_keyspace.specs.Table.{Table, records}
 use Rattle.machine.specs.declared.event.Event.TheVariants.{Apply}
 use Rattle.machine.specs.Event.{Acknowledgement, World, Frame as Sent, Applies, may_happen}
 use Rattle.frames.specs.declared.ack.Ack.{Ack}
+use Rattle.frames.specs.declared.frame.Frame.{Frame}
 use Rattle.standby.specs.Following.{Follows}
 use Rattle.world.specs.Committing.{EngineStands, IsDown, Moves}
 use Rattle.world.specs.Link.{AreFramesRead, AreAcksSent}
@@ -49,13 +52,21 @@ pub record StandbyRefines (holder : Holder) (epoch : ℕ) (calls : List Call) (p
 abbrev pub told_by : Ack → Acknowledgement
 told_by ack = record { epoch = ack.epoch; position = ack.position }
 
+-- the frames that came to the standby and were not taken, and the bytes of the acknowledgements that it made
+pub record Arrived : Type 0 where
+  pub delivered : VecDeque Frame Global
+  pub acknowledgements : Vec (Vec ℕ Global) Global
+
+abbrev pub arrived_with : Arrivals → Vec (Vec ℕ Global) Global → Arrived
+arrived_with arrivals acknowledgements = record { delivered = arrivals.delivered; acknowledgements = acknowledgements }
+
 -- the frames that came, and the acknowledgements that were made, as bytes
-pub record ArrivalsRefine (epoch : ℕ) (calls : List Call) (code : Arrivals) (waiting : List Sent) (told : List Acknowledgement) : Type 0 where
+pub record ArrivalsRefine (epoch : ℕ) (calls : List Call) (code : Arrived) (waiting : List Sent) (told : List Acknowledgement) : Type 0 where
   pub delivered : AreFramesRead epoch calls code.delivered.items waiting
   pub acknowledged : AreAcksSent code.acknowledgements.items told
 
 -- the standby took the first frame that came, or there was none
-pub record AppliesFirst (holder : Holder) (epoch : ℕ) (w : World) (did : Bool) (arrivals : Arrivals) (old new : Node) : Type 0 where
+pub record AppliesFirst (holder : Holder) (epoch : ℕ) (w : World) (did : Bool) (arrivals : Arrived) (old new : Node) : Type 0 where
   pub done : did ≡ may_happen w Apply
   pub goes : did ≡ true → (w' : World) × Applies w w' × ArrivalsRefine epoch w.primary.calls arrivals w'.standby.waiting w'.wire.acknowledgements × StandbyStands holder epoch w.primary.calls w'.standby.position new
       × Moves holder w.primary.calls w.standby.position w'.standby.position old.device new.device

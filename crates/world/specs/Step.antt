@@ -11,8 +11,8 @@ use Rattle.machine.specs.declared.event.Event.TheVariants.{Apply, ClearGap, Comm
 use Rattle.machine.specs.declared.event.Node.TheVariants as node
 use Rattle.machine.specs.Event.{Connection, World, connection_of}
 use Rattle.machine.specs.Promise.{IsReleased, released_in}
-use Rattle.connections.specs.Session.{AddsOne, SessionsRefine, released_of}
-use Rattle.connections.specs.declared.sessions.Sessions.{Sessions}
+use Rattle.connections.specs.Session.{AddsOne, TranscriptRefines, released_of}
+use Rattle.connections.specs.declared.transcript.Transcript.{Transcript}
 use Rattle.world.specs.Committing.{Opens}
 pub use Rattle.world.specs.Effect.{AddsMessage}
 use Rattle.world.specs.Effect.{Effect}
@@ -66,12 +66,12 @@ pub record Leaves (event : Event) (result : Result Bool Refusal) (old new : Pair
 
 -- the bytes that were released to connection c
 abbrev pub released_to : Pair → ℕ → List ℕ
-released_to pair c = slice_index_or (released_of pair.sessions.connections.items) c []
+released_to pair c = slice_index_or (released_of pair.transcript) c []
 
 -- What anyone may see of a pair that stands for this world: the list of calls, the released bytes and the messages between its nodes; and what a crash now leaves of
 -- either device opens where its node stands, with each call that was released.
 pub record Shows (first second : Holder) (w : World) (pair : Pair) : Type 0 where
-  pub calls : pair.sessions.calls.items ≡ w.primary.calls
+  pub calls : pair.transcript.calls.items ≡ w.primary.calls
   pub released : (c : ℕ) → released_to pair c ≡ released_in w c
   pub frames : AreFramesSent w.primary.epoch w.primary.calls pair.frames w.wire.frames
   pub acknowledgements : AreAcksSent pair.arrivals.acknowledgements.items w.wire.acknowledgements
@@ -102,7 +102,7 @@ pub record Happened (first second : Holder) (w : World) (event : Event) (did : B
   pub steps : Steps first second w event did old new
   pub before : Shows first second w old
   pub after : Shows first second steps.world new
-  pub called : CallsBy w event did new.sessions.calls.items
+  pub called : CallsBy w event did new.transcript.calls.items
   pub released : (c : ℕ) → released_to new c ≡ released_to old c ++ released_by w event did c
 
 -- A turn was refused the room for its call, and there was none: the pair stands for the same worlds, and nothing that can be seen of it changed.
@@ -110,9 +110,9 @@ pub record LacksRoom (event : Event) (refusal : Refusal) (old new : Pair) : Type
   pub connection : ℕ
   pub turn : event ≡ Turn connection
   pub memory : refusal ≡ Memory
-  pub none : vec_capacity old.sessions.calls ≤ vec_len old.sessions.calls
-  pub calls : new.sessions.calls.items ≡ old.sessions.calls.items
-  pub released : released_of new.sessions.connections.items ≡ released_of old.sessions.connections.items
+  pub none : vec_capacity old.transcript.calls ≤ vec_len old.transcript.calls
+  pub calls : new.transcript.calls.items ≡ old.transcript.calls.items
+  pub released : released_of new.transcript ≡ released_of old.transcript
   pub devices : (new.device ≡ old.device) × (new.standby.device ≡ old.standby.device)
   pub stands : (first second : Holder) (w : World) → NodesRefine first second old w → NodesRefine first second new w
 
@@ -126,21 +126,21 @@ pub record IsStep (old : Pair) (event : Event) (result : Result Bool Refusal) (n
   pub happened : IfOk result (λ did. (first second : Holder) (w : World) → NodesRefine first second old w → Happened first second w event did old new)
   pub refused : IfErr result (λ refusal. ((first second : Holder) (w : World) → NodesRefine first second old w → WasCut first second w event refusal old new) ⊎ LacksRoom event refusal old new)
   pub leaves : Leaves event result old new
-  pub room : HasRoom old → AddsOne old.sessions.calls new.sessions.calls
+  pub room : HasRoom old → AddsOne old.transcript.calls new.transcript.calls
 
 -- ---- a turn
 
--- these sessions are the others, perhaps with more room
-pub record IsRoomier (old new : Sessions) : Type 0 where
+-- this transcript is the other, perhaps with more room
+pub record IsRoomier (old new : Transcript) : Type 0 where
   pub calls : new.calls.items ≡ old.calls.items
-  pub connections : new.connections ≡ old.connections
-  pub stands : (machines : List Connection) (list : List Call) → SessionsRefine old machines list → SessionsRefine new machines list
+  pub released : new.released ≡ old.released
+  pub stands : (machines : List Connection) (list : List Call) → TranscriptRefines old machines list → TranscriptRefines new machines list
   -- where there is room, it stays as it is
   pub enough : vec_len old.calls < vec_capacity old.calls → vec_capacity new.calls ≡ vec_capacity old.calls
 
 -- What a turn of a running primary did: it was a turn of the pair with room for the call, or it was refused that room, and there was none.
 pub record Turns (old : Pair) (c : ℕ) (result : Result Bool Refusal) (new : Pair) : Type 0 where
-  pub roomy : Sessions
-  pub is_roomier : IsRoomier old.sessions roomy
-  pub does : IfOk result (λ did. Does (record old { sessions = roomy }) (Turn c) (Ok did) new)
-  pub refused : IfErr result (λ refusal. (refusal ≡ Memory) × (vec_capacity old.sessions.calls ≤ vec_len old.sessions.calls) × (new ≡ record old { sessions = roomy }))
+  pub roomy : Transcript
+  pub is_roomier : IsRoomier old.transcript roomy
+  pub does : IfOk result (λ did. Does (record old { transcript = roomy }) (Turn c) (Ok did) new)
+  pub refused : IfErr result (λ refusal. (refusal ≡ Memory) × (vec_capacity old.transcript.calls ≤ vec_len old.transcript.calls) × (new ≡ record old { transcript = roomy }))

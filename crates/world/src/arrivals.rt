@@ -1,5 +1,6 @@
 //! What came to the standby, and what it acknowledged.
-ghost use Rattle.std.specs.Prelude.{◌≡◌, ◌⊎◌, ◌↔◌, ℕ, ◌<◌, true, false, List, [], ◌∷◌, ◌++◌, length, slice_get, IsTrue, IfOk, IfErr, Ok, OnOk, OnErr};
+ghost use Rattle.std.specs.Prelude.{◌≡◌, ◌⊎◌, ◌↔◌, ℕ, ◌<◌, true, false, [], ◌∷◌, ◌++◌, length, slice_get, IsTrue, IfOk, IfErr, Ok, OnOk, OnErr, Vec};
+ghost use Rattle.std.specs.Global.{Global};
 ghost use Rattle.machine.specs.declared.event.Event.TheVariants.{Deliver, Apply};
 ghost use Rattle.model.specs.Standing.{Holder};
 ghost use Rattle.machine.specs.Event.{World, may_happen, acknowledgement_of, delivered, option_items};
@@ -12,7 +13,8 @@ ghost use Rattle.world.specs.Committing.{NearOnly, next_standby};
 ghost use Rattle.world.specs.Effect.{AnswersFirst, OnDid};
 ghost use Rattle.world.specs.Link.{AreFramesSent};
 ghost use Rattle.world.specs.Step.{AcksBy, AddsMessage};
-ghost use Rattle.world.specs.Standby.{StandbyStands, ArrivalsRefine, AppliesFirst, node_at, told_by};
+ghost use Rattle.world.specs.Standby.{StandbyStands, ArrivalsRefine, AppliesFirst, arrived_with, node_at, told_by};
+ghost use Rattle.world.specs.declared.arrivals.Arrivals.{Arrivals};
 
 use crate::wire::{decode, encode_ack, encode_ack_in};
 use frames::{Ack, Frame};
@@ -24,44 +26,27 @@ use std::collections::VecDeque;
 use stream_codec::{ACK_BYTES, Message};
 use wbl_engine::Durable;
 
-/// Frames on their way into the standby, and acknowledgements on their way out.
+/// Frames on their way into the standby. The acknowledgements on their way out are the caller's.
 #[derive(Drop)]
 pub(crate) struct Arrivals {
     /// The frames that came to the standby and were not taken yet.
     pub(crate) delivered: VecDeque<Frame>,
-    /// The bytes of all acknowledgements that the standby ever made.
-    pub(crate) acknowledgements: Vec<Vec<u8>>,
 }
 
 impl Arrivals {
     pub(crate) fn new(alloc: Global) -> Arrivals
-        ensures { (epoch : ℕ) → ArrivalsRefine epoch [] result [] [] }
+        ensures { (epoch : ℕ) (acknowledgements : Vec (Vec ℕ Global) Global) → acknowledgements.items ≡ [] → ArrivalsRefine epoch [] (arrived_with result acknowledgements) [] [] }
     {
         Arrivals {
             delivered: VecDeque::new(alloc),
-            acknowledgements: Vec::new(alloc),
         }
     }
 
     /// The standby crashed: the frames that came to it and were not taken are lost.
     pub(crate) fn crash(&mut self)
-        ensures delivered { self.new.delivered.items ≡ [] }
-        ensures acknowledgements { self.new.acknowledgements ≡ self.old.acknowledgements }
+        ensures { self.new.delivered.items ≡ [] }
     {
         self.delivered.clear();
-    }
-
-    /// Adds an acknowledgement, with which the standby tells its position.
-    pub(crate) fn acknowledge(&mut self, alloc: Global, ack: Ack) -> Result<(), Refusal>
-        ensures more { OnOk result (AddsMessage self.old.acknowledgements.items self.new.acknowledgements.items) }
-        ensures kept { OnErr result (self.new.acknowledgements.items ≡ self.old.acknowledgements.items) }
-        ensures stands { OnOk result ((epoch : ℕ) (w : World) → ArrivalsRefine epoch w.primary.calls self.old w.standby.waiting w.wire.acknowledgements → told_by ack ≡ acknowledgement_of w.standby
-            → ArrivalsRefine epoch w.primary.calls self.new w.standby.waiting (w.wire.acknowledgements ++ acknowledgement_of w.standby ∷ [])) }
-        ensures cause { IfErr result (λ refusal. refusal ≡ Refusal.Memory) }
-    {
-        let bytes = encode_ack(alloc, ack)?;
-        self.acknowledgements.push(bytes)?;
-        Ok(())
     }
 
     /// Delivers the sent frame with the index `frame` to the standby, which reads it from its bytes as they come: in pieces of `piece` bytes, or whole
@@ -73,14 +58,13 @@ impl Arrivals {
         frame: u64,
         piece: u64,
     ) -> Result<bool, Refusal>
-        ensures goes { IfOk result (λ did. (epoch : ℕ) (w : World) → ArrivalsRefine epoch w.primary.calls self.old w.standby.waiting w.wire.acknowledgements
+        ensures goes { IfOk result (λ did. (epoch : ℕ) (w : World) (acknowledgements : Vec (Vec ℕ Global) Global) → ArrivalsRefine epoch w.primary.calls (arrived_with self.old acknowledgements) w.standby.waiting w.wire.acknowledgements
             → AreFramesSent epoch w.primary.calls frames.now w.wire.frames
             → Goes (may_happen w (Deliver frame piece)) did
-            (ArrivalsRefine epoch w.primary.calls self.new (delivered (option_items (slice_get w.wire.frames frame)) w.standby).waiting w.wire.acknowledgements)
-            (ArrivalsRefine epoch w.primary.calls self.new w.standby.waiting w.wire.acknowledgements)) }
+            (ArrivalsRefine epoch w.primary.calls (arrived_with self.new acknowledgements) (delivered (option_items (slice_get w.wire.frames frame)) w.standby).waiting w.wire.acknowledgements)
+            (ArrivalsRefine epoch w.primary.calls (arrived_with self.new acknowledgements) w.standby.waiting w.wire.acknowledgements)) }
         ensures cause { IfErr result (λ refusal. (epoch : ℕ) (w : World) → AreFramesSent epoch w.primary.calls frames.now w.wire.frames → refusal ≡ Refusal.Memory) }
         ensures some { OnErr result (frame < length frames.now) }
-        ensures acknowledgements { self.new.acknowledgements ≡ self.old.acknowledgements }
     {
         let Some(bytes) = frames.get(frame as usize) else {
             return Ok(false);
@@ -98,6 +82,7 @@ impl Arrivals {
     pub(crate) fn apply<E: Durable, K: Keyspace>(
         &mut self,
         alloc: Global,
+        acknowledgements: &mut Vec<Vec<u8>>,
         standby: &mut Standby<E, K>,
     ) -> Result<bool, Refusal>
         requires follows { Follows (E.contents standby.old.engine) (K.table standby.old.keyspace) standby.old.heap standby.old.ended.items }
@@ -105,26 +90,26 @@ impl Arrivals {
         requires durable { IsDurable (E.device standby.old.engine) (E.contents standby.old.engine) }
         ensures applies { IfOk result (λ did. (holder : Holder) (w : World) → Sound w
             → (E.contents standby.old.engine).current.epoch ≡ w.standby.epoch
-            → ArrivalsRefine (E.contents standby.old.engine).current.epoch w.primary.calls self.old w.standby.waiting w.wire.acknowledgements
+            → ArrivalsRefine (E.contents standby.old.engine).current.epoch w.primary.calls (arrived_with self.old acknowledgements.old) w.standby.waiting w.wire.acknowledgements
             → StandbyStands holder (E.contents standby.old.engine).current.epoch w.primary.calls w.standby.position (node_at (E.device standby.old.engine) (E.contents standby.old.engine) (E.is_faulted standby.old.engine) (K.table standby.old.keyspace) standby.old.heap standby.old.ended.items)
-            → AppliesFirst holder (E.contents standby.old.engine).current.epoch w did self.new
+            → AppliesFirst holder (E.contents standby.old.engine).current.epoch w did (arrived_with self.new acknowledgements.new)
             (node_at (E.device standby.old.engine) (E.contents standby.old.engine) (E.is_faulted standby.old.engine) (K.table standby.old.keyspace) standby.old.heap standby.old.ended.items)
             (node_at (E.device standby.new.engine) (E.contents standby.new.engine) (E.is_faulted standby.new.engine) (K.table standby.new.keyspace) standby.new.heap standby.new.ended.items)) }
         ensures cut { IfErr result (λ refusal. (holder : Holder) (w : World) → Sound w
             → (E.contents standby.old.engine).current.epoch ≡ w.standby.epoch
-            → ArrivalsRefine (E.contents standby.old.engine).current.epoch w.primary.calls self.old w.standby.waiting w.wire.acknowledgements
+            → ArrivalsRefine (E.contents standby.old.engine).current.epoch w.primary.calls (arrived_with self.old acknowledgements.old) w.standby.waiting w.wire.acknowledgements
             → StandbyStands holder (E.contents standby.old.engine).current.epoch w.primary.calls w.standby.position (node_at (E.device standby.old.engine) (E.contents standby.old.engine) (E.is_faulted standby.old.engine) (K.table standby.old.keyspace) standby.old.heap standby.old.ended.items)
             → (may_happen w Apply ≡ true)
             × EndsBy refusal Apply (λ _ last. last holder w.primary.calls w.standby.position (next_standby w) (E.device standby.old.engine) (E.device standby.new.engine))) }
-        ensures acknowledged { AcksBy Apply result self.old.acknowledgements.items self.new.acknowledgements.items }
-        ensures answered { OnDid result (AnswersFirst self.old.delivered.items self.old.acknowledgements.items self.new.acknowledgements.items
+        ensures acknowledged { AcksBy Apply result acknowledgements.old.items acknowledgements.new.items }
+        ensures answered { OnDid result (AnswersFirst self.old.delivered.items acknowledgements.old.items acknowledgements.new.items
             (node_at (E.device standby.old.engine) (E.contents standby.old.engine) (E.is_faulted standby.old.engine) (K.table standby.old.keyspace) standby.old.heap standby.old.ended.items)
             (node_at (E.device standby.new.engine) (E.contents standby.new.engine) (E.is_faulted standby.new.engine) (K.table standby.new.keyspace) standby.new.heap standby.new.ended.items)) }
         ensures untouched { result ≡ Ok false → E.device standby.new.engine ≡ E.device standby.old.engine }
         // at any moment of the call
         ensures moments { (holder : Holder) (w : World) → Sound w
             → (E.contents standby.old.engine).current.epoch ≡ w.standby.epoch
-            → ArrivalsRefine (E.contents standby.old.engine).current.epoch w.primary.calls self.old w.standby.waiting w.wire.acknowledgements
+            → ArrivalsRefine (E.contents standby.old.engine).current.epoch w.primary.calls (arrived_with self.old acknowledgements.old) w.standby.waiting w.wire.acknowledgements
             → StandbyStands holder (E.contents standby.old.engine).current.epoch w.primary.calls w.standby.position (node_at (E.device standby.old.engine) (E.contents standby.old.engine) (E.is_faulted standby.old.engine) (K.table standby.old.keyspace) standby.old.heap standby.old.ended.items)
             → NearOnly holder w.primary.calls w.standby.position (next_standby w) (E.device standby.old.engine) (E.device standby.new.engine) }
     {
@@ -133,17 +118,33 @@ impl Arrivals {
         };
         // An acknowledgement that is owed takes no more memory.
         let room = Vec::with_capacity(alloc, ACK_BYTES)?;
-        self.acknowledgements.reserve(1)?;
+        acknowledgements.reserve(1)?;
         match standby.on_frame(alloc, frame) {
-            Ok(ack) => self
-                .acknowledgements
-                .push_reserved(encode_ack_in(ack, room)),
+            Ok(ack) => acknowledgements.push_reserved(encode_ack_in(ack, room)),
             Err(refusal) if goes_on(refusal) => {}
             Err(refusal) => return Err(refusal),
         }
         let _ = self.delivered.pop_front();
         Ok(true)
     }
+}
+
+/// Adds an acknowledgement, with which the standby tells its position, to those that it made.
+pub(crate) fn acknowledge(
+    alloc: Global,
+    acknowledgements: &mut Vec<Vec<u8>>,
+    ack: Ack,
+) -> Result<(), Refusal>
+    ensures more { OnOk result (AddsMessage acknowledgements.old.items acknowledgements.new.items) }
+    ensures kept { OnErr result (acknowledgements.new.items ≡ acknowledgements.old.items) }
+    ensures stands { OnOk result ((arrivals : Arrivals) (epoch : ℕ) (w : World) → ArrivalsRefine epoch w.primary.calls (arrived_with arrivals acknowledgements.old) w.standby.waiting w.wire.acknowledgements
+        → told_by ack ≡ acknowledgement_of w.standby
+        → ArrivalsRefine epoch w.primary.calls (arrived_with arrivals acknowledgements.new) w.standby.waiting (w.wire.acknowledgements ++ acknowledgement_of w.standby ∷ [])) }
+    ensures cause { IfErr result (λ refusal. refusal ≡ Refusal.Memory) }
+{
+    let bytes = encode_ack(alloc, ack)?;
+    acknowledgements.push(bytes)?;
+    Ok(())
 }
 
 /// Whether a standby that refused a frame with this refusal goes on. It is as it was, perhaps without what had ended.

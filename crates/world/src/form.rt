@@ -1,4 +1,4 @@
-//! A pair of new nodes.
+//! A pair of new nodes, and what a pair leaves.
 ghost use Rattle.std.specs.Prelude.{◌≡◌, ℕ, ◌<◌, ◌≤◌, ◌↔◌, [], IsTrue, IfOk, IfErr, MatchResult, vec_capacity};
 ghost use Rattle.model.specs.Group.{Contents};
 ghost use Rattle.model.specs.Standing.{new_holder};
@@ -8,18 +8,19 @@ ghost use Rattle.world.specs.Cause.{UnformedBy};
 ghost use Rattle.world.specs.Committing.{FormattingOnly};
 ghost use Rattle.model.specs.declared.record.TheConstants.{FIRST_EPOCH};
 ghost use Rattle.standby_stream.specs.Stream.{new_stream};
-ghost use Rattle.world.specs.Standby.{ArrivalsRefine};
+ghost use Rattle.world.specs.Standby.{ArrivalsRefine, arrived_with};
+ghost use Rattle.world.specs.declared.history.History.{History};
 ghost use Rattle.world.specs.Headline.{start};
 ghost use Rattle.world.specs.Pair.{NodesRefine};
 ghost use Rattle.connections.specs.Session.{SessionsRefine, SequencerRefines};
 ghost use Rattle.extent_heap.specs.Room.{fresh_room, is_free_line, is_free_entry};
 ghost use Rattle.model.specs.Image.{entries_of_lines, first_extent_line};
-ghost use Rattle.wbl_engine.specs.Contents.{IsDurable};
 
 use crate::arrivals::Arrivals;
+use crate::history::History;
 use crate::pair::{Pair, Stepper};
 use crate::waiting::Waiting;
-use connections::Sessions;
+use connections::Connections;
 use extent_heap::ExtentHeap;
 use group_commit::Committer;
 use kv_types::Refusal;
@@ -38,7 +39,8 @@ use wbl_engine::{Durable, Role, WblEngine};
 /// What lies between two nodes and their clients, while there are no clients yet.
 #[derive(Drop)]
 struct Between<K: Keyspace> {
-    sessions: Sessions,
+    history: History,
+    sessions: Connections,
     sequencer: Sequencer<K>,
     waiting: Waiting,
     arrivals: Arrivals,
@@ -55,8 +57,9 @@ fn make_between<K: Keyspace + Drop>(
     hash_builder: RandomState,
 ) -> Result<Between<K>, Refusal>
     requires { K.table keyspace ≡ [] }
-    ensures sessions { IfOk result (λ between. SessionsRefine between.sessions [] []) }
-    ensures room { IfOk result (λ between. calls ≤ vec_capacity between.sessions.calls) }
+    ensures sessions { IfOk result (λ between. SessionsRefine between.sessions between.history.transcript [] []) }
+    ensures none_sent { IfOk result (λ between. (between.history.frames.items ≡ []) × (between.history.acknowledgements.items ≡ [])) }
+    ensures room { IfOk result (λ between. calls ≤ vec_capacity between.history.transcript.calls) }
     ensures sequencer { IfOk result (λ between. SequencerRefines [] 0 between.sequencer) }
     ensures underlies { IfOk result (λ between. (contents : Contents) → IsNew lines.0 contents.current.role contents → IsAheadOf between.sequencer contents) }
     ensures expects { IfOk result (λ between. (contents : Contents) → IsNew lines.0 contents.current.role contents → Expects between.sequencer contents [] []) }
@@ -64,7 +67,7 @@ fn make_between<K: Keyspace + Drop>(
     ensures no_work { IfOk result (λ between. between.waiting.work.items ≡ []) }
     ensures link { IfOk result (λ between. between.waiting.link ≡ new_stream FIRST_EPOCH) }
     ensures handed { IfOk result (λ between. between.waiting.handed.items ≡ []) }
-    ensures arrivals { IfOk result (λ between. (epoch : ℕ) → ArrivalsRefine epoch [] between.arrivals [] []) }
+    ensures arrivals { IfOk result (λ between. (epoch : ℕ) → ArrivalsRefine epoch [] (arrived_with between.arrivals between.history.acknowledgements) [] []) }
     ensures free_lines { IfOk result (λ between. (line : ℕ) → IsTrue (is_free_line between.room.heap line) ↔ ((first_extent_line lines.1 ≤ line) × (line < lines.1))) }
     ensures free_entries { IfOk result (λ between. (i : ℕ) → IsTrue (is_free_entry between.room.heap i) ↔ (i < entries_of_lines lines.1)) }
     ensures fresh { IfOk result (λ between. between.room.heap ≡ fresh_room (first_extent_line lines.1) lines.1 (entries_of_lines lines.1)) }
@@ -73,9 +76,11 @@ fn make_between<K: Keyspace + Drop>(
 {
     let room = room_of(alloc, lines.1)?;
     let waiting = Waiting::none(alloc, FIRST_EPOCH)?;
-    let sessions = Sessions::new(alloc, calls)?;
+    let history = History::new(alloc, calls)?;
+    let sessions = Connections::new(alloc)?;
     let sequencer = new_sequencer(alloc, keyspace, lines.0, hash_builder)?;
     Ok(Between {
+        history,
         sessions,
         sequencer,
         waiting,
@@ -124,7 +129,8 @@ fn room_of(alloc: Global, lines: u64) -> Result<Rebuilt, Refusal>
 
 impl<P: Crashing, K: Keyspace + Drop> Pair<WblEngine<P>, K> {
     /// A pair of new nodes over these two devices, of any size and in any state: it formats the first as primary and the second as standby, so the pair stands for the
-    /// world at which every run starts. There is room for `calls` calls; more is made by the turns. Watched keys are hashed with `hash_builder`, on which nothing else depends.
+    /// world at which every run starts; and its history, in which nothing happened. That has room for `calls` calls; more is made by the turns. Watched keys are hashed with
+    /// `hash_builder`, on which nothing else depends.
     ///
     /// # Errors
     ///
@@ -136,21 +142,46 @@ impl<P: Crashing, K: Keyspace + Drop> Pair<WblEngine<P>, K> {
         standby: P,
         calls: usize,
         hash_builder: RandomState,
-    ) -> Result<Pair<WblEngine<P>, K>, (Refusal, P, P)>
-        ensures stands { IfOk result (λ pair. NodesRefine (new_holder (P.state primary).lines Role.Primary) (new_holder (P.state standby).lines Role.Standby) (⟦<Pair<WblEngine<P>, K> as Stepper>⟧.parts pair) start) }
-        ensures room { IfOk result (λ pair. calls ≤ vec_capacity pair.sessions.calls) }
+    ) -> Result<(Pair<WblEngine<P>, K>, History), (Refusal, P, P)>
+        ensures stands { IfOk result (λ opened. NodesRefine (new_holder (P.state primary).lines Role.Primary) (new_holder (P.state standby).lines Role.Standby) (⟦<Pair<WblEngine<P>, K> as Stepper>⟧.parts opened.0 opened.1) start) }
+        ensures room { IfOk result (λ opened. calls ≤ vec_capacity opened.1.transcript.calls) }
         ensures cause { IfErr result (λ refused. UnformedBy refused.0 (P.state primary) (P.state standby) (P.state refused.1) (P.state refused.2)) }
         ensures moments { MatchResult result
-            (λ pair. FormattingOnly Role.Primary (P.state primary) (⟦<Pair<WblEngine<P>, K> as Stepper>⟧.parts pair).device
-            × FormattingOnly Role.Standby (P.state standby) (⟦<Pair<WblEngine<P>, K> as Stepper>⟧.parts pair).standby.device)
+            (λ opened. FormattingOnly Role.Primary (P.state primary) (⟦<Pair<WblEngine<P>, K> as Stepper>⟧.parts opened.0 opened.1).device
+            × FormattingOnly Role.Standby (P.state standby) (⟦<Pair<WblEngine<P>, K> as Stepper>⟧.parts opened.0 opened.1).standby.device)
             (λ refused. FormattingOnly Role.Primary (P.state primary) (P.state refused.1) × FormattingOnly Role.Standby (P.state standby) (P.state refused.2)) }
     {
         let keyspaces = (K::empty(alloc), K::empty(alloc));
         form(alloc, primary, standby, keyspaces, calls, hash_builder)
     }
+
+    /// Ends the pair, and hands out its two devices, the primary's first, as they are.
+    pub fn into_devices(self) -> (P, P)
+        ensures primary { (history : History) → P.state result.0 ≡ (⟦<Pair<WblEngine<P>, K> as Stepper>⟧.parts self history).device }
+        ensures standby { (history : History) → P.state result.1 ≡ (⟦<Pair<WblEngine<P>, K> as Stepper>⟧.parts self history).standby.device }
+    {
+        let Pair {
+            alloc: _,
+            sessions: _sessions,
+            sequencer: _sequencer,
+            work: _work,
+            committer,
+            notices: _notices,
+            handed: _handed,
+            link: _link,
+            opening: _opening,
+            remote: _,
+            arrivals: _arrivals,
+            standby,
+            hash_builder: _,
+            primary_runs: _,
+            standby_runs: _,
+        } = self;
+        (committer.into_device(), standby.into_device())
+    }
 }
 
-/// Formats the first device as primary and the second as standby. The keyspaces are empty, and there is room for `calls` calls.
+/// Formats the first device as primary and the second as standby. The keyspaces are empty, and the history has room for `calls` calls.
 ///
 /// `WrongSize` where a device has fewer than 4,096 lines or more than 2^31, `Memory` where a growth was refused, `Fault` where a fence failed. A
 /// refusal hands the devices back.
@@ -161,15 +192,15 @@ fn form<P: Crashing, K: Keyspace + Drop>(
     keyspaces: (K, K),
     calls: usize,
     hash_builder: RandomState,
-) -> Result<Pair<WblEngine<P>, K>, (Refusal, P, P)>
+) -> Result<(Pair<WblEngine<P>, K>, History), (Refusal, P, P)>
     requires serving { K.table keyspaces.0 ≡ [] }
     requires following { K.table keyspaces.1 ≡ [] }
-    ensures stands { IfOk result (λ pair. NodesRefine (new_holder (P.state primary).lines Role.Primary) (new_holder (P.state standby).lines Role.Standby) (⟦<Pair<WblEngine<P>, K> as Stepper>⟧.parts pair) start) }
-    ensures room { IfOk result (λ pair. calls ≤ vec_capacity pair.sessions.calls) }
+    ensures stands { IfOk result (λ opened. NodesRefine (new_holder (P.state primary).lines Role.Primary) (new_holder (P.state standby).lines Role.Standby) (⟦<Pair<WblEngine<P>, K> as Stepper>⟧.parts opened.0 opened.1) start) }
+    ensures room { IfOk result (λ opened. calls ≤ vec_capacity opened.1.transcript.calls) }
     ensures cause { IfErr result (λ refused. UnformedBy refused.0 (P.state primary) (P.state standby) (P.state refused.1) (P.state refused.2)) }
     ensures moments { MatchResult result
-        (λ pair. FormattingOnly Role.Primary (P.state primary) (⟦<Pair<WblEngine<P>, K> as Stepper>⟧.parts pair).device
-        × FormattingOnly Role.Standby (P.state standby) (⟦<Pair<WblEngine<P>, K> as Stepper>⟧.parts pair).standby.device)
+        (λ opened. FormattingOnly Role.Primary (P.state primary) (⟦<Pair<WblEngine<P>, K> as Stepper>⟧.parts opened.0 opened.1).device
+        × FormattingOnly Role.Standby (P.state standby) (⟦<Pair<WblEngine<P>, K> as Stepper>⟧.parts opened.0 opened.1).standby.device)
         (λ refused. FormattingOnly Role.Primary (P.state primary) (P.state refused.1) × FormattingOnly Role.Standby (P.state standby) (P.state refused.2)) }
 {
     let (serving, following) = keyspaces;
@@ -183,29 +214,31 @@ fn form<P: Crashing, K: Keyspace + Drop>(
         Err((refusal, primary)) => return Err((refusal, primary, standby)),
     };
     match WblEngine::format(standby, Role::Standby) {
-        Ok(follower) => Ok(Pair {
-            alloc,
-            sessions: between.sessions,
-            sequencer: between.sequencer,
-            work: between.waiting.work,
-            committer: Committer::new(alloc, engine),
-            notices: VecDeque::new(alloc),
-            handed: between.waiting.handed,
-            link: between.waiting.link,
-            opening: Opening::none(alloc),
-            remote: 0,
-            frames: Vec::new(alloc),
-            arrivals: between.arrivals,
-            standby: Standby {
-                engine: follower,
-                keyspace: following,
-                heap: between.room.heap,
-                ended: between.room.ended,
+        Ok(follower) => Ok((
+            Pair {
+                alloc,
+                sessions: between.sessions,
+                sequencer: between.sequencer,
+                work: between.waiting.work,
+                committer: Committer::new(alloc, engine),
+                notices: VecDeque::new(alloc),
+                handed: between.waiting.handed,
+                link: between.waiting.link,
+                opening: Opening::none(alloc),
+                remote: 0,
+                arrivals: between.arrivals,
+                standby: Standby {
+                    engine: follower,
+                    keyspace: following,
+                    heap: between.room.heap,
+                    ended: between.room.ended,
+                },
+                hash_builder,
+                primary_runs: true,
+                standby_runs: true,
             },
-            hash_builder,
-            primary_runs: true,
-            standby_runs: true,
-        }),
+            between.history,
+        )),
         Err((refusal, standby)) => Err((refusal, engine.into_device(), standby)),
     }
 }

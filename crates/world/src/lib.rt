@@ -3,8 +3,8 @@
 
 mod arrivals;
 mod form;
+mod history;
 mod pair;
-mod parts;
 mod playing;
 mod queue;
 mod restarting;
@@ -12,8 +12,8 @@ mod trace;
 mod waiting;
 mod wire;
 
+pub use history::History;
 pub use machine::{Event, Mark};
 pub use pair::{Pair, Stepper};
-pub use parts::Parts;
 pub use playing::run;
 pub use trace::{EarlyEnd, Trace};

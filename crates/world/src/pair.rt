@@ -6,15 +6,17 @@ ghost use Rattle.machine.specs.declared.event.Event.TheVariants as events;
 ghost use Rattle.machine.specs.declared.event.Node.TheVariants as nodes;
 ghost use Rattle.world.specs.Pair.{Acts, Does, HasWorld, takes_part};
 ghost use Rattle.world.specs.Pair as specs;
-ghost use Rattle.world.specs.Standby.{node_at};
+ghost use Rattle.world.specs.Standby.{arrived_with, node_at};
 ghost use Rattle.world.specs.Step.{IsStep, Leaves, Turns};
+ghost use Rattle.world.specs.declared.history.History.{History};
 
-use crate::arrivals::Arrivals;
+use crate::arrivals::{Arrivals, acknowledge};
+use crate::history::History;
 use crate::queue::{is_step, may_clear, may_commit, may_free};
 use crate::restarting::{Serving, restart_primary};
 use crate::wire::{decode, pass};
 use bytes::Bytes;
-use connections::Sessions;
+use connections::Connections;
 use frames::Frame;
 use group_commit::{Committer, Done, Stage};
 use kv_types::Refusal;
@@ -35,10 +37,11 @@ use wbl_engine::{Durable, Freed, Restarting};
 
 /// What events happen to, one at a time.
 pub trait Stepper {
-    /// What it is made of.
-    ghost parts: { Self → specs.Pair };
+    /// What it is made of, with what happened to it.
+    ghost parts: { Self → History → specs.Pair };
 
-    /// Lets an event do its step, if it is enabled, and returns whether it was. One that is not enabled changes nothing.
+    /// Lets an event do its step, if it is enabled, and returns whether it was. One that is not enabled changes nothing. `history` is the pair's own, with all that
+    /// happened to it; what the event gives is added to it.
     ///
     /// For every world of the machine that the pair stands for, it is one step of the machine, and the pair stands for the world after it. The calls, the
     /// released bytes and the messages are those of that world, before the event and after it, so what this very event gave to anyone is what is
@@ -48,17 +51,17 @@ pub trait Stepper {
     /// # Errors
     ///
     /// `Memory` where a growth was refused, `Fault` where a fence failed, `Exhausted` where a counter would reach 2^62. The event was enabled, the calls
-    /// and the released bytes are as before, and of the devices the contract says what each cause leaves: nothing but `into_parts` is
+    /// and the released bytes are as before, and of the devices the contract says what each cause leaves: nothing but `into_devices` is
     /// of use then. One `Memory` is another: where a turn was refused the room for its call, nothing changed, and the pair goes on.
-    fn step(&mut self, event: &Event) -> Result<bool, Refusal>
-        requires world { HasWorld (parts self.old) }
-        ensures { IsStep (parts self.old) event.now result (parts self.new) };
+    fn step(&mut self, history: &mut History, event: &Event) -> Result<bool, Refusal>
+        requires world { HasWorld (parts self.old history.old) }
+        ensures { IsStep (parts self.old history.old) event.now result (parts self.new history.new) };
 }
 
-/// Both nodes, and what lies between them and the clients.
+/// Both nodes, and what lies between them and the clients. What happened to them is the caller's (`History`).
 pub struct Pair<E: Durable, K: Keyspace> {
     pub(crate) alloc: Global,
-    pub(crate) sessions: Sessions,
+    pub(crate) sessions: Connections,
     pub(crate) sequencer: Sequencer<K>,
     /// What waits for the committer.
     pub(crate) work: LocalPipe<Work>,
@@ -73,13 +76,11 @@ pub struct Pair<E: Durable, K: Keyspace> {
     pub(crate) opening: Opening,
     /// The remote mark.
     pub(crate) remote: u64,
-    /// The bytes of all frames that ever passed over the link, in the order of their sending.
-    pub(crate) frames: Vec<Vec<u8>>,
     pub(crate) arrivals: Arrivals,
     pub(crate) standby: Standby<E, K>,
     /// What the keys that connections watch are hashed with.
     pub(crate) hash_builder: RandomState,
-    /// Whether the primary runs. One that does not has crashed: but for its connections, its calls and its image, what it held is made anew when
+    /// Whether the primary runs. One that does not has crashed: but for its connections and its image, what it held is made anew when
     /// it is opened again.
     pub(crate) primary_runs: bool,
     /// Whether the standby runs, likewise.
@@ -87,8 +88,9 @@ pub struct Pair<E: Durable, K: Keyspace> {
 }
 
 impl<E: Restarting, K: Keyspace + Drop> Stepper for Pair<E, K> {
-    ghost parts = { λ p. record {
+    ghost parts = { λ p h. record {
       sessions = p.sessions;
+      transcript = h.transcript;
       sequencer = p.sequencer;
       committing = record { waiting = p.work; aside = p.committer.aside.items; stage = p.committer.stage; local = p.committer.local };
       notices = p.notices.items;
@@ -99,22 +101,22 @@ impl<E: Restarting, K: Keyspace + Drop> Stepper for Pair<E, K> {
       link = p.link;
       opening = p.opening;
       remote = p.remote;
-      frames = p.frames.items;
-      arrivals = p.arrivals;
+      frames = h.frames.items;
+      arrivals = arrived_with p.arrivals h.acknowledgements;
       standby = node_at (E.device p.standby.engine) (E.contents p.standby.engine) (E.is_faulted p.standby.engine) (K.table p.standby.keyspace) p.standby.heap p.standby.ended.items;
       primary_runs = p.primary_runs;
       standby_runs = p.standby_runs;
     } };
 
-    fn step(&mut self, event: &Event) -> Result<bool, Refusal> {
+    fn step(&mut self, history: &mut History, event: &Event) -> Result<bool, Refusal> {
         if !self.takes_part(event) {
             return Ok(false);
         }
         match event {
-            Event::Enter => self.enter(),
+            Event::Enter => self.enter(history),
             Event::Feed(c, piece) => self.feed(*c, piece),
             Event::Offer(c) => self.offer(*c),
-            Event::Turn(c) => self.turn(*c),
+            Event::Turn(c) => self.turn(history, *c),
             Event::CloseGroup => self.close_group(),
             Event::Commit => self.commit(),
             Event::RaiseLocal => self.raise_local(),
@@ -122,18 +124,18 @@ impl<E: Restarting, K: Keyspace + Drop> Stepper for Pair<E, K> {
             Event::Free => self.free(),
             Event::AcceptFreed => Ok(self.accept_freed()),
             Event::ClearGap => self.clear_gap(),
-            Event::OpenLink => self.open_link(),
-            Event::Send => self.send(),
-            Event::Deliver(frame, piece) => self.deliver(*frame, *piece),
-            Event::Apply => self.apply(),
-            Event::AckDelivered(ack) => self.ack_delivered(*ack),
+            Event::OpenLink => self.open_link(history),
+            Event::Send => self.send(history),
+            Event::Deliver(frame, piece) => self.deliver(history, *frame, *piece),
+            Event::Apply => self.apply(history),
+            Event::AckDelivered(ack) => self.ack_delivered(history, *ack),
             Event::RaiseRemote => self.raise_remote(),
-            Event::Hold(c) => self.hold(*c),
+            Event::Hold(c) => self.hold(history, *c),
             Event::Read(c, mark) => self.read(*c, *mark),
             Event::Release(c) => self.release(*c),
-            Event::Write(c, n) => self.write(*c, *n),
+            Event::Write(c, n) => self.write(history, *c, *n),
             Event::Leave(c) => self.leave(*c),
-            Event::Crash(node, picks) => self.crash(*node, picks),
+            Event::Crash(node, picks) => self.crash(history, *node, picks),
             Event::Reopen(node) => self.reopen(*node),
         }
     }
@@ -170,48 +172,49 @@ impl<E: Restarting, K: Keyspace + Drop> Pair<E, K> {
         }
     }
 
-    fn enter(&mut self) -> Result<bool, Refusal>
-        ensures does { Does (⟦<Pair<E, K> as Stepper>⟧.parts self.old) events.Enter result (⟦<Pair<E, K> as Stepper>⟧.parts self.new) }
-        ensures leaves { Leaves events.Enter result (⟦<Pair<E, K> as Stepper>⟧.parts self.old) (⟦<Pair<E, K> as Stepper>⟧.parts self.new) }
+    fn enter(&mut self, history: &mut History) -> Result<bool, Refusal>
+        ensures does { Does (⟦<Pair<E, K> as Stepper>⟧.parts self.old history.old) events.Enter result (⟦<Pair<E, K> as Stepper>⟧.parts self.new history.new) }
+        ensures leaves { Leaves events.Enter result (⟦<Pair<E, K> as Stepper>⟧.parts self.old history.old) (⟦<Pair<E, K> as Stepper>⟧.parts self.new history.new) }
     {
-        self.sessions.enter(self.alloc, &mut self.sequencer)
+        self.sessions
+            .enter(self.alloc, &mut history.transcript, &mut self.sequencer)
     }
 
     fn feed(&mut self, c: u64, piece: &Bytes) -> Result<bool, Refusal>
-        ensures does { Does (⟦<Pair<E, K> as Stepper>⟧.parts self.old) (events.Feed c piece.now) result (⟦<Pair<E, K> as Stepper>⟧.parts self.new) }
-        ensures leaves { Leaves (events.Feed c piece.now) result (⟦<Pair<E, K> as Stepper>⟧.parts self.old) (⟦<Pair<E, K> as Stepper>⟧.parts self.new) }
+        ensures does { (history : History) → Does (⟦<Pair<E, K> as Stepper>⟧.parts self.old history) (events.Feed c piece.now) result (⟦<Pair<E, K> as Stepper>⟧.parts self.new history) }
+        ensures leaves { (history : History) → Leaves (events.Feed c piece.now) result (⟦<Pair<E, K> as Stepper>⟧.parts self.old history) (⟦<Pair<E, K> as Stepper>⟧.parts self.new history) }
     {
         self.sessions.feed(c, piece)
     }
 
     fn offer(&mut self, c: u64) -> Result<bool, Refusal>
-        ensures does { Does (⟦<Pair<E, K> as Stepper>⟧.parts self.old) (events.Offer c) result (⟦<Pair<E, K> as Stepper>⟧.parts self.new) }
-        ensures leaves { Leaves (events.Offer c) result (⟦<Pair<E, K> as Stepper>⟧.parts self.old) (⟦<Pair<E, K> as Stepper>⟧.parts self.new) }
+        ensures does { (history : History) → Does (⟦<Pair<E, K> as Stepper>⟧.parts self.old history) (events.Offer c) result (⟦<Pair<E, K> as Stepper>⟧.parts self.new history) }
+        ensures leaves { (history : History) → Leaves (events.Offer c) result (⟦<Pair<E, K> as Stepper>⟧.parts self.old history) (⟦<Pair<E, K> as Stepper>⟧.parts self.new history) }
     {
         self.sessions.offer(c)
     }
 
     /// Room is made for the call first.
-    fn turn(&mut self, c: u64) -> Result<bool, Refusal>
-        ensures turns { Turns (⟦<Pair<E, K> as Stepper>⟧.parts self.old) c result (⟦<Pair<E, K> as Stepper>⟧.parts self.new) }
-        ensures leaves { Leaves (events.Turn c) result (⟦<Pair<E, K> as Stepper>⟧.parts self.old) (⟦<Pair<E, K> as Stepper>⟧.parts self.new) }
+    fn turn(&mut self, history: &mut History, c: u64) -> Result<bool, Refusal>
+        ensures turns { Turns (⟦<Pair<E, K> as Stepper>⟧.parts self.old history.old) c result (⟦<Pair<E, K> as Stepper>⟧.parts self.new history.new) }
+        ensures leaves { Leaves (events.Turn c) result (⟦<Pair<E, K> as Stepper>⟧.parts self.old history.old) (⟦<Pair<E, K> as Stepper>⟧.parts self.new history.new) }
     {
-        self.sessions.make_room()?;
-        Ok(self.sessions.turn(self.alloc, c, &mut self.sequencer))
+        history.transcript.make_room()?;
+        Ok(self.sessions.turn(self.alloc, &mut history.transcript, c, &mut self.sequencer))
     }
 
     fn close_group(&mut self) -> Result<bool, Refusal>
-        ensures does { Does (⟦<Pair<E, K> as Stepper>⟧.parts self.old) events.CloseGroup result (⟦<Pair<E, K> as Stepper>⟧.parts self.new) }
-        ensures leaves { Leaves events.CloseGroup result (⟦<Pair<E, K> as Stepper>⟧.parts self.old) (⟦<Pair<E, K> as Stepper>⟧.parts self.new) }
+        ensures does { (history : History) → Does (⟦<Pair<E, K> as Stepper>⟧.parts self.old history) events.CloseGroup result (⟦<Pair<E, K> as Stepper>⟧.parts self.new history) }
+        ensures leaves { (history : History) → Leaves events.CloseGroup result (⟦<Pair<E, K> as Stepper>⟧.parts self.old history) (⟦<Pair<E, K> as Stepper>⟧.parts self.new history) }
     {
         close_next(self.alloc, &mut self.sequencer, &mut self.work)
     }
 
     fn commit(&mut self) -> Result<bool, Refusal>
         requires serves { self.old.primary_runs ≡ true }
-        requires world { HasWorld (⟦<Pair<E, K> as Stepper>⟧.parts self.old) }
-        ensures does { Does (⟦<Pair<E, K> as Stepper>⟧.parts self.old) events.Commit result (⟦<Pair<E, K> as Stepper>⟧.parts self.new) }
-        ensures leaves { Leaves events.Commit result (⟦<Pair<E, K> as Stepper>⟧.parts self.old) (⟦<Pair<E, K> as Stepper>⟧.parts self.new) }
+        requires world { (history : History) × HasWorld (⟦<Pair<E, K> as Stepper>⟧.parts self.old history) }
+        ensures does { (history : History) → Does (⟦<Pair<E, K> as Stepper>⟧.parts self.old history) events.Commit result (⟦<Pair<E, K> as Stepper>⟧.parts self.new history) }
+        ensures leaves { (history : History) → Leaves events.Commit result (⟦<Pair<E, K> as Stepper>⟧.parts self.old history) (⟦<Pair<E, K> as Stepper>⟧.parts self.new history) }
     {
         if !may_commit(&self.committer, &self.work, &self.handed) {
             return Ok(false);
@@ -222,8 +225,8 @@ impl<E: Restarting, K: Keyspace + Drop> Pair<E, K> {
     }
 
     fn raise_local(&mut self) -> Result<bool, Refusal>
-        ensures does { Does (⟦<Pair<E, K> as Stepper>⟧.parts self.old) events.RaiseLocal result (⟦<Pair<E, K> as Stepper>⟧.parts self.new) }
-        ensures leaves { Leaves events.RaiseLocal result (⟦<Pair<E, K> as Stepper>⟧.parts self.old) (⟦<Pair<E, K> as Stepper>⟧.parts self.new) }
+        ensures does { (history : History) → Does (⟦<Pair<E, K> as Stepper>⟧.parts self.old history) events.RaiseLocal result (⟦<Pair<E, K> as Stepper>⟧.parts self.new history) }
+        ensures leaves { (history : History) → Leaves events.RaiseLocal result (⟦<Pair<E, K> as Stepper>⟧.parts self.old history) (⟦<Pair<E, K> as Stepper>⟧.parts self.new history) }
     {
         let Stage::Durable(_) = self.committer.stage() else {
             return Ok(false);
@@ -235,8 +238,8 @@ impl<E: Restarting, K: Keyspace + Drop> Pair<E, K> {
     }
 
     fn hand(&mut self) -> Result<bool, Refusal>
-        ensures does { Does (⟦<Pair<E, K> as Stepper>⟧.parts self.old) events.Hand result (⟦<Pair<E, K> as Stepper>⟧.parts self.new) }
-        ensures leaves { Leaves events.Hand result (⟦<Pair<E, K> as Stepper>⟧.parts self.old) (⟦<Pair<E, K> as Stepper>⟧.parts self.new) }
+        ensures does { (history : History) → Does (⟦<Pair<E, K> as Stepper>⟧.parts self.old history) events.Hand result (⟦<Pair<E, K> as Stepper>⟧.parts self.new history) }
+        ensures leaves { (history : History) → Leaves events.Hand result (⟦<Pair<E, K> as Stepper>⟧.parts self.old history) (⟦<Pair<E, K> as Stepper>⟧.parts self.new history) }
     {
         let Stage::Shown(_) = self.committer.stage() else {
             return Ok(false);
@@ -249,9 +252,9 @@ impl<E: Restarting, K: Keyspace + Drop> Pair<E, K> {
 
     fn free(&mut self) -> Result<bool, Refusal>
         requires serves { self.old.primary_runs ≡ true }
-        requires world { HasWorld (⟦<Pair<E, K> as Stepper>⟧.parts self.old) }
-        ensures does { Does (⟦<Pair<E, K> as Stepper>⟧.parts self.old) events.Free result (⟦<Pair<E, K> as Stepper>⟧.parts self.new) }
-        ensures leaves { Leaves events.Free result (⟦<Pair<E, K> as Stepper>⟧.parts self.old) (⟦<Pair<E, K> as Stepper>⟧.parts self.new) }
+        requires world { (history : History) × HasWorld (⟦<Pair<E, K> as Stepper>⟧.parts self.old history) }
+        ensures does { (history : History) → Does (⟦<Pair<E, K> as Stepper>⟧.parts self.old history) events.Free result (⟦<Pair<E, K> as Stepper>⟧.parts self.new history) }
+        ensures leaves { (history : History) → Leaves events.Free result (⟦<Pair<E, K> as Stepper>⟧.parts self.old history) (⟦<Pair<E, K> as Stepper>⟧.parts self.new history) }
     {
         if !may_free(&self.committer, &self.work, &self.handed, self.remote) {
             return Ok(false);
@@ -268,9 +271,9 @@ impl<E: Restarting, K: Keyspace + Drop> Pair<E, K> {
 
     fn accept_freed(&mut self) -> bool
         requires serves { self.old.primary_runs ≡ true }
-        requires world { HasWorld (⟦<Pair<E, K> as Stepper>⟧.parts self.old) }
-        ensures does { Does (⟦<Pair<E, K> as Stepper>⟧.parts self.old) events.AcceptFreed (Ok result) (⟦<Pair<E, K> as Stepper>⟧.parts self.new) }
-        ensures leaves { Leaves events.AcceptFreed (Ok result) (⟦<Pair<E, K> as Stepper>⟧.parts self.old) (⟦<Pair<E, K> as Stepper>⟧.parts self.new) }
+        requires world { (history : History) × HasWorld (⟦<Pair<E, K> as Stepper>⟧.parts self.old history) }
+        ensures does { (history : History) → Does (⟦<Pair<E, K> as Stepper>⟧.parts self.old history) events.AcceptFreed (Ok result) (⟦<Pair<E, K> as Stepper>⟧.parts self.new history) }
+        ensures leaves { (history : History) → Leaves events.AcceptFreed (Ok result) (⟦<Pair<E, K> as Stepper>⟧.parts self.old history) (⟦<Pair<E, K> as Stepper>⟧.parts self.new history) }
     {
         let Some(freed) = self.notices.pop_front() else {
             return false;
@@ -281,9 +284,9 @@ impl<E: Restarting, K: Keyspace + Drop> Pair<E, K> {
 
     fn clear_gap(&mut self) -> Result<bool, Refusal>
         requires serves { self.old.primary_runs ≡ true }
-        requires world { HasWorld (⟦<Pair<E, K> as Stepper>⟧.parts self.old) }
-        ensures does { Does (⟦<Pair<E, K> as Stepper>⟧.parts self.old) events.ClearGap result (⟦<Pair<E, K> as Stepper>⟧.parts self.new) }
-        ensures leaves { Leaves events.ClearGap result (⟦<Pair<E, K> as Stepper>⟧.parts self.old) (⟦<Pair<E, K> as Stepper>⟧.parts self.new) }
+        requires world { (history : History) × HasWorld (⟦<Pair<E, K> as Stepper>⟧.parts self.old history) }
+        ensures does { (history : History) → Does (⟦<Pair<E, K> as Stepper>⟧.parts self.old history) events.ClearGap result (⟦<Pair<E, K> as Stepper>⟧.parts self.new history) }
+        ensures leaves { (history : History) → Leaves events.ClearGap result (⟦<Pair<E, K> as Stepper>⟧.parts self.old history) (⟦<Pair<E, K> as Stepper>⟧.parts self.new history) }
     {
         if !may_clear(&self.committer, &self.work, &self.handed) {
             return Ok(false);
@@ -298,65 +301,65 @@ impl<E: Restarting, K: Keyspace + Drop> Pair<E, K> {
         Ok(true)
     }
 
-    fn open_link(&mut self) -> Result<bool, Refusal>
+    fn open_link(&mut self, history: &mut History) -> Result<bool, Refusal>
         requires follows { self.old.standby_runs ≡ true }
-        ensures does { Does (⟦<Pair<E, K> as Stepper>⟧.parts self.old) events.OpenLink result (⟦<Pair<E, K> as Stepper>⟧.parts self.new) }
-        ensures leaves { Leaves events.OpenLink result (⟦<Pair<E, K> as Stepper>⟧.parts self.old) (⟦<Pair<E, K> as Stepper>⟧.parts self.new) }
+        ensures does { Does (⟦<Pair<E, K> as Stepper>⟧.parts self.old history.old) events.OpenLink result (⟦<Pair<E, K> as Stepper>⟧.parts self.new history.new) }
+        ensures leaves { Leaves events.OpenLink result (⟦<Pair<E, K> as Stepper>⟧.parts self.old history.old) (⟦<Pair<E, K> as Stepper>⟧.parts self.new history.new) }
     {
         let ack = self.standby.ack();
         let delta = due_delta(self.alloc, &self.link, &self.opening, ack.position())?;
-        self.arrivals.acknowledge(self.alloc, ack)?;
+        acknowledge(self.alloc, &mut history.acknowledgements, ack)?;
         self.link.reopen(delta);
         Ok(true)
     }
 
-    fn send(&mut self) -> Result<bool, Refusal>
-        ensures does { Does (⟦<Pair<E, K> as Stepper>⟧.parts self.old) events.Send result (⟦<Pair<E, K> as Stepper>⟧.parts self.new) }
-        ensures leaves { Leaves events.Send result (⟦<Pair<E, K> as Stepper>⟧.parts self.old) (⟦<Pair<E, K> as Stepper>⟧.parts self.new) }
+    fn send(&mut self, history: &mut History) -> Result<bool, Refusal>
+        ensures does { Does (⟦<Pair<E, K> as Stepper>⟧.parts self.old history.old) events.Send result (⟦<Pair<E, K> as Stepper>⟧.parts self.new history.new) }
+        ensures leaves { Leaves events.Send result (⟦<Pair<E, K> as Stepper>⟧.parts self.old history.old) (⟦<Pair<E, K> as Stepper>⟧.parts self.new history.new) }
     {
         let Some(delta) = self.link.take_delta() else {
-            return self.send_group();
+            return self.send_group(history);
         };
-        pass(self.alloc, &mut self.frames, &delta)?;
+        pass(self.alloc, &mut history.frames, &delta)?;
         Ok(true)
     }
 
     /// The frame of the next group passes, if there is one. None comes before all groups.
-    fn send_group(&mut self) -> Result<bool, Refusal>
-        requires none_before { (⟦<Pair<E, K> as Stepper>⟧.parts self.old).link.delta ≡ None }
-        ensures does { Does (⟦<Pair<E, K> as Stepper>⟧.parts self.old) events.Send result (⟦<Pair<E, K> as Stepper>⟧.parts self.new) }
-        ensures leaves { Leaves events.Send result (⟦<Pair<E, K> as Stepper>⟧.parts self.old) (⟦<Pair<E, K> as Stepper>⟧.parts self.new) }
+    fn send_group(&mut self, history: &mut History) -> Result<bool, Refusal>
+        requires none_before { (⟦<Pair<E, K> as Stepper>⟧.parts self.old history.old).link.delta ≡ None }
+        ensures does { Does (⟦<Pair<E, K> as Stepper>⟧.parts self.old history.old) events.Send result (⟦<Pair<E, K> as Stepper>⟧.parts self.new history.new) }
+        ensures leaves { Leaves events.Send result (⟦<Pair<E, K> as Stepper>⟧.parts self.old history.old) (⟦<Pair<E, K> as Stepper>⟧.parts self.new history.new) }
     {
         let Some(index) = self.link.next_frame(self.alloc, &mut self.handed)? else {
             return Ok(false);
         };
-        pass(self.alloc, &mut self.frames, self.link.frame(index))?;
+        pass(self.alloc, &mut history.frames, self.link.frame(index))?;
         Ok(true)
     }
 
-    fn deliver(&mut self, frame: u64, piece: u64) -> Result<bool, Refusal>
+    fn deliver(&mut self, history: &History, frame: u64, piece: u64) -> Result<bool, Refusal>
         requires follows { self.old.standby_runs ≡ true }
-        ensures does { Acts (⟦<Pair<E, K> as Stepper>⟧.parts self.old) (events.Deliver frame piece) result (⟦<Pair<E, K> as Stepper>⟧.parts self.new) }
-        ensures leaves { Leaves (events.Deliver frame piece) result (⟦<Pair<E, K> as Stepper>⟧.parts self.old) (⟦<Pair<E, K> as Stepper>⟧.parts self.new) }
+        ensures does { Acts (⟦<Pair<E, K> as Stepper>⟧.parts self.old history.now) (events.Deliver frame piece) result (⟦<Pair<E, K> as Stepper>⟧.parts self.new history.now) }
+        ensures leaves { Leaves (events.Deliver frame piece) result (⟦<Pair<E, K> as Stepper>⟧.parts self.old history.now) (⟦<Pair<E, K> as Stepper>⟧.parts self.new history.now) }
     {
         self.arrivals
-            .deliver(self.alloc, self.frames.as_slice(), frame, piece)
+            .deliver(self.alloc, history.frames.as_slice(), frame, piece)
     }
 
-    fn apply(&mut self) -> Result<bool, Refusal>
+    fn apply(&mut self, history: &mut History) -> Result<bool, Refusal>
         requires follows { self.old.standby_runs ≡ true }
-        requires world { HasWorld (⟦<Pair<E, K> as Stepper>⟧.parts self.old) }
-        ensures does { Acts (⟦<Pair<E, K> as Stepper>⟧.parts self.old) events.Apply result (⟦<Pair<E, K> as Stepper>⟧.parts self.new) }
-        ensures leaves { Leaves events.Apply result (⟦<Pair<E, K> as Stepper>⟧.parts self.old) (⟦<Pair<E, K> as Stepper>⟧.parts self.new) }
+        requires world { HasWorld (⟦<Pair<E, K> as Stepper>⟧.parts self.old history.old) }
+        ensures does { Acts (⟦<Pair<E, K> as Stepper>⟧.parts self.old history.old) events.Apply result (⟦<Pair<E, K> as Stepper>⟧.parts self.new history.new) }
+        ensures leaves { Leaves events.Apply result (⟦<Pair<E, K> as Stepper>⟧.parts self.old history.old) (⟦<Pair<E, K> as Stepper>⟧.parts self.new history.new) }
     {
-        self.arrivals.apply(self.alloc, &mut self.standby)
+        self.arrivals.apply(self.alloc, &mut history.acknowledgements, &mut self.standby)
     }
 
-    fn ack_delivered(&mut self, ack: u64) -> Result<bool, Refusal>
-        ensures does { Does (⟦<Pair<E, K> as Stepper>⟧.parts self.old) (events.AckDelivered ack) result (⟦<Pair<E, K> as Stepper>⟧.parts self.new) }
-        ensures leaves { Leaves (events.AckDelivered ack) result (⟦<Pair<E, K> as Stepper>⟧.parts self.old) (⟦<Pair<E, K> as Stepper>⟧.parts self.new) }
+    fn ack_delivered(&mut self, history: &History, ack: u64) -> Result<bool, Refusal>
+        ensures does { Does (⟦<Pair<E, K> as Stepper>⟧.parts self.old history.now) (events.AckDelivered ack) result (⟦<Pair<E, K> as Stepper>⟧.parts self.new history.now) }
+        ensures leaves { Leaves (events.AckDelivered ack) result (⟦<Pair<E, K> as Stepper>⟧.parts self.old history.now) (⟦<Pair<E, K> as Stepper>⟧.parts self.new history.now) }
     {
-        let Some(bytes) = self.arrivals.acknowledgements.get(ack as usize) else {
+        let Some(bytes) = history.acknowledgements.get(ack as usize) else {
             return Ok(false);
         };
         let Message::Ack(ack) = decode(self.alloc, bytes.as_slice(), 0)? else {
@@ -368,8 +371,8 @@ impl<E: Restarting, K: Keyspace + Drop> Pair<E, K> {
     }
 
     fn raise_remote(&mut self) -> Result<bool, Refusal>
-        ensures does { Does (⟦<Pair<E, K> as Stepper>⟧.parts self.old) events.RaiseRemote result (⟦<Pair<E, K> as Stepper>⟧.parts self.new) }
-        ensures leaves { Leaves events.RaiseRemote result (⟦<Pair<E, K> as Stepper>⟧.parts self.old) (⟦<Pair<E, K> as Stepper>⟧.parts self.new) }
+        ensures does { (history : History) → Does (⟦<Pair<E, K> as Stepper>⟧.parts self.old history) events.RaiseRemote result (⟦<Pair<E, K> as Stepper>⟧.parts self.new history) }
+        ensures leaves { (history : History) → Leaves events.RaiseRemote result (⟦<Pair<E, K> as Stepper>⟧.parts self.old history) (⟦<Pair<E, K> as Stepper>⟧.parts self.new history) }
     {
         let known = self.link.known();
         let rises = self.remote < known;
@@ -378,16 +381,16 @@ impl<E: Restarting, K: Keyspace + Drop> Pair<E, K> {
         Ok(rises)
     }
 
-    fn hold(&mut self, c: u64) -> Result<bool, Refusal>
-        ensures does { Does (⟦<Pair<E, K> as Stepper>⟧.parts self.old) (events.Hold c) result (⟦<Pair<E, K> as Stepper>⟧.parts self.new) }
-        ensures leaves { Leaves (events.Hold c) result (⟦<Pair<E, K> as Stepper>⟧.parts self.old) (⟦<Pair<E, K> as Stepper>⟧.parts self.new) }
+    fn hold(&mut self, history: &History, c: u64) -> Result<bool, Refusal>
+        ensures does { Does (⟦<Pair<E, K> as Stepper>⟧.parts self.old history.now) (events.Hold c) result (⟦<Pair<E, K> as Stepper>⟧.parts self.new history.now) }
+        ensures leaves { Leaves (events.Hold c) result (⟦<Pair<E, K> as Stepper>⟧.parts self.old history.now) (⟦<Pair<E, K> as Stepper>⟧.parts self.new history.now) }
     {
-        self.sessions.hold(c)
+        self.sessions.hold(&history.transcript, c)
     }
 
     fn read(&mut self, c: u64, mark: Mark) -> Result<bool, Refusal>
-        ensures does { Does (⟦<Pair<E, K> as Stepper>⟧.parts self.old) (events.Read c mark) result (⟦<Pair<E, K> as Stepper>⟧.parts self.new) }
-        ensures leaves { Leaves (events.Read c mark) result (⟦<Pair<E, K> as Stepper>⟧.parts self.old) (⟦<Pair<E, K> as Stepper>⟧.parts self.new) }
+        ensures does { (history : History) → Does (⟦<Pair<E, K> as Stepper>⟧.parts self.old history) (events.Read c mark) result (⟦<Pair<E, K> as Stepper>⟧.parts self.new history) }
+        ensures leaves { (history : History) → Leaves (events.Read c mark) result (⟦<Pair<E, K> as Stepper>⟧.parts self.old history) (⟦<Pair<E, K> as Stepper>⟧.parts self.new history) }
     {
         let marks = Seen {
             local: self.committer.local(),
@@ -397,58 +400,63 @@ impl<E: Restarting, K: Keyspace + Drop> Pair<E, K> {
     }
 
     fn release(&mut self, c: u64) -> Result<bool, Refusal>
-        ensures does { Does (⟦<Pair<E, K> as Stepper>⟧.parts self.old) (events.Release c) result (⟦<Pair<E, K> as Stepper>⟧.parts self.new) }
-        ensures leaves { Leaves (events.Release c) result (⟦<Pair<E, K> as Stepper>⟧.parts self.old) (⟦<Pair<E, K> as Stepper>⟧.parts self.new) }
+        ensures does { (history : History) → Does (⟦<Pair<E, K> as Stepper>⟧.parts self.old history) (events.Release c) result (⟦<Pair<E, K> as Stepper>⟧.parts self.new history) }
+        ensures leaves { (history : History) → Leaves (events.Release c) result (⟦<Pair<E, K> as Stepper>⟧.parts self.old history) (⟦<Pair<E, K> as Stepper>⟧.parts self.new history) }
     {
         Ok(self.sessions.release(c))
     }
 
-    fn write(&mut self, c: u64, n: u64) -> Result<bool, Refusal>
-        ensures does { Does (⟦<Pair<E, K> as Stepper>⟧.parts self.old) (events.Write c n) result (⟦<Pair<E, K> as Stepper>⟧.parts self.new) }
-        ensures leaves { Leaves (events.Write c n) result (⟦<Pair<E, K> as Stepper>⟧.parts self.old) (⟦<Pair<E, K> as Stepper>⟧.parts self.new) }
+    fn write(&mut self, history: &mut History, c: u64, n: u64) -> Result<bool, Refusal>
+        ensures does { Does (⟦<Pair<E, K> as Stepper>⟧.parts self.old history.old) (events.Write c n) result (⟦<Pair<E, K> as Stepper>⟧.parts self.new history.new) }
+        ensures leaves { Leaves (events.Write c n) result (⟦<Pair<E, K> as Stepper>⟧.parts self.old history.old) (⟦<Pair<E, K> as Stepper>⟧.parts self.new history.new) }
     {
-        self.sessions.write(c, n)
+        self.sessions.write(&mut history.transcript, c, n)
     }
 
     fn leave(&mut self, c: u64) -> Result<bool, Refusal>
-        ensures does { Does (⟦<Pair<E, K> as Stepper>⟧.parts self.old) (events.Leave c) result (⟦<Pair<E, K> as Stepper>⟧.parts self.new) }
-        ensures leaves { Leaves (events.Leave c) result (⟦<Pair<E, K> as Stepper>⟧.parts self.old) (⟦<Pair<E, K> as Stepper>⟧.parts self.new) }
+        ensures does { (history : History) → Does (⟦<Pair<E, K> as Stepper>⟧.parts self.old history) (events.Leave c) result (⟦<Pair<E, K> as Stepper>⟧.parts self.new history) }
+        ensures leaves { (history : History) → Leaves (events.Leave c) result (⟦<Pair<E, K> as Stepper>⟧.parts self.old history) (⟦<Pair<E, K> as Stepper>⟧.parts self.new history) }
     {
-        Ok(self.sessions.leave(self.alloc, c, &mut self.sequencer))
+        Ok(self.sessions.leave(c, &mut self.sequencer))
     }
 
-    fn crash(&mut self, node: Node, picks: &Vec<u64>) -> Result<bool, Refusal>
-        requires { HasWorld (⟦<Pair<E, K> as Stepper>⟧.parts self.old) }
-        ensures does { Acts (⟦<Pair<E, K> as Stepper>⟧.parts self.old) (events.Crash node picks.now) result (⟦<Pair<E, K> as Stepper>⟧.parts self.new) }
-        ensures leaves { Leaves (events.Crash node picks.now) result (⟦<Pair<E, K> as Stepper>⟧.parts self.old) (⟦<Pair<E, K> as Stepper>⟧.parts self.new) }
+    fn crash(
+        &mut self,
+        history: &mut History,
+        node: Node,
+        picks: &Vec<u64>,
+    ) -> Result<bool, Refusal>
+        requires { HasWorld (⟦<Pair<E, K> as Stepper>⟧.parts self.old history.old) }
+        ensures does { Acts (⟦<Pair<E, K> as Stepper>⟧.parts self.old history.old) (events.Crash node picks.now) result (⟦<Pair<E, K> as Stepper>⟧.parts self.new history.new) }
+        ensures leaves { Leaves (events.Crash node picks.now) result (⟦<Pair<E, K> as Stepper>⟧.parts self.old history.old) (⟦<Pair<E, K> as Stepper>⟧.parts self.new history.new) }
     {
         match node {
-            Node::Primary => Ok(self.crash_primary(picks)),
+            Node::Primary => Ok(self.crash_primary(history, picks)),
             Node::Standby => Ok(self.crash_standby(picks)),
         }
     }
 
-    /// Of the primary there is its image then, with the calls that it holds. All connections are over.
-    fn crash_primary(&mut self, picks: &Vec<u64>) -> bool
-        requires { HasWorld (⟦<Pair<E, K> as Stepper>⟧.parts self.old) }
-        ensures does { Acts (⟦<Pair<E, K> as Stepper>⟧.parts self.old) (events.Crash nodes.Primary picks.now) (Ok result) (⟦<Pair<E, K> as Stepper>⟧.parts self.new) }
-        ensures leaves { Leaves (events.Crash nodes.Primary picks.now) (Ok result) (⟦<Pair<E, K> as Stepper>⟧.parts self.old) (⟦<Pair<E, K> as Stepper>⟧.parts self.new) }
+    /// Of the primary there is its image then, and the list keeps the calls that it holds. All connections are over.
+    fn crash_primary(&mut self, history: &mut History, picks: &Vec<u64>) -> bool
+        requires { HasWorld (⟦<Pair<E, K> as Stepper>⟧.parts self.old history.old) }
+        ensures does { Acts (⟦<Pair<E, K> as Stepper>⟧.parts self.old history.old) (events.Crash nodes.Primary picks.now) (Ok result) (⟦<Pair<E, K> as Stepper>⟧.parts self.new history.new) }
+        ensures leaves { Leaves (events.Crash nodes.Primary picks.now) (Ok result) (⟦<Pair<E, K> as Stepper>⟧.parts self.old history.old) (⟦<Pair<E, K> as Stepper>⟧.parts self.new history.new) }
     {
         if !self.primary_runs {
             return false;
         }
         let position = self.committer.position();
         self.committer.crash(picks.as_slice());
-        self.sessions.crash(self.alloc, position);
+        self.sessions.crash(&mut history.transcript, position);
         self.primary_runs = false;
         true
     }
 
     /// Of the standby there is its image then. What was delivered to it is lost.
     fn crash_standby(&mut self, picks: &Vec<u64>) -> bool
-        requires { HasWorld (⟦<Pair<E, K> as Stepper>⟧.parts self.old) }
-        ensures does { Acts (⟦<Pair<E, K> as Stepper>⟧.parts self.old) (events.Crash nodes.Standby picks.now) (Ok result) (⟦<Pair<E, K> as Stepper>⟧.parts self.new) }
-        ensures leaves { Leaves (events.Crash nodes.Standby picks.now) (Ok result) (⟦<Pair<E, K> as Stepper>⟧.parts self.old) (⟦<Pair<E, K> as Stepper>⟧.parts self.new) }
+        requires { (history : History) × HasWorld (⟦<Pair<E, K> as Stepper>⟧.parts self.old history) }
+        ensures does { (history : History) → Acts (⟦<Pair<E, K> as Stepper>⟧.parts self.old history) (events.Crash nodes.Standby picks.now) (Ok result) (⟦<Pair<E, K> as Stepper>⟧.parts self.new history) }
+        ensures leaves { (history : History) → Leaves (events.Crash nodes.Standby picks.now) (Ok result) (⟦<Pair<E, K> as Stepper>⟧.parts self.old history) (⟦<Pair<E, K> as Stepper>⟧.parts self.new history) }
     {
         if !self.standby_runs {
             return false;
@@ -460,9 +468,9 @@ impl<E: Restarting, K: Keyspace + Drop> Pair<E, K> {
     }
 
     fn reopen(&mut self, node: Node) -> Result<bool, Refusal>
-        requires { HasWorld (⟦<Pair<E, K> as Stepper>⟧.parts self.old) }
-        ensures does { Acts (⟦<Pair<E, K> as Stepper>⟧.parts self.old) (events.Reopen node) result (⟦<Pair<E, K> as Stepper>⟧.parts self.new) }
-        ensures leaves { Leaves (events.Reopen node) result (⟦<Pair<E, K> as Stepper>⟧.parts self.old) (⟦<Pair<E, K> as Stepper>⟧.parts self.new) }
+        requires { (history : History) × HasWorld (⟦<Pair<E, K> as Stepper>⟧.parts self.old history) }
+        ensures does { (history : History) → Acts (⟦<Pair<E, K> as Stepper>⟧.parts self.old history) (events.Reopen node) result (⟦<Pair<E, K> as Stepper>⟧.parts self.new history) }
+        ensures leaves { (history : History) → Leaves (events.Reopen node) result (⟦<Pair<E, K> as Stepper>⟧.parts self.old history) (⟦<Pair<E, K> as Stepper>⟧.parts self.new history) }
     {
         match node {
             Node::Primary => self.reopen_primary(),
@@ -472,9 +480,9 @@ impl<E: Restarting, K: Keyspace + Drop> Pair<E, K> {
 
     /// The primary goes on from its image: its keyspace and its heap are made from the versions there, and nothing waits.
     fn reopen_primary(&mut self) -> Result<bool, Refusal>
-        requires { HasWorld (⟦<Pair<E, K> as Stepper>⟧.parts self.old) }
-        ensures does { Acts (⟦<Pair<E, K> as Stepper>⟧.parts self.old) (events.Reopen nodes.Primary) result (⟦<Pair<E, K> as Stepper>⟧.parts self.new) }
-        ensures leaves { Leaves (events.Reopen nodes.Primary) result (⟦<Pair<E, K> as Stepper>⟧.parts self.old) (⟦<Pair<E, K> as Stepper>⟧.parts self.new) }
+        requires { (history : History) × HasWorld (⟦<Pair<E, K> as Stepper>⟧.parts self.old history) }
+        ensures does { (history : History) → Acts (⟦<Pair<E, K> as Stepper>⟧.parts self.old history) (events.Reopen nodes.Primary) result (⟦<Pair<E, K> as Stepper>⟧.parts self.new history) }
+        ensures leaves { (history : History) → Leaves (events.Reopen nodes.Primary) result (⟦<Pair<E, K> as Stepper>⟧.parts self.old history) (⟦<Pair<E, K> as Stepper>⟧.parts self.new history) }
     {
         if self.primary_runs {
             return Ok(false);
@@ -497,9 +505,9 @@ impl<E: Restarting, K: Keyspace + Drop> Pair<E, K> {
 
     /// The standby goes on from its image.
     fn reopen_standby(&mut self) -> Result<bool, Refusal>
-        requires { HasWorld (⟦<Pair<E, K> as Stepper>⟧.parts self.old) }
-        ensures does { Acts (⟦<Pair<E, K> as Stepper>⟧.parts self.old) (events.Reopen nodes.Standby) result (⟦<Pair<E, K> as Stepper>⟧.parts self.new) }
-        ensures leaves { Leaves (events.Reopen nodes.Standby) result (⟦<Pair<E, K> as Stepper>⟧.parts self.old) (⟦<Pair<E, K> as Stepper>⟧.parts self.new) }
+        requires { (history : History) × HasWorld (⟦<Pair<E, K> as Stepper>⟧.parts self.old history) }
+        ensures does { (history : History) → Acts (⟦<Pair<E, K> as Stepper>⟧.parts self.old history) (events.Reopen nodes.Standby) result (⟦<Pair<E, K> as Stepper>⟧.parts self.new history) }
+        ensures leaves { (history : History) → Leaves (events.Reopen nodes.Standby) result (⟦<Pair<E, K> as Stepper>⟧.parts self.old history) (⟦<Pair<E, K> as Stepper>⟧.parts self.new history) }
     {
         if self.standby_runs {
             return Ok(false);

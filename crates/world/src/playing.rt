@@ -1,21 +1,20 @@
 //! A run of any list of events over two devices.
-ghost use Rattle.std.specs.Prelude.{◌≡◌, ℕ, ◌≤◌, ◌∷◌, [], List, map, length, vec_len, vec_capacity, Some, IfOk};
+ghost use Rattle.std.specs.Prelude.{◌≡◌, ◌≤◌, ◌∷◌, [], List, map, length, vec_len, vec_capacity, Some};
 ghost use Rattle.model.specs.Standing.{Holder};
 ghost use Rattle.world.specs.declared.trace.EarlyEnd.TheVariants.{AtFormatting};
 ghost use Rattle.world.specs.Headline.{KeepsItsWord, PlaysOn, Plays, start};
 ghost use Rattle.world.specs.Pair.{NodesRefine};
-ghost use Rattle.connections.specs.Session.{released_of};
 
+use crate::history::History;
 use crate::pair::{Pair, Stepper};
-use crate::parts::Parts;
 use crate::trace::{EarlyEnd, Trace};
-use connections::Connection;
+use connections::Transcript;
 use kv_types::Refusal;
 use machine::Event;
 use model::Call;
 use mv_keyspace::{Keyspace, MvKeyspace};
 use pmem::Crashing;
-use std::alloc::{AllocError, Global};
+use std::alloc::Global;
 use std::hash::RandomState;
 use wbl_engine::WblEngine;
 
@@ -93,8 +92,9 @@ fn play_over<P: Crashing>(
     ensures { KeepsItsWord events.now result.ended result.done.items result.calls.items (map (λ bytes. bytes.items) result.released.items) result.frames.items result.acknowledgements.items
         (P.state primary) (P.state standby) (P.state result.primary) (P.state result.standby) }
 {
-    let (done, released) = match room_for(alloc, events.len()) {
-        Ok(room) => room,
+    // Room for what a run reports, so that none is asked for at its end.
+    let done = match Vec::with_capacity(alloc, events.len()) {
+        Ok(done) => done,
         Err(_) => return nothing(alloc, Refusal::Memory, primary, standby),
     };
     match Pair::<WblEngine<P>, MvKeyspace>::open(
@@ -104,7 +104,7 @@ fn play_over<P: Crashing>(
         events.len(),
         hash_builder,
     ) {
-        Ok(pair) => play_on(pair, events, done, released),
+        Ok((pair, history)) => play_on(pair, history, events, done),
         Err((refusal, primary, standby)) => nothing(alloc, refusal, primary, standby),
     }
 }
@@ -128,48 +128,36 @@ fn nothing<P>(alloc: Global, refusal: Refusal, primary: P, standby: P) -> Played
     }
 }
 
-/// Room for what a run over `events` events reports, so that none is asked for at its end.
-fn room_for(alloc: Global, events: usize) -> Result<(Vec<bool>, Vec<Vec<u8>>), AllocError>
-    ensures done { IfOk result (λ room. (room.0.items ≡ []) × (events ≤ vec_capacity room.0)) }
-    ensures released { IfOk result (λ room. (room.1.items ≡ []) × (events ≤ vec_capacity room.1)) }
-{
-    let done = Vec::with_capacity(alloc, events)?;
-    // No more connections enter than events happen.
-    let released = Vec::with_capacity(alloc, events)?;
-    Ok((done, released))
-}
-
 /// Plays the events over a pair.
 fn play_on<P: Crashing, K: Keyspace + Drop>(
     pair: Pair<WblEngine<P>, K>,
+    history: History,
     events: &[Event],
     done: Vec<bool>,
-    released: Vec<Vec<u8>>,
 ) -> Played<P>
     requires none_done { done.items ≡ [] }
     requires room { length events.now ≤ vec_capacity done }
-    requires none_released { released.items ≡ [] }
-    requires room_released { length events.now ≤ vec_capacity released }
-    requires room_calls { length events.now ≤ vec_capacity pair.sessions.calls }
-    requires stands { (first : Holder) × (second : Holder) × NodesRefine first second (⟦<Pair<WblEngine<P>, K> as Stepper>⟧.parts pair) start }
-    ensures { (first second : Holder) → NodesRefine first second (⟦<Pair<WblEngine<P>, K> as Stepper>⟧.parts pair) start
+    requires room_calls { length events.now ≤ vec_capacity history.transcript.calls }
+    requires stands { (first : Holder) × (second : Holder) × NodesRefine first second (⟦<Pair<WblEngine<P>, K> as Stepper>⟧.parts pair history) start }
+    ensures { (first second : Holder) → NodesRefine first second (⟦<Pair<WblEngine<P>, K> as Stepper>⟧.parts pair history) start
         → PlaysOn first second events.now result.ended result.done.items result.calls.items (map (λ bytes. bytes.items) result.released.items) result.frames.items result.acknowledgements.items
-        (⟦<Pair<WblEngine<P>, K> as Stepper>⟧.parts pair).device (⟦<Pair<WblEngine<P>, K> as Stepper>⟧.parts pair).standby.device
+        (⟦<Pair<WblEngine<P>, K> as Stepper>⟧.parts pair history).device (⟦<Pair<WblEngine<P>, K> as Stepper>⟧.parts pair history).standby.device
         (P.state result.primary) (P.state result.standby) }
 {
     let mut pair = pair;
+    let mut history = history;
     let mut done = done;
-    let mut released = released;
-    let ended = play(&mut pair, events, &mut done);
-    let Parts {
-        calls,
-        connections,
+    let ended = play(&mut pair, &mut history, events, &mut done);
+    let (primary, standby) = pair.into_devices();
+    let History {
+        transcript: Transcript {
+            calls,
+            positions: _positions,
+            released,
+        },
         frames,
         acknowledgements,
-        primary,
-        standby,
-    } = pair.into_parts();
-    take_released(connections, &mut released);
+    } = history;
     Played {
         calls,
         released,
@@ -183,30 +171,24 @@ fn play_on<P: Crashing, K: Keyspace + Drop>(
 }
 
 /// Lets the events happen, one after another, and notes which did their step.
-fn play<S: Stepper>(stepper: &mut S, events: &[Event], done: &mut Vec<bool>) -> Option<EarlyEnd>
+fn play<S: Stepper>(
+    stepper: &mut S,
+    history: &mut History,
+    events: &[Event],
+    done: &mut Vec<bool>,
+) -> Option<EarlyEnd>
     requires none { done.old.items ≡ [] }
     requires room { length events.now ≤ vec_capacity done.old }
-    requires room_calls { length events.now ≤ vec_capacity (S.parts stepper.old).sessions.calls }
-    requires stands { (first : Holder) × (second : Holder) × NodesRefine first second (S.parts stepper.old) start }
-    ensures { (first second : Holder) → NodesRefine first second (S.parts stepper.old) start
-        → Plays first second (S.parts stepper.old) events.now result done.new.items (S.parts stepper.new) }
+    requires room_calls { length events.now ≤ vec_capacity (S.parts stepper.old history.old).transcript.calls }
+    requires stands { (first : Holder) × (second : Holder) × NodesRefine first second (S.parts stepper.old history.old) start }
+    ensures { (first second : Holder) → NodesRefine first second (S.parts stepper.old history.old) start
+        → Plays first second (S.parts stepper.old history.old) events.now result done.new.items (S.parts stepper.new history.new) }
 {
     for event in events {
-        match stepper.step(event) {
+        match stepper.step(history, event) {
             Ok(did) => done.push_reserved(did),
             Err(refusal) => return Some(EarlyEnd::AtEvent(done.len(), refusal)),
         }
     }
     None
-}
-
-/// Takes the released bytes out of the connections, in their order.
-fn take_released(connections: Vec<Connection>, released: &mut Vec<Vec<u8>>)
-    requires none { released.old.items ≡ [] }
-    requires room { length connections.items ≤ vec_capacity released.old }
-    ensures { map (λ bytes. bytes.items) released.new.items ≡ released_of connections.items }
-{
-    for connection in connections {
-        released.push_reserved(connection.into_released());
-    }
 }

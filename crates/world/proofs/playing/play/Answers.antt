@@ -11,8 +11,8 @@ use Rattle.world.proofs.StepLemmas.{cut-for-room}
 use Rattle.world.proofs.playing.play.Goals as goal
 
 -- at the start there is no call
-start-none : (pair : Pair) → (first : Holder) × (second : Holder) × NodesRefine first second pair start → length pair.sessions.calls.items ≤ 0
-start-none pair stands = omega (arith, ap length (sessions-stand stands.2.parts).calls_are)
+start-none : (pair : Pair) → (first : Holder) × (second : Holder) × NodesRefine first second pair start → length pair.transcript.calls.items ≤ 0
+start-none pair stands = omega (arith, ap length (sessions-stand stands.2.parts).told.calls_are)
 
 pub loop-event-init : goal.loop-event-init
 loop-event-init g c = record {
@@ -20,7 +20,7 @@ loop-event-init g c = record {
   room = c.requires.room;
   few = start-none _ c.requires.stands;
   room_calls = c.requires.room_calls;
-  reaches = λ first second stands. reaches-start first second c.args.done.now.items (g.S.Stepper.parts c.args.stepper.now) c.requires.none stands;
+  reaches = λ first second stands. reaches-start first second c.args.done.now.items (g.S.Stepper.parts c.args.stepper.now c.args.history.now) c.requires.none stands;
 }
 
 pub step-requires : goal.step-requires
@@ -35,7 +35,7 @@ returns-in-Err g c = λ first second stands.
     slice_get-get_or c.args.events.now c.loop-event.event-index c.event-item.result c.loop-event-test.true ∙ ap Some (sym c.event-item.is) in (
       c.event-item.result,
       ap (slice_get c.args.events.now) same ∙ there,
-      subst (λ n. IsCutAfter first second (g.S.Stepper.parts c.args.stepper.now) (take n c.args.events.now) c.event-item.result c.in-Err.refusal c.loop-event.done.items (g.S.Stepper.parts c.step.new.self)) (sym same)
+      subst (λ n. IsCutAfter first second (g.S.Stepper.parts c.args.stepper.now c.args.history.now) (take n c.args.events.now) c.event-item.result c.in-Err.refusal c.loop-event.done.items (g.S.Stepper.parts c.step.new.self c.step.new.history)) (sym same)
           (reaches-cut first second _ _ _ _ _ _ _
           (cut-for-room _ _ _ _ (record { room = omega (arith, c.loop-event.invariant.few, c.loop-event.invariant.room_calls, c.loop-event-test.true) }) c.in-Err.ensures.refused)
           c.in-Err.ensures.leaves.frames c.in-Err.ensures.leaves.acknowledgements
@@ -44,7 +44,7 @@ returns-in-Err g c = λ first second stands.
 
 pub loop-event-preserved : goal.loop-event-preserved
 loop-event-preserved g c =
-    let room : HasRoom (g.S.Stepper.parts c.loop-event.stepper) = record { room = omega (arith, c.loop-event.invariant.few, c.loop-event.invariant.room_calls, c.loop-event-test.true) } in
+    let room : HasRoom (g.S.Stepper.parts c.loop-event.stepper c.loop-event.history) = record { room = omega (arith, c.loop-event.invariant.few, c.loop-event.invariant.room_calls, c.loop-event-test.true) } in
     let adds = c.in-Ok.ensures.room room in
     record {
       count = omega (arith, c.push_reserved.ensures.len, c.loop-event.invariant.count);
@@ -52,14 +52,14 @@ loop-event-preserved g c =
       few = omega (arith, adds.one, c.loop-event.invariant.few);
       room_calls = omega (arith, adds.room, c.loop-event.invariant.room_calls);
       reaches = λ first second stands.
-          subst (λ (passed : List Event). StandsAfter first second (g.S.Stepper.parts c.args.stepper.now) passed c.push_reserved.new.self.items (g.S.Stepper.parts c.step.new.self))
+          subst (λ (passed : List Event). StandsAfter first second (g.S.Stepper.parts c.args.stepper.now c.args.history.now) passed c.push_reserved.new.self.items (g.S.Stepper.parts c.step.new.self c.step.new.history))
           (ap (λ event. take c.loop-event.event-index c.args.events.now ++ event ∷ []) c.event-item.is ∙ sym (take_more c.args.events.now c.loop-event.event-index c.event-item.result c.loop-event-test.true))
-          (reaches-next first second (g.S.Stepper.parts c.args.stepper.now) (take c.loop-event.event-index c.args.events.now) c.loop-event.done.items c.push_reserved.new.self.items (g.S.Stepper.parts c.loop-event.stepper) (g.S.Stepper.parts c.step.new.self)
+          (reaches-next first second (g.S.Stepper.parts c.args.stepper.now c.args.history.now) (take c.loop-event.event-index c.args.events.now) c.loop-event.done.items c.push_reserved.new.self.items (g.S.Stepper.parts c.loop-event.stepper c.loop-event.history) (g.S.Stepper.parts c.step.new.self c.step.new.history)
           c.event-item.result c.in-Ok.did c.push_reserved.ensures.items (λ first second w stands. (c.in-Ok.ensures.happened first second w stands).steps)
           c.in-Ok.ensures.leaves.primary c.in-Ok.ensures.leaves.standby (c.loop-event.invariant.reaches first second stands));
     }
 
 pub returns : goal.returns
 returns g c = λ first second stands.
-    subst (λ (passed : List Event). StandsAfter first second (g.S.Stepper.parts c.args.stepper.now) passed c.loop-event.done.items (g.S.Stepper.parts c.loop-event.stepper))
+    subst (λ (passed : List Event). StandsAfter first second (g.S.Stepper.parts c.args.stepper.now c.args.history.now) passed c.loop-event.done.items (g.S.Stepper.parts c.loop-event.stepper c.loop-event.history))
     (take_all c.loop-event.event-index c.args.events.now c.loop-event-test.false) (c.loop-event.invariant.reaches first second stands)

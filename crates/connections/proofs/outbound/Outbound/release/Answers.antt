@@ -15,7 +15,6 @@ returns c = λ calls machine stands.
             (c.release.ensures.pending ∙ ap₂ (λ l r. gate.pending ++ take (covered_bytes l r gate.replies) gate.waiting) stands.local stands.remote)
             (c.release.ensures.waiting ∙ ap₂ (λ l r. drop (covered_bytes l r gate.replies) gate.waiting) stands.local stands.remote)
             (c.release.ensures.replies ∙ ap₂ (λ l r. uncovered_rest l r gate.replies) stands.local stands.remote);
-        released = stands.released;
         local = stands.local;
         remote = stands.remote;
       };

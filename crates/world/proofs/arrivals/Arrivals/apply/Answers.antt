@@ -11,10 +11,9 @@ use Rattle.frames.specs.declared.ack.Ack.{Ack}
 use Rattle.frames.specs.declared.frame.Frame.{Frame}
 use Rattle.standby.specs.declared.standby.Standby.{Standby}
 use Rattle.standby.specs.Following.{HasFreed}
-use Rattle.world.specs.declared.arrivals.Arrivals.{Arrivals}
 use Rattle.world.specs.Cause.{EndsBy}
 use Rattle.world.specs.Committing.{NearOnly, next_from, next_standby}
-use Rattle.world.specs.Standby.{Node, ArrivalsRefine, StandbyStands, told_by}
+use Rattle.world.specs.Standby.{Arrived, Node, ArrivalsRefine, StandbyStands, arrived_with, told_by}
 use Rattle.world.proofs.StandbyLemmas.{Answers, IsKept, IsKept-freed, IsKept-same, OnErr-weaken, takes_ok, takes_refused, refused-full, frame-ends, frame-moments, StandbyStands-still}
 use Rattle.world.proofs.EngineLemmas.{Opens-engine, rests-same}
 use Rattle.world.specs.Link.{AreAcksSent}
@@ -68,12 +67,12 @@ answers g c = record {
 told : (g : Over) (c : After-on_frame g) (result : Result Ack Refusal) → c.on_frame.result ≡ result → Answers c.in-Some.frame.now (node g c.args.standby.now) result (node g c.on_frame.new.self)
 told g c result is = subst (λ (r : Result Ack Refusal). Answers c.in-Some.frame.now (node g c.args.standby.now) r (node g c.on_frame.new.self)) is (answers g c)
 
-first : (g : Over) (c : After-on_frame g) (w : World) → ArrivalsRefine (g.E.Durable.contents c.args.standby.now.engine).current.epoch w.primary.calls c.args.self.now w.standby.waiting w.wire.acknowledgements
+first : (g : Over) (c : After-on_frame g) (w : World) → ArrivalsRefine (g.E.Durable.contents c.args.standby.now.engine).current.epoch w.primary.calls (arrived_with c.args.self.now c.args.acknowledgements.now) w.standby.waiting w.wire.acknowledgements
     → FirstFrame (g.E.Durable.contents c.args.standby.now.engine).current.epoch w.primary.calls c.in-Some.frame.now (drop 1 c.args.self.now.delivered.items) w.standby.waiting
-first g c w stands = first-frame (g.E.Durable.contents c.args.standby.now.engine).current.epoch w c.args.self.now c.in-Some.frame.now c.in-Some.ensures.item.3.0 c.in-Some.ensures.lookup stands
+first g c w stands = first-frame (g.E.Durable.contents c.args.standby.now.engine).current.epoch w (arrived_with c.args.self.now c.args.acknowledgements.now) c.in-Some.frame.now c.in-Some.ensures.item.3.0 c.in-Some.ensures.lookup stands
 
 -- at any moment of the call
-moments : (g : Over) (c : After-on_frame g) (holder : Holder) (w : World) → Sound w → (g.E.Durable.contents c.args.standby.now.engine).current.epoch ≡ w.standby.epoch → ArrivalsRefine (g.E.Durable.contents c.args.standby.now.engine).current.epoch w.primary.calls c.args.self.now w.standby.waiting w.wire.acknowledgements
+moments : (g : Over) (c : After-on_frame g) (holder : Holder) (w : World) → Sound w → (g.E.Durable.contents c.args.standby.now.engine).current.epoch ≡ w.standby.epoch → ArrivalsRefine (g.E.Durable.contents c.args.standby.now.engine).current.epoch w.primary.calls (arrived_with c.args.self.now c.args.acknowledgements.now) w.standby.waiting w.wire.acknowledgements
     → StandbyStands holder (g.E.Durable.contents c.args.standby.now.engine).current.epoch w.primary.calls w.standby.position (node g c.args.standby.now)
     → NearOnly holder w.primary.calls w.standby.position (next_standby w) (g.E.Durable.device c.args.standby.now.engine) (g.E.Durable.device c.on_frame.new.self.engine)
 moments g c holder w sound epochs arrives stands =
@@ -88,27 +87,27 @@ returns-clause-applies g c =
     let prefix = (goal.at.returns-clause-applies g c).After-on_frame in
     let epoch = (g.E.Durable.contents c.args.standby.now.engine).current.epoch in
     let frame = c.in-Some.frame.now in
-    let new : Arrivals = record { delivered = c.pop_front.new.self; acknowledgements = c.match-on_frame.self.acknowledgements } in
+    let new : Arrived = record { delivered = c.pop_front.new.self; acknowledgements = c.match-on_frame.acknowledgements } in
     elim c.match-on_frame.branch [
       | in-Ok w ↦ λ holder w' sound epochs arrives stands.
           let one = first g prefix w' arrives in
           let ack = w.in-Ok.ack in
           let acks = w'.wire.acknowledgements in
-          let written : new.acknowledgements.items ≡ c.args.self.now.acknowledgements.items ++ w.encode_ack_in.result ∷ [] =
-          ap (λ (a : Arrivals). a.acknowledgements.items) w.self-is ∙ w.push_reserved.ensures.items ∙ ap (λ (texts : List (Vec ℕ Global)). texts ++ w.encode_ack_in.result ∷ []) c.in_ok-reserve.ensures.items in
-          applies holder epoch w' frame (told_by ack ∷ []) c.args.self.now new (node g c.args.standby.now) (node g c.on_frame.new.self)
-          (c.pop_front.ensures.rest ∙ ap (λ (a : Arrivals). drop 1 a.delivered.items) w.self-is)
+          let written : new.acknowledgements.items ≡ c.args.acknowledgements.now.items ++ w.encode_ack_in.result ∷ [] =
+          ap (λ (v : Vec (Vec ℕ Global) Global). v.items) w.acknowledgements-is ∙ w.push_reserved.ensures.items ∙ ap (λ (texts : List (Vec ℕ Global)). texts ++ w.encode_ack_in.result ∷ []) c.in_ok-reserve.ensures.items in
+          applies holder epoch w' frame (told_by ack ∷ []) (arrived_with c.args.self.now c.args.acknowledgements.now) new (node g c.args.standby.now) (node g c.on_frame.new.self)
+          c.pop_front.ensures.rest
           (subst (λ (texts : List (Vec ℕ Global)). AreAcksSent texts (acks ++ told_by ack ∷ [])) (sym written)
-          (AreAcksSent-push c.args.self.now.acknowledgements.items acks w.encode_ack_in.result (told_by ack) arrives.acknowledged (record { text = w.encode_ack_in.ensures.text; may = w.encode_ack_in.ensures.may }))) one
+          (AreAcksSent-push c.args.acknowledgements.now.items acks w.encode_ack_in.result (told_by ack) arrives.acknowledged (record { text = w.encode_ack_in.ensures.text; may = w.encode_ack_in.ensures.may }))) one
           (takes_ok holder epoch w'.primary.calls (without_first w'.standby) frame one.span (node g c.args.standby.now) (node g c.on_frame.new.self) one.epoch_is epochs one.is stands ack (told g prefix (Ok ack) w.in-Ok.is))
       | in-Err w ↦ λ holder w' sound epochs arrives stands.
           let one = first g prefix w' arrives in
           let acks = w'.wire.acknowledgements in
-          let same : new.acknowledgements.items ≡ c.args.self.now.acknowledgements.items = ap (λ (a : Arrivals). a.acknowledgements.items) w.self-is ∙ c.in_ok-reserve.ensures.items in
-          applies holder epoch w' frame [] c.args.self.now new (node g c.args.standby.now) (node g c.on_frame.new.self)
-          (c.pop_front.ensures.rest ∙ ap (λ (a : Arrivals). drop 1 a.delivered.items) w.self-is)
+          let same : new.acknowledgements.items ≡ c.args.acknowledgements.now.items = ap (λ (v : Vec (Vec ℕ Global) Global). v.items) w.acknowledgements-is ∙ c.in_ok-reserve.ensures.items in
+          applies holder epoch w' frame [] (arrived_with c.args.self.now c.args.acknowledgements.now) new (node g c.args.standby.now) (node g c.on_frame.new.self)
+          c.pop_front.ensures.rest
           (subst (λ (texts : List (Vec ℕ Global)). AreAcksSent texts (acks ++ [])) (sym same)
-          (subst (λ (told : List Acknowledgement). AreAcksSent c.args.self.now.acknowledgements.items told) (sym (append-nil acks)) arrives.acknowledged)) one
+          (subst (λ (told : List Acknowledgement). AreAcksSent c.args.acknowledgements.now.items told) (sym (append-nil acks)) arrives.acknowledged)) one
           (takes_refused holder epoch w'.primary.calls (without_first w'.standby) frame one.span (node g c.args.standby.now) (node g c.on_frame.new.self) one.epoch_is epochs one.is stands w.in-Err.refusal (w.goes_on.ensures.0 w.if-goes_on.true)
           (told g prefix (Err w.in-Err.refusal) w.in-Err.is))
     ]
@@ -134,7 +133,7 @@ returns-in_err-room-clause-cut g c =
     let memory : exit.0 ≡ Memory = cc in
     let device = g.E.Durable.device c.args.standby.now.engine in
     rw exit.1 (λ holder w sound epochs arrives stands. (
-      ap is_nonempty (first-frame (g.E.Durable.contents c.args.standby.now.engine).current.epoch w c.args.self.now c.in-Some.frame.now c.in-Some.ensures.item.3.0 c.in-Some.ensures.lookup arrives).all,
+      ap is_nonempty (first-frame (g.E.Durable.contents c.args.standby.now.engine).current.epoch w (arrived_with c.args.self.now c.args.acknowledgements.now) c.in-Some.frame.now c.in-Some.ensures.item.3.0 c.in-Some.ensures.lookup arrives).all,
       subst (λ (r : Refusal). EndsBy r Apply (λ _ last. last holder w.primary.calls w.standby.position (next_standby w) device device)) (sym memory)
           (refl, rests-same holder w.primary.calls w.standby.position device device refl (Opens-engine _ _ _ _ _ _ stands.engine)),
     ))
@@ -145,7 +144,7 @@ returns-in_err-reserve-clause-cut g c =
     let memory : exit.0 ≡ Memory = cc in
     let device = g.E.Durable.device c.args.standby.now.engine in
     rw exit.1 (λ holder w sound epochs arrives stands. (
-      ap is_nonempty (first-frame (g.E.Durable.contents c.args.standby.now.engine).current.epoch w c.args.self.now c.in-Some.frame.now c.in-Some.ensures.item.3.0 c.in-Some.ensures.lookup arrives).all,
+      ap is_nonempty (first-frame (g.E.Durable.contents c.args.standby.now.engine).current.epoch w (arrived_with c.args.self.now c.args.acknowledgements.now) c.in-Some.frame.now c.in-Some.ensures.item.3.0 c.in-Some.ensures.lookup arrives).all,
       subst (λ (r : Refusal). EndsBy r Apply (λ _ last. last holder w.primary.calls w.standby.position (next_standby w) device device)) (sym memory)
           (refl, rests-same holder w.primary.calls w.standby.position device device refl (Opens-engine _ _ _ _ _ _ stands.engine)),
     ))
@@ -165,28 +164,20 @@ returns-in-Err-2-clause-cut g c = λ holder w sound epochs arrives stands.
 pub returns-clause-acknowledged : goal.returns-clause-acknowledged
 returns-clause-acknowledged g c =
     elim c.match-on_frame.branch [
-      | in-Ok w ↦
-          inl (
-            w.encode_ack_in.result,
-            ap (λ (a : Arrivals). a.acknowledgements.items) w.self-is ∙ w.push_reserved.ensures.items ∙ ap (λ (texts : List (Vec ℕ Global)). texts ++ w.encode_ack_in.result ∷ []) c.in_ok-reserve.ensures.items,
-          )
-      | in-Err w ↦ inr (ap (λ (a : Arrivals). a.acknowledgements.items) w.self-is ∙ c.in_ok-reserve.ensures.items)
+      | in-Ok w ↦ inl (w.encode_ack_in.result, cc (w.acknowledgements-is, w.push_reserved.ensures.items, c.in_ok-reserve.ensures.items))
+      | in-Err w ↦ inr (cc (w.acknowledgements-is, c.in_ok-reserve.ensures.items))
     ]
 
 pub returns-clause-answered : goal.returns-clause-answered
 returns-clause-answered g c =
     let frame = c.in-Some.frame.now in
     let items = c.args.self.now.delivered.items in
-    let old = c.args.self.now.acknowledgements.items in
-    let new = c.match-on_frame.self.acknowledgements.items in
+    let old = c.args.acknowledgements.now.items in
+    let new = c.match-on_frame.acknowledgements.items in
     subst (λ (frames : List Frame). AnswersFirst frames old new (node g c.args.standby.now) (node g c.on_frame.new.self))
     (sym (starts_with items frame c.in-Some.ensures.item.3.0 c.in-Some.ensures.lookup))
     (λ next. elim c.match-on_frame.branch [
-      | in-Ok w ↦
-          inl (
-            w.encode_ack_in.result,
-            ap (λ (a : Arrivals). a.acknowledgements.items) w.self-is ∙ w.push_reserved.ensures.items ∙ ap (λ (texts : List (Vec ℕ Global)). texts ++ w.encode_ack_in.result ∷ []) c.in_ok-reserve.ensures.items,
-          )
+      | in-Ok w ↦ inl (w.encode_ack_in.result, cc (w.acknowledgements-is, w.push_reserved.ensures.items, c.in_ok-reserve.ensures.items))
       | in-Err w ↦
           refused-full c.on_frame.result w.in-Err.refusal w.in-Err.is (w.goes_on.ensures.0 w.if-goes_on.true) (c.on_frame.ensures.causes next)
           (λ full. let told = c.on_frame.ensures.full full in inr (record { room = told.0; freed = told.1.none }))

@@ -3,20 +3,20 @@ use Rattle.world.proofs.PairFreeing.{accept-does, accept-none, no_notices}
 use Rattle.world.proofs.pair.Pair.accept_freed.Goals as goal
 
 pub returns-in_default-clause-does : goal.returns-in_default-clause-does
-returns-in_default-clause-does g c =
+returns-in_default-clause-does g c = λ history.
     let cases = rw c.in_default.is at c.pop_front.ensures.cases in
     let old = c.args.self.now.notices in
     let new = c.pop_front.new.self in
     accept-none _ new.items (no_notices old.items (omega (arith, cases.0, old.ok.0))) (no_notices new.items (omega (arith, cases.1, new.ok.0)))
 
 pub returns-clause-does : goal.returns-clause-does
-returns-clause-does g c =
+returns-clause-does g c = λ history.
     accept-does _ c.accept_freed.new.self c.in-Some.freed c.pop_front.new.self.items c.in-Some.ensures.items
     (rw (c.deref.ensures.value, c.deref-2.ensures.value) at c.accept_freed.ensures.back)
     (rw (c.deref.ensures.value, c.deref-2.ensures.value) at c.accept_freed.ensures.stands)
 
 pub returns-clause-leaves : goal.returns-clause-leaves
-returns-clause-leaves g c = record {
+returns-clause-leaves g c = λ history. record {
   primary = λ idle. refl;
   standby = λ idle. refl;
   frames = refl;

@@ -1,5 +1,6 @@
 use Rattle.world.proofs.PairStandby.{apply-acts, follower}
 use Rattle.std.proofs.Common.{refl}
+use Rattle.world.specs.Standby.{arrived_with}
 use Rattle.world.proofs.LeavesLemmas.{not-begun}
 use Rattle.world.proofs.pair.Pair.apply.Goals as goal
 
@@ -7,7 +8,7 @@ pub apply-requires-clause-durable : goal.apply-requires-clause-durable
 apply-requires-clause-durable g c = (follower c.requires.follows c.requires.world.stands.parts).engine.durable
 
 pub returns-clause-does : goal.returns-clause-does
-returns-clause-does g c = apply-acts _ c.apply.new.self
+returns-clause-does g c = apply-acts _ (arrived_with c.apply.new.self c.apply.new.acknowledgements)
     (record {
       device = g.E.Durable.device c.apply.new.standby.engine;
       contents = g.E.Durable.contents c.apply.new.standby.engine;

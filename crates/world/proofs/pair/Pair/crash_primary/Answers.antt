@@ -12,7 +12,7 @@ returns-clause-does g c =
     let engine = c.crash.new.self.engine in
     let crashed = c.crash.ensures in
     let ended = c.crash-2.ensures in
-    primary-crashes _ c.crash-2.new.self (record { waiting = c.args.self.now.work; aside = c.crash.new.self.aside.items; stage = c.crash.new.self.stage; local = c.crash.new.self.local })
+    primary-crashes _ c.crash-2.new.self c.crash-2.new.transcript (record { waiting = c.args.self.now.work; aside = c.crash.new.self.aside.items; stage = c.crash.new.self.stage; local = c.crash.new.self.local })
     (E.device engine) (E.contents engine) (E.is_faulted engine) c.args.picks.now c.position-position.result c.if-not-self.false c.position-position.ensures
     (record {
       sized = g.met.E.Durable.sized c.args.self.now.committer.engine;

@@ -1,17 +1,18 @@
-use Rattle.std.proofs.Common.{ℕ, List, Vec, Global, ap, refl, ◌∙◌}
+use Rattle.std.proofs.Common.{ℕ, List, ap, refl, ◌∙◌}
 use Rattle.pmem.specs.Crash.{picked}
+use Rattle.world.specs.Standby.{arrived_with}
 use Rattle.world.proofs.PairCrash.{standby-crashed, standby-crashes}
 use Rattle.world.proofs.pair.Pair.crash_standby.Goals as goal
 
 pub returns-then-not-self-clause-does : goal.returns-then-not-self-clause-does
-returns-then-not-self-clause-does g c = standby-crashed _ c.args.picks.now c.if-not-self.true
+returns-then-not-self-clause-does g c = λ history. standby-crashed _ c.args.picks.now c.if-not-self.true
 
 pub returns-clause-does : goal.returns-clause-does
-returns-clause-does g c =
+returns-clause-does g c = λ history.
     let E = g.E.Durable in
     let standby = c.crash.new.self in
     let crashed = c.crash.ensures in
-    standby-crashes _ c.crash-2.new.self
+    standby-crashes _ (arrived_with c.crash-2.new.self history.acknowledgements)
     (record {
       device = E.device standby.engine;
       contents = E.contents standby.engine;
@@ -30,16 +31,16 @@ returns-clause-does g c =
       failures = crashed.failures;
       moments = crashed.moments;
     })
-    c.crash-2.ensures.delivered c.crash-2.ensures.acknowledgements
+    c.crash-2.ensures refl
 
 pub returns-clause-leaves : goal.returns-clause-leaves
-returns-clause-leaves g c =
+returns-clause-leaves g c = λ history.
     let crashed = c.crash.ensures in
     record {
       primary = λ idle. refl;
       standby = λ idle. cc;
       frames = refl;
-      acknowledgements = ap (λ (v : Vec (Vec ℕ Global) Global). v.items) c.crash-2.ensures.acknowledgements;
+      acknowledgements = refl;
       effect = record {
         settled = crashed.settled;
         image = crashed.image;

@@ -1,5 +1,8 @@
+use Rattle.std.proofs.lemmas.Result.{IfOk-weaker}
+use Rattle.world.specs.Standby.{arrived_with}
 use Rattle.world.proofs.PairStandby.{deliver-acts}
 use Rattle.world.proofs.pair.Pair.deliver.Goals as goal
 
 pub returns-clause-does : goal.returns-clause-does
-returns-clause-does g c = deliver-acts _ c.deliver.new.self c.as_slice.result.now c.args.frame c.args.piece c.deliver.result c.requires.follows c.as_slice.ensures.value c.deliver.ensures.goes c.deliver.ensures.cause c.deliver.ensures.some
+returns-clause-does g c = deliver-acts _ (arrived_with c.deliver.new.self c.args.history.now.acknowledgements) c.as_slice.result.now c.args.frame c.args.piece c.deliver.result c.requires.follows c.as_slice.ensures.value
+    (IfOk-weaker c.deliver.result _ _ (λ did goes epoch w. goes epoch w c.args.history.now.acknowledgements) c.deliver.ensures.goes) c.deliver.ensures.cause c.deliver.ensures.some

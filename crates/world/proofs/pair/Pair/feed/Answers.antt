@@ -1,10 +1,11 @@
 use Rattle.std.proofs.Common.{refl}
 use Rattle.machine.specs.declared.event.Event.TheVariants as events
 use Rattle.machine.specs.Connection.{changed_at, may_feed, with_inbound, fed_with}
-use Rattle.world.proofs.PairLemmas.{sessions-do}
+use Rattle.connections.proofs.SessionLemmas.{on_err_from}
+use Rattle.world.proofs.PairLemmas.{sessions-do, tells}
 use Rattle.world.proofs.pair.Pair.feed.Goals as goal
 
 pub returns-clause-does : goal.returns-clause-does
-returns-clause-does g c =
-    sessions-do (events.Feed c.args.c c.args.piece.now) (λ machines. may_feed machines c.args.c) (changed_at c.args.c (with_inbound (fed_with c.args.piece.now))) (record { own = refl; may = λ w. refl; happens = λ w. refl }) refl _ c.feed.new.self c.feed.result
-    c.feed.ensures.goes c.feed.ensures.told c.feed.ensures.cause c.feed.ensures.enabled c.feed.ensures.seats c.feed.ensures.calls
+returns-clause-does g c = λ history.
+    sessions-do (events.Feed c.args.c c.args.piece.now) (λ machines. may_feed machines c.args.c) (changed_at c.args.c (with_inbound (fed_with c.args.piece.now))) (record { own = refl; may = λ w. refl; happens = λ w. refl }) refl _ c.feed.new.self _ c.feed.result
+    (c.feed.ensures.goes history.transcript) (on_err_from c.feed.result (tells _)) c.feed.ensures.cause (c.feed.ensures.enabled history.transcript) c.feed.ensures.seats refl

@@ -1,32 +1,33 @@
-use Rattle.std.proofs.Common.{◌++◌, ◌∷◌, [], Err, ap, refl, sym, ◌∙◌}
+use Rattle.std.proofs.Common.{◌++◌, ◌∷◌, Err, ap, refl, sym, ◌∙◌, []}
 use Rattle.std.proofs.lemmas.Result.{err_from_is_err_and}
-use Rattle.world.specs.Standby.{node_at}
+use Rattle.world.specs.declared.history.History.{History}
+use Rattle.world.specs.Standby.{arrived_with, node_at}
 use Rattle.world.proofs.LivesLemmas.{serves-as}
-use Rattle.world.proofs.PairFreeing.{free-does, free-effect, free-ends, free-idle, free-ready, free-roomless, free-told}
+use Rattle.world.proofs.PairFreeing.{free-done, free-ends, free-idle, free-ready, free-roomless}
 use Rattle.primary.proofs.LeadsLemmas.{gives-work}
 use Rattle.world.proofs.pair.Pair.free.Goals as goal
 use Rattle.world.proofs.pair.Pair.free.Goals.{in-Freed, in_default}
 
 pub returns-then-not-may_free-clause-does : goal.returns-then-not-may_free-clause-does
-returns-then-not-may_free-clause-does g c =
+returns-then-not-may_free-clause-does g c = λ history.
     let E = g.E.Durable in
     let pair = c.args.self.now in
-    free-idle E.device E.contents E.is_faulted _ _ pair.link pair.opening pair.remote _ _ _ _ _ pair.committer pair.work pair.notices.items pair.handed (sym c.may_free.ensures ∙ c.if-not-may_free.true)
+    free-idle E.device E.contents E.is_faulted _ _ _ pair.link pair.opening pair.remote _ _ _ _ _ pair.committer pair.work pair.notices.items pair.handed (sym c.may_free.ensures ∙ c.if-not-may_free.true)
 
 pub returns-in_err-reserve-clause-does : goal.returns-in_err-reserve-clause-does
-returns-in_err-reserve-clause-does g c =
+returns-in_err-reserve-clause-does g c = λ history.
     let E = g.E.Durable in
     let pair = c.args.self.now in
     let exit = err_from_is_err_and c.from_residual.result c.from_residual.ensures.1 in
     rw exit.1
-    (free-roomless E.device E.contents E.is_faulted _ _ pair.link pair.opening pair.remote _ _ _ _ _ pair.committer pair.work pair.notices.items c.reserve.new.self.items pair.handed exit.0 exit.2
+    (free-roomless E.device E.contents E.is_faulted _ _ _ pair.link pair.opening pair.remote _ _ _ _ _ pair.committer pair.work pair.notices.items c.reserve.new.self.items pair.handed exit.0 exit.2
     (sym c.may_free.ensures ∙ c.if-not-may_free.false))
 
 pub turn-requires-clause-lawful : goal.turn-requires-clause-lawful
-turn-requires-clause-lawful g c = λ ready. gives-work _ c.args.self.now.work c.args.self.now.committer.aside.items _ _ (serves-as c.requires.serves c.requires.world.stands).parts.leads
+turn-requires-clause-lawful g c = λ ready. gives-work _ c.args.self.now.work c.args.self.now.committer.aside.items _ _ (serves-as c.requires.serves c.requires.world.1.stands).parts.leads
 
 pub returns-in_err-done-clause-does : goal.returns-in_err-done-clause-does
-returns-in_err-done-clause-does g c =
+returns-in_err-done-clause-does g c = λ history.
     let E = g.E.Durable in
     let pair = c.args.self.now in
     let exit = err_from_is_err_and c.from_residual-in_err-done.result c.from_residual-in_err-done.ensures.1 in
@@ -35,48 +36,33 @@ returns-in_err-done-clause-does g c =
     let turned = c.in_err-done.ensures.ready ready in
     rw (exit.1 ∙ ap Err exit.2)
     (rw c.reserve.ensures.items
-    (free-ends E.device E.contents E.is_faulted _ _ pair.link pair.opening pair.remote _ _ _ _ _ pair.committer c.turn.new.self pair.work c.turn.new.work pair.notices.items pair.handed c.turn.new.link
-    c.in_err-done.field-0.0 ready may turned.0 turned.2))
+    (free-ends E.device E.contents E.is_faulted _ _ _ pair.link pair.opening pair.remote _ _ _ _ _ pair.committer pair.work pair.notices.items pair.handed may c.turn.new.self c.turn.new.work ready c.turn.new.link
+    c.in_err-done.field-0.0 turned.0 turned.2))
 
-pub returns-clause-does : goal.returns-clause-does
-returns-clause-does g c =
-    let E = g.E.Durable in
-    let pair = c.args.self.now in
-    let may = sym c.may_free.ensures ∙ c.if-not-may_free.false in
-    let ready = free-ready pair.committer.stage pair.committer.aside.items pair.work.items pair.handed.items pair.remote may in
-    let turned = c.in_ok-done.ensures.ready ready in
-    elim c.match-done.branch [
-      | in-Freed w ↦
-          rw w.self-is
-          (free-does E.device E.contents E.is_faulted _ _ pair.link pair.opening pair.remote _ _ _ _ _ pair.committer c.turn.new.self pair.work c.turn.new.work pair.notices.items pair.handed c.turn.new.link
-          w.in-Freed.freed c.in_ok-done.done w.push_back_reserved.new.self.items w.in-Freed.is
-          (w.push_back_reserved.ensures.items ∙ ap (λ xs. xs ++ w.in-Freed.freed ∷ []) c.reserve.ensures.items) ready may turned.0 turned.2)
-      | in_default w ↦
-          let told = free-told E.device E.contents E.is_faulted pair.sessions pair.sequencer pair.link pair.opening pair.remote pair.frames.items pair.arrivals (node_at (E.device pair.standby.engine) (E.contents pair.standby.engine) (E.is_faulted pair.standby.engine) (g.K.Keyspace.table pair.standby.keyspace) pair.standby.heap pair.standby.ended.items) pair.primary_runs pair.standby_runs pair.committer c.turn.new.self pair.work c.turn.new.work pair.handed c.turn.new.link c.in_ok-done.done may turned.0 turned.2 in
-          absurd (w.in_default.not-Freed told.0 told.1)
-    ]
-
-pub returns-clause-leaves : goal.returns-clause-leaves
-returns-clause-leaves g c =
+pub returns : goal.returns
+returns g c =
     let E = g.E.Durable in
     let pair = c.args.self.now in
     let may = sym c.may_free.ensures ∙ c.if-not-may_free.false in
     let ready = free-ready pair.committer.stage pair.committer.aside.items pair.work.items pair.handed.items pair.remote may in
     let turned = c.in_ok-done.ensures.ready ready in
     let standby = node_at (E.device pair.standby.engine) (E.contents pair.standby.engine) (E.is_faulted pair.standby.engine) (g.K.Keyspace.table pair.standby.keyspace) pair.standby.heap pair.standby.ended.items in
+    let did = λ (history : History). free-done E.device E.contents E.is_faulted pair.sessions history.transcript pair.sequencer pair.link pair.opening pair.remote history.frames.items
+    (arrived_with pair.arrivals history.acknowledgements) standby pair.primary_runs pair.standby_runs pair.committer pair.work pair.notices.items pair.handed may c.turn.new.self c.turn.new.work ready c.turn.new.link
+    c.in_ok-done.done turned.0 turned.2 in
     elim c.match-done.branch [
       | in-Freed w ↦
+          let more = w.push_back_reserved.ensures.items ∙ ap (λ xs. xs ++ w.in-Freed.freed ∷ []) c.reserve.ensures.items in
           rw w.self-is
           (record {
-            primary = λ idle. cc;
-            standby = λ idle. refl;
-            frames = refl;
-            acknowledgements = refl;
-            effect = free-effect E.device E.contents E.is_faulted pair.sessions pair.sequencer pair.link pair.opening pair.remote pair.frames.items pair.arrivals standby pair.primary_runs pair.standby_runs pair.committer c.turn.new.self pair.work c.turn.new.work pair.notices.items pair.handed c.turn.new.link
-                w.in-Freed.freed c.in_ok-done.done w.push_back_reserved.new.self.items w.in-Freed.is
-                (w.push_back_reserved.ensures.items ∙ ap (λ xs. xs ++ w.in-Freed.freed ∷ []) c.reserve.ensures.items) may turned.0 turned.2;
+            does = λ history. ((did history).2 w.in-Freed.freed w.push_back_reserved.new.self.items w.in-Freed.is more).0;
+            leaves = λ history. record {
+              primary = λ idle. cc;
+              standby = λ idle. refl;
+              frames = refl;
+              acknowledgements = refl;
+              effect = ((did history).2 w.in-Freed.freed w.push_back_reserved.new.self.items w.in-Freed.is more).1;
+            };
           })
-      | in_default w ↦
-          let told = free-told E.device E.contents E.is_faulted pair.sessions pair.sequencer pair.link pair.opening pair.remote pair.frames.items pair.arrivals standby pair.primary_runs pair.standby_runs pair.committer c.turn.new.self pair.work c.turn.new.work pair.handed c.turn.new.link c.in_ok-done.done may turned.0 turned.2 in
-          absurd (w.in_default.not-Freed told.0 told.1)
+      | in_default w ↦ let some = did c.requires.world.0 in absurd (w.in_default.not-Freed some.0 some.1)
     ]

@@ -7,10 +7,10 @@ use Rattle.world.proofs.PairReopen.{primary-reopening-cut, primary-reopens, prim
 use Rattle.world.proofs.pair.Pair.reopen_primary.Goals as goal
 
 pub returns-then-self-clause-does : goal.returns-then-self-clause-does
-returns-then-self-clause-does g c = primary-runs-on _ c.if-self.true
+returns-then-self-clause-does g c = λ history. primary-runs-on _ c.if-self.true
 
 pub returns-in_err-sequencer-clause-does : goal.returns-in_err-sequencer-clause-does
-returns-in_err-sequencer-clause-does g c =
+returns-in_err-sequencer-clause-does g c = λ history.
     let E = g.E.Durable in
     let committer = c.restart_primary.new.committer in
     let told = c.in_err-sequencer.ensures in
@@ -21,7 +21,7 @@ returns-in_err-sequencer-clause-does g c =
     c.from_residual.result exit.0 exit.1 c.if-self.false (subst (IsNotOpened Primary (E.device c.args.self.now.committer.engine) (E.device committer.engine)) (sym exit.2) refused)
 
 pub returns-clause-does : goal.returns-clause-does
-returns-clause-does g c =
+returns-clause-does g c = λ history.
     let E = g.E.Durable in
     let committer = c.restart_primary.new.committer in
     let told = c.in_ok-sequencer.ensures in
@@ -30,4 +30,4 @@ returns-clause-does g c =
     (record { over = told.sequencer; ready = told.ready.0; local = told.ready.2; no_work = told.work; none_aside = told.ready.1; none_told = c.clear.ensures.items; none_handed = told.handed; link_is = told.link; opened_at = told.opening.0; tells = told.opening.1; image = image_of (E.device committer.engine).words; shows = told.shows })
 
 pub returns-clause-leaves : goal.returns-clause-leaves
-returns-clause-leaves g c = record { primary = λ idle. cc; standby = λ idle. refl; frames = refl; acknowledgements = refl; effect = (c.in_ok-sequencer.ensures.reopens, c.in_ok-sequencer.ensures.sequencer) }
+returns-clause-leaves g c = λ history. record { primary = λ idle. cc; standby = λ idle. refl; frames = refl; acknowledgements = refl; effect = (c.in_ok-sequencer.ensures.reopens, c.in_ok-sequencer.ensures.sequencer) }

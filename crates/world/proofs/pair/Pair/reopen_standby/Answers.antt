@@ -7,10 +7,10 @@ use Rattle.world.proofs.PairReopen.{standby-reopening-cut, standby-reopens, stan
 use Rattle.world.proofs.pair.Pair.reopen_standby.Goals as goal
 
 pub returns-then-self-clause-does : goal.returns-then-self-clause-does
-returns-then-self-clause-does g c = standby-runs-on _ c.if-self.true
+returns-then-self-clause-does g c = λ history. standby-runs-on _ c.if-self.true
 
 pub returns-in_err-restart-clause-does : goal.returns-in_err-restart-clause-does
-returns-in_err-restart-clause-does g c =
+returns-in_err-restart-clause-does g c = λ history.
     let E = g.E.Durable in
     let standby = c.restart.new.self in
     let told = c.in_err-restart.ensures in
@@ -37,7 +37,7 @@ returns-in_err-restart-clause-does g c =
     standby-reopening-cut _ node' c.from_residual.result exit.0 exit.1 c.if-self.false (subst (IsNotOpened Standby (E.device c.args.self.now.standby.engine) node'.device) (sym exit.2) refused)
 
 pub returns-clause-does : goal.returns-clause-does
-returns-clause-does g c =
+returns-clause-does g c = λ history.
     let E = g.E.Durable in
     let standby = c.restart.new.self in
     let told = c.in_ok-restart.ensures in
@@ -54,4 +54,4 @@ returns-clause-does g c =
     c.if-self.false (record { reopens = told.reopens; durable = told.durable; sound = told.sound; failures = told.failures (λ fault. cc); moments = told.moments }) told.follows refl
 
 pub returns-clause-leaves : goal.returns-clause-leaves
-returns-clause-leaves g c = record { primary = λ idle. refl; standby = λ idle. cc; frames = refl; acknowledgements = refl; effect = c.in_ok-restart.ensures.reopens }
+returns-clause-leaves g c = λ history. record { primary = λ idle. refl; standby = λ idle. cc; frames = refl; acknowledgements = refl; effect = c.in_ok-restart.ensures.reopens }

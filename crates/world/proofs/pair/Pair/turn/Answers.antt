@@ -10,7 +10,7 @@ returns-in_err-make_room-clause-turns g c =
       roomy = c.make_room.new.self;
       is_roomier = record {
         calls = c.make_room.ensures.calls;
-        connections = c.make_room.ensures.connections;
+        released = c.make_room.ensures.released;
         stands = c.make_room.ensures.stands;
         enough = c.make_room.ensures.enough;
       };
@@ -23,10 +23,10 @@ returns-clause-turns g c = record {
   roomy = c.make_room.new.self;
   is_roomier = record {
     calls = c.make_room.ensures.calls;
-    connections = c.make_room.ensures.connections;
+    released = c.make_room.ensures.released;
     stands = c.make_room.ensures.stands;
     enough = c.make_room.ensures.enough;
   };
-  does = turn-does _ c.turn.new.self c.turn.new.sequencer c.args.c c.turn.result c.turn.ensures.turns c.turn.ensures.seats c.turn.ensures.stands c.turn.ensures.calls;
+  does = turn-does _ c.turn.new.self c.turn.new.transcript c.turn.new.sequencer c.args.c c.turn.result c.turn.ensures.turns c.turn.ensures.seats c.turn.ensures.stands c.turn.ensures.calls;
   refused = tt;
 }

@@ -9,34 +9,34 @@ pub returns-in-Enter : goal.returns-in-Enter
 returns-in-Enter g c = own-is c.in-Enter.is c.takes_part.ensures c.if-not-takes_part.false (λ runs. runs) c.enter.ensures.does c.enter.ensures.leaves
 
 pub returns-in-Feed : goal.returns-in-Feed
-returns-in-Feed g c = own-is c.in-Feed.is c.takes_part.ensures c.if-not-takes_part.false (λ runs. runs) c.feed.ensures.does c.feed.ensures.leaves
+returns-in-Feed g c = own-is c.in-Feed.is c.takes_part.ensures c.if-not-takes_part.false (λ runs. runs) (c.feed.ensures.does c.args.history.now) (c.feed.ensures.leaves c.args.history.now)
 
 pub returns-in-Offer : goal.returns-in-Offer
-returns-in-Offer g c = own-is c.in-Offer.is c.takes_part.ensures c.if-not-takes_part.false (λ runs. runs) c.offer.ensures.does c.offer.ensures.leaves
+returns-in-Offer g c = own-is c.in-Offer.is c.takes_part.ensures c.if-not-takes_part.false (λ runs. runs) (c.offer.ensures.does c.args.history.now) (c.offer.ensures.leaves c.args.history.now)
 
 pub returns-in-Turn : goal.returns-in-Turn
 returns-in-Turn g c = turn-is c.in-Turn.is c.takes_part.ensures c.if-not-takes_part.false c.turn.ensures.turns c.turn.ensures.leaves
 
 pub returns-in-CloseGroup : goal.returns-in-CloseGroup
-returns-in-CloseGroup g c = own-is c.in-CloseGroup.is c.takes_part.ensures c.if-not-takes_part.false (λ runs. runs) c.close_group.ensures.does c.close_group.ensures.leaves
+returns-in-CloseGroup g c = own-is c.in-CloseGroup.is c.takes_part.ensures c.if-not-takes_part.false (λ runs. runs) (c.close_group.ensures.does c.args.history.now) (c.close_group.ensures.leaves c.args.history.now)
 
 pub returns-in-Commit : goal.returns-in-Commit
-returns-in-Commit g c = own-is c.in-Commit.is c.takes_part.ensures c.if-not-takes_part.false (λ runs. runs) c.commit.ensures.does c.commit.ensures.leaves
+returns-in-Commit g c = own-is c.in-Commit.is c.takes_part.ensures c.if-not-takes_part.false (λ runs. runs) (c.commit.ensures.does c.args.history.now) (c.commit.ensures.leaves c.args.history.now)
 
 pub returns-in-RaiseLocal : goal.returns-in-RaiseLocal
-returns-in-RaiseLocal g c = own-is c.in-RaiseLocal.is c.takes_part.ensures c.if-not-takes_part.false (λ runs. runs) c.raise_local.ensures.does c.raise_local.ensures.leaves
+returns-in-RaiseLocal g c = own-is c.in-RaiseLocal.is c.takes_part.ensures c.if-not-takes_part.false (λ runs. runs) (c.raise_local.ensures.does c.args.history.now) (c.raise_local.ensures.leaves c.args.history.now)
 
 pub returns-in-Hand : goal.returns-in-Hand
-returns-in-Hand g c = own-is c.in-Hand.is c.takes_part.ensures c.if-not-takes_part.false (λ runs. runs) c.hand.ensures.does c.hand.ensures.leaves
+returns-in-Hand g c = own-is c.in-Hand.is c.takes_part.ensures c.if-not-takes_part.false (λ runs. runs) (c.hand.ensures.does c.args.history.now) (c.hand.ensures.leaves c.args.history.now)
 
 pub returns-in-Free : goal.returns-in-Free
-returns-in-Free g c = own-is c.in-Free.is c.takes_part.ensures c.if-not-takes_part.false (λ runs. runs) c.free.ensures.does c.free.ensures.leaves
+returns-in-Free g c = own-is c.in-Free.is c.takes_part.ensures c.if-not-takes_part.false (λ runs. runs) (c.free.ensures.does c.args.history.now) (c.free.ensures.leaves c.args.history.now)
 
 pub returns-in-AcceptFreed : goal.returns-in-AcceptFreed
-returns-in-AcceptFreed g c = own-is c.in-AcceptFreed.is c.takes_part.ensures c.if-not-takes_part.false (λ runs. runs) c.accept_freed.ensures.does c.accept_freed.ensures.leaves
+returns-in-AcceptFreed g c = own-is c.in-AcceptFreed.is c.takes_part.ensures c.if-not-takes_part.false (λ runs. runs) (c.accept_freed.ensures.does c.args.history.now) (c.accept_freed.ensures.leaves c.args.history.now)
 
 pub returns-in-ClearGap : goal.returns-in-ClearGap
-returns-in-ClearGap g c = own-is c.in-ClearGap.is c.takes_part.ensures c.if-not-takes_part.false (λ runs. runs) c.clear_gap.ensures.does c.clear_gap.ensures.leaves
+returns-in-ClearGap g c = own-is c.in-ClearGap.is c.takes_part.ensures c.if-not-takes_part.false (λ runs. runs) (c.clear_gap.ensures.does c.args.history.now) (c.clear_gap.ensures.leaves c.args.history.now)
 
 pub returns-in-Send : goal.returns-in-Send
 returns-in-Send g c = own-is c.in-Send.is c.takes_part.ensures c.if-not-takes_part.false (λ runs. runs) c.send.ensures.does c.send.ensures.leaves
@@ -45,22 +45,22 @@ pub returns-in-AckDelivered : goal.returns-in-AckDelivered
 returns-in-AckDelivered g c = own-is c.in-AckDelivered.is c.takes_part.ensures c.if-not-takes_part.false (λ runs. runs) c.ack_delivered.ensures.does c.ack_delivered.ensures.leaves
 
 pub returns-in-RaiseRemote : goal.returns-in-RaiseRemote
-returns-in-RaiseRemote g c = own-is c.in-RaiseRemote.is c.takes_part.ensures c.if-not-takes_part.false (λ runs. runs) c.raise_remote.ensures.does c.raise_remote.ensures.leaves
+returns-in-RaiseRemote g c = own-is c.in-RaiseRemote.is c.takes_part.ensures c.if-not-takes_part.false (λ runs. runs) (c.raise_remote.ensures.does c.args.history.now) (c.raise_remote.ensures.leaves c.args.history.now)
 
 pub returns-in-Hold : goal.returns-in-Hold
 returns-in-Hold g c = own-is c.in-Hold.is c.takes_part.ensures c.if-not-takes_part.false (λ runs. runs) c.hold.ensures.does c.hold.ensures.leaves
 
 pub returns-in-Read : goal.returns-in-Read
-returns-in-Read g c = own-is c.in-Read.is c.takes_part.ensures c.if-not-takes_part.false (λ runs. runs) c.read.ensures.does c.read.ensures.leaves
+returns-in-Read g c = own-is c.in-Read.is c.takes_part.ensures c.if-not-takes_part.false (λ runs. runs) (c.read.ensures.does c.args.history.now) (c.read.ensures.leaves c.args.history.now)
 
 pub returns-in-Release : goal.returns-in-Release
-returns-in-Release g c = own-is c.in-Release.is c.takes_part.ensures c.if-not-takes_part.false (λ runs. runs) c.release.ensures.does c.release.ensures.leaves
+returns-in-Release g c = own-is c.in-Release.is c.takes_part.ensures c.if-not-takes_part.false (λ runs. runs) (c.release.ensures.does c.args.history.now) (c.release.ensures.leaves c.args.history.now)
 
 pub returns-in-Write : goal.returns-in-Write
 returns-in-Write g c = own-is c.in-Write.is c.takes_part.ensures c.if-not-takes_part.false (λ runs. runs) c.write.ensures.does c.write.ensures.leaves
 
 pub returns-in-Leave : goal.returns-in-Leave
-returns-in-Leave g c = own-is c.in-Leave.is c.takes_part.ensures c.if-not-takes_part.false (λ runs. runs) c.leave.ensures.does c.leave.ensures.leaves
+returns-in-Leave g c = own-is c.in-Leave.is c.takes_part.ensures c.if-not-takes_part.false (λ runs. runs) (c.leave.ensures.does c.args.history.now) (c.leave.ensures.leaves c.args.history.now)
 
 pub returns-in-OpenLink : goal.returns-in-OpenLink
 returns-in-OpenLink g c = own-is c.in-OpenLink.is c.takes_part.ensures c.if-not-takes_part.false (λ both. (and_parts c.args.self.now.primary_runs c.args.self.now.standby_runs both).0) c.open_link.ensures.does c.open_link.ensures.leaves
@@ -75,4 +75,4 @@ pub returns-in-Crash : goal.returns-in-Crash
 returns-in-Crash g c = acts-is c.in-Crash.is c.crash.ensures.does c.crash.ensures.leaves
 
 pub returns-in-Reopen : goal.returns-in-Reopen
-returns-in-Reopen g c = acts-is c.in-Reopen.is c.reopen.ensures.does c.reopen.ensures.leaves
+returns-in-Reopen g c = acts-is c.in-Reopen.is (c.reopen.ensures.does c.args.history.now) (c.reopen.ensures.leaves c.args.history.now)
