@@ -1,5 +1,5 @@
 -- The integer of a text is the one that was read.
-use Rattle.std.proofs.Common.{rules, ◌&&◌, if◌then◌else◌, ◌≡◌, ◌≢◌, ◌≤◌, IfSome, IfNone, ◌<◌, ◌^◌, arith, length, ℕ, ℤ, pos, negsuc, neg_ℤ, suc, List, [], ◌∷◌, Option, Some, None, FitsSigned, w64, Bool, true, false, nat_lt, get_or, sym, ap, ◌∙◌, refl}
+use Rattle.std.proofs.Common.{rules, ◌&&◌, if◌then◌else◌, ◌≡◌, ◌≢◌, ◌≤◌, IfSome, IfNone, ◌<◌, ◌^◌, arith, length, ℕ, ℤ, pos, negsuc, neg_ℤ, suc, List, [], ◌∷◌, Option, Some, None, FitsSigned, w64, Bool, true, nat_lt, get_or, sym, ap, ◌∙◌, refl}
 use Rattle.std.specs.Int.Signed.{mag}
 use Rattle.std.specs.Fmt.{signed_decimal, decimal}
 use Rattle.std.specs.Str.{bytes_eq}
@@ -35,9 +35,7 @@ found text n small is =
     rw (value, range, same) refl
 
 nothing : (n : ℤ) (a b : Bool) → (a ≡ true → b ≡ true → ⊥) → None ≡ (if a && b then Some n else None)
-nothing n true true both = absurd (both refl refl)
-nothing n true false both = refl
-nothing n false b both = refl
+nothing n a b both = grind arith
 
 pub length-written : (text : List ℕ) (n m : ℤ) → FitsSigned w64 n → text ≡ signed_decimal m → m ≡ n → length text ≤ 20
 length-written text n m fits is same =

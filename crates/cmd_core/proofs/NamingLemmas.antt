@@ -27,10 +27,7 @@ same_is : (x y : List ℕ) → same_bytes x y ≡ true → x ≡ y
 same_is x y same = (bytes_eq-Decides x y).0 same
 
 not_again : (seen : List ℕ → Bool) (name x : List ℕ) → seen name ≡ true → not (seen x) ≡ (not (same_bytes name x) && not (seen x))
-not_again seen name x was = by_same (same_bytes name x) refl where
-  by_same : (b : Bool) → same_bytes name x ≡ b → not (seen x) ≡ (not b && not (seen x))
-  by_same false apart = refl
-  by_same true same = let is : seen x ≡ true = ap seen (sym (same_is name x same)) ∙ was in rw is refl
+not_again seen name x was = grind (arith, same_is name x)
 
 seen_again : (name : List ℕ) (names : List (List ℕ)) (seen : BTreeSet (List ℕ)) → contains bytes_cmp seen name ≡ true → fresh seen (firsts (name ∷ names)) ≡ fresh seen (firsts names)
 seen_again name names seen was =
@@ -38,8 +35,7 @@ seen_again name names seen was =
     none ∙ filter_twice _ (λ other. not (same_bytes name other)) _ (λ x. not_again (contains bytes_cmp seen) name x was) (firsts names)
 
 not_after : (same was now : Bool) → now ≡ cond same true was → not now ≡ (not same && not was)
-not_after true was now is = (rw is refl)
-not_after false was now is = (rw is refl)
+not_after same was now is = grind arith
 
 seen_first : (name : List ℕ) (names : List (List ℕ)) (seen next : BTreeSet (List ℕ))
     → contains bytes_cmp seen name ≡ false → Updates bytes_cmp seen next name true

@@ -4,6 +4,7 @@ use Rattle.std.proofs.lemmas.Bool.{and_parts}
 use Rattle.std.specs.Prelude.{is_some, slice_range}
 use Rattle.std.specs.List.{filter, remove_range}
 use Rattle.std.specs.List.Sorted.{IsPartitionedBy}
+use Rattle.std.specs.Cmp.{IsTotalOrder}
 use Rattle.std.specs.Cmp.Lexicographic.{texts_ties, nat_list_cmp_total}
 use Rattle.std.specs.FinMap.Entries.{is_sorted, below_all}
 use Rattle.std.specs.Ordering.{is_eq, is_lt, is_le, ordering_then, ordering_reverse}
@@ -26,48 +27,30 @@ abbrev pub IsOfEarlier : (RecordId → Bool) → Type 0
 IsOfEarlier p = (x y : RecordId) → is_lt (record_cmp x y) ≡ true → p y ≡ true → p x ≡ true
 
 lt_Less : (o : Ordering) → is_lt o ≡ true → o ≡ Less
-lt_Less Less e = refl
-lt_Less Equal e = cc
-lt_Less Greater e = cc
+lt_Less o e = grind arith
 
 pub earlier-comes_before : (id : RecordId) → IsOfEarlier (comes_before id)
 earlier-comes_before id x y lt before = ap is_lt (record_cmp_total.trans x y id (lt_Less _ lt) (lt_Less _ before))
 
+lt_le : (o : Ordering) → is_lt o ≡ true → is_le o ≡ true
+lt_le o e = grind arith
+
+le_trans : {X : Type 0} (cmp : X → X → Ordering) → IsTotalOrder cmp → ((x y : X) → cmp x y ≡ Equal → x ≡ y) → (x y z : X) → is_le (cmp x y) ≡ true → is_le (cmp y z) ≡ true → is_le (cmp x z) ≡ true
+le_trans cmp total same x y z h g = grind (arith, total.trans x y z, same x y, same y z)
+
 pub earlier-is_up_to : (id : RecordId) → IsOfEarlier (is_up_to id)
-earlier-is_up_to id x y lt up = by (record_cmp y id) refl up
-  where
-    by : (o : Ordering) → record_cmp y id ≡ o → is_le o ≡ true → is_le (record_cmp x id) ≡ true
-    by Less e le = ap is_le (record_cmp_total.trans x y id (lt_Less _ lt) e)
-    by Equal e le = ap (λ z. is_le (record_cmp x z)) (sym (record_cmp_equal y id e)) ∙ ap is_le (lt_Less _ lt)
-    by Greater e le = cc
+earlier-is_up_to id x y lt up = le_trans record_cmp record_cmp_total record_cmp_equal x y id (lt_le _ lt) up
 
 first_le : (o p : Ordering) → is_lt (ordering_then o p) ≡ true → is_le o ≡ true
-first_le Less p e = refl
-first_le Equal p e = refl
-first_le Greater p e = cc
-
-bytes_le : (a b c : List ℕ) → is_le (bytes_cmp a b) ≡ true → is_le (bytes_cmp b c) ≡ true → is_le (bytes_cmp a c) ≡ true
-bytes_le a b c le le' = by (bytes_cmp a b) refl le
-  where
-    less_then : bytes_cmp a b ≡ Less → (o : Ordering) → bytes_cmp b c ≡ o → is_le o ≡ true → is_le (bytes_cmp a c) ≡ true
-    less_then lt Less e h = ap is_le (nat_list_cmp_total.trans a b c lt e)
-    less_then lt Equal e h = ap (λ z. is_le (bytes_cmp a z)) (sym (bytes_cmp_equal b c e)) ∙ ap is_le lt
-    less_then lt Greater e h = cc
-
-    by : (o : Ordering) → bytes_cmp a b ≡ o → is_le o ≡ true → is_le (bytes_cmp a c) ≡ true
-    by Less e h = less_then e (bytes_cmp b c) refl le'
-    by Equal e h = ap (λ z. is_le (bytes_cmp z c)) (bytes_cmp_equal a b e) ∙ le'
-    by Greater e h = cc
+first_le o p e = grind arith
 
 pub earlier-has_key_up_to : (key : List ℕ) → IsOfEarlier (has_key_up_to key)
-earlier-has_key_up_to key x y lt up = bytes_le (key_of x) (key_of y) key (first_le _ _ lt) up
+earlier-has_key_up_to key x y lt up = le_trans bytes_cmp nat_list_cmp_total bytes_cmp_equal (key_of x) (key_of y) key (first_le _ _ lt) up
 
 -- ---- tests of which one holds wherever the other does
 
 then_le : (o p : Ordering) → is_le (ordering_then o p) ≡ true → is_le o ≡ true
-then_le Less p e = refl
-then_le Equal p e = refl
-then_le Greater p e = cc
+then_le o p e = grind arith
 
 pub key-is_up_to : (key : List ℕ) (id : RecordId) → is_up_to (Str key) id ≡ true → has_key_up_to key id ≡ true
 key-is_up_to key id up = then_le (bytes_cmp (key_of id) key) _ up
@@ -75,51 +58,38 @@ key-is_up_to key id up = then_le (bytes_cmp (key_of id) key) _ up
 pub key-comes_before : (key : List ℕ) (id : RecordId) → comes_before (Str key) id ≡ true → has_key_up_to key id ≡ true
 key-comes_before key id before = first_le (bytes_cmp (key_of id) key) _ before
 
-le_not_le : (o : Ordering) → false ≡ (is_le o && not (is_le (ordering_then o Equal)))
-le_not_le Less = refl
-le_not_le Equal = refl
-le_not_le Greater = refl
+-- what the tests of an order with an end say of its first part
+record Ends (o : Ordering) : Type 0 where
+  string_le : false ≡ (is_le o && not (is_le (ordering_then o Equal)))
+  field_le : is_eq o ≡ (is_le o && not (is_le (ordering_then o Greater)))
+  string_lt : is_eq o ≡ (is_le o && not (is_lt (ordering_then o Equal)))
+  field_lt : is_eq o ≡ (is_le o && not (is_lt (ordering_then o Greater)))
+  itself_lt : is_eq o ≡ (is_le o && not (is_lt o))
 
-eq_between : (o : Ordering) → is_eq o ≡ (is_le o && not (is_le (ordering_then o Greater)))
-eq_between Less = refl
-eq_between Equal = refl
-eq_between Greater = refl
+ends : (o : Ordering) → Ends o
+ends Less = assumption
+ends Equal = assumption
+ends Greater = assumption
 
 is_some-cond : (b : Bool) (field : List ℕ) → is_some (cond b (Some field) None) ≡ b
-is_some-cond true field = refl
-is_some-cond false field = refl
+is_some-cond b field = grind arith
 
 -- a field of the key comes behind the string of the key, and is of no later key
 pub field_between : (key : List ℕ) (id : RecordId) → is_some (field_at id key) ≡ (has_key_up_to key id && not (is_up_to (Str key) id))
-field_between key (Str own) = le_not_le (bytes_cmp own key)
-field_between key (Field own field) = is_some-cond (same_bytes own key) field ∙ texts_ties own key ∙ eq_between (bytes_cmp own key)
-
-string_lt : (o : Ordering) → is_eq o ≡ (is_le o && not (is_lt (ordering_then o Equal)))
-string_lt Less = refl
-string_lt Equal = refl
-string_lt Greater = refl
-
-field_lt : (o : Ordering) → is_eq o ≡ (is_le o && not (is_lt (ordering_then o Greater)))
-field_lt Less = refl
-field_lt Equal = refl
-field_lt Greater = refl
+field_between key (Str own) = (ends (bytes_cmp own key)).string_le
+field_between key (Field own field) = is_some-cond (same_bytes own key) field ∙ texts_ties own key ∙ (ends (bytes_cmp own key)).field_le
 
 -- a record of the key comes not before its string, and is of no later key
 pub key_between : (key : List ℕ) (id : RecordId) → same_bytes (key_of id) key ≡ (has_key_up_to key id && not (comes_before (Str key) id))
-key_between key (Str own) = texts_ties own key ∙ string_lt (bytes_cmp own key)
-key_between key (Field own field) = texts_ties own key ∙ field_lt (bytes_cmp own key)
+key_between key (Str own) = texts_ties own key ∙ (ends (bytes_cmp own key)).string_lt
+key_between key (Field own field) = texts_ties own key ∙ (ends (bytes_cmp own key)).field_lt
 
 pub record-is_up_to : (id other : RecordId) → comes_before id other ≡ true → is_up_to id other ≡ true
 record-is_up_to id other before = ap is_le (lt_Less _ before)
 
-le_not_lt : (o : Ordering) → is_eq o ≡ (is_le o && not (is_lt o))
-le_not_lt Less = refl
-le_not_lt Equal = refl
-le_not_lt Greater = refl
-
 -- a record is this one where it is up to it and does not come before it
 pub record_between : (id other : RecordId) → is_same other id ≡ (is_up_to id other && not (comes_before id other))
-record_between id other = le_not_lt (record_cmp other id)
+record_between id other = (ends (record_cmp other id)).itself_lt
 
 -- ---- cuts of any list
 
@@ -158,55 +128,35 @@ module _ {A : Type 0} (p q : A → Bool) (both : (x : A) → p x ≡ true → q 
   cuts-rise (x ∷ xs) (suc i) zero h g = absurd (no_earlier x (splits-first p x xs i h) (splits-none q x xs g))
   cuts-rise (x ∷ xs) (suc i) (suc j) h g = let less = cuts-rise xs i j (splits-rest p x xs i h) (splits-rest q x xs j g) in omega arith
 
-  keeps : (x : A) (xs : List A) → p x ≡ false → q x ≡ true → filter lies_between (x ∷ xs) ≡ x ∷ filter lies_between xs
-  keeps x xs e f = ap₂ (λ a b. cond (b && not a) (x ∷ filter lies_between xs) (filter lies_between xs)) e f
-
-  passes_earlier : (x : A) (xs : List A) → p x ≡ true → filter lies_between (x ∷ xs) ≡ filter lies_between xs
-  passes_earlier x xs e = ap₂ (λ a b. cond (b && not a) (x ∷ filter lies_between xs) (filter lies_between xs)) e (both x e)
-
-  passes_later : (x : A) (xs : List A) → q x ≡ false → filter lies_between (x ∷ xs) ≡ filter lies_between xs
-  passes_later x xs f = ap (λ b. cond (b && not (p x)) (x ∷ filter lies_between xs) (filter lies_between xs)) f
-
   run : (xs : List A) (i k j : ℕ) → i + k ≡ j → SplitsAt p xs i → SplitsAt q xs j → take k (drop i xs) ≡ filter lies_between xs
   run [] i k j e h g = ap (take k) (drop_none i) ∙ take_none k
   run (x ∷ xs) (suc i) k zero e h g = absurd (omega arith)
-  run (x ∷ xs) (suc i) k (suc j) e h g = run xs i k j (omega arith) (splits-rest p x xs i h) (splits-rest q x xs j g) ∙ sym (passes_earlier x xs (splits-first p x xs i h))
-  run (x ∷ xs) zero zero zero e h g = run xs zero zero zero refl (splits-later p x xs h) (splits-later q x xs g) ∙ sym (passes_later x xs (splits-none q x xs g))
+  run (x ∷ xs) (suc i) k (suc j) e h g =
+      let first = splits-first p x xs i h in
+      rw (first, both x first) (run xs i k j (omega arith) (splits-rest p x xs i h) (splits-rest q x xs j g))
+  run (x ∷ xs) zero zero zero e h g = rw (splits-none q x xs g) (run xs zero zero zero refl (splits-later p x xs h) (splits-later q x xs g))
   run (x ∷ xs) zero zero (suc j) e h g = absurd (omega arith)
   run (x ∷ xs) zero (suc k) zero e h g = absurd (omega arith)
   run (x ∷ xs) zero (suc k) (suc j) e h g =
-      ap (λ rest. x ∷ rest) (run xs zero k j (omega arith) (splits-later p x xs h) (splits-rest q x xs j g))
-      ∙ sym (keeps x xs (splits-none p x xs h) (splits-first q x xs j g))
+      rw (splits-none p x xs h, splits-first q x xs j g) (ap (λ rest. x ∷ rest) (run xs zero k j (omega arith) (splits-later p x xs h) (splits-rest q x xs j g)))
 
   pub range-between : (xs : List A) (i j : ℕ) → SplitsAt p xs i → SplitsAt q xs j → slice_range xs i j ≡ filter lies_between xs
   range-between xs i j h g = let rise = cuts-rise xs i j h g in run xs i (j - i) j (omega arith) h g
-
-  drops : (x : A) (xs : List A) → p x ≡ false → q x ≡ true → filter (λ y. not (lies_between y)) (x ∷ xs) ≡ filter (λ y. not (lies_between y)) xs
-  drops x xs e f = ap₂ (λ a b. cond (not (b && not a)) (x ∷ filter (λ y. not (lies_between y)) xs) (filter (λ y. not (lies_between y)) xs)) e f
-
-  keeps_earlier : (x : A) (xs : List A) → p x ≡ true → filter (λ y. not (lies_between y)) (x ∷ xs) ≡ x ∷ filter (λ y. not (lies_between y)) xs
-  keeps_earlier x xs e = ap₂ (λ a b. cond (not (b && not a)) (x ∷ filter (λ y. not (lies_between y)) xs) (filter (λ y. not (lies_between y)) xs)) e (both x e)
-
-  keeps_later : (x : A) (xs : List A) → q x ≡ false → filter (λ y. not (lies_between y)) (x ∷ xs) ≡ x ∷ filter (λ y. not (lies_between y)) xs
-  keeps_later x xs f = ap (λ b. cond (not (b && not (p x))) (x ∷ filter (λ y. not (lies_between y)) xs) (filter (λ y. not (lies_between y)) xs)) f
 
   -- and the others are left when it is taken out
   pub left-between : (xs : List A) (i j : ℕ) → SplitsAt p xs i → SplitsAt q xs j → remove_range xs i j ≡ filter (λ x. not (lies_between x)) xs
   left-between [] i j h g = ap₂ (λ a b. a ++ b) (take_none i) (drop_none j)
   left-between (x ∷ xs) (suc i) zero h g = absurd (no_earlier x (splits-first p x xs i h) (splits-none q x xs g))
   left-between (x ∷ xs) (suc i) (suc j) h g =
-      ap (λ rest. x ∷ rest) (left-between xs i j (splits-rest p x xs i h) (splits-rest q x xs j g)) ∙ sym (keeps_earlier x xs (splits-first p x xs i h))
+      let first = splits-first p x xs i h in
+      rw (first, both x first) (ap (λ rest. x ∷ rest) (left-between xs i j (splits-rest p x xs i h) (splits-rest q x xs j g)))
   left-between (x ∷ xs) zero zero h g =
-      ap (λ rest. x ∷ rest) (left-between xs zero zero (splits-later p x xs h) (splits-later q x xs g)) ∙ sym (keeps_later x xs (splits-none q x xs g))
+      rw (splits-none q x xs g) (ap (λ rest. x ∷ rest) (left-between xs zero zero (splits-later p x xs h) (splits-later q x xs g)))
   left-between (x ∷ xs) zero (suc j) h g =
-      left-between xs zero j (splits-later p x xs h) (splits-rest q x xs j g) ∙ sym (drops x xs (splits-none p x xs h) (splits-first q x xs j g))
+      rw (splits-none p x xs h, splits-first q x xs j g) (left-between xs zero j (splits-later p x xs h) (splits-rest q x xs j g))
 
 not_before : (o p : Ordering) → o ≡ ordering_reverse p → is_lt p ≡ false → is_eq o ≡ false → is_lt o ≡ true
-not_before Less p e f g = refl
-not_before Equal p e f g = cc
-not_before Greater Less e f g = cc
-not_before Greater Equal e f g = cc
-not_before Greater Greater e f g = cc
+not_before o p e f g = grind arith
 
 -- a record that does not come before this one and is another comes after it
 pub comes_after : (id other : RecordId) → comes_before id other ≡ false → is_same id other ≡ false → is_lt (record_cmp id other) ≡ true
@@ -249,9 +199,7 @@ module _ {A : Type 0} (kept : A → RecordId × List ℕ) where
       ap (λ b. b && below_all record_cmp id s) first ∙ below_further id other s lt parts.1
 
   lt_no_eq : (o p : Ordering) → o ≡ ordering_reverse p → is_lt p ≡ true → is_eq o ≡ false
-  lt_no_eq o Less e f = ap is_eq e
-  lt_no_eq o Equal e f = cc
-  lt_no_eq o Greater e f = cc
+  lt_no_eq o p e f = grind arith
 
   pub value-at_cut : (id : RecordId) (xs : List A) (n : ℕ) → InOrder xs → SplitsAt (λ x. comes_before id (kept x).0) xs n → value_at (map kept xs) id ≡ first_value (map kept (drop n xs)) id
   value-at_cut id [] n order cut = ap (λ rest. first_value (map kept rest) id) (sym (drop_none n))
@@ -267,12 +215,11 @@ module _ {A : Type 0} (kept : A → RecordId × List ℕ) where
       (lt_no_eq (record_cmp id (kept x).0) (record_cmp (kept x).0 id) (record_cmp_total.antisymm id (kept x).0) (splits-first (λ y. comes_before id (kept y).0) x xs n cut))
       ∙ value-at_cut id xs n (order_later x xs order) (splits-rest (λ y. comes_before id (kept y).0) x xs n cut)
 
+  and_false : (b : Bool) → (b && false) ≡ false
+  and_false b = grind arith
+
   other_key : (key : List ℕ) (id : RecordId) → comes_before (Str key) id ≡ true → same_bytes (key_of id) key ≡ false
   other_key key id before = key_between key id ∙ ap (λ b. has_key_up_to key id && not b) before ∙ and_false (has_key_up_to key id)
-    where
-      and_false : (b : Bool) → (b && false) ≡ false
-      and_false true = refl
-      and_false false = refl
 
   string_of_other : (key : List ℕ) (id : RecordId) → same_bytes (key_of id) key ≡ false → is_same (Str key) id ≡ false
   string_of_other key id other = is_other (Str key) id (λ e. let same : same_bytes (key_of id) key ≡ true = ap (λ z. same_bytes (key_of z) key) (sym e) ∙ key_itself key in let both : true ≡ false = sym same ∙ other in cc)
@@ -298,49 +245,35 @@ module _ {A : Type 0} (kept : A → RecordId × List ℕ) where
   abbrev field_test : List ℕ → A → Bool
   field_test key x = is_field_of key (kept x).0
 
+  pub fields-rise : (key : List ℕ) (xs : List A) (i j : ℕ) → SplitsAt (λ x. is_up_to (Str key) (kept x).0) xs i → SplitsAt (λ x. has_key_up_to key (kept x).0) xs j → i ≤ j
+  fields-rise key xs = cuts-rise (λ x. is_up_to (Str key) (kept x).0) (λ x. has_key_up_to key (kept x).0) (λ x. key-is_up_to key (kept x).0) xs
+
   pub fields-range : (key : List ℕ) (xs : List A) (i j : ℕ) → SplitsAt (λ x. is_up_to (Str key) (kept x).0) xs i → SplitsAt (λ x. has_key_up_to key (kept x).0) xs j → slice_range xs i j ≡ filter (field_test key) xs
   fields-range key xs i j start end =
       range-between (λ x. is_up_to (Str key) (kept x).0) (λ x. has_key_up_to key (kept x).0) (λ x. key-is_up_to key (kept x).0) xs i j start end
       ∙ (λ t. filter (λ x. sym (field_between key (kept x).0) t) xs)
 
-  field_kept : (key : List ℕ) (x : A) (xs : List A) (b : Bool) → field_test key x ≡ b → filter (field_test key) (x ∷ xs) ≡ cond b (x ∷ filter (field_test key) xs) (filter (field_test key) xs)
-  field_kept key x xs b e = ap (λ c. cond c (x ∷ filter (field_test key) xs) (filter (field_test key) xs)) e
-
   none-with_field : (found : Option (List ℕ)) (value : List ℕ) (fields : List (List ℕ × List ℕ)) → is_some found ≡ false → with_field found value fields ≡ fields
-  none-with_field None value fields e = refl
-  none-with_field (Some field) value fields e = cc
+  none-with_field found value fields e = grind arith
+
+  fields_step : (key : List ℕ) (x : A) (rest : List A) (b : Bool) → field_test key x ≡ b → fields_of (map kept (cond b (x ∷ rest) rest)) key
+      ≡ with_field (field_at (kept x).0 key) (kept x).1 (fields_of (map kept rest) key)
+  fields_step key x rest true e = fields_more (kept x) (map kept rest) key
+  fields_step key x rest false e = sym (none-with_field (field_at (kept x).0 key) (kept x).1 (fields_of (map kept rest) key) e)
 
   pub fields-filter : (key : List ℕ) (xs : List A) → fields_of (map kept (filter (field_test key) xs)) key ≡ fields_of (map kept xs) key
   fields-filter key [] = refl
   fields-filter key (x ∷ xs) =
-      elim (field_test key x) as (λ b. field_test key x ≡ b → fields_of (map kept (filter (field_test key) (x ∷ xs))) key ≡ fields_of (map kept (x ∷ xs)) key) [
-        | true ↦ λ e.
-            ap (λ rest. fields_of (map kept rest) key) (field_kept key x xs true e)
-            ∙ fields_more (kept x) (map kept (filter (field_test key) xs)) key
-            ∙ ap (with_field (field_at (kept x).0 key) (kept x).1) (fields-filter key xs)
-            ∙ sym (fields_more (kept x) (map kept xs) key)
-        | false ↦ λ e.
-            ap (λ rest. fields_of (map kept rest) key) (field_kept key x xs false e)
-            ∙ fields-filter key xs
-            ∙ sym (none-with_field (field_at (kept x).0 key) (kept x).1 (fields_of (map kept xs) key) e)
-            ∙ sym (fields_more (kept x) (map kept xs) key)
-      ] refl
+      fields_step key x (filter (field_test key) xs) (field_test key x) refl ∙ ap (with_field (field_at (kept x).0 key) (kept x).1) (fields-filter key xs)
+      ∙ sym (fields_more (kept x) (map kept xs) key)
 
-  some-with_field : (found : Option (List ℕ)) (value : List ℕ) (fields : List (List ℕ × List ℕ)) → is_some found ≡ true → length (with_field found value fields) ≡ suc (length fields)
-  some-with_field None value fields e = cc
-  some-with_field (Some field) value fields e = refl
+  count_step : (found : Option (List ℕ)) (value : List ℕ) (fields : List (List ℕ × List ℕ)) (x : A) (rest : List A) → length fields ≡ length rest → length (with_field found value fields)
+      ≡ length (cond (is_some found) (x ∷ rest) rest)
+  count_step None value fields x rest e = e
+  count_step (Some field) value fields x rest e = ap suc e
 
   pub fields-counted : (key : List ℕ) (xs : List A) → length (fields_of (map kept xs) key) ≡ length (filter (field_test key) xs)
   fields-counted key [] = ap (λ fields. length fields) (fields_none key)
   fields-counted key (x ∷ xs) =
       ap (λ fields. length fields) (fields_more (kept x) (map kept xs) key)
-      ∙ (elim (field_test key x) as (λ b. field_test key x ≡ b → length (with_field (field_at (kept x).0 key) (kept x).1 (fields_of (map kept xs) key)) ≡ length (filter (field_test key) (x ∷ xs))) [
-        | true ↦ λ e.
-            some-with_field (field_at (kept x).0 key) (kept x).1 (fields_of (map kept xs) key) e
-            ∙ ap suc (fields-counted key xs)
-            ∙ ap (λ rest. length rest) (sym (field_kept key x xs true e))
-        | false ↦ λ e.
-            ap (λ fields. length fields) (none-with_field (field_at (kept x).0 key) (kept x).1 (fields_of (map kept xs) key) e)
-            ∙ fields-counted key xs
-            ∙ ap (λ rest. length rest) (sym (field_kept key x xs false e))
-      ] refl)
+      ∙ count_step (field_at (kept x).0 key) (kept x).1 (fields_of (map kept xs) key) x (filter (field_test key) xs) (fields-counted key xs)

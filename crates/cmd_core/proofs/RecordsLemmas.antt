@@ -8,7 +8,7 @@ use Rattle.std.specs.Cmp.Lexicographic.{pointwise, texts_ties, nat_list_cmp_tota
 use Rattle.std.specs.FinMap.Entries.{is_sorted, below_all}
 use Rattle.std.specs.Ordering.{is_eq, is_lt, ordering_then, ordering_reverse}
 use Rattle.std.specs.declared.cmp.Ordering.{Ordering}
-use Rattle.std.specs.declared.cmp.Ordering.TheVariants.{Less, Equal, Greater}
+use Rattle.std.specs.declared.cmp.Ordering.TheVariants.{Equal}
 use Rattle.kv_types.specs.declared.record_id.RecordId.{RecordId}
 use Rattle.kv_types.specs.declared.record_id.RecordId.TheVariants.{Str, Field}
 use Rattle.kv_types.specs.Keyspace.{Keyspace, key_of, bytes_cmp, record_cmp}
@@ -20,9 +20,7 @@ use Rattle.cmd_core.specs.Record.{field_at, next_has_key}
 -- ---- whether a record is one that is asked for
 
 is_eq-then : (o p : Ordering) → is_eq (ordering_then o p) ≡ (is_eq o && is_eq p)
-is_eq-then Less p = refl
-is_eq-then Equal p = refl
-is_eq-then Greater p = refl
+is_eq-then o p = grind arith
 
 same_fields : (a f b g : List ℕ) → is_same (Field a f) (Field b g) ≡ (pointwise nat_eq a b && pointwise nat_eq f g)
 same_fields a f b g = is_eq-then (bytes_cmp a b) (bytes_cmp f g) ∙ ap₂ (λ x y. x && y) (sym (texts_ties a b)) (sym (texts_ties f g))
@@ -63,20 +61,13 @@ pub fields_more : (e : RecordId × List ℕ) (s : Keyspace) (key : List ℕ) →
 unfolding fields_of
 fields_more (Str own, value) s key = refl
 fields_more (Field own field, value) s key =
-    elim (same_bytes own key) as (λ b. cond b ((field, value) ∷ fields_of s key) (fields_of s key) ≡ with_field (cond b (Some field) None) value (fields_of s key)) [
-      | true ↦ refl
-      | false ↦ refl
-    ]
+    elim (same_bytes own key) as (λ b. cond b ((field, value) ∷ fields_of s key) (fields_of s key) ≡ with_field (cond b (Some field) None) value (fields_of s key)) [ true ↦ refl | false ↦ refl ]
 
 -- ---- the records of a key are next to one another
 
 -- a record between two of one key is of this key
 between_by : (o p q r : Ordering) → o ≡ ordering_reverse p → is_lt (ordering_then o q) ≡ true → is_lt (ordering_then p r) ≡ true → p ≡ Equal
-between_by Less Less q r e lt lt' = cc
-between_by Equal Less q r e lt lt' = cc
-between_by Greater Less q r e lt lt' = cc
-between_by o Equal q r e lt lt' = refl
-between_by o Greater q r e lt lt' = cc
+between_by o p q r e lt lt' = grind arith
 
 between : (e f g : RecordId) → is_lt (record_cmp e f) ≡ true → is_lt (record_cmp f g) ≡ true → key_of g ≡ key_of e → same_bytes (key_of f) (key_of e) ≡ true
 between e f g lt lt' same =
@@ -110,8 +101,7 @@ next_has e (f ∷ s) sorted =
 -- ---- the same by the index of a walk
 
 pub is_some-copied : (o : Option (Bor (List ℕ))) → is_some (option_copied o) ≡ is_some o
-is_some-copied None = refl
-is_some-copied (Some x) = refl
+is_some-copied o = grind arith
 
 module _ (A : Type 0) (kept : A → RecordId × List ℕ) (xs : List A) (n : ℕ) where
   abbrev after : Keyspace
@@ -146,10 +136,7 @@ module _ (A : Type 0) (kept : A → RecordId × List ℕ) (xs : List A) (n : ℕ
     field_elsewhere key e = fields_at key ∙ ap (λ f. with_field f (kept x).1 (fields_of after key)) e
 
     counted : (found : Option (List ℕ)) (value : List ℕ) (fields : List (List ℕ × List ℕ)) (b : Bool) → is_some found ≡ b → length (with_field found value fields) ≡ cond b 1 0 + length fields
-    counted None value fields true e = cc
-    counted None value fields false e = omega arith
-    counted (Some field) value fields true e = omega arith
-    counted (Some field) value fields false e = cc
+    counted found value fields b e = grind arith
 
     pub fields_counted : (key : List ℕ) (b : Bool) → is_some (field_at (kept x).0 key) ≡ b → length (fields_of (map kept (drop n xs)) key) ≡ cond b 1 0 + length (fields_of after key)
     fields_counted key b e = ap (λ fields. length fields) (fields_at key) ∙ counted (field_at (kept x).0 key) (kept x).1 (fields_of after key) b e
@@ -178,8 +165,7 @@ module _ (A : Type 0) (kept : A → RecordId × List ℕ) (xs later : List A) (x
   sorted_later = (and_parts (below_all record_cmp (kept x).0 (map kept later)) (is_sorted record_cmp (map kept later)) in_order).1
 
   key_counted : (b : Bool) → length (cond b (keys_of (map kept later)) (key_of (kept x).0 ∷ keys_of (map kept later))) ≡ cond b 0 1 + length (keys_of (map kept later))
-  key_counted true = omega arith
-  key_counted false = omega arith
+  key_counted b = grind arith
 
   pub keys_counted : (b : Bool) → next_has_key (map kept later) (key_of (kept x).0) ≡ b → length (keys_of (map kept xs)) ≡ cond b 0 1 + length (keys_of (map kept later))
   keys_counted b e =

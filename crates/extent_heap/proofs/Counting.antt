@@ -1,5 +1,5 @@
 -- How many lines the runs have.
-use Rattle.std.proofs.Common.{◌≡◌, ℕ, zero, suc, ◌+◌, ◌-◌, ◌≤◌, min, Bool, true, false, ◌&&◌, ◌||◌, nat_lt, nat_le, IsTrue, if◌then◌else◌, List, [], ◌∷◌, refl, sym, ap, ◌∙◌, add-one, arith}
+use Rattle.std.proofs.Common.{◌≡◌, ℕ, zero, suc, ◌+◌, ◌-◌, ◌≤◌, min, Bool, false, ◌&&◌, ◌||◌, nat_lt, nat_le, IsTrue, if◌then◌else◌, List, [], ◌∷◌, refl, sym, ap, ◌∙◌, add-one, arith}
 use Rattle.std.proofs.lemmas.Bool.Decides.{nat_tests}
 use Rattle.kv_types.specs.declared.place.Extent.{Extent}
 use Rattle.extent_heap.specs.Extents.{is_line_of}
@@ -18,8 +18,7 @@ count_none test (suc n) none = rw (none n, count_none test n none)
 
 -- the numbers of an interval
 one_more : (first end n : ℕ) (passes : Bool) → passes ≡ (nat_le first n && nat_lt n end) → (if passes then 1 else 0) + (min n end - first) ≡ min (n + 1) end - first
-one_more first end n true is = grind (arith, nat_tests)
-one_more first end n false is = grind (arith, nat_tests)
+one_more first end n passes is = grind (arith, nat_tests)
 
 count_interval : (first end n : ℕ) → count (λ i. nat_le first i && nat_lt i end) n ≡ min n end - first
 count_interval first end zero = omega arith
@@ -29,10 +28,7 @@ count_interval first end (suc n) =
 
 -- two tests of which no number passes both
 either : (a b : Bool) (x y z : ℕ) → (IsTrue a → b ≡ false) → z ≡ x + y → (if a || b then 1 else 0) + z ≡ ((if a then 1 else 0) + x) + ((if b then 1 else 0) + y)
-either true true x y z apart is = absurd (Rattle.std.proofs.lemmas.Bool.true≢false (apart refl))
-either true false x y z apart is = omega arith
-either false true x y z apart is = omega arith
-either false false x y z apart is = omega arith
+either a b x y z apart is = grind arith
 
 count_either : (p q : ℕ → Bool) (n : ℕ) → ((i : ℕ) → IsTrue (p i) → q i ≡ false) → count (λ i. p i || q i) n ≡ count p n + count q n
 count_either p q zero apart = refl
@@ -44,7 +40,7 @@ total_is_count low high n (x ∷ xs) ordered within =
     let end = ordered.2 in
     let rest = total_is_count (x.first_line + x.lines + 1) high n xs ordered.3 within in
     let one = count_interval x.first_line (x.first_line + x.lines) n in
-    let apart = λ (i : ℕ) (is : IsTrue (is_line_of x i)). none_below (x.first_line + x.lines + 1) high xs i ordered.3 (let bounds = line_bounds x i is in let below = bounds.1 in omega arith) in
+    let apart = λ (i : ℕ) (is : IsTrue (is_line_of x i)). none_below (x.first_line + x.lines + 1) high xs i ordered.3 (omega (arith, (line_bounds x i is).1)) in
     let both = count_either (is_line_of x) (has_line xs) n apart in
     omega arith
 

@@ -1,8 +1,9 @@
 -- The run that has the lines of an extent, and what is left of it without them.
-use Rattle.std.proofs.Common.{◌≡◌, ℕ, ◌+◌, ◌-◌, ◌^◌, ◌<◌, ◌≤◌, inl, inr, Bool, true, false, not, ◌&&◌, ◌||◌, IsTrue, List, [], ◌∷◌, ◌++◌, refl, sym, ap, subst, ◌∙◌, append_assoc, arith}
-use Rattle.std.proofs.lemmas.Bool.{cases_order, true≢false}
+use Rattle.std.proofs.Common.{◌≡◌, ℕ, ◌+◌, ◌-◌, ◌^◌, ◌<◌, ◌≤◌, false, not, ◌&&◌, ◌||◌, IsTrue, List, [], ◌∷◌, ◌++◌, refl, sym, ap, subst, ◌∙◌, append_assoc, arith}
+use Rattle.std.proofs.lemmas.Bool.{true≢false}
 use Rattle.std.proofs.lemmas.Bool.Decides.{nat_tests}
 use Rattle.std.specs.List.{AllByRecursion}
+use Rattle.std.proofs.Math.Bool.{or-false}
 use Rattle.kv_types.specs.declared.place.Extent.{Extent}
 use Rattle.extent_heap.specs.Extents.{is_line_of}
 use Rattle.extent_heap.specs.Runs.{has_line, AreRuns, total, some_run, AreInOrder, IsPart, IsCut, HasClaimed}
@@ -39,11 +40,7 @@ module _ (low high : ℕ) (before : List Extent) (run : Extent) (behind : List E
 
 in_the_run : (before : List Extent) (run : Extent) (behind : List Extent) (line : ℕ) → has_line before line ≡ false → has_line behind line ≡ false
     → has_line (before ++ run ∷ behind) line ≡ is_line_of run line
-in_the_run before run behind line none none' = has_line-append before (run ∷ behind) line ∙ rw (none, none') (or_false (is_line_of run line))
-  where
-    or_false : (b : Bool) → (b || false) ≡ b
-    or_false true = refl
-    or_false false = refl
+in_the_run before run behind line none none' = has_line-append before (run ∷ behind) line ∙ rw (none, none') (or-false (is_line_of run line))
 
 pub cut_is : (runs below behind before : List Extent) (run extent : Extent) → AreInOrder runs → IsSplit (extent.first_line + 1) runs below behind → below ≡ before ++ run ∷ []
     → 0 < extent.lines → IsPart runs extent → IsCut runs extent before run behind
@@ -62,26 +59,17 @@ cut_is runs below behind before run extent order split is some part =
     record {
       is = whole;
       from = bounds.0;
-      within = elim (cases_order (run.first_line + run.lines) (extent.first_line + extent.lines)) [
-        | inl same ↦ omega arith
-        | inr (inl less) ↦
-            let in_run : IsTrue (has_line runs (run.first_line + run.lines)) = part (run.first_line + run.lines) (line_within extent (run.first_line + run.lines) (omega arith) (omega arith)) in
-            let only = only_run order.low order.high before run behind ordered (run.first_line + run.lines) (omega arith) (omega arith) in
-            absurd (true≢false (sym in_run ∙ ap (λ (xs : List Extent). has_line xs (run.first_line + run.lines)) whole ∙ in_the_run before run behind (run.first_line + run.lines) only.0 only.1 ∙ line_behind run (run.first_line + run.lines) (omega arith)))
-        | inr (inr more) ↦ omega arith
-      ];
+      within =
+          let end = run.first_line + run.lines in
+          let only = only_run order.low order.high before run behind ordered end (omega arith) (omega arith) in
+          let none : has_line runs end ≡ false = ap (λ (xs : List Extent). has_line xs end) whole ∙ in_the_run before run behind end only.0 only.1 ∙ line_behind run end (omega arith) in
+          grind (arith, part end, line_within extent end, none);
       small = omega arith;
     }
 
 -- a line of a run is small
 pub line_small : (runs : List Extent) (line : ℕ) → AreInOrder runs → IsTrue (has_line runs line) → line + 1 < 2 ^ 64
-line_small runs line order in_runs =
-    let small = order.small in
-    elim (cases_order order.high (line + 1)) [
-      | inl same ↦ absurd (true≢false (sym in_runs ∙ none_above order.low order.high runs line order.are (omega arith)))
-      | inr (inl below) ↦ absurd (true≢false (sym in_runs ∙ none_above order.low order.high runs line order.are (omega arith)))
-      | inr (inr above) ↦ omega arith
-    ]
+line_small runs line order in_runs = grind (arith, none_above order.low order.high runs line order.are, order.small)
 
 -- ---- what is left of it
 
@@ -102,22 +90,6 @@ lines_left before run extent behind line =
     ∙ ap (λ b. b || has_line behind line) (has_line-append (before ++ some_run (front_of run extent)) (some_run (back_of run extent)) line
     ∙ rw (has_line-append before (some_run (front_of run extent)) line, has_line-some (front_of run extent) line, has_line-some (back_of run extent) line))
 
-regroup : (a b c d e : Bool) → (b || c) ≡ e → (((a || b) || c) || d) ≡ ((a || (e || d)) && true)
-regroup true b c d e is = refl
-regroup false true c d e is = rw (sym is)
-regroup false false true d e is = rw (sym is)
-regroup false false false true e is = rw (sym is)
-regroup false false false false e is = rw (sym is)
-
-and_false : (b : Bool) → (b && false) ≡ false
-and_false true = refl
-and_false false = refl
-
--- the lines of the run are those before and behind the extent, where they are not the extent's
-parts_of_run : (run extent : Extent) (line : ℕ) → run.first_line ≤ extent.first_line → extent.first_line + extent.lines ≤ run.first_line + run.lines → is_line_of extent line ≡ false
-    → (is_line_of (front_of run extent) line || is_line_of (back_of run extent) line) ≡ is_line_of run line
-parts_of_run run extent line from within out = grind (arith, nat_tests)
-
 lines_claimed : (runs : List Extent) (extent : Extent) (before : List Extent) (run : Extent) (behind : List Extent) → AreInOrder runs → IsCut runs extent before run behind → (line : ℕ)
     → has_line (left_of before run extent behind) line ≡ (has_line runs line && not (is_line_of extent line))
 lines_claimed runs extent before run behind order cut line =
@@ -125,21 +97,7 @@ lines_claimed runs extent before run behind order cut line =
     let within = cut.within in
     let whole = ap (λ (xs : List Extent). has_line xs line) cut.is ∙ has_line-append before (run ∷ behind) line in
     let ordered : AreRuns order.low order.high (before ++ run ∷ behind) = subst (AreRuns order.low order.high) cut.is order.are in
-    lines_left before run extent behind line
-    ∙ elim (is_line_of extent line) as (λ b. is_line_of extent line ≡ b
-    → (((has_line before line || is_line_of (front_of run extent) line) || is_line_of (back_of run extent) line) || has_line behind line) ≡ (has_line runs line && not b)) [
-      | true ↦ λ is.
-          let bounds = line_bounds extent line is in
-          let above = bounds.0 in
-          let below = bounds.1 in
-          let only = only_run order.low order.high before run behind ordered line (omega arith) (omega arith) in
-          let none = line_behind (front_of run extent) line (omega arith) in
-          let none' = line_below (back_of run extent) line (omega arith) in
-          rw (only.0, none, none', only.1) (sym (and_false (has_line runs line)))
-      | false ↦ λ is.
-          regroup (has_line before line) (is_line_of (front_of run extent) line) (is_line_of (back_of run extent) line) (has_line behind line) (is_line_of run line) (parts_of_run run extent line from within is)
-          ∙ ap (λ b. b && true) (sym whole)
-    ] refl
+    grind (arith, nat_tests, lines_left before run extent behind line, whole, only_run order.low order.high before run behind ordered line)
 
 ordered_left : (runs : List Extent) (extent : Extent) (before : List Extent) (run : Extent) (behind : List Extent) → IsCut runs extent before run behind → 0 < extent.lines → (high : ℕ)
     → AreRuns 0 high runs → AreRuns 0 high (left_of before run extent behind)
@@ -161,12 +119,14 @@ count_left runs extent before run behind cut =
     let from = cut.from in
     let within = cut.within in
     let whole = ap total cut.is ∙ total-append before (run ∷ behind) in
-    let parts = total-append ((before ++ some_run (front_of run extent)) ++ some_run (back_of run extent)) behind in
-    let more = total-append (before ++ some_run (front_of run extent)) (some_run (back_of run extent)) in
-    let most = total-append before (some_run (front_of run extent)) in
-    let front = total-some (front_of run extent) in
-    let back = total-some (back_of run extent) in
-    omega arith
+    omega (
+      arith,
+      total-append ((before ++ some_run (front_of run extent)) ++ some_run (back_of run extent)) behind,
+      total-append (before ++ some_run (front_of run extent)) (some_run (back_of run extent)),
+      total-append before (some_run (front_of run extent)),
+      total-some (front_of run extent),
+      total-some (back_of run extent),
+    )
 
 pub claimed_is : (runs : List Extent) (extent : Extent) (before : List Extent) (run : Extent) (behind new : List Extent) → AreInOrder runs → IsCut runs extent before run behind → 0 < extent.lines
     → new ≡ left_of before run extent behind → HasClaimed runs extent new

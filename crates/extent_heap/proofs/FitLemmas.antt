@@ -1,6 +1,6 @@
 -- The lowest run that is long enough.
-use Rattle.std.proofs.Common.{◌≡◌, ℕ, ◌+◌, ◌<◌, ◌≤◌, ◌⊎◌, inl, inr, max, Bool, true, false, ◌||◌, IsTrue, List, [], ◌∷◌, ◌++◌, sym, ap, subst, ◌∙◌, arith}
-use Rattle.std.proofs.lemmas.Bool.{cases_order, true≢false}
+use Rattle.std.proofs.Common.{ℕ, ◌+◌, ◌<◌, ◌≤◌, ◌||◌, IsTrue, List, [], ◌∷◌, ◌++◌, sym, ap, subst, ◌∙◌, arith}
+use Rattle.std.proofs.lemmas.Bool.{or_right, true≢false}
 use Rattle.kv_types.specs.declared.place.Extent.{Extent}
 use Rattle.extent_heap.specs.Extents.{is_line_of}
 use Rattle.extent_heap.specs.Runs.{has_line, AreRuns, longest, IsFirstFit}
@@ -10,40 +10,21 @@ use Rattle.extent_heap.proofs.RunsLemmas.{has_line-append, at_run, line_within, 
 abbrev pub InRuns : List Extent → ℕ → ℕ → Type 0
 InRuns runs first lines = (line : ℕ) → first ≤ line → line < first + lines → IsTrue (has_line runs line)
 
-or_right : (a b : Bool) → a ≡ false → IsTrue (a || b) → IsTrue b
-or_right true b none is = absurd (true≢false none)
-or_right false b none is = is
-
-or_true : (a b : Bool) → IsTrue b → IsTrue (a || b)
-or_true true b is = Rattle.std.proofs.Common.refl
-or_true false b is = is
-
 -- the first of them is in no run if all begin behind it
 pub not_before : (low high first : ℕ) (runs : List Extent) → AreRuns low high runs → IsTrue (has_line runs first) → low ≤ first
-not_before low high first runs ordered is =
-    elim (cases_order first low) [
-      | inl same ↦ omega arith
-      | inr (inl below) ↦ absurd (true≢false (sym is ∙ none_below low high runs first ordered below))
-      | inr (inr above) ↦ omega arith
-    ]
+not_before low high first runs ordered is = grind (arith, none_below low high runs first ordered)
 
 -- they do not begin in a run that is shorter
 not_in : (low high lines first : ℕ) (run : Extent) (runs : List Extent) → AreRuns low high (run ∷ runs) → run.lines < lines → InRuns (run ∷ runs) first lines → run.first_line + run.lines ≤ first
 not_in low high lines first run runs ordered short are =
+    let end = run.first_line + run.lines in
     let from = not_before run.first_line high first (run ∷ runs) (omega arith, ordered.1, ordered.2, ordered.3) (are first (omega arith) (omega arith)) in
-    elim (cases_order (run.first_line + run.lines) first) [
-      | inl same ↦ omega arith
-      | inr (inl below) ↦ omega arith
-      | inr (inr above) ↦
-          let end = run.first_line + run.lines in
-          let past = or_right (is_line_of run end) (has_line runs end) (line_behind run end (omega arith)) (are end (omega arith) (omega arith)) in
-          absurd (true≢false (sym past ∙ none_below (end + 1) high runs end ordered.3 (omega arith)))
-    ]
+    grind (arith, are end, line_behind run end, none_below (end + 1) high runs end ordered.3)
 
 skip_one : (low high lines first : ℕ) (run : Extent) (runs : List Extent) → AreRuns low high (run ∷ runs) → run.lines < lines → InRuns (run ∷ runs) first lines → InRuns runs first lines
 skip_one low high lines first run runs ordered short are =
     let behind = not_in low high lines first run runs ordered short are in
-    λ line from below. or_right (is_line_of run line) (has_line runs line) (line_behind run line (omega arith)) (are line from below)
+    λ line from below. rw (line_behind run line (omega arith)) at (are line from below)
 
 -- they are behind all runs that are shorter
 skip : (low high lines first : ℕ) (before rest : List Extent) → AreRuns low high (before ++ rest) → longest before < lines → InRuns (before ++ rest) first lines → InRuns rest first lines
@@ -69,14 +50,5 @@ module _ (low high lines : ℕ) (runs : List Extent) (run : Extent) where
   -- its first lines are in it
   pub fit_in : AreRuns low high runs → IsFirstFit lines runs run → InRuns runs run.first_line lines
   fit_in ordered fit line from below =
-      let fits = fit.fits in
       ap (λ (xs : List Extent). has_line xs line) fit.is ∙ has_line-append fit.before (run ∷ fit.after) line
-      ∙ or_true (has_line fit.before line) (is_line_of run line || has_line fit.after line) (rw (line_within run line from (omega arith)))
-
-  -- its end is within the bounds
-  pub fit_within : AreRuns low high runs → IsFirstFit lines runs run → run.first_line + lines < high
-  fit_within ordered fit =
-      let at = at_run low high fit.before run fit.after (subst (AreRuns low high) fit.is ordered) in
-      let fits = fit.fits in
-      let within = at.within in
-      omega arith
+      ∙ or_right (has_line fit.before line) (is_line_of run line || has_line fit.after line) (rw (line_within run line from (omega (arith, fit.fits))))

@@ -1,27 +1,19 @@
 -- What the definitions of a room imply together.
-use Rattle.std.proofs.Common.{◌≡◌, ℕ, ◌+◌, ◌-◌, ◌<◌, ◌≤◌, Bool, true, false, not, ◌&&◌, ◌||◌, nat_eq, IsTrue, List, refl, sym, ◌∙◌, ap, ap₂, subst, arith}
-use Rattle.std.proofs.lemmas.Bool.{and_parts, true≢false}
+use Rattle.std.proofs.Common.{◌≡◌, ℕ, ◌+◌, ◌-◌, ◌<◌, ◌≤◌, Bool, true, false, not, ◌&&◌, ◌||◌, nat_eq, IsTrue, List, sym, ◌∙◌, ap, ap₂, subst, arith}
+use Rattle.std.proofs.lemmas.Bool.{and_parts}
 use Rattle.std.proofs.lemmas.Bool.Decides.{nat_tests}
 use Rattle.kv_types.specs.declared.place.EntryNo.{EntryNo}
 use Rattle.kv_types.specs.declared.place.Extent.{Extent}
 use Rattle.extent_heap.specs.Extents.{is_line_of}
 use Rattle.extent_heap.specs.Runs.{has_line}
 use Rattle.extent_heap.specs.Room.{Room, IsRoom, is_free_line, is_free_entry, IsFreeRun, TakesExtent, GivesExtent, IsOut, TakesEntry, GivesEntry, IsOutEntry}
-use Rattle.extent_heap.proofs.RunsLemmas.{line_bounds}
+use Rattle.extent_heap.proofs.RunsLemmas.{line_bounds, line_within}
 use Rattle.extent_heap.proofs.SameRuns.{runs_same, end_of_line}
 
 -- ---- what was taken is no longer free, and nothing else changed
 
 pub TakesEntry-gone : (old : Room) (entry : EntryNo) (new : Room) → TakesEntry old entry new → is_free_entry new entry.0 ≡ false
-TakesEntry-gone old entry new takes = takes.after.taken entry.0 ∙ gone (is_free_entry old entry.0) (nat_eq entry.0 entry.0) (same entry.0)
-  where
-    same : (i : ℕ) → nat_eq i i ≡ true
-    same i = grind (arith, nat_tests)
-
-    gone : (a b : Bool) → b ≡ true → (a && not b) ≡ false
-    gone true true is = refl
-    gone true false is = sym is
-    gone false b is = refl
+TakesEntry-gone old entry new takes = grind (arith, nat_tests, takes.after.taken entry.0, takes.free)
 
 -- what is free afterwards was free before
 pub TakesEntry-free : (old : Room) (entry : EntryNo) (new : Room) (i : ℕ) → TakesEntry old entry new → IsTrue (is_free_entry new i) → IsTrue (is_free_entry old i)
@@ -30,16 +22,8 @@ TakesEntry-free old entry new i takes free = (and_parts (is_free_entry old i) (n
 pub TakesEntry-line : (old : Room) (entry : EntryNo) (new : Room) (line : ℕ) → TakesEntry old entry new → is_free_line new line ≡ is_free_line old line
 TakesEntry-line old entry new line takes = ap (λ (runs : List Extent). has_line runs line) takes.after.lines
 
-gone_line : (has is : Bool) → IsTrue is → (has && not is) ≡ false
-gone_line true true given = refl
-gone_line true false given = sym given
-gone_line false is given = refl
-
-line_of : (extent : Extent) (line : ℕ) → extent.first_line ≤ line → line < extent.first_line + extent.lines → IsTrue (is_line_of extent line)
-line_of extent line low high = grind (arith, nat_tests)
-
 pub TakesExtent-gone : (old : Room) (extent : Extent) (new : Room) (line : ℕ) → TakesExtent old extent new → extent.first_line ≤ line → line < extent.first_line + extent.lines → is_free_line new line ≡ false
-TakesExtent-gone old extent new line takes low high = takes.after.taken line ∙ gone_line (is_free_line old line) (is_line_of extent line) (line_of extent line low high)
+TakesExtent-gone old extent new line takes low high = grind (arith, takes.after.taken line, line_within extent line low high)
 
 pub TakesExtent-free : (old : Room) (extent : Extent) (new : Room) (line : ℕ) → TakesExtent old extent new → IsTrue (is_free_line new line) → IsTrue (is_free_line old line)
 TakesExtent-free old extent new line takes free = (and_parts (is_free_line old line) (not (is_line_of extent line)) (sym (takes.after.taken line) ∙ free)).0
@@ -50,10 +34,7 @@ TakesExtent-entry old extent new i takes = ap (λ (runs : List Extent). has_line
 -- ---- a room is what its parts say
 
 room_same : (a b : Room) → a.lines ≡ b.lines → a.end_line ≡ b.end_line → a.held ≡ b.held → a.entries ≡ b.entries → a.end_entry ≡ b.end_entry → a ≡ b
-room_same a b lines end_line held entries end_entry =
-    ap₂ (λ (x : List Extent) (y : ℕ). record a { lines = x; end_line = y }) lines end_line
-    ∙ ap₂ (λ (x : ℕ) (y : List Extent). record b { held = x; entries = y; end_entry = a.end_entry }) held entries
-    ∙ ap (λ (x : ℕ). record b { end_entry = x }) end_entry
+room_same a b lines end_line held entries end_entry = λ j. record { lines = lines j; end_line = end_line j; held = held j; entries = entries j; end_entry = end_entry j }
 
 -- rooms with the same free lines and entries have the same runs
 same_lines : (a b : Room) → IsRoom a → IsRoom b → ((line : ℕ) → is_free_line a line ≡ is_free_line b line) → a.lines ≡ b.lines
@@ -90,40 +71,28 @@ TakesExtent-same old extent extent' new new' count takes takes' =
 pub free_within : (room : Room) (first lines : ℕ) → IsRoom room → 0 < lines → IsFreeRun room first lines → first + lines ≤ room.end_line
 free_within room first lines is some free =
     let last = first + (lines - 1) in
-    let below = end_of_line room.end_line room.lines last is.lines (free last (omega arith) (omega arith)) in
-    omega arith
+    omega (arith, end_of_line room.end_line room.lines last is.lines (free last (omega arith) (omega arith)))
 
 pub out_again : (before : Room) (extent : Extent) (room : Room) → 0 < extent.lines → TakesExtent before extent room → IsOut room extent
 out_again before extent room some takes =
-    let held = takes.after.held in
     let within = free_within before extent.first_line extent.lines takes.after.is_room some takes.free in
-    record {
-      some = some;
-      within = subst (λ end. extent.first_line + extent.lines ≤ end) (sym takes.after.end_line) within;
-      held = omega arith;
-      taken = λ line low high. TakesExtent-gone before extent room line takes low high;
-    }
+    record { some = some; within = omega (arith, takes.after.end_line); held = omega (arith, takes.after.held); taken = λ line low high. TakesExtent-gone before extent room line takes low high }
 
 back : (has is : Bool) → (IsTrue is → has ≡ true) → ((has && not is) || is) ≡ has
-back true true given = refl
-back true false given = refl
-back false true given = absurd (true≢false (sym (given refl)))
-back false false given = refl
+back has is given = grind arith
 
 pub undo_extent : (before : Room) (extent : Extent) (room new : Room) → TakesExtent before extent room → GivesExtent room extent new → new ≡ before
 undo_extent before extent room new takes gives =
     let after = takes.after in
     let lines = same_lines new before gives.still_room after.is_room
     (λ line. gives.given line ∙ ap (λ b. b || is_line_of extent line) (after.taken line)
-    ∙ back (is_free_line before line) (is_line_of extent line) (λ is. let bounds = line_bounds extent line is in takes.free line bounds.0 bounds.1)) in
-    let held = gives.held in
-    let held' = after.held in
-    room_same new before lines (gives.end_line ∙ after.end_line) (omega arith) (gives.entries ∙ after.entries) (gives.end_entry ∙ after.end_entry)
+    ∙ back (is_free_line before line) (is_line_of extent line) (λ is. takes.free line (line_bounds extent line is).0 (line_bounds extent line is).1)) in
+    room_same new before lines (gives.end_line ∙ after.end_line) (omega (arith, gives.held, after.held)) (gives.entries ∙ after.entries) (gives.end_entry ∙ after.end_entry)
 
 pub out_entry_again : (before : Room) (entry : EntryNo) (room : Room) → TakesEntry before entry room → IsOutEntry room entry
 out_entry_again before entry room takes =
     let within = end_of_line before.end_entry before.entries entry.0 takes.after.is_room.entries takes.free in
-    record { within = subst (λ end. entry.0 < end) (sym takes.after.end_entry) within; taken = TakesEntry-gone before entry room takes }
+    record { within = omega (arith, takes.after.end_entry); taken = TakesEntry-gone before entry room takes }
 
 same_number : (i j : ℕ) → IsTrue (nat_eq i j) → i ≡ j
 same_number i j is = grind (arith, nat_tests)

@@ -1,7 +1,9 @@
 -- Facts on lists of runs.
-use Rattle.std.proofs.Common.{◌≡◌, ℕ, ◌+◌, ◌-◌, ◌/◌, ◌<◌, ◌≤◌, ◌==◌, max, Bool, true, false, ◌||◌, IsTrue, if◌then◌else◌, List, [], ◌∷◌, ◌++◌, length, Option, None, Some, MatchOption, refl, sym, ap, subst, ◌∙◌, append_assoc, arith}
+use Rattle.std.proofs.Common.{◌≡◌, ℕ, ◌+◌, ◌-◌, ◌/◌, ◌<◌, ◌≤◌, ◌==◌, max, false, ◌||◌, IsTrue, List, [], ◌∷◌, ◌++◌, length, Option, None, Some, MatchOption, refl, sym, ap, subst, ◌∙◌, append_assoc, arith}
 use Rattle.std.proofs.Math.Nat.{div-eq_of_lt}
 use Rattle.std.proofs.lemmas.Bool.Decides.{nat_tests}
+use Rattle.std.proofs.Math.Bool.{or_assoc, or-false}
+use Rattle.std.proofs.lemmas.Bool.{cond_both}
 use Rattle.kv_types.specs.declared.place.Extent.{Extent}
 use Rattle.extent_heap.specs.Extents.{is_line_of}
 use Rattle.extent_heap.specs.Runs.{has_line, AreRuns, longest, pieces, total, some_run, IsFirstFit}
@@ -36,10 +38,7 @@ pieces-append lines (x ∷ xs) ys = omega (arith, pieces-append lines xs ys)
 -- none from runs that are all too short
 pub none_short : (lines : ℕ) (xs : List Extent) → longest xs < lines → pieces lines xs ≡ 0
 none_short lines [] short = refl
-none_short lines (x ∷ xs) short =
-    let rest = none_short lines xs (omega arith) in
-    let own : x.lines / lines ≡ 0 = div-eq_of_lt (omega arith) in
-    omega (arith, rest, own)
+none_short lines (x ∷ xs) short = let own : x.lines / lines ≡ 0 = div-eq_of_lt (omega arith) in omega (arith, none_short lines xs (omega arith))
 
 -- those before the fork are counted first, then its own, then those behind it
 pub lacks_fork : (lines wanted : ℕ) (left : List Extent) (run : Extent) (right : List Extent)
@@ -50,11 +49,8 @@ lacks_fork lines wanted left run right = omega (arith, pieces-append lines left 
 
 pub has_line-append : (xs ys : List Extent) (line : ℕ) → has_line (xs ++ ys) line ≡ (has_line xs line || has_line ys line)
 has_line-append [] ys line = refl
-has_line-append (x ∷ xs) ys line = or_assoc (is_line_of x line) (has_line xs line) (has_line ys line) (has_line (xs ++ ys) line) (has_line-append xs ys line)
-  where
-    or_assoc : (a b c d : Bool) → d ≡ (b || c) → (a || d) ≡ ((a || b) || c)
-    or_assoc true b c d e = refl
-    or_assoc false b c d e = e
+has_line-append (x ∷ xs) ys line =
+    ap (λ b. is_line_of x line || b) (has_line-append xs ys line) ∙ sym (or_assoc (is_line_of x line) (has_line xs line) (has_line ys line))
 
 pub total-append : (xs ys : List Extent) → total (xs ++ ys) ≡ total xs + total ys
 total-append [] ys = omega arith
@@ -63,13 +59,12 @@ total-append (x ∷ xs) ys = omega (arith, total-append xs ys)
 -- a weaker bound from below
 pub AreRuns-lower : (low low' high : ℕ) (xs : List Extent) → low' ≤ low → AreRuns low high xs → AreRuns low' high xs
 AreRuns-lower low low' high [] less runs = tt
-AreRuns-lower low low' high (x ∷ xs) less runs = let from = runs.0 in (omega arith, runs.1, runs.2, runs.3)
+AreRuns-lower low low' high (x ∷ xs) less runs = (omega (arith, runs.0), runs.1, runs.2, runs.3)
 
 pub AreRuns-join : (low between between' high : ℕ) (xs ys : List Extent) → between ≤ between' → low ≤ between' → between ≤ high → AreRuns low between xs → AreRuns between' high ys → AreRuns low high (xs ++ ys)
 AreRuns-join low between between' high [] ys gap less within runs rest = AreRuns-lower between' low high ys less rest
 AreRuns-join low between between' high (x ∷ xs) ys gap less within runs rest =
-    let end = runs.2 in
-    (runs.0, runs.1, omega arith, AreRuns-join (x.first_line + x.lines + 1) between between' high xs ys gap (omega arith) within runs.3 rest)
+    (runs.0, runs.1, omega (arith, runs.2), AreRuns-join (x.first_line + x.lines + 1) between between' high xs ys gap (omega (arith, runs.2)) within runs.3 rest)
 
 pub AreRuns-front : (low high : ℕ) (xs ys : List Extent) → AreRuns low high (xs ++ ys) → AreRuns low high xs
 AreRuns-front low high [] ys runs = tt
@@ -77,9 +72,7 @@ AreRuns-front low high (x ∷ xs) ys runs = (runs.0, runs.1, runs.2, AreRuns-fro
 
 pub AreRuns-back : (low high : ℕ) (xs ys : List Extent) → AreRuns low high (xs ++ ys) → AreRuns low high ys
 AreRuns-back low high [] ys runs = runs
-AreRuns-back low high (x ∷ xs) ys runs =
-    let from = runs.0 in
-    AreRuns-lower (x.first_line + x.lines + 1) low high ys (omega arith) (AreRuns-back (x.first_line + x.lines + 1) high xs ys runs.3)
+AreRuns-back low high (x ∷ xs) ys runs = AreRuns-lower (x.first_line + x.lines + 1) low high ys (omega (arith, runs.0)) (AreRuns-back (x.first_line + x.lines + 1) high xs ys runs.3)
 
 -- the runs before and behind one of them
 pub record AtRun (low high : ℕ) (xs : List Extent) (run : Extent) (ys : List Extent) : Type 0 where
@@ -93,34 +86,17 @@ pub at_run : (low high : ℕ) (xs : List Extent) (run : Extent) (ys : List Exten
 at_run low high [] run ys runs = record { before = tt; from = runs.0; some = runs.1; within = runs.2; behind = runs.3 }
 at_run low high (x ∷ xs) run ys runs =
     let rest = at_run (x.first_line + x.lines + 1) high xs run ys runs.3 in
-    let from = runs.0 in
-    let below = rest.from in
-    record { before = (runs.0, runs.1, omega arith, rest.before); from = omega arith; some = rest.some; within = rest.within; behind = rest.behind }
+    record { before = (runs.0, runs.1, omega (arith, rest.from), rest.before); from = omega (arith, runs.0, rest.from); some = rest.some; within = rest.within; behind = rest.behind }
 
 pub AreRuns-some : (low high : ℕ) (run : Extent) → low ≤ run.first_line → run.first_line + run.lines < high → AreRuns low high (some_run run)
-AreRuns-some low high run from within =
-    elim (run.lines == 0) as (λ none. (run.lines == 0) ≡ none → AreRuns low high (if none then [] else run ∷ [])) [
-      | true ↦ λ is. tt
-      | false ↦ λ is. (from, grind (arith, nat_tests), within, tt)
-    ] refl
+AreRuns-some low high run from within = cond_both (run.lines == 0) [] (run ∷ []) (AreRuns low high) (λ _. tt) (λ some. (from, grind (arith, nat_tests), within, tt))
 
 pub total-some : (run : Extent) → total (some_run run) ≡ run.lines
-total-some run =
-    elim (run.lines == 0) as (λ none. (run.lines == 0) ≡ none → total (if none then [] else run ∷ []) ≡ run.lines) [
-      | true ↦ λ is. grind (arith, nat_tests)
-      | false ↦ λ is. omega arith
-    ] refl
+total-some run = cond_both (run.lines == 0) [] (run ∷ []) (λ xs. total xs ≡ run.lines) (λ none. grind (arith, nat_tests)) (λ _. omega arith)
 
 pub has_line-some : (run : Extent) (line : ℕ) → has_line (some_run run) line ≡ is_line_of run line
 has_line-some run line =
-    elim (run.lines == 0) as (λ none. (run.lines == 0) ≡ none → has_line (if none then [] else run ∷ []) line ≡ is_line_of run line) [
-      | true ↦ λ is. grind (arith, nat_tests)
-      | false ↦ λ is. or_false (is_line_of run line)
-    ] refl
-  where
-    or_false : (b : Bool) → (b || false) ≡ b
-    or_false true = refl
-    or_false false = refl
+    cond_both (run.lines == 0) [] (run ∷ []) (λ xs. has_line xs line ≡ is_line_of run line) (λ none. grind (arith, nat_tests)) (λ _. or-false (is_line_of run line))
 
 -- ---- lines
 
@@ -139,31 +115,15 @@ line_behind run line from = grind (arith, nat_tests)
 -- no run has a line below or above all of them
 pub none_below : (low high : ℕ) (xs : List Extent) (line : ℕ) → AreRuns low high xs → line < low → has_line xs line ≡ false
 none_below low high [] line runs below = refl
-none_below low high (x ∷ xs) line runs below =
-    let from = runs.0 in
-    rw (line_below x line (omega arith)) (none_below (x.first_line + x.lines + 1) high xs line runs.3 (omega arith))
+none_below low high (x ∷ xs) line runs below = rw (line_below x line (omega (arith, runs.0))) (none_below (x.first_line + x.lines + 1) high xs line runs.3 (omega (arith, runs.0)))
 
 pub none_above : (low high : ℕ) (xs : List Extent) (line : ℕ) → AreRuns low high xs → high ≤ line + 1 → has_line xs line ≡ false
 none_above low high [] line runs above = refl
-none_above low high (x ∷ xs) line runs above =
-    let within = runs.2 in
-    rw (line_behind x line (omega arith)) (none_above (x.first_line + x.lines + 1) high xs line runs.3 above)
+none_above low high (x ∷ xs) line runs above = rw (line_behind x line (omega (arith, runs.2))) (none_above (x.first_line + x.lines + 1) high xs line runs.3 above)
 
--- all lines and the gaps between them lie between the bounds
-pub total-bound : (low high : ℕ) (xs : List Extent) → AreRuns low high xs → low ≤ high → total xs + length xs + low ≤ high
-total-bound low high [] runs less = omega arith
-total-bound low high (x ∷ xs) runs less =
-    let from = runs.0 in
-    let within = runs.2 in
-    let rest = total-bound (x.first_line + x.lines + 1) high xs runs.3 (omega arith) in
-    omega arith
-
--- a run and the gap behind it take two lines at least
-pub length-bound : (low high : ℕ) (xs : List Extent) → AreRuns low high xs → low ≤ high → length xs + length xs + low ≤ high
-length-bound low high [] runs less = omega arith
-length-bound low high (x ∷ xs) runs less =
-    let from = runs.0 in
-    let some = runs.1 in
-    let within = runs.2 in
-    let rest = length-bound (x.first_line + x.lines + 1) high xs runs.3 (omega arith) in
-    omega arith
+-- each run has a line, and all lines and the gaps between them lie between the bounds
+pub runs-bound : (low high : ℕ) (xs : List Extent) → AreRuns low high xs → low ≤ high → (length xs ≤ total xs) × (total xs + length xs + low ≤ high)
+runs-bound low high [] runs less = (omega arith, omega arith)
+runs-bound low high (x ∷ xs) runs less =
+    let rest = runs-bound (x.first_line + x.lines + 1) high xs runs.3 (omega (arith, runs.2)) in
+    (omega (arith, runs.1, rest.0), omega (arith, runs.0, rest.1))

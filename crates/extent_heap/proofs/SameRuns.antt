@@ -1,6 +1,6 @@
 -- Runs are determined by their lines.
-use Rattle.std.proofs.Common.{◌≡◌, ℕ, ◌+◌, ◌<◌, ◌≤◌, inl, inr, Bool, true, false, ◌||◌, IsTrue, List, [], ◌∷◌, refl, sym, ap, ap₂, ◌∙◌, arith}
-use Rattle.std.proofs.lemmas.Bool.{cases_order, true≢false}
+use Rattle.std.proofs.Common.{◌≡◌, ℕ, ◌+◌, ◌<◌, ◌≤◌, Bool, false, ◌||◌, IsTrue, List, [], ◌∷◌, refl, sym, ap, ap₂, ◌∙◌, arith}
+use Rattle.std.proofs.lemmas.Bool.{true≢false}
 use Rattle.kv_types.specs.declared.place.Extent.{Extent}
 use Rattle.extent_heap.specs.Extents.{is_line_of}
 use Rattle.extent_heap.specs.Runs.{has_line, AreRuns}
@@ -8,12 +8,7 @@ use Rattle.extent_heap.proofs.RunsLemmas.{line_within, line_bounds, line_behind,
 use Rattle.extent_heap.proofs.FitLemmas.{not_before}
 
 pub end_of_line : (end : ℕ) (runs : List Extent) (line : ℕ) → AreRuns 0 (end + 1) runs → IsTrue (has_line runs line) → line < end
-end_of_line end runs line ordered is =
-    elim (cases_order line end) [
-      | inl same ↦ absurd (true≢false (sym is ∙ none_above 0 (end + 1) runs line ordered (omega arith)))
-      | inr (inl below) ↦ below
-      | inr (inr above) ↦ absurd (true≢false (sym is ∙ none_above 0 (end + 1) runs line ordered (omega arith)))
-    ]
+end_of_line end runs line ordered is = grind (arith, none_above 0 (end + 1) runs line ordered)
 
 -- the first line of the first run is in the runs
 first_in : (run : Extent) (runs : List Extent) → 0 < run.lines → IsTrue (has_line (run ∷ runs) run.first_line)
@@ -28,18 +23,11 @@ none_behind high run runs ordered =
 no_longer : (high high' : ℕ) (run : Extent) (runs : List Extent) (run' : Extent) (runs' : List Extent) → AreRuns (run.first_line + run.lines + 1) high runs → run.first_line ≡ run'.first_line → 0 < run.lines
     → ((line : ℕ) → has_line (run ∷ runs) line ≡ has_line (run' ∷ runs') line) → run'.lines ≤ run.lines
 no_longer high high' run runs run' runs' ordered first some same =
-    elim (cases_order run.lines run'.lines) [
-      | inl equal ↦ omega arith
-      | inr (inl less) ↦
-          let end = run.first_line + run.lines in
-          let is : IsTrue (has_line (run' ∷ runs') end) = rw (line_within run' end (omega arith) (omega arith)) in
-          absurd (true≢false (sym is ∙ sym (same end) ∙ none_behind high run runs ordered))
-      | inr (inr more) ↦ omega arith
-    ]
+    let end = run.first_line + run.lines in
+    grind (arith, line_within run' end, same end, none_behind high run runs ordered)
 
 rest_same : (x a b : Bool) → (IsTrue x → (a ≡ false) × (b ≡ false)) → (x || a) ≡ (x || b) → a ≡ b
-rest_same true a b none same = let parts = none refl in parts.0 ∙ sym parts.1
-rest_same false a b none same = same
+rest_same x a b none same = grind arith
 
 pub runs_same : (low high low' high' : ℕ) (xs ys : List Extent) → AreRuns low high xs → AreRuns low' high' ys → ((line : ℕ) → has_line xs line ≡ has_line ys line) → xs ≡ ys
 runs_same low high low' high' [] [] ordered ordered' same = refl
@@ -56,8 +44,7 @@ runs_same low high low' high' (x ∷ xs) (y ∷ ys) ordered ordered' same =
     let rest = runs_same (x.first_line + x.lines + 1) high (y.first_line + y.lines + 1) high' xs ys ordered.3 ordered'.3
     (λ line. rest_same (is_line_of x line) (has_line xs line) (has_line ys line)
     (λ is.
-    let bounds = line_bounds x line is in
-    let below = bounds.1 in
+    let below = (line_bounds x line is).1 in
     (none_below (x.first_line + x.lines + 1) high xs line ordered.3 (omega arith), none_below (y.first_line + y.lines + 1) high' ys line ordered'.3 (omega arith)))
     (same line ∙ ap (λ (e : Extent). is_line_of e line || has_line ys line) (sym one))) in
     ap₂ (λ (r : Extent) (rs : List Extent). r ∷ rs) one rest

@@ -1,6 +1,6 @@
 -- What freeing ended versions leaves of groups that wait.
 use mathlib.Core.Path.{fun_ext}
-use Rattle.std.proofs.Common.{◌≡◌, ℕ, Bool, true, false, cond, not, ◌||◌, ◌&&◌, IsTrue, List, [], ◌∷◌, ◌++◌, inl, inr, Option, None, Some, map, refl, sym, ap, subst, ◌∙◌}
+use Rattle.std.proofs.Common.{rules, ◌≡◌, ℕ, Bool, true, false, cond, not, ◌||◌, ◌&&◌, IsTrue, List, [], ◌∷◌, ◌++◌, inl, inr, Option, None, Some, map, refl, sym, ap, subst, ◌∙◌}
 use Rattle.std.specs.Prelude.{◌<◌, ◌↔◌, Contains, nat_eq}
 use Rattle.std.specs.List.{AllByRecursion, flat_map}
 use Rattle.std.proofs.lemmas.Bool.{cond-false, cases_Bool, or_cases, or_from, or_left, or_right, or_parts, both_ways, eqb-true, eq-eqb, ne_eqb}
@@ -164,7 +164,7 @@ NonePut-unused gone contents (put ∷ puts) consistent ended unused i is =
         let none : contents.versions i ≡ None = ap contents.versions e ∙ consistent.free put.entry.0 unused.0.entry in
         both_ways false refl (sym (ap is_ended_version none) ∙ ended i is)
 
-unused_without : (gone : ℕ → Bool) (contents : Contents) (puts : List Put) → AllByRecursion (IsUnused contents.versions contents.is_free) puts
+pub unused_without : (gone : ℕ → Bool) (contents : Contents) (puts : List Put) → AllByRecursion (IsUnused contents.versions contents.is_free) puts
     → AllByRecursion (IsUnused (without gone contents).versions (without gone contents).is_free) puts
 unused_without gone contents [] unused = tt
 unused_without gone contents (put ∷ puts) unused = (
@@ -179,19 +179,9 @@ pub IsGroup-without : (gone : ℕ → Bool) (contents : Contents) (group : Group
     → IsGroup contents group → IsGroup (without gone contents) group
 IsGroup-without gone contents group consistent ended is =
     let none : NonePut gone (puts_of_group group) = NonePut-unused gone contents (puts_of_group group) consistent ended is.unused in
-    record {
-      epoch = is.epoch;
-      before = is.before;
-      some = is.some;
-      few = is.few;
-      parts = AreParts-without gone group.before contents.versions group.parts.items ended none is.parts;
-      placed = is.placed;
-      fitting = is.fitting;
-      unused = unused_without gone contents (puts_of_group group) is.unused;
-      apart = is.apart;
-    }
+    search (rules, AreParts-without gone group.before contents.versions group.parts.items ended none is.parts, unused_without gone contents (puts_of_group group) is.unused)
 
-free_without : (free gone put : Bool) → (gone ≡ true → put ≡ false) → ((free || gone) && not put) ≡ ((free && not put) || gone)
+pub free_without : (free gone put : Bool) → (gone ≡ true → put ≡ false) → ((free || gone) && not put) ≡ ((free && not put) || gone)
 free_without free true true none = absurd (both_ways true (none refl) refl)
 free_without true true false none = refl
 free_without false true false none = refl
@@ -216,16 +206,6 @@ pub AllEnded-after_group : (gone : ℕ → Bool) (contents : Contents) (group : 
 AllEnded-after_group gone contents group consistent ended is =
     AllEnded-parts gone contents.versions group.parts.items ended
     (NonePut-unused gone contents (puts_of_group group) consistent ended is.unused)
-
-pub AreGroups-without : (gone : ℕ → Bool) (contents : Contents) (groups : List Group) → IsConsistent contents → AllEnded gone contents.versions
-    → AreGroups contents groups → AreGroups (without gone contents) groups
-AreGroups-without gone contents [] consistent ended are = tt
-AreGroups-without gone contents (group ∷ groups) consistent ended are = (
-  IsGroup-without gone contents group consistent ended are.0,
-  subst (λ (after : Contents). AreGroups after groups) (sym (after_group-without gone contents group consistent ended are.0))
-      (AreGroups-without gone (after_group contents group) groups (IsConsistent-after_group contents group consistent are.0)
-      (AllEnded-after_group gone contents group consistent ended are.0) are.1),
-)
 
 pub after_groups-without : (gone : ℕ → Bool) (contents : Contents) (groups : List Group) → IsConsistent contents → AllEnded gone contents.versions
     → AreGroups contents groups → after_groups (without gone contents) groups ≡ without gone (after_groups contents groups)
@@ -276,11 +256,6 @@ pub IsGroup-freed : (contents : Contents) (entries : List EntryNo) (group : Grou
 IsGroup-freed contents entries group consistent ended is =
     IsGroup-without (λ i. is_listed i entries) contents group consistent (AllEnded-listed contents entries ended) is
 
-pub AreGroups-freed : (contents : Contents) (entries : List EntryNo) (groups : List Group) → IsConsistent contents → AreEnded contents entries
-    → AreGroups contents groups → AreGroups (after_free entries contents) groups
-AreGroups-freed contents entries groups consistent ended are =
-    AreGroups-without (λ i. is_listed i entries) contents groups consistent (AllEnded-listed contents entries ended) are
-
 pub after_groups-freed : (contents : Contents) (entries : List EntryNo) (groups : List Group) → IsConsistent contents → AreEnded contents entries
     → AreGroups contents groups → after_free entries (after_groups contents groups) ≡ after_groups (after_free entries contents) groups
 after_groups-freed contents entries groups consistent ended are =
@@ -309,18 +284,6 @@ AreEnded-apart contents (entry ∷ a) b ended i listed =
       | inl here ↦ ap (λ (n : ℕ). is_listed n b) (eqb-true i entry.0 here) ∙ (not_listed entry.0 a b ended.2).1
       | inr later ↦ AreEnded-apart contents a b ended.3 i later
     ]
-
-pub AreEnded-append : (contents : Contents) (a b : List EntryNo) → AreEnded contents a → AreEnded contents b
-    → ((i : ℕ) → IsTrue (is_listed i a) → is_listed i b ≡ false) → AreEnded contents (a ++ b)
-AreEnded-append contents [] b ended_a ended_b apart = ended_b
-AreEnded-append contents (entry ∷ a) b ended_a ended_b apart = (
-  ended_a.0,
-  ended_a.1,
-  list_any-append (λ (other : EntryNo). nat_eq entry.0 other.0) a b
-      ∙ or_from (is_listed entry.0 a) (is_listed entry.0 b) ended_a.2
-      (apart entry.0 (or_left (nat_eq entry.0 entry.0) (is_listed entry.0 a) (eq-eqb entry.0 entry.0 refl))),
-  AreEnded-append contents a b ended_a.3 ended_b (λ i listed. apart i (or_right (nat_eq i entry.0) (is_listed i a) listed)),
-)
 
 -- those that are not freed stay ended
 pub AreEnded-without : (gone : ℕ → Bool) (contents : Contents) (entries : List EntryNo)

@@ -1,15 +1,15 @@
 -- What a turn in `Ready` comes to, of what its parts did.
-use Rattle.std.proofs.Common.{◌≡◌, ◌≢◌, ◌⊎◌, ◌↔◌, ℕ, ◌<◌, Bool, false, IsTrue, List, [], ◌∷◌, ◌++◌, length, drop, Option, Some, None, Result, Ok, Err, slice_index_or, Global, inl, inr, refl, sym, ap, subst, ◌∙◌, length-append, arith}
+use Rattle.std.proofs.Common.{rules, ◌≡◌, ◌≢◌, ◌⊎◌, ◌↔◌, ℕ, ◌<◌, Bool, false, IsTrue, List, [], ◌∷◌, ◌++◌, length, drop, Option, Some, None, Result, Ok, slice_index_or, Global, inl, inr, refl, sym, ap, subst, ◌∙◌, length-append, arith}
 use Rattle.std.proofs.lemmas.List.{append-nil}
 use Rattle.std.specs.declared.collections.VecDeque.{VecDeque}
 use Rattle.pmem.specs.Device.{State}
-use Rattle.kv_types.specs.declared.place.EntryNo.{EntryNo}
 use Rattle.kv_types.specs.declared.refusal.Refusal.{Refusal}
 use Rattle.model.specs.declared.group.Group.{Group}
 use Rattle.model.specs.declared.work.FreeList.{FreeList}
 use Rattle.model.specs.declared.work.Work.{Work}
-use Rattle.model.specs.Group.{AreEnded, Contents, IsGroup, is_listed}
+use Rattle.model.specs.Group.{AreEnded, Contents}
 use Rattle.group_commit.specs.Committing.{Commits}
+use Rattle.group_commit.proofs.FreedLemmas.{AreEnded-first}
 use Rattle.group_commit.specs.Working.{ClearsGap, FreesFirst, GivesWork, IsDrained, StaysIdle, TakesLists, TakesNext, Tidies, TurnsReady, entries_of_lists}
 use Rattle.group_commit.specs.declared.committer.Committer.{Committer}
 use Rattle.group_commit.specs.declared.stage.Done.{Done}
@@ -32,32 +32,15 @@ pub first-is : (lists : List FreeList) (list : FreeList) → 0 < length lists �
 first-is [] list some is = absurd (omega arith)
 first-is (first ∷ lists) list some is = ap (λ x. x ∷ lists) (sym is)
 
-listed-first : (i : ℕ) (a b : List EntryNo) → is_listed i (a ++ b) ≡ false → is_listed i a ≡ false
-listed-first i [] b not = refl
-listed-first i (entry ∷ a) b not = grind (arith, listed-first i a b)
-
-pub ended-first : (contents : Contents) (a b : List EntryNo) → AreEnded contents (a ++ b) → AreEnded contents a
-ended-first contents [] b are = tt
-ended-first contents (entry ∷ a) b are = (are.0, are.1, listed-first entry.0 a b are.2, ended-first contents a b are.3)
-
 -- the entries of the first have ended
 pub first-ended : (contents : Contents) (lists : List FreeList) (list : FreeList) (rest : List FreeList) → lists ≡ list ∷ rest → AreEnded contents (entries_of_lists lists) → AreEnded contents list.entries.items
-first-ended contents lists list rest is are = ended-first contents list.entries.items (entries_of_lists rest) (subst (λ xs. AreEnded contents (entries_of_lists xs)) is are)
+first-ended contents lists list rest is are = AreEnded-first contents list.entries.items (entries_of_lists rest) (subst (λ xs. AreEnded contents (entries_of_lists xs)) is are)
 
 -- ---- what a lawful queue gives
 
 module _ {I : Type 0} (gives : I → Option Work → I → Type 0) where
   pub aside-ended : (before : I) (aside : List FreeList) (contents : Contents) → GivesWork gives before aside contents → AreEnded contents (entries_of_lists aside)
   aside-ended before aside contents lawful = subst (λ xs. AreEnded contents (entries_of_lists xs)) (append-nil aside) (lawful.lists [] before refl)
-
-  pub taken-ended : (before after : I) (aside aside' : List FreeList) (contents : Contents) (result : Result (Option Group) Refusal) → GivesWork gives before aside contents
-      → TakesNext gives before aside result after aside' → AreEnded contents (entries_of_lists aside')
-  taken-ended before after aside aside' contents result lawful taken =
-      subst (λ xs. AreEnded contents (entries_of_lists xs)) (sym taken.set_aside) (lawful.lists taken.lists taken.between taken.takes)
-
-  pub taken-lawful : (before after : I) (aside aside' : List FreeList) (contents : Contents) (group : Group) → GivesWork gives before aside contents
-      → TakesNext gives before aside (Ok (Some group)) after aside' → IsGroup contents group
-  taken-lawful before after aside aside' contents group lawful taken = lawful.group taken.lists taken.between after group taken.takes taken.next
 
 -- ---- the parts of a turn
 
@@ -91,71 +74,18 @@ module _ {E : Type 0} (device : E → State) (contents : E → Contents) (is_fau
     middle = record old { aside = aside }
 
     commits-from : (group : Group) (result : Result Done Refusal) (new : Committer E) → Commits device contents is_faulted middle group result new → Commits device contents is_faulted old group result new
-    commits-from group result new it = record {
-      answer = it.answer;
-      in_hand = it.in_hand;
-      moved = it.moved;
-      durable = it.durable;
-      sound = it.sound;
-      causes = it.causes;
-      dropped = it.dropped;
-      stays = it.stays;
-      fault = it.fault;
-      stopped = it.stopped;
-      faulted = it.faulted;
-      exhausted = it.exhausted;
-      exhausts = it.exhausts;
-      local = it.local;
-      moments = it.moments;
-    }
+    commits-from group result new it = search rules
 
     frees-from : (list : FreeList) (rest : List FreeList) (result : Result Done Refusal) (new : Committer E) → FreesFirst device contents is_faulted middle list rest result new
         → FreesFirst device contents is_faulted old list rest result new
-    frees-from list rest result new it = record {
-      answer = it.answer;
-      aside = it.aside;
-      moved = it.moved;
-      durable = it.durable;
-      sound = it.sound;
-      causes = it.causes;
-      kept = it.kept;
-      memory = it.memory;
-      fault = it.fault;
-      stopped = it.stopped;
-      stage = it.stage;
-      local = it.local;
-      moments = it.moments;
-    }
+    frees-from list rest result new it = search rules
 
     clears-from : (result : Result Done Refusal) (new : Committer E) → ClearsGap device contents is_faulted middle result new → ClearsGap device contents is_faulted old result new
-    clears-from result new it = record {
-      some = it.some;
-      answer = it.answer;
-      durable = it.durable;
-      sound = it.sound;
-      causes = it.causes;
-      memory = it.memory;
-      exhausted = it.exhausted;
-      exhausts = it.exhausts;
-      fault = it.fault;
-      stopped = it.stopped;
-      aside = it.aside;
-      stage = it.stage;
-      local = it.local;
-      moments = it.moments;
-    }
+    clears-from result new it = search rules
 
     idle-from : (xs ys : List FreeList) (room remote : ℕ) (result : Result Done Refusal) (new : Committer E) → xs ≡ ys → StaysIdle device contents is_faulted middle xs room remote result new
         → StaysIdle device contents is_faulted old ys room remote result new
-    idle-from xs ys room remote result new is it = record {
-      answer = it.answer;
-      engine = it.engine;
-      stage = it.stage;
-      local = it.local;
-      aside_is = it.aside_is ∙ is;
-      waits = λ list rest these. it.waits list rest (is ∙ these);
-      none = λ these. it.none (is ∙ these);
-    }
+    idle-from xs ys room remote result new is it = rw (sym is) (search rules)
 
     module _ {I : Type 0} (gives : I → Option Work → I → Type 0) (before : I) (room remote : ℕ) where
       -- where no list and nothing stood aside, the queue gave no more
@@ -200,16 +130,6 @@ module _ {E : Type 0} (device : E → State) (contents : E → Contents) (is_fau
         between = taken.between;
         takes = taken.takes;
         came = inl (group, some, taken.next, commits-from group result new commits, ap (λ (it : VecDeque FreeList Global). it.items) same ∙ taken.set_aside);
-      }
-
-      -- room for a list was refused
-      pub turns-refused : (after : I) (refusal : Refusal) → 0 < room → old.stage ≡ Ready → TakesNext gives before old.aside.items (Err refusal) after aside.items
-          → TurnsReady device contents is_faulted gives old before room remote (Err refusal) middle after
-      turns-refused after refusal some ready taken = record {
-        lists = taken.lists;
-        between = taken.between;
-        takes = taken.takes;
-        came = inr (inr (inr (inr (some, taken.next.1, record { answer = ap Err taken.next.0; engine = refl; stage = ready; local = refl; aside_is = taken.set_aside }))));
       }
 
   -- the link has no room, and nothing was taken

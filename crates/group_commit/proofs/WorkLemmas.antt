@@ -7,12 +7,10 @@ use Rattle.model.specs.declared.work.FreeList.{FreeList}
 use Rattle.model.specs.declared.work.Work.{Work}
 use Rattle.model.specs.declared.work.Work.TheVariants as work
 use Rattle.model.specs.Group.{AreEnded, Contents, IsGroup, after_group}
-use Rattle.wbl_engine.specs.Contents.{Same}
 use Rattle.pipes.specs.Waiting.{Waiting, LocalTakes}
 use Rattle.group_commit.specs.Group.{AreGroups, AreWork, after_work, groups_of, lists_before, lists_of}
 use Rattle.group_commit.specs.Working.{EndsLists, GivesWork, TakesLists, entries_of_lists}
-use Rattle.group_commit.proofs.GroupsLemmas.{Same-is}
-use Rattle.group_commit.proofs.TurnLemmas.{ended-first}
+use Rattle.group_commit.proofs.FreedLemmas.{AreEnded-first}
 
 -- the groups alone are what a commit asks for
 pub AreGroups-of-work : (contents : Contents) (items : List Work) → AreWork contents items → AreGroups contents (groups_of items)
@@ -95,13 +93,6 @@ pub AreWork-behind : (contents : Contents) (lists : List FreeList) (items : List
 AreWork-behind contents [] items are = are
 AreWork-behind contents (list ∷ lists) items are = AreWork-behind contents lists items are.1
 
--- what stands behind a group is lawful once it has committed, and leads to where all led
-pub AreWork-committed : (old new : Contents) (group : Group) (items : List Work) → AreWork old (work.Commit group ∷ items) → Same (after_group old group) new → AreWork new items
-AreWork-committed old new group items are moved = subst (λ contents. AreWork contents items) (sym (Same-is (after_group old group) new moved)) are.1
-
-pub after_work-committed : (old new : Contents) (group : Group) (items : List Work) → Same (after_group old group) new → after_work new items ≡ after_work old (work.Commit group ∷ items)
-after_work-committed old new group items moved = ap (λ contents. after_work contents items) (Same-is (after_group old group) new moved)
-
 -- ---- a lawful pipe
 
 -- a pipe of such items gives what is lawful, where the entries of the lists before the first group have ended, with those of the lists aside
@@ -113,6 +104,6 @@ GivesWork-first contents before aside items is are ended = record {
   lists = λ lists between takes.
       let parts : aside ++ lists_before items ≡ (aside ++ lists) ++ lists_before between.items =
       ap (λ xs. aside ++ xs) (ap lists_before (sym is ∙ TakesLists-items before between lists takes) ∙ lists_before-lists lists between.items) ∙ sym (append_assoc aside lists (lists_before between.items)) in
-      ended-first contents (entries_of_lists (aside ++ lists)) (entries_of_lists (lists_before between.items))
+      AreEnded-first contents (entries_of_lists (aside ++ lists)) (entries_of_lists (lists_before between.items))
       (subst (AreEnded contents) (ap entries_of_lists parts ∙ flat_map-append (λ (list : FreeList). list.entries.items) (aside ++ lists) (lists_before between.items)) ended);
 }

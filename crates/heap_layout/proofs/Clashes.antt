@@ -1,6 +1,8 @@
 -- When two runs overlap and two records clash, in lists sorted by first line and by record.
-use Rattle.std.proofs.Common.{◌≡◌, ℕ, ◌+◌, ◌-◌, ◌<◌, ◌≤◌, ⊎_elim, inl, inr, List, Bool, true, false, not, ◌&&◌, ◌||◌, Ordering, Less, Equal, Greater, is_lt, is_eq, nat_cmp, nat_eq, refl, sym, ap, ap₂, ◌∙◌, arith, true≢false}
-use Rattle.std.proofs.lemmas.Bool.{ltb-false, lt-ltb, le-ltb, leb-true, leb-false, and_parts, and_from, and_left, and_right, false_from_ne_true}
+use Rattle.std.proofs.Common.{◌≡◌, ℕ, ◌+◌, ◌-◌, ◌<◌, List, Bool, true, false, not, ◌&&◌, ◌||◌, Ordering, Less, Equal, Greater, is_lt, is_eq, nat_cmp, nat_eq, refl, sym, ap, ap₂, ◌∙◌, arith, true≢false}
+use Rattle.std.proofs.lemmas.Bool.{and_parts, and_from, false_from_ne_true}
+use Rattle.std.proofs.Math.Bool.{and_comm}
+use Rattle.std.proofs.lemmas.Bool.Decides.{nat_tests}
 use Rattle.std.proofs.lemmas.Map.Keys.{ge_from_not_lt}
 use Rattle.std.specs.Cmp.{tied_itself, eq_by_cmp_equiv}
 use Rattle.std.specs.Cmp.Lexicographic.{pointwise, nat_list_cmp_total, nat_list_eq_equiv}
@@ -19,28 +21,15 @@ use Rattle.heap_layout.specs.Versions.{overlap}
 
 -- ---- runs
 
-and_flip : (a b : Bool) → (a && b) ≡ (b && a)
-and_flip true true = refl
-and_flip true false = refl
-and_flip false true = refl
-and_flip false false = refl
-
 pub overlap-flips : (run other : Extent) → overlap run other ≡ overlap other run
-overlap-flips run other = and_flip (nat_lt run.first_line (other.first_line + other.lines)) (nat_lt other.first_line (run.first_line + run.lines))
+overlap-flips run other = and_comm (nat_lt run.first_line (other.first_line + other.lines)) (nat_lt other.first_line (run.first_line + run.lines))
 
 -- runs with no line in common do not overlap
 pub not_overlap : (run other : Extent) → AreApart run.first_line run.lines other.first_line other.lines → overlap run other ≡ false
-not_overlap run other apart =
-    ⊎_elim (λ before. and_right (nat_lt run.first_line (other.first_line + other.lines)) _ (le-ltb other.first_line (run.first_line + run.lines) before))
-    (λ after. and_left _ (nat_lt other.first_line (run.first_line + run.lines)) (le-ltb run.first_line (other.first_line + other.lines) after)) apart
-
-apart_by : (a b c d : ℕ) (s t : Bool) → nat_lt a (c + d) ≡ s → nat_lt c (a + b) ≡ t → (s && t) ≡ false → AreApart a b c d
-apart_by a b c d true true e f h = absurd (true≢false h)
-apart_by a b c d true false e f h = inl (ltb-false c (a + b) f)
-apart_by a b c d false t e f h = inr (ltb-false a (c + d) e)
+not_overlap run other apart = grind (arith, nat_tests)
 
 pub apart_from_overlap : (run other : Extent) → overlap run other ≡ false → AreApart run.first_line run.lines other.first_line other.lines
-apart_from_overlap run other h = apart_by run.first_line run.lines other.first_line other.lines _ _ refl refl h
+apart_from_overlap run other h = grind (arith, nat_tests)
 
 abbrev pub starts_before : Extent → Extent → Bool
 starts_before run other = is_lt (nat_cmp run.first_line other.first_line)
@@ -51,16 +40,10 @@ ends_before run next = nat_le run.lines (next.first_line - run.first_line)
 
 pub overlap-far : (run next other : Extent) → starts_before next run ≡ false → starts_before other next ≡ false → ends_before run next ≡ true → overlap run other ≡ false
 overlap-far run next other e f fits =
-    let first : run.first_line ≤ next.first_line = ge_from_not_lt next.first_line run.first_line e in
-    let second : next.first_line ≤ other.first_line = ge_from_not_lt other.first_line next.first_line f in
-    let room : run.lines ≤ next.first_line - run.first_line = leb-true run.lines (next.first_line - run.first_line) fits in
-    not_overlap run other (inl (omega arith))
+    grind (arith, nat_tests, ge_from_not_lt next.first_line run.first_line e, ge_from_not_lt other.first_line next.first_line f)
 
 pub overlap-near : (run next : Extent) → 0 < run.lines → 0 < next.lines → starts_before next run ≡ false → ends_before run next ≡ false → overlap run next ≡ true
-overlap-near run next some more e fits =
-    let first : run.first_line ≤ next.first_line = ge_from_not_lt next.first_line run.first_line e in
-    let room : next.first_line - run.first_line < run.lines = leb-false run.lines (next.first_line - run.first_line) fits in
-    and_from _ _ (lt-ltb run.first_line (next.first_line + next.lines) (omega arith)) (lt-ltb next.first_line (run.first_line + run.lines) (omega arith))
+overlap-near run next some more e fits = grind (arith, nat_tests, ge_from_not_lt next.first_line run.first_line e)
 
 -- ---- records
 
@@ -81,11 +64,7 @@ first_not_less Equal p e = refl
 first_not_less Greater p e = refl
 
 or_flip : (a b c : Bool) → (a || b || c) ≡ (a || c || b)
-or_flip true b c = refl
-or_flip false true true = refl
-or_flip false true false = refl
-or_flip false false true = refl
-or_flip false false false = refl
+or_flip a b c = grind arith
 
 pub is_clash-flips : (a b : RecordId) → is_clash a b ≡ is_clash b a
 is_clash-flips a b =
@@ -106,22 +85,8 @@ same_between x z y e f same =
 string_first : (a b g : List ℕ) → a ≡ b → comes_before (Str a) (Field b g) ≡ true
 string_first a b g same = ap (λ o. is_lt (ordering_then o Less)) (ap (bytes_cmp a) (sym same) ∙ tied_itself nat_list_cmp_total a)
 
-or_middle : (a b c : Bool) → b ≡ true → (a || b || c) ≡ true
-or_middle true true c e = refl
-or_middle false true c e = refl
-or_middle a false c e = absurd (true≢false (sym e))
-
-or_last : (a b c : Bool) → c ≡ true → (a || b || c) ≡ true
-or_last true b true e = refl
-or_last false true true e = refl
-or_last false false true e = refl
-or_last a b false e = absurd (true≢false (sym e))
-
 or_first : (a b c : Bool) → b ≡ false → c ≡ false → (a || b || c) ≡ true → a ≡ true
-or_first true b c e f h = refl
-or_first false true c e f h = absurd (true≢false e)
-or_first false false true e f h = absurd (true≢false f)
-or_first false false false e f h = absurd (true≢false (sym h))
+or_first a b c e f h = grind arith
 
 -- what stands between a record and itself is that record
 own_between : (x z y : RecordId) → comes_before z x ≡ false → comes_before y z ≡ false → eq_by_cmp record_cmp x y ≡ true → eq_by_cmp record_cmp x z ≡ true
@@ -134,8 +99,8 @@ own_between x z y e f same =
 clashes_with : (x z y : RecordId) → comes_before z x ≡ false → comes_before y z ≡ false → key_of x ≡ key_of y → key_of x ≡ key_of z
     → (eq_by_cmp record_cmp x y || is_none (field_of x) || is_none (field_of y)) ≡ true
     → (eq_by_cmp record_cmp x z || is_none (field_of x) || is_none (field_of z)) ≡ true
-clashes_with (Str a) z y e f same between h = or_middle (eq_by_cmp record_cmp (Str a) z) true (is_none (field_of z)) refl
-clashes_with (Field a d) (Str b) y e f same between h = or_last (eq_by_cmp record_cmp (Field a d) (Str b)) false true refl
+clashes_with (Str a) z y e f same between h = grind arith
+clashes_with (Field a d) (Str b) y e f same between h = grind arith
 clashes_with (Field a d) (Field b g) (Str c) e f same between h =
     absurd (true≢false (sym (string_first c b g (sym same ∙ between)) ∙ f))
 clashes_with (Field a d) (Field b g) (Field c k) e f same between h =

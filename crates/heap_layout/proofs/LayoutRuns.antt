@@ -47,15 +47,11 @@ pub put_runs : {a b c : State} (begin position : ℕ) (put : Put) (bytes words :
     → Runs b c (stores (pairs_from first words) b.words) → Runs a c (stores (put_pairs begin position put) a.words)
 put_runs {a} {b} {c} begin position put bytes words first is_bytes is_words is_first extent entry =
     Runs-more_stores (pairs_from (8 * put.extent.first_line) (packed (version_bytes put) 0 (8 * put.extent.lines)))
-    (pairs_from (entry_word put.entry.0 0) (entry_words begin position put))
-    (subst (λ (bs : List ℕ). Runs a b (stores (pairs_from (8 * put.extent.first_line) (packed bs 0 (8 * put.extent.lines))) a.words))
-    is_bytes extent)
-    (subst (λ (n : ℕ). Runs b c (stores (pairs_from n (entry_words begin position put)) b.words)) is_first
-    (subst (λ (ws : List ℕ). Runs b c (stores (pairs_from first ws) b.words)) is_words entry))
+    (pairs_from (entry_word put.entry.0 0) (entry_words begin position put)) (rw is_bytes at extent) (rw (is_first, is_words) at entry)
 
 -- how long a name is
 pub length-name : (key field : List ℕ) (id : RecordId) → key ++ field ≡ name_bytes id → length key + length field ≡ bytes_of_id id
-length-name key field id is = sym (length-append key field) ∙ ap length is ∙ length-name_bytes id
+length-name key field id is = omega (arith, length-append key field, ap length is, length-name_bytes id)
 
 -- concatenated bytes
 pub bytes-append : (a b : List ℕ) → ((i : ℕ) → get_or a i 0 < 256) → ((i : ℕ) → get_or b i 0 < 256) → (i : ℕ) → get_or (a ++ b) i 0 < 256

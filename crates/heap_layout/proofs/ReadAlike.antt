@@ -1,11 +1,10 @@
 -- An entry whose words stayed reads as before, and a put touches no other entry.
-use Rattle.std.proofs.Common.{◌≡◌, ◌≢◌, ℕ, ◌+◌, ◌*◌, ◌/◌, ◌<◌, ◌⊎◌, inl, inr, sym, ap, ◌∙◌, arith}
+use Rattle.std.proofs.Common.{◌≡◌, ◌≢◌, ℕ, ◌+◌, ◌*◌, ◌/◌, ◌<◌, inl, inr, sym, ap, ◌∙◌, arith}
 use Rattle.pmem.specs.Runs.{written}
 use Rattle.pmem.proofs.Staging.{written-outside}
 use Rattle.model.specs.declared.group.Put.{Put}
-use Rattle.model.specs.Image.{Image, entry_word, entry_bytes, field_bytes, bytes_at, lines_of_bytes, entries_of_lines}
+use Rattle.model.specs.Image.{Image, entry_word, entry_bytes, bytes_at, lines_of_bytes, entries_of_lines}
 use Rattle.model.specs.Group.{IsPlaced, AreApart}
-use Rattle.heap_layout.specs.declared.entry.TheConstants.{STRING_KIND, FIELD_KIND}
 use Rattle.heap_layout.specs.Entry.{IsEntry, ReadsAlike, entry_in}
 use Rattle.heap_layout.specs.Put.{put_pairs}
 use Rattle.heap_layout.proofs.PutWords.{put_pairs-outside}
@@ -15,21 +14,15 @@ use Rattle.heap_layout.proofs.SameWords.{bytes_at-same}
 abbrev pub SameLine : Image → Image → ℕ → Type 0
 SameLine old new i = (k : ℕ) → k < 8 → new (entry_word i k) ≡ old (entry_word i k)
 
-kind_same : (kind field kind' field' : ℕ) → kind' ≡ kind → field' ≡ field → ((kind ≡ STRING_KIND) × (field ≡ 0)) ⊎ (kind ≡ FIELD_KIND)
-    → ((kind' ≡ STRING_KIND) × (field' ≡ 0)) ⊎ (kind' ≡ FIELD_KIND)
-kind_same kind field kind' field' k f (inl is) = inl (k ∙ is.0, f ∙ is.1)
-kind_same kind field kind' field' k f (inr is) = inr (k ∙ is)
-
 -- the rules look at the entry's words alone
 pub IsEntry-same : (lines : ℕ) (old new : Image) (i : ℕ) → SameLine old new i → IsEntry lines old i → IsEntry lines new i
 IsEntry-same lines old new i same entry =
     let at3 = same 3 (omega arith) in
-    let at4 = same 4 (omega arith) in
     let at5 = same 5 (omega arith) in
     let at6 = same 6 (omega arith) in
     let at7 = same 7 (omega arith) in
     let bytes : entry_bytes new i ≡ entry_bytes old i = cc in
-    let room : lines_of_bytes (entry_bytes new i) ≡ lines_of_bytes (entry_bytes old i) = ap lines_of_bytes bytes in
+    let room = ap lines_of_bytes bytes in
     record {
       in_format = record {
         key = omega (arith, at6, entry.in_format.key);
@@ -37,10 +30,9 @@ IsEntry-same lines old new i same entry =
         value = omega (arith, at7, entry.in_format.value);
         extent = omega (arith, at3, room, entry.in_format.extent);
       };
-      kind =
-          kind_same (old (entry_word i 5)) (field_bytes old i) (new (entry_word i 5)) (field_bytes new i) at5 (ap (λ (n : ℕ). n / 65536) at6) entry.kind;
+      kind = grind (arith, at5, ap (λ (n : ℕ). n / 65536) at6, entry.kind);
       above = omega (arith, at3, entry.above);
-      lines_are = at4 ∙ entry.lines_are ∙ sym room;
+      lines_are = same 4 (omega arith) ∙ entry.lines_are ∙ sym room;
     }
 
 -- the entry and the words of its extent stayed
@@ -48,20 +40,14 @@ pub entry_in-same : (old new : Image) (i : ℕ) → SameLine old new i
     → ((j : ℕ) → j < (entry_bytes old i + 7) / 8 → new (8 * old (entry_word i 3) + j) ≡ old (8 * old (entry_word i 3) + j))
     → entry_in new i ≡ entry_in old i
 entry_in-same old new i same extent =
-    let at0 = same 0 (omega arith) in
-    let at1 = same 1 (omega arith) in
-    let at2 = same 2 (omega arith) in
     let at3 = same 3 (omega arith) in
-    let at4 = same 4 (omega arith) in
     let at5 = same 5 (omega arith) in
     let at6 = same 6 (omega arith) in
     let at7 = same 7 (omega arith) in
     let bytes : entry_bytes new i ≡ entry_bytes old i = cc in
-    let there : bytes_at new (old (entry_word i 3)) (entry_bytes old i) ≡ bytes_at old (old (entry_word i 3)) (entry_bytes old i) =
-    bytes_at-same old new (old (entry_word i 3)) (entry_bytes old i) extent in
-    let all : bytes_at new (new (entry_word i 3)) (entry_bytes new i) ≡ bytes_at old (old (entry_word i 3)) (entry_bytes old i) =
-    ap (λ (line : ℕ). bytes_at new line (entry_bytes new i)) at3 ∙ ap (bytes_at new (old (entry_word i 3))) bytes ∙ there in
-    cc
+    let there = bytes_at-same old new (old (entry_word i 3)) (entry_bytes old i) extent in
+    let all : bytes_at new (new (entry_word i 3)) (entry_bytes new i) ≡ bytes_at old (old (entry_word i 3)) (entry_bytes old i) = rw (at3, bytes) there in
+    cc (same 0 (omega arith), same 1 (omega arith), same 2 (omega arith), same 4 (omega arith))
 
 -- a put stores to no word of another entry
 other_line : (lines stamp position : ℕ) (put : Put) (old new : Image) (i : ℕ) → IsPlaced lines put → i < entries_of_lines lines → i ≢ put.entry.0

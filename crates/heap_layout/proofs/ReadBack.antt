@@ -1,5 +1,5 @@
 -- What was written of a put is read back.
-use Rattle.std.proofs.Common.{◌≡◌, ℕ, ◌+◌, ◌*◌, ◌/◌, ◌%◌, ◌<◌, ◌≤◌, ◌==◌, List, ◌++◌, length, take, drop, ◌⊎◌, inl, inr, refl, sym, ap, ◌∙◌, arith, length-append, append_assoc}
+use Rattle.std.proofs.Common.{◌≡◌, ℕ, ◌+◌, ◌*◌, ◌/◌, ◌%◌, ◌<◌, ◌≤◌, ◌==◌, List, ◌++◌, length, drop, ◌⊎◌, inl, inr, refl, sym, ap, ap₂, ◌∙◌, arith, length-append, append_assoc}
 use Rattle.std.proofs.Math.Seq.{take-append_seam, drop-append_seam}
 use Rattle.std.proofs.lemmas.Bool.{cond_both, eqb-true}
 use Rattle.kv_types.specs.declared.record_id.RecordId.{RecordId}
@@ -28,24 +28,20 @@ pub record HasPut (image : Image) (stamp position : ℕ) (put : Put) : Type 0 wh
   pub extent : (j : ℕ) → j < 8 * put.extent.lines → image (8 * put.extent.first_line + j) ≡ word_of_bytes (version_bytes put) (8 * j)
 
 -- an image to which it was written
-pub HasPut-written : (lines stamp position : ℕ) (put : Put) (old new : Image) → IsPlaced lines put
+HasPut-written : (lines stamp position : ℕ) (put : Put) (old new : Image) → IsPlaced lines put
     → ((word : ℕ) → new word ≡ written (put_pairs stamp position put) old word) → HasPut new stamp position put
 HasPut-written lines stamp position put old new placed is =
+    let at = λ (k : ℕ) (below : k < 8). is (entry_word put.entry.0 k) ∙ put_pairs-entry lines stamp position put old k below in
     record {
-      begin = is (entry_word put.entry.0 0) ∙ put_pairs-entry lines stamp position put old 0 (omega arith);
-      position_is = is (entry_word put.entry.0 2) ∙ put_pairs-entry lines stamp position put old 2 (omega arith);
-      first_line = is (entry_word put.entry.0 3) ∙ put_pairs-entry lines stamp position put old 3 (omega arith);
-      lines = is (entry_word put.entry.0 4) ∙ put_pairs-entry lines stamp position put old 4 (omega arith);
-      kind = is (entry_word put.entry.0 5) ∙ put_pairs-entry lines stamp position put old 5 (omega arith);
-      lengths = is (entry_word put.entry.0 6) ∙ put_pairs-entry lines stamp position put old 6 (omega arith);
-      value_length = is (entry_word put.entry.0 7) ∙ put_pairs-entry lines stamp position put old 7 (omega arith);
+      begin = at 0 (omega arith);
+      position_is = at 2 (omega arith);
+      first_line = at 3 (omega arith);
+      lines = at 4 (omega arith);
+      kind = at 5 (omega arith);
+      lengths = at 6 (omega arith);
+      value_length = at 7 (omega arith);
       extent = λ j below. is (8 * put.extent.first_line + j) ∙ put_pairs-extent lines stamp position put old j placed below;
     }
-
-pub not_ended-written : (lines stamp position : ℕ) (put : Put) (old new : Image)
-    → ((word : ℕ) → new word ≡ written (put_pairs stamp position put) old word) → new (entry_word put.entry.0 1) ≡ 0
-not_ended-written lines stamp position put old new is =
-    is (entry_word put.entry.0 1) ∙ put_pairs-entry lines stamp position put old 1 (omega arith)
 
 -- the two lengths in one word
 low_length : (id : RecordId) → length (key_of id) < 65536 → lengths_word id % 65536 ≡ length (key_of id)
@@ -63,19 +59,11 @@ length-name_bytes (Field key field) = length-append key field
 -- the name
 id_of-name : (id : RecordId) (value : List ℕ) → length (key_of id) < 65536
     → id_of (kind_number id) (lengths_word id % 65536) (lengths_word id / 65536) (name_bytes id ++ value) ≡ id
-id_of-name (Str key) value fits =
-    let low : lengths_word (Str key) % 65536 ≡ length key = low_length (Str key) fits in
-    ap (λ (n : ℕ). Str (take n (key ++ value))) low ∙ ap Str (take-append_seam key value)
+id_of-name (Str key) value fits = rw (low_length (Str key) fits) (ap Str (take-append_seam key value))
 id_of-name (Field key field) value fits =
     let low : lengths_word (Field key field) % 65536 ≡ length key = low_length (Field key field) fits in
     let high : lengths_word (Field key field) / 65536 ≡ length field = omega (arith, low, both_lengths (Field key field) fits, length-append key field) in
-    let bytes : (key ++ field) ++ value ≡ key ++ (field ++ value) = append_assoc key field value in
-    ap (λ (n : ℕ). Field (take n ((key ++ field) ++ value)) (take (lengths_word (Field key field) / 65536) (drop n ((key ++ field) ++ value)))) low
-    ∙ ap (λ (n : ℕ). Field (take (length key) ((key ++ field) ++ value)) (take n (drop (length key) ((key ++ field) ++ value)))) high
-    ∙ ap (λ (b : List ℕ). Field (take (length key) b) (take (length field) (drop (length key) b))) bytes
-    ∙ ap (λ (k : List ℕ). Field k (take (length field) (drop (length key) (key ++ (field ++ value))))) (take-append_seam key (field ++ value))
-    ∙ ap (λ (b : List ℕ). Field key (take (length field) b)) (drop-append_seam key (field ++ value))
-    ∙ ap (Field key) (take-append_seam field value)
+    rw (low, high, append_assoc key field value, take-append_seam key (field ++ value), drop-append_seam key (field ++ value), take-append_seam field value)
 
 -- the value
 drop-name : (id : RecordId) (value : List ℕ) → length (key_of id) < 65536
@@ -87,10 +75,7 @@ drop-name id value fits =
 pub entry_bytes-put : (image : Image) (stamp position : ℕ) (put : Put) → IsStorable put → HasPut image stamp position put
     → entry_bytes image put.entry.0 ≡ length (version_bytes put)
 entry_bytes-put image stamp position put storable has =
-    ap (λ (n : ℕ). n % 65536 + n / 65536 + image (entry_word put.entry.0 7)) has.lengths
-    ∙ ap (λ (n : ℕ). lengths_word put.id % 65536 + lengths_word put.id / 65536 + n) has.value_length
-    ∙ ap (λ (n : ℕ). n + length put.value) (both_lengths put.id storable.key)
-    ∙ sym (length-append (name_bytes put.id) put.value)
+    rw (has.lengths, has.value_length, both_lengths put.id storable.key) (sym (length-append (name_bytes put.id) put.value))
 
 pub lines_enough : (bytes : ℕ) → bytes ≤ 64 * lines_of_bytes bytes
 lines_enough bytes =
@@ -99,18 +84,14 @@ lines_enough bytes =
 -- its lines are enough
 pub put_enough : (put : Put) → HasItsLines put → length (version_bytes put) ≤ 64 * put.extent.lines
 put_enough put fits =
-    let bytes : length (version_bytes put) ≡ bytes_of_id put.id + length put.value =
-    length-append (name_bytes put.id) put.value ∙ ap (λ (n : ℕ). n + length put.value) (length-name_bytes put.id) in
-    omega (arith, lines_enough (bytes_of_id put.id + length put.value), fits)
+    omega (arith, length-append (name_bytes put.id) put.value, length-name_bytes put.id, lines_enough (bytes_of_id put.id + length put.value), fits)
 
 -- the extent is read back
 bytes_at-put : (image : Image) (stamp position : ℕ) (put : Put) → IsStorable put → HasItsLines put → HasPut image stamp position put
     → bytes_at image (image (entry_word put.entry.0 3)) (entry_bytes image put.entry.0) ≡ version_bytes put
 bytes_at-put image stamp position put storable fits has =
-    ap (λ (line : ℕ). bytes_at image line (entry_bytes image put.entry.0)) has.first_line
-    ∙ ap (bytes_at image put.extent.first_line) (entry_bytes-put image stamp position put storable has)
-    ∙ bytes_at-packed image put.extent.first_line (version_bytes put) storable.bytes
-    (λ j below. has.extent j (omega (arith, put_enough put fits)))
+    rw (has.first_line, entry_bytes-put image stamp position put storable has)
+    (bytes_at-packed image put.extent.first_line (version_bytes put) storable.bytes (λ j below. has.extent j (omega (arith, put_enough put fits))))
 
 -- name and value, as the words of an entry and the bytes of its extent give them
 abbrev record_of_words : (kind lengths : ℕ) → List ℕ → RecordId × List ℕ
@@ -119,23 +100,18 @@ record_of_words kind lengths bytes = (id_of kind (lengths % 65536) (lengths / 65
 abbrev record_of_put : Put → RecordId × List ℕ
 record_of_put put = (put.id, put.value)
 
-named : (put : Put) → length (key_of put.id) < 65536 → record_of_words (kind_number put.id) (lengths_word put.id) (version_bytes put) ≡ record_of_put put
-named put fits =
-    let name = id_of-name put.id put.value fits in
-    let rest = drop-name put.id put.value fits in
-    λ j. (name j, rest j)
-
 -- The name and the value of a put are read back.
 pub record_in-put : (image : Image) (stamp position : ℕ) (put : Put) → IsStorable put → HasItsLines put → HasPut image stamp position put
     → record_in image put.entry.0 ≡ record_of_put put
 record_in-put image stamp position put storable fits has =
     let i = put.entry.0 in
+    let name = id_of-name put.id put.value storable.key in
+    let rest = drop-name put.id put.value storable.key in
     ap (record_of_words (image (entry_word i 5)) (image (entry_word i 6))) (bytes_at-put image stamp position put storable fits has)
-    ∙ ap (λ (lengths : ℕ). record_of_words (image (entry_word i 5)) lengths (version_bytes put)) has.lengths
-    ∙ ap (λ (kind : ℕ). record_of_words kind (lengths_word put.id) (version_bytes put)) has.kind ∙ named put storable.key
+    ∙ ap₂ (λ (kind lengths : ℕ). record_of_words kind lengths (version_bytes put)) has.kind has.lengths ∙ (λ j. (name j, rest j))
 
 -- And all of its entry.
-pub entry_in-put : (image : Image) (stamp position : ℕ) (put : Put) → IsStorable put → HasItsLines put → HasPut image stamp position put
+entry_in-put : (image : Image) (stamp position : ℕ) (put : Put) → IsStorable put → HasItsLines put → HasPut image stamp position put
     → image (entry_word put.entry.0 1) ≡ 0 → entry_in image put.entry.0 ≡ entry_of_put stamp position put
 entry_in-put image stamp position put storable fits has not_ended =
     let is = record_in-put image stamp position put storable fits has in
@@ -165,8 +141,7 @@ IsEntry-put lines image stamp position put placed fits storable short small has 
     let low : key_bytes image i ≡ length (key_of put.id) = ap (λ (n : ℕ). n % 65536) has.lengths ∙ low_length put.id storable.key in
     let high : field_bytes image i ≡ field_length put.id = ap (λ (n : ℕ). n / 65536) has.lengths ∙ high_length put.id storable.key in
     let bytes : entry_bytes image i ≡ bytes_of_id put.id + length put.value =
-    entry_bytes-put image stamp position put storable has ∙ length-append (name_bytes put.id) put.value
-    ∙ ap (λ (n : ℕ). n + length put.value) (length-name_bytes put.id) in
+    omega (arith, entry_bytes-put image stamp position put storable has, length-append (name_bytes put.id) put.value, length-name_bytes put.id) in
     let exact : put.extent.lines ≡ lines_of_bytes (entry_bytes image i) = fits ∙ ap lines_of_bytes (sym bytes) in
     record {
       in_format = record {
@@ -179,3 +154,12 @@ IsEntry-put lines image stamp position put placed fits storable short small has 
       above = omega (arith, has.first_line, placed.above);
       lines_are = has.lines ∙ exact;
     }
+
+-- What was written is whole, and is read back.
+pub put_reads : (lines stamp position : ℕ) (put : Put) (old new : Image) → IsPlaced lines put → HasItsLines put → IsStorable put → IsShortName put.id → length put.value ≤ 65536
+    → ((word : ℕ) → new word ≡ written (put_pairs stamp position put) old word) → IsEntry lines new put.entry.0 × (entry_in new put.entry.0 ≡ entry_of_put stamp position put)
+put_reads lines stamp position put old new placed fits storable short small is =
+    let has = HasPut-written lines stamp position put old new placed is in (
+      IsEntry-put lines new stamp position put placed fits storable short small has,
+      entry_in-put new stamp position put storable fits has (is (entry_word put.entry.0 1) ∙ put_pairs-entry lines stamp position put old 1 (omega arith)),
+    )

@@ -1,5 +1,5 @@
 -- The same words give the same bytes.
-use Rattle.std.proofs.Common.{◌≡◌, ℕ, zero, suc, ◌+◌, ◌*◌, ◌/◌, ◌<◌, List, take, refl, sym, ap, ◌∙◌, arith}
+use Rattle.std.proofs.Common.{◌≡◌, ℕ, zero, suc, ◌+◌, ◌*◌, ◌/◌, ◌<◌, List, take, refl, ap, arith}
 use Rattle.std.specs.List.{flat_map}
 use Rattle.std.specs.Int.{w64, to_le_bytes}
 use Rattle.model.specs.Image.{Image, words_from, bytes_at}
@@ -8,11 +8,9 @@ words_from-same : (base image : Image) (first count : ℕ) → ((j : ℕ) → j 
     → words_from image first count ≡ words_from base first count
 words_from-same base image first zero same = refl
 words_from-same base image first (suc count) same =
-    let e : first + 0 ≡ first = omega arith in
-    let head : image first ≡ base first = sym (ap image e) ∙ same 0 (omega arith) ∙ ap base e in
-    let rest : words_from image (first + 1) count ≡ words_from base (first + 1) count =
-    words_from-same base image (first + 1) count
-    (λ j below. let f : (first + 1) + j ≡ first + suc j = omega arith in ap image f ∙ same (suc j) (omega arith) ∙ sym (ap base f)) in
+    let e : first ≡ first + 0 = omega arith in
+    let head : image first ≡ base first = rw e (same 0 (omega arith)) in
+    let rest = words_from-same base image (first + 1) count (λ j below. let f : (first + 1) + j ≡ first + suc j = omega arith in rw f (same (suc j) (omega arith))) in
     cc
 
 pub bytes_at-same : (base image : Image) (line count : ℕ) → ((j : ℕ) → j < (count + 7) / 8 → image (8 * line + j) ≡ base (8 * line + j))

@@ -3,7 +3,6 @@ use Rattle.std.proofs.Common.{◌≡◌, ◌≢◌, ℕ, zero, suc, ◌<◌, ◌
 use Rattle.std.proofs.Common.{inl, inr}
 use Rattle.std.proofs.lemmas.Bool.{cases_eq}
 use Rattle.machine.specs.Event.{Connection, no_connection, new_connection, get_connection, count_open, changed_at}
-use Rattle.machine.specs.Sound.{SoundConnections}
 
 pub get-changed_same : (c : ℕ) (change : Connection → Connection) (connections : List Connection) → c < length connections → get_connection (changed_at c change connections) c ≡ change (get_connection connections c)
 get-changed_same c change [] lt = absurd (omega arith)
@@ -21,6 +20,11 @@ pub length-changed_at : (c : ℕ) (change : Connection → Connection) (connecti
 length-changed_at c change [] = refl
 length-changed_at zero change (connection ∷ connections) = refl
 length-changed_at (suc c) change (connection ∷ connections) = ap suc (length-changed_at c change connections)
+
+pub changed-twice : (c : ℕ) (first second : Connection → Connection) (connections : List Connection) → changed_at c second (changed_at c first connections) ≡ changed_at c (λ connection. second (first connection)) connections
+changed-twice c first second [] = refl
+changed-twice zero first second (connection ∷ connections) = refl
+changed-twice (suc c) first second (connection ∷ connections) = ap (λ rest. connection ∷ rest) (changed-twice c first second connections)
 
 -- beyond the last connection `get_connection` gives `no_connection`, and nothing has come from one that enters
 pub get-entered : {X : Type 0} (part : Connection → X) → part new_connection ≡ part no_connection → (connections : List Connection) (c : ℕ) → part (get_connection (connections ++ new_connection ∷ []) c) ≡ part (get_connection connections c)
@@ -56,14 +60,19 @@ each-changed P c change connections lt own others d =
       | inr differ ↦ subst (P d) (sym (get-changed_other c d change connections differ)) (others d differ)
     ]
 
+-- each connection stands to what it is after a change to one of them as that one does, where each stands so to itself
+pub each-related : (R : Connection → Connection → Type 0) → ((connection : Connection) → R connection connection) → (c : ℕ) (change : Connection → Connection) (connections : List Connection)
+    → ((connection : Connection) → R connection (change connection)) → (d : ℕ) → R (get_connection connections d) (get_connection (changed_at c change connections) d)
+each-related R itself c change [] each d = itself no_connection
+each-related R itself zero change (connection ∷ connections) each zero = each connection
+each-related R itself zero change (connection ∷ connections) each (suc d) = itself (get_connection connections d)
+each-related R itself (suc c) change (connection ∷ connections) each zero = itself connection
+each-related R itself (suc c) change (connection ∷ connections) each (suc d) = each-related R itself c change connections each d
+
 -- a part that a change keeps of the connection that it changes is kept in all connections
 pub same-changed : {X : Type 0} (part : Connection → X) (c : ℕ) (change : Connection → Connection) (connections : List Connection) → ((connection : Connection) → part (change connection) ≡ part connection)
     → (d : ℕ) → part (get_connection (changed_at c change connections) d) ≡ part (get_connection connections d)
-same-changed part c change [] same d = refl
-same-changed part zero change (connection ∷ connections) same zero = same connection
-same-changed part zero change (connection ∷ connections) same (suc d) = refl
-same-changed part (suc c) change (connection ∷ connections) same zero = refl
-same-changed part (suc c) change (connection ∷ connections) same (suc d) = same-changed part c change connections same d
+same-changed part c change connections same d = each-related (λ old new. part new ≡ part old) (λ connection. refl) c change connections same d
 
 -- ---- open connections
 
@@ -88,12 +97,5 @@ count-entered (connection ∷ connections) = let rest = count-entered connection
 pub count-left : (c : ℕ) (change : Connection → Connection) (connections : List Connection) → (get_connection connections c).is_open ≡ true → ((connection : Connection) → (change connection).is_open ≡ false)
     → count_open connections ≡ count_open (changed_at c change connections) + 1
 count-left c change [] e shut = cc
-count-left zero change (connection ∷ connections) e shut =
-    let was : count_open (connection ∷ connections) ≡ 1 + count_open connections = ap (λ b. cond b 1 0 + count_open connections) e in
-    let now : count_open (change connection ∷ connections) ≡ 0 + count_open connections = ap (λ b. cond b 1 0 + count_open connections) (shut connection) in
-    omega (arith, was, now)
+count-left zero change (connection ∷ connections) e shut = simp (e, shut connection) (omega arith)
 count-left (suc c) change (connection ∷ connections) e shut = let rest = count-left c change connections e shut in omega (arith, rest)
-
-pub connections-changed : (c : ℕ) (change : Connection → Connection) (connections : List Connection) → ((connection : Connection) → (change connection).is_open ≡ connection.is_open) → SoundConnections connections
-    → SoundConnections (changed_at c change connections)
-connections-changed c change connections same s = record { seats = omega (arith, s.seats, count-changed c change connections same) }

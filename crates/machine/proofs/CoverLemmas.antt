@@ -8,10 +8,10 @@ use Rattle.model.proofs.PrefixLemmas.{IsPrefix-itself, IsPrefix-none, IsPrefix-c
 use Rattle.model.proofs.ServesLemmas.{IsPrefix-replies_to}
 use Rattle.machine.specs.declared.event.Node.TheVariants as nodes
 use Rattle.machine.specs.declared.event.Event.{Event}
-use Rattle.machine.specs.declared.event.Event.TheVariants.{Enter, Feed, Offer, Turn, CloseGroup, Commit, RaiseLocal, Hand, Free, AcceptFreed, ClearGap, OpenLink, Send, Deliver, Apply, AckDelivered, RaiseRemote, Hold, Read, Release, Write, Leave, Crash, Reopen}
+use Rattle.machine.specs.declared.event.Event.TheVariants.{Enter, Feed, Offer, Turn, CloseGroup, Apply, Hold, Read, Release, Write, Leave, Crash, Reopen}
 use Rattle.machine.specs.declared.event.Mark.{Mark}
 use Rattle.machine.specs.declared.event.Mark.TheVariants.{Local, Remote}
-use Rattle.machine.specs.Event.{Connection, World, get_connection, is_open, changed_at, with_inbound, with_outbound, on_inbound, with_call, fed_with, offered_next, taken_first, held_first, having_read, having_released, written, left, may_happen, Happens, Step, Run, start_with, last_world}
+use Rattle.machine.specs.Event.{Connection, World, is_open, changed_at, with_inbound, with_outbound, with_connections, on_inbound, with_call, fed_with, offered_next, taken_first, held_first, having_read, having_released, written, left, may_happen, Happens, Step, Run, start_with, last_world}
 use Rattle.machine.specs.Promise.{SomeWorld, HasMarks, IsReleased, released_in}
 use Rattle.machine.specs.Sound.{Sound}
 use Rattle.machine.proofs.ConnectionLemmas.{get-changed_other, get-entered, same-changed}
@@ -28,25 +28,19 @@ use Rattle.machine.proofs.PromiseLemmas.{released-begins, released-covered}
 abbrev Moved : List Call → List Call → Type 0
 Moved old new = IsPrefix old new ⊎ IsPrefix new old
 
-same : (old new : List Call) → new ≡ old → Moved old new
-same old new e = subst (Moved old) (sym e) (inl (IsPrefix-itself old))
-
 -- what an event does that writes nothing to connection c
 pub record Unwritten (c : ℕ) (old new : World) : Type 0 where
   pub calls : Moved old.primary.calls new.primary.calls
   pub released : released_in new c ≡ released_in old c
 
-unchanged : (c : ℕ) (old new : World) → new.primary.calls ≡ old.primary.calls → new.primary.connections ≡ old.primary.connections → Unwritten c old new
-unchanged c old new calls connections = record { calls = same _ _ calls; released = ap (λ xs. (get_connection xs c).outbound.released) connections }
+unchanged : (c : ℕ) (w : World) → Unwritten c w w
+unchanged c w = record { calls = inl (IsPrefix-itself w.primary.calls); released = refl }
 
 -- a change to one connection that writes nothing
 changed : (c d : ℕ) (old new : World) (change : Connection → Connection) → ((connection : Connection) → (change connection).outbound.released ≡ connection.outbound.released)
-    → new.primary.calls ≡ old.primary.calls → new.primary.connections ≡ changed_at d change old.primary.connections → Unwritten c old new
-changed c d old new change keeps calls connections =
-    record {
-      calls = same _ _ calls;
-      released = ap (λ xs. (get_connection xs c).outbound.released) connections ∙ same-changed (λ connection. connection.outbound.released) d change old.primary.connections keeps c;
-    }
+    → new ≡ with_connections (changed_at d change old.primary.connections) old → Unwritten c old new
+changed c d old new change keeps now =
+    subst (Unwritten c old) (sym now) (record { calls = inl (IsPrefix-itself _); released = same-changed (λ connection. connection.outbound.released) d change old.primary.connections keeps c })
 
 keeps-read : (mark : Mark) (w : World) (connection : Connection) → (with_outbound (having_read mark w) connection).outbound.released ≡ connection.outbound.released
 keeps-read Local w connection = refl
@@ -58,37 +52,21 @@ Writes c old new = Unwritten c old new ⊎ ((is_open new c ≡ true) × (new.pri
 
 writes-happens : (w : World) (event : Event) (new : World) (c : ℕ) → may_happen w event ≡ true → Happens w event new → Writes c w new
 writes-happens w Enter new c e h =
-    inl (record {
-      calls = same _ _ (ap (λ x. x.primary.calls) h);
-      released = ap (λ x. released_in x c) h ∙ get-entered (λ connection. connection.outbound.released) refl w.primary.connections c;
-    })
-writes-happens w (Feed d piece) new c e h = inl (changed c d w new (with_inbound (fed_with piece)) (λ connection. refl) (ap (λ x. x.primary.calls) h) (ap (λ x. x.primary.connections) h))
-writes-happens w (Offer d) new c e h = inl (changed c d w new (with_inbound offered_next) (λ connection. refl) (ap (λ x. x.primary.calls) h) (ap (λ x. x.primary.connections) h))
+    inl (subst (Unwritten c w) (sym h) (record { calls = inl (IsPrefix-itself _); released = get-entered (λ connection. connection.outbound.released) refl w.primary.connections c }))
+writes-happens w (Feed d piece) new c e h = inl (changed c d w new (with_inbound (fed_with piece)) (λ connection. refl) h)
+writes-happens w (Offer d) new c e h = inl (changed c d w new (with_inbound offered_next) (λ connection. refl) h)
 writes-happens w (Turn d) new c e h =
     let taken = on_inbound d taken_first (with_call h.call w) in
-    inl (record {
-      calls = subst (Moved w.primary.calls) (sym (ap (λ x. x.primary.calls) h.now)) (inl (IsPrefix-of_append w.primary.calls (h.call ∷ [])));
-      released = ap (λ x. released_in x c) h.now ∙ same-changed (λ connection. connection.outbound.released) d (with_outbound _) taken.primary.connections (λ connection. refl) c
+    inl (subst (Unwritten c w) (sym h.now) (record {
+      calls = inl (IsPrefix-of_append w.primary.calls (h.call ∷ []));
+      released = same-changed (λ connection. connection.outbound.released) d (with_outbound _) taken.primary.connections (λ connection. refl) c
           ∙ same-changed (λ connection. connection.outbound.released) d (with_inbound taken_first) w.primary.connections (λ connection. refl) c;
-    })
-writes-happens w CloseGroup new c e h =
-    let now = (closes-queues w new h).now in
-    inl (unchanged c w new (ap (λ x. x.primary.calls) now) (ap (λ x. x.primary.connections) now))
-writes-happens w Commit new c e h = inl (unchanged c w new (ap (λ x. x.primary.calls) h) (ap (λ x. x.primary.connections) h))
-writes-happens w RaiseLocal new c e h = inl (unchanged c w new (ap (λ x. x.primary.calls) h) (ap (λ x. x.primary.connections) h))
-writes-happens w Hand new c e h = inl (unchanged c w new (ap (λ x. x.primary.calls) h) (ap (λ x. x.primary.connections) h))
-writes-happens w Free new c e h = inl (unchanged c w new (ap (λ x. x.primary.calls) h) (ap (λ x. x.primary.connections) h))
-writes-happens w AcceptFreed new c e h = inl (unchanged c w new (ap (λ x. x.primary.calls) h) (ap (λ x. x.primary.connections) h))
-writes-happens w ClearGap new c e h = inl (unchanged c w new (ap (λ x. x.primary.calls) h) (ap (λ x. x.primary.connections) h))
-writes-happens w OpenLink new c e h = inl (unchanged c w new (ap (λ x. x.primary.calls) h) (ap (λ x. x.primary.connections) h))
-writes-happens w Send new c e h = inl (unchanged c w new (ap (λ x. x.primary.calls) h) (ap (λ x. x.primary.connections) h))
-writes-happens w (Deliver frame piece) new c e h = inl (unchanged c w new (ap (λ x. x.primary.calls) h) (ap (λ x. x.primary.connections) h))
-writes-happens w Apply new c e h = inl (unchanged c w new (ap (λ x. x.primary.calls) h.now) (ap (λ x. x.primary.connections) h.now))
-writes-happens w (AckDelivered a) new c e h = inl (unchanged c w new (ap (λ x. x.primary.calls) h) (ap (λ x. x.primary.connections) h))
-writes-happens w RaiseRemote new c e h = inl (unchanged c w new (ap (λ x. x.primary.calls) h) (ap (λ x. x.primary.connections) h))
-writes-happens w (Hold d) new c e h = inl (changed c d w new (with_outbound held_first) (λ connection. refl) (ap (λ x. x.primary.calls) h) (ap (λ x. x.primary.connections) h))
-writes-happens w (Read d mark) new c e h = inl (changed c d w new (with_outbound (having_read mark w)) (keeps-read mark w) (ap (λ x. x.primary.calls) h) (ap (λ x. x.primary.connections) h))
-writes-happens w (Release d) new c e h = inl (changed c d w new (with_outbound having_released) (λ connection. refl) (ap (λ x. x.primary.calls) h) (ap (λ x. x.primary.connections) h))
+    }))
+writes-happens w CloseGroup new c e h = inl (subst (Unwritten c w) (sym (closes-queues w new h).now) (search (unchanged c w)))
+writes-happens w Apply new c e h = inl (subst (Unwritten c w) (sym h.now) (search (unchanged c w)))
+writes-happens w (Hold d) new c e h = inl (changed c d w new (with_outbound held_first) (λ connection. refl) h)
+writes-happens w (Read d mark) new c e h = inl (changed c d w new (with_outbound (having_read mark w)) (keeps-read mark w) h)
+writes-happens w (Release d) new c e h = inl (changed c d w new (with_outbound having_released) (λ connection. refl) h)
 writes-happens w (Write d n) new c e h =
     let open_before = (both (is_open w d) _ e).0 in
     elim (cases_eq d c) [
@@ -99,19 +77,18 @@ writes-happens w (Write d n) new c e h =
         ap (λ x. x.primary.calls) h,
       )
       | inr differ ↦ inl (record {
-        calls = same _ _ (ap (λ x. x.primary.calls) h);
+        calls = subst (Moved w.primary.calls) (sym (ap (λ x. x.primary.calls) h)) (inl (IsPrefix-itself _));
         released = ap (λ x. released_in x c) h ∙ ap (λ (connection : Connection). connection.outbound.released) (get-changed_other d c (with_outbound (written n)) w.primary.connections differ);
       })
     ]
-writes-happens w (Leave d) new c e h = inl (changed c d w new left (λ connection. refl) (ap (λ x. x.primary.calls) h) (ap (λ x. x.primary.connections) h))
+writes-happens w (Leave d) new c e h = inl (changed c d w new left (λ connection. refl) h)
 writes-happens w (Crash nodes.Primary picks) new c e h =
-    inl (record {
-      calls = subst (Moved w.primary.calls) (sym (ap (λ x. x.primary.calls) h)) (inr (IsPrefix-cut_at w.primary.calls w.primary.committer.position));
-      released = ap (λ x. released_in x c) h ∙ ap (λ (connection : Connection). connection.outbound.released) (get-over w.primary.connections c);
-    })
-writes-happens w (Crash nodes.Standby picks) new c e h = inl (unchanged c w new (ap (λ x. x.primary.calls) h) (ap (λ x. x.primary.connections) h))
-writes-happens w (Reopen nodes.Primary) new c e h = inl (unchanged c w new (ap (λ x. x.primary.calls) h.1) (ap (λ x. x.primary.connections) h.1))
-writes-happens w (Reopen nodes.Standby) new c e h = inl (unchanged c w new (ap (λ x. x.primary.calls) h) (ap (λ x. x.primary.connections) h))
+    inl (subst (Unwritten c w) (sym h) (record {
+      calls = inr (IsPrefix-cut_at w.primary.calls w.primary.committer.position);
+      released = ap (λ (connection : Connection). connection.outbound.released) (get-over w.primary.connections c);
+    }))
+writes-happens w (Reopen nodes.Primary) new c e h = inl (subst (Unwritten c w) (sym h.1) (search (unchanged c w)))
+writes-happens w event new c e h = inl (subst (Unwritten c w) (sym h) (search (unchanged c w)))
 
 -- ---- what was released before
 

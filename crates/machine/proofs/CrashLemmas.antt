@@ -21,15 +21,18 @@ own-from : (b : Bool) (reply : Reply) (position : ℕ) → All (IsFrom position)
 own-from true reply position = All-cons (IsFrom position) (record { reply = reply; position = position }) [] (le_refl position) (All-nil (IsFrom position))
 own-from false reply position = All-nil (IsFrom position)
 
--- no reply of calls has a position below the one that the list had before them
+-- no reply of calls has a position below the one after the first of them, nor below the one that the list had before them
+answers-from_next : (s : State) (q c : ℕ) (call : Call) (calls : List Call) → let next = position_with s q call in
+    All (IsFrom next) (answers_from (after_call s call) next c calls) → All (IsFrom next) (answers_from s q c (call ∷ calls))
+answers-from_next s q c call calls rest =
+    let next = position_with s q call in
+    All-append (IsFrom next) (answer_at s q c call) (answers_from (after_call s call) next c calls) (own-from (nat_eq call.connection c) call.reply next) rest
+
 answers-from : (s : State) (q c : ℕ) (calls : List Call) → All (IsFrom q) (answers_from s q c calls)
 answers-from s q c [] = All-nil (IsFrom q)
 answers-from s q c (call ∷ calls) =
-    let after = after_call s call in
-    let next = position_with s q call in
-    let rest : All (IsFrom q) (answers_from after next c calls) = All-weaker (IsFrom next) (IsFrom q) (λ reply h. omega (arith, h)) (answers_from after next c calls) (answers-from after next c calls) in
-    let own : All (IsFrom q) (answer_at s q c call) = All-weaker (IsFrom next) (IsFrom q) (λ reply h. omega (arith, h)) (answer_at s q c call) (own-from (nat_eq call.connection c) call.reply next) in
-    All-append (IsFrom q) (answer_at s q c call) (answers_from after next c calls) own rest
+    let rest = answers-from (after_call s call) (position_with s q call) c calls in
+    All-weaker (IsFrom (position_with s q call)) (IsFrom q) (λ reply h. omega (arith, h)) (answers_from s q c (call ∷ calls)) (answers-from_next s q c call calls rest)
 
 -- of replies that begin those of the first call and then others, the others that are left
 prefix-of-answer : (b : Bool) (reply : Held) (out rest kept : List Held) → IsPrefix out (cond b (reply ∷ []) [] ++ rest)
@@ -60,12 +63,9 @@ answers-kept s q c call calls cut high out prefix held others =
 none-held : (s : State) (q c : ℕ) (call : Call) (calls : List Call) (out : List Held) → is_changing s call ≡ true → IsPrefix out (answers_from s q c (call ∷ calls)) → All (IsHeldAt (q + 0)) out → IsPrefix out []
 none-held s q c call calls [] e prefix held = IsPrefix-none []
 none-held s q c call calls (x ∷ out) e prefix held =
-    let after = after_call s call in
     let next = position_with s q call in
     let more : next ≡ q + 1 = ap (λ b. q + cond b 1 0) e in
-    let rest : All (IsFrom next) (answers_from after next c calls) = answers-from after next c calls in
-    let all : All (IsFrom next) (answers_from s q c (call ∷ calls)) =
-    All-append (IsFrom next) (answer_at s q c call) (answers_from after next c calls) (own-from (nat_eq call.connection c) call.reply next) rest in
+    let all = answers-from_next s q c call calls (answers-from (after_call s call) next c calls) in
     let first : IsFrom next x = All-head (IsFrom next) x (out ++ prefix.rest) (subst (All (IsFrom next)) (sym prefix.joined) all) in
     let low : IsHeldAt (q + 0) x = All-head (IsHeldAt (q + 0)) x out held in
     absurd (omega (arith, first, low, more))
@@ -108,13 +108,7 @@ count-over (connection ∷ connections) = let rest = count-over connections in o
 pub over-crashed : (calls : List Call) (c position p : ℕ) (connection : Connection) → position ≤ p → IsPrefix (items_of c calls) (asked connection.inbound.fed) → SoundReleased calls c position connection.outbound
     → SoundOver (cut_at calls p) c position (left connection)
 over-crashed calls c position p connection le items r =
-    record {
-      nothing = record { waiting = refl; made = refl; held = refl; pending = refl };
-      items = IsPrefix-trans (IsPrefix-items_of c (IsPrefix-cut_at calls p)) items;
-      released = record {
-        out = r.out;
-        replies = answers_to-cut c calls p r.out r.replies (All-weaker (IsHeldAt position) (IsHeldAt p) (λ reply h. omega (arith, h)) r.out r.held);
-        texts = r.texts;
-        held = r.held;
-      };
-    }
+    search (
+      IsPrefix-trans (IsPrefix-items_of c (IsPrefix-cut_at calls p)) items,
+      answers_to-cut c calls p r.out r.replies (All-weaker (IsHeldAt position) (IsHeldAt p) (λ reply h. omega (arith, h)) r.out r.held),
+    )

@@ -1,19 +1,31 @@
--- Every run keeps the promise.
-use Rattle.std.proofs.Common.{ℕ, Bool, List, refl, sym, ap, subst, ◌∙◌, arith}
+-- Every run keeps the promise; and the laws of every run, from what holds between any two events.
+use Rattle.std.proofs.Common.{ℕ, Bool, List, refl, ap, ◌∙◌, arith, ◌≡◌, ◌+◌, ◌<◌, ◌≤◌, true, false, ◌&&◌, ◌||◌, cond, nat_lt, [], ◌∷◌, ◌++◌, length, take, sym, subst, append_assoc, le-ltb, inl, inr}
+use Rattle.std.proofs.Common.{Option, Some, None, slice_get}
 use mathlib.Core.Path.{fun_ext}
 use Rattle.kv_types.specs.declared.limits.TheConstants.{REQUEST_LIMITS}
 use Rattle.kv_types.specs.Reading.{items_at}
 use Rattle.model.specs.declared.call.Call.{Call}
-use Rattle.model.specs.Call.{Serves}
+use Rattle.model.specs.Call.{Serves, is_nonempty, state_after, position_of}
 use Rattle.machine.specs.declared.event.Event.{Event}
-use Rattle.machine.specs.Event.{World, Run, start_with, last_world, asked}
-use Rattle.machine.specs.Promise.{Tells, IsPromised, EveryRunIsPromised, released_in, fed_to}
-use Rattle.machine.proofs.GroupLemmas.{chain-le}
-use Rattle.machine.proofs.SoundEvents.{sound-items}
+use Rattle.machine.specs.Event.{World, is_open, Run, start_with, last_world, asked, Span, Frame, Acknowledgement, Link, next_to_send, told, nodes_run, may_happen, is_enabled, Happens}
+use Rattle.machine.specs.Event.{Step}
+use Rattle.machine.specs.Promise.{Tells, IsPromised, EveryRunIsPromised, fed_to, SomeWorld, HasMarks}
+use Rattle.machine.proofs.GroupLemmas.{chain-le, frames_within-weaker}
+use Rattle.machine.proofs.SoundEvents.{sound-items, sent-marks}
 use Rattle.machine.proofs.RunLemmas.{sound-run}
 use Rattle.machine.proofs.FedLemmas.{fed-run}
 use Rattle.machine.proofs.PromiseLemmas.{released-begins, released-held}
 use Rattle.machine.proofs.CoverLemmas.{covered-run}
+use Rattle.std.proofs.lemmas.Bool.{lt-ltb}
+use Rattle.std.proofs.lemmas.List.Elements.{All-weaker}
+use Rattle.model.specs.State.{start_state}
+use Rattle.machine.specs.declared.event.Event.TheVariants.{Turn, CloseGroup, Send, Deliver, Apply, AckDelivered, RaiseRemote, Crash, Reopen}
+use Rattle.machine.specs.declared.event.TheConstants.{KEPT_GROUPS}
+use Rattle.machine.specs.Sound.{IsFrameWithin, IsToldWithin, Sound, answers_from}
+use Rattle.machine.specs.Law.{IsInOrder, FramesAreCommitted, AnswersBearPositions, RaisesNoRemote, NothingIsReleasedUnacknowledged, OnlyWhatWasMadeIsDelivered, WhoIsBehindGetsADelta}
+use Rattle.machine.proofs.AnswerLemmas.{answers_from-append, answers_to-push_own}
+use Rattle.machine.proofs.WorkLemmas.{closes-queues}
+use Rattle.machine.specs.declared.event.Node.TheVariants as nodes
 
 pub serves-run : (restarts : Bool) (events : List Event) (done : List Bool) (worlds : List World) → Run (start_with restarts) events done worlds → Serves (λ c. items_at REQUEST_LIMITS (fed_to c events done)) (last_world (start_with restarts) worlds).primary.calls
 serves-run restarts events done worlds run = λ c.
@@ -42,9 +54,109 @@ every_run_is_promised restarts events done worlds run =
 pub promised-told : (restarts : Bool) (events : List Event) (done : List Bool) (worlds : List World) (calls : List Call) (released : ℕ → List ℕ) (primary standby : ℕ) → Run (start_with restarts) events done worlds
     → Tells (last_world (start_with restarts) worlds) calls released primary standby → IsPromised restarts events done calls released primary standby
 promised-told restarts events done worlds calls released primary standby run tells =
+    rw (tells.list, fun_ext tells.bytes, tells.primary_position, tells.standby_position) (every_run_is_promised restarts events done worlds run)
+
+-- ---- the laws
+
+pub in_order : (w : World) → Sound w → IsInOrder w
+in_order w s =
+    let kept = All-weaker (IsToldWithin w.primary.epoch w.standby.position) in
+    search (
+      arith,
+      chain-le _ _ _ s.committer.waiting,
+      chain-le _ _ _ s.link.waiting,
+      kept (λ (ack : Acknowledgement). ack.position ≤ w.standby.position) (λ ack h. h.within) w.wire.acknowledgements s.wire.acknowledged,
+      All-weaker (IsFrameWithin w.primary.epoch s.sent) (λ (frame : Frame). frame.epoch ≡ w.primary.epoch) (λ frame h. h.epoch_is) w.wire.frames s.wire.frames,
+      kept (λ (ack : Acknowledgement). ack.epoch ≡ w.primary.epoch) (λ ack h. h.epoch_is) w.wire.acknowledgements s.wire.acknowledged,
+      λ (c : ℕ) (is_one : is_open w c ≡ true). (s.outbound c is_one).local_read,
+      λ (c : ℕ) (is_one : is_open w c ≡ true). (s.outbound c is_one).remote_read,
+    )
+
+pub frames_are_committed : FramesAreCommitted
+frames_are_committed restarts events done worlds run =
     let w = last_world (start_with restarts) worlds in
-    let promised : IsPromised restarts events done w.primary.calls (released_in w) w.primary.committer.position w.standby.position = every_run_is_promised restarts events done worlds run in
-    subst (λ x. IsPromised restarts events done x released primary standby) (sym tells.list)
-    (subst (λ x. IsPromised restarts events done w.primary.calls x primary standby) (sym (fun_ext tells.bytes))
-    (subst (λ x. IsPromised restarts events done w.primary.calls (released_in w) x standby) (sym tells.primary_position)
-    (subst (λ x. IsPromised restarts events done w.primary.calls (released_in w) w.primary.committer.position x) (sym tells.standby_position) promised)))
+    let s = sound-run restarts events done worlds run in
+    let le = chain-le _ _ _ s.link.waiting in
+    (frames_within-weaker w.primary.epoch s.sent w.primary.committer.position w.wire.frames le s.wire.frames, frames_within-weaker w.primary.epoch s.sent w.primary.committer.position w.standby.waiting le s.standby.frames)
+
+pub answers_bear_positions : AnswersBearPositions
+answers_bear_positions prefix call rest =
+    let c = call.connection in
+    let calls = prefix ++ call ∷ [] in
+    record {
+      rest = answers_from (state_after calls) (0 + position_of calls) c rest;
+      joined = grind (arith, append_assoc, answers_to-push_own c prefix call refl, answers_from-append start_state 0 c calls rest);
+    }
+
+-- ---- without RaiseRemote
+
+told-remote : (epoch own : ℕ) (ack : Option Acknowledgement) (link : Link) → (told epoch own ack link).remote ≡ link.remote
+told-remote epoch own None link = refl
+told-remote epoch own (Some ack) link = grind arith
+
+-- no other event raises the remote mark
+remote-happens : (w : World) (event : Event) (new : World) → RaisesNoRemote (event ∷ []) (true ∷ []) → Happens w event new → new.primary.link.remote ≤ w.primary.link.remote
+remote-happens w (Turn c) new none h = omega (arith, ap (λ x. x.primary.link.remote) h.now)
+remote-happens w CloseGroup new none h = omega (arith, ap (λ x. x.primary.link.remote) (closes-queues w new h).now)
+remote-happens w Send new none h = omega (arith, ap (λ x. x.primary.link.remote) h ∙ (sent-marks w.primary.link.delta w.primary.link).1)
+remote-happens w Apply new none h = omega (arith, ap (λ x. x.primary.link.remote) h.now)
+remote-happens w (AckDelivered a) new none h =
+    omega (arith, ap (λ x. x.primary.link.remote) h ∙ told-remote w.primary.epoch w.primary.committer.position (slice_get w.wire.acknowledgements a) w.primary.link)
+remote-happens w RaiseRemote new none h = absurd none
+remote-happens w (Crash nodes.Primary picks) new none h = omega (arith, ap (λ x. x.primary.link.remote) h)
+remote-happens w (Reopen nodes.Primary) new none h = omega (arith, ap (λ x. x.primary.link.remote) h.1)
+remote-happens w event new none h = omega (arith, ap (λ x. x.primary.link.remote) h)
+
+raises-parts : (event : Event) (did : Bool) (events : List Event) (done : List Bool) → RaisesNoRemote (event ∷ events) (did ∷ done) → RaisesNoRemote (event ∷ []) (did ∷ []) × RaisesNoRemote events done
+raises-parts RaiseRemote true events done none = absurd none
+raises-parts RaiseRemote false events done none = (tt, none)
+raises-parts event did events done none = (tt, none)
+
+remote-step : (old : World) (event : Event) (did : Bool) (new : World) → RaisesNoRemote (event ∷ []) (did ∷ []) → Step old event did new → new.primary.link.remote ≤ old.primary.link.remote
+remote-step old event true new none step = remote-happens old event new none (step.happens refl)
+remote-step old event false new none step = omega (arith, ap (λ x. x.primary.link.remote) (step.stands refl))
+
+-- what some world has is at most at the remote mark of the first
+low-marks : (w : World) (events : List Event) (done : List Bool) (worlds : List World) (prefix : List Call) (call : Call) → Run w events done worlds → RaisesNoRemote events done
+    → SomeWorld (HasMarks prefix call) (w ∷ worlds) → position_of (prefix ++ call ∷ []) ≤ w.primary.link.remote
+low-marks w [] [] [] prefix call run none some = elim some [ inl marks ↦ marks.remote | inr never ↦ absurd never ]
+low-marks w (event ∷ events) (did ∷ done) (new ∷ worlds) prefix call run none some =
+    let parts = raises-parts event did events done none in
+    elim some [
+      | inl marks ↦ marks.remote
+      | inr later ↦ omega (arith, low-marks new events done worlds prefix call run.1 parts.1 later, remote-step w event did new parts.0 run.0)
+    ]
+low-marks w events done worlds prefix call run none some = absurd run
+
+pub nothing_is_released_unacknowledged : NothingIsReleasedUnacknowledged
+nothing_is_released_unacknowledged restarts events done worlds run none prefix call released =
+    omega (arith, low-marks (start_with restarts) events done worlds prefix call run none (covered-run restarts events done worlds run prefix call released))
+
+-- ---- what was not made
+
+not-enabled : (w : World) (event : Event) → may_happen w event ≡ false → is_enabled w event ≡ false
+not-enabled w event e = elim (nodes_run w event) as (λ b. (b && may_happen w event) ≡ false) [ true ↦ e | false ↦ refl ]
+
+pub only_what_was_made_is_delivered : OnlyWhatWasMadeIsDelivered
+only_what_was_made_is_delivered w n piece = (λ le. not-enabled w (Deliver n piece) (le-ltb n (length w.wire.frames) le), λ le. not-enabled w (AckDelivered n) (le-ltb n (length w.wire.acknowledgements) le))
+
+-- ---- who is behind
+
+-- what is sent next, and that something is, where the delta is due by this test
+abbrev SendsFirst : ℕ → ℕ → Link → Bool → Bool → Type 0
+SendsFirst position opened link later due =
+    let delta : Span = record { before = position; after = opened } in
+    let deltas : List Span = cond due (delta ∷ []) [] in
+    (take 1 (deltas ++ (link.kept ++ link.waiting)) ≡ delta ∷ []) × ((is_nonempty deltas || later) ≡ true)
+
+delta-first : (position opened : ℕ) (link : Link) (later : Bool) → position < opened → SendsFirst position opened link later (nat_lt position opened)
+delta-first position opened link later behind = subst (SendsFirst position opened link later) (sym (lt-ltb position opened behind)) (refl, refl)
+
+pub who_is_behind_gets_a_delta : WhoIsBehindGetsADelta
+who_is_behind_gets_a_delta old new step behind =
+    let position = old.standby.position in
+    let opened = old.primary.opened in
+    let link = old.primary.link in
+    let delta : Span = record { before = position; after = opened } in
+    subst (λ (w : World). (next_to_send w.primary.link ≡ delta ∷ []) × (may_happen w Send ≡ true)) (sym (step.happens refl))
+    (delta-first position opened link (is_nonempty link.kept || (is_nonempty link.waiting && nat_lt (length link.kept) KEPT_GROUPS)) behind)

@@ -1,9 +1,9 @@
 -- The bytes fed to a connection are the pieces of the feeds that did their step.
-use Rattle.std.proofs.Common.{◌≡◌, ℕ, ◌<◌, Bool, true, false, not, cond, List, [], ◌∷◌, ◌++◌, length, refl, sym, ap, ◌∙◌, append_assoc, append-nil, eq-eqb, ne_eqb}
+use Rattle.std.proofs.Common.{◌≡◌, ℕ, ◌<◌, Bool, true, false, not, cond, List, [], ◌∷◌, ◌++◌, length, refl, sym, ap, ◌∙◌, arith, append_assoc, append-nil, eq-eqb, ne_eqb}
 use Rattle.machine.specs.declared.event.Node.TheVariants as nodes
 use Rattle.machine.specs.declared.event.Event.{Event}
-use Rattle.machine.specs.declared.event.Event.TheVariants.{Enter, Feed, Offer, Turn, CloseGroup, Commit, RaiseLocal, Hand, Free, AcceptFreed, ClearGap, OpenLink, Send, Deliver, Apply, AckDelivered, RaiseRemote, Hold, Read, Release, Write, Leave, Crash, Reopen}
-use Rattle.machine.specs.Event.{Inbound, Outbound, Connection, World, connection_of, with_inbound, with_outbound, on_inbound, on_outbound, is_closed_by, is_open, may_happen, with_call, fed_with, offered_next, taken_first, held_first, having_read, having_released, written, left, Happens, Step, Run, start_with, last_world}
+use Rattle.machine.specs.declared.event.Event.TheVariants.{Enter, Feed, Offer, Turn, CloseGroup, Apply, Hold, Read, Release, Write, Leave, Crash, Reopen}
+use Rattle.machine.specs.Event.{Connection, World, connection_of, changed_at, with_connections, with_inbound, with_outbound, on_inbound, is_closed_by, is_open, may_happen, with_call, fed_with, offered_next, taken_first, held_first, having_read, having_released, written, left, Happens, Step, Run, start_with, last_world}
 use Rattle.machine.specs.Promise.{fed_by, fed_to}
 use Rattle.machine.proofs.ConnectionLemmas.{each-changed, get-entered, open-lt, same-changed}
 use Rattle.machine.proofs.CrashLemmas.{get-over}
@@ -16,11 +16,9 @@ fed_in w c = (connection_of w c).inbound.fed
 
 -- ---- the events that feed nothing
 
-fed-inbound : (w : World) (c d : ℕ) (change : Inbound → Inbound) → ((inbound : Inbound) → (change inbound).fed ≡ inbound.fed) → fed_in (on_inbound c change w) d ≡ fed_in w d
-fed-inbound w c d change same = same-changed (λ connection. connection.inbound.fed) c (with_inbound change) w.primary.connections (λ connection. same connection.inbound) d
-
-fed-outbound : (w : World) (c d : ℕ) (change : Outbound → Outbound) → fed_in (on_outbound c change w) d ≡ fed_in w d
-fed-outbound w c d change = same-changed (λ connection. connection.inbound.fed) c (with_outbound change) w.primary.connections (λ connection. refl) d
+fed-same : (w : World) (c d : ℕ) (change : Connection → Connection) → ((connection : Connection) → (change connection).inbound.fed ≡ connection.inbound.fed)
+    → fed_in (with_connections (changed_at c change w.primary.connections) w) d ≡ fed_in w d
+fed-same w c d change same = same-changed (λ connection. connection.inbound.fed) c change w.primary.connections same d
 
 -- ---- the one that does
 
@@ -38,46 +36,30 @@ fed-happens w Enter new d e h = nothing (ap (λ x. fed_in x d) h ∙ get-entered
 fed-happens w (Feed c piece) new d e h =
     let parts = both (is_open w c) (not (is_closed_by (connection_of w c).inbound.fed)) e in
     ap (λ x. fed_in x d) h ∙ fed-Feed w c d piece (open-lt w.primary.connections c parts.0)
-fed-happens w (Offer c) new d e h = nothing (ap (λ x. fed_in x d) h ∙ fed-inbound w c d offered_next (λ inbound. refl))
+fed-happens w (Offer c) new d e h = nothing (ap (λ x. fed_in x d) h ∙ fed-same w c d (with_inbound offered_next) (λ connection. refl))
 fed-happens w (Turn c) new d e h =
     let called_once = on_inbound c taken_first (with_call h.call w) in
-    nothing (ap (λ x. fed_in x d) h.now ∙ fed-outbound called_once c d _ ∙ fed-inbound (with_call h.call w) c d taken_first (λ inbound. refl))
+    nothing (ap (λ x. fed_in x d) h.now ∙ fed-same called_once c d (with_outbound _) (λ connection. refl) ∙ fed-same (with_call h.call w) c d (with_inbound taken_first) (λ connection. refl))
 fed-happens w CloseGroup new d e h = nothing (ap (λ x. fed_in x d) (closes-queues w new h).now)
-fed-happens w Commit new d e h = nothing (ap (λ x. fed_in x d) h)
-fed-happens w RaiseLocal new d e h = nothing (ap (λ x. fed_in x d) h)
-fed-happens w Hand new d e h = nothing (ap (λ x. fed_in x d) h)
-fed-happens w Free new d e h = nothing (ap (λ x. fed_in x d) h)
-fed-happens w AcceptFreed new d e h = nothing (ap (λ x. fed_in x d) h)
-fed-happens w ClearGap new d e h = nothing (ap (λ x. fed_in x d) h)
-fed-happens w OpenLink new d e h = nothing (ap (λ x. fed_in x d) h)
-fed-happens w Send new d e h = nothing (ap (λ x. fed_in x d) h)
-fed-happens w (Deliver frame piece) new d e h = nothing (ap (λ x. fed_in x d) h)
 fed-happens w Apply new d e h = nothing (ap (λ x. fed_in x d) h.now)
-fed-happens w (AckDelivered a) new d e h = nothing (ap (λ x. fed_in x d) h)
-fed-happens w RaiseRemote new d e h = nothing (ap (λ x. fed_in x d) h)
-fed-happens w (Hold c) new d e h = nothing (ap (λ x. fed_in x d) h ∙ fed-outbound w c d held_first)
-fed-happens w (Read c mark) new d e h = nothing (ap (λ x. fed_in x d) h ∙ fed-outbound w c d (having_read mark w))
-fed-happens w (Release c) new d e h = nothing (ap (λ x. fed_in x d) h ∙ fed-outbound w c d having_released)
-fed-happens w (Write c n) new d e h = nothing (ap (λ x. fed_in x d) h ∙ fed-outbound w c d (written n))
-fed-happens w (Leave c) new d e h = nothing (ap (λ x. fed_in x d) h ∙ same-changed (λ connection. connection.inbound.fed) c left w.primary.connections (λ connection. refl) d)
+fed-happens w (Hold c) new d e h = nothing (ap (λ x. fed_in x d) h ∙ fed-same w c d (with_outbound held_first) (λ connection. refl))
+fed-happens w (Read c mark) new d e h = nothing (ap (λ x. fed_in x d) h ∙ fed-same w c d (with_outbound (having_read mark w)) (λ connection. refl))
+fed-happens w (Release c) new d e h = nothing (ap (λ x. fed_in x d) h ∙ fed-same w c d (with_outbound having_released) (λ connection. refl))
+fed-happens w (Write c n) new d e h = nothing (ap (λ x. fed_in x d) h ∙ fed-same w c d (with_outbound (written n)) (λ connection. refl))
+fed-happens w (Leave c) new d e h = nothing (ap (λ x. fed_in x d) h ∙ fed-same w c d left (λ connection. refl))
 fed-happens w (Crash nodes.Primary picks) new d e h = nothing (ap (λ x. fed_in x d) h ∙ ap (λ (x : Connection). x.inbound.fed) (get-over w.primary.connections d))
-fed-happens w (Crash nodes.Standby picks) new d e h = nothing (ap (λ x. fed_in x d) h)
 fed-happens w (Reopen nodes.Primary) new d e h = nothing (ap (λ x. fed_in x d) h.1)
-fed-happens w (Reopen nodes.Standby) new d e h = nothing (ap (λ x. fed_in x d) h)
-
-fed_by-not : (d : ℕ) (event : Event) → fed_by d event false ≡ []
-fed_by-not d (Feed c piece) = refl
-fed_by-not d event = refl
+fed-happens w event new d e h = nothing (ap (λ x. fed_in x d) h)
 
 pub fed-step : (old : World) (event : Event) (did : Bool) (new : World) (d : ℕ) → Step old event did new → fed_in new d ≡ fed_in old d ++ fed_by d event did
 fed-step old event true new d step = fed-happens old event new d (enabled-may old event (sym step.done)) (step.happens refl)
-fed-step old event false new d step = ap (λ x. fed_in x d) (step.stands refl) ∙ sym (append-nil (fed_in old d)) ∙ ap (λ piece. fed_in old d ++ piece) (sym (fed_by-not d event))
+fed-step old (Feed c piece) false new d step = nothing (ap (λ x. fed_in x d) (step.stands refl))
+fed-step old event false new d step = nothing (ap (λ x. fed_in x d) (step.stands refl))
 
 pub fed-from : (w : World) (events : List Event) (done : List Bool) (worlds : List World) (d : ℕ) → Run w events done worlds → fed_in (last_world w worlds) d ≡ fed_in w d ++ fed_to d events done
 fed-from w [] [] [] d run = sym (append-nil (fed_in w d))
 fed-from w (event ∷ events) (did ∷ done) (new ∷ worlds) d run =
-    fed-from new events done worlds d run.1 ∙ ap (λ prefix. prefix ++ fed_to d events done) (fed-step w event did new d run.0)
-    ∙ append_assoc (fed_in w d) (fed_by d event did) (fed_to d events done)
+    grind (arith, append_assoc, fed-from new events done worlds d run.1, fed-step w event did new d run.0)
 fed-from w events done worlds d run = absurd run
 
 pub fed-run : (restarts : Bool) (events : List Event) (done : List Bool) (worlds : List World) (d : ℕ) → Run (start_with restarts) events done worlds → (connection_of (last_world (start_with restarts) worlds) d).inbound.fed ≡ fed_to d events done

@@ -22,7 +22,7 @@ asked-append fed piece stays =
 
 -- of a connection that enters no item was run
 pub inbound-new : (calls : List Call) (c : ℕ) → items_of c calls ≡ [] → SoundInbound calls c no_connection.inbound
-inbound-new calls c none = record { offered = omega arith; order = append-nil (items_of c calls) ∙ none; few = omega arith }
+inbound-new calls c none = search (arith, append-nil (items_of c calls) ∙ none)
 
 pub inbound-fed : (calls : List Call) (c : ℕ) (inbound : Inbound) (piece : List ℕ) → is_closed_by inbound.fed ≡ false → SoundInbound calls c inbound → SoundInbound calls c (fed_with piece inbound)
 inbound-fed calls c inbound piece stays s =
@@ -38,33 +38,18 @@ pub inbound-offered : (calls : List Call) (c : ℕ) (inbound : Inbound) → inbo
 inbound-offered calls c inbound more room s =
     let items = asked inbound.fed in
     let next = take 1 (drop inbound.offered items) in
-    record {
-      offered = omega arith;
-      order = sym (append_assoc (items_of c calls) inbound.waiting next) ∙ ap (λ prefix. prefix ++ next) s.order ∙ sym (take-add inbound.offered 1 items);
-      few = omega (arith, length-append inbound.waiting next, length-take 1 (drop inbound.offered items));
-    }
+    search (arith, rw (append_assoc, ← take-add inbound.offered 1 items) at (ap (λ prefix. prefix ++ next) s.order), length-append inbound.waiting next, length-take 1 (drop inbound.offered items))
 
 -- the connection's own call takes its first item
 pub inbound-called_own : (calls : List Call) (c : ℕ) (inbound : Inbound) (call : Call) → call.connection ≡ c → take 1 inbound.waiting ≡ call.item ∷ [] → SoundInbound calls c inbound → SoundInbound (calls ++ call ∷ []) c (taken_first inbound)
 inbound-called_own calls c inbound call own first s =
-    let items = items_of c calls in
-    let rest = drop 1 inbound.waiting in
-    record {
-      offered = s.offered;
-      order = ap (λ prefix. prefix ++ rest) (items_of-push_own c calls call own) ∙ append_assoc items (call.item ∷ []) rest
-          ∙ ap (λ prefix. items ++ (prefix ++ rest)) (sym first) ∙ ap (λ waiting. items ++ waiting) (take-append-drop 1 inbound.waiting) ∙ s.order;
-      few = omega (arith, s.few, length-drop 1 inbound.waiting);
-    }
+    let waits = take-append-drop 1 inbound.waiting in
+    record { offered = s.offered; order = grind (arith, append_assoc, items_of-push_own c calls call own, first, waits, s.order); few = omega (arith, s.few, length-drop 1 inbound.waiting) }
 
 pub inbound-called_other : (calls : List Call) (c : ℕ) (inbound : Inbound) (call : Call) → call.connection ≢ c → SoundInbound calls c inbound → SoundInbound (calls ++ call ∷ []) c inbound
-inbound-called_other calls c inbound call differ s =
-    record { offered = s.offered; order = ap (λ items. items ++ inbound.waiting) (items_of-push_other c calls call differ) ∙ s.order; few = s.few }
+inbound-called_other calls c inbound call differ s = search (s, ap (λ items. items ++ inbound.waiting) (items_of-push_other c calls call differ) ∙ s.order)
 
 -- the items of its calls come first among those that were asked for
 pub inbound-items : (calls : List Call) (c : ℕ) (inbound : Inbound) → SoundInbound calls c inbound → IsPrefix (items_of c calls) (asked inbound.fed)
 inbound-items calls c inbound s =
-    record {
-      rest = inbound.waiting ++ drop inbound.offered (asked inbound.fed);
-      joined = sym (append_assoc (items_of c calls) inbound.waiting (drop inbound.offered (asked inbound.fed)))
-          ∙ ap (λ prefix. prefix ++ drop inbound.offered (asked inbound.fed)) s.order ∙ take-append-drop inbound.offered (asked inbound.fed);
-    }
+    record { rest = inbound.waiting ++ drop inbound.offered (asked inbound.fed); joined = grind (arith, append_assoc, s.order, take-append-drop) }

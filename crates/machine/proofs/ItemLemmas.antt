@@ -3,28 +3,29 @@ use Rattle.std.proofs.Common.{◌≡◌, ◌≢◌, Bool, true, false, cond, not
 use Rattle.std.proofs.Math.Bool.{or-false, or-true}
 use Rattle.kv_types.specs.declared.item.Item.{Item}
 use Rattle.kv_types.specs.declared.item.Item.TheVariants.{Request, Fault}
-use Rattle.kv_types.specs.declared.reply.Reply.{Reply, Simple, Error, Int, Bulk, NullBulk, Array', NullArray}
+use Rattle.kv_types.specs.declared.reply.Reply.{Reply, Simple, Error, NullArray}
 use Rattle.kv_types.specs.Keyspace.{Keyspace}
 use Rattle.kv_types.proofs.OrderLemmas.{same_key}
 use Rattle.cmd_core.specs.Shape.{takes, are_short}
-use Rattle.cmd_table.specs.declared.name.CommandName.{CommandName}
-use Rattle.cmd_table.specs.declared.name.CommandName.TheVariants as name
-use Rattle.cmd_table.specs.declared.name.TheConstants.{COMMANDS}
+use Rattle.kv_types.specs.declared.command_name.CommandName.{CommandName}
+use Rattle.kv_types.specs.declared.command_name.CommandName.TheVariants as name
+use Rattle.kv_types.specs.declared.command_name.TheConstants.{COMMANDS}
 use Rattle.cmd_table.specs.declared.misuse.Misuse.{Misuse}
 use Rattle.cmd_table.specs.declared.misuse.Misuse.TheVariants.{WrongNumberOfWords, LongKey}
 use Rattle.cmd_table.specs.Misuse.{misuse_text}
-use Rattle.cmd_table.specs.Row.{row, find, if_served}
-use Rattle.cmd_table.specs.Command.{Command, read_arguments, read_named}
+use Rattle.kv_types.specs.CommandName.{find}
+use Rattle.cmd_table.specs.Row.{row, if_served}
+use Rattle.cmd_table.specs.Command.{Command, read_named}
 use Rattle.cmd_table.specs.Request.{is_quit, closes as request_closes}
 use Rattle.multi_watch.specs.declared.verb.Verb.{Verb}
 use Rattle.multi_watch.specs.declared.verb.Verb.TheVariants as verb
-use Rattle.multi_watch.specs.declared.error.SessionError.TheVariants.{NestedMulti, ExecOutside, DiscardOutside, WatchInside, TooLong, Aborted}
+use Rattle.multi_watch.specs.declared.error.SessionError.TheVariants.{TooLong}
 use Rattle.multi_watch.specs.Error.{error_text}
 use Rattle.multi_watch.specs.Verb.{verb_of, verb_of_reading, verb_of_name}
 use Rattle.multi_watch.specs.declared.limits.TheConstants.{MAX_QUEUED_REQUESTS}
 use Rattle.multi_watch.specs.declared.watch.Watch.{Watch}
 use Rattle.multi_watch.specs.Session.{Session, idle_session, watching, has_modified, spoiled}
-use Rattle.multi_watch.specs.Admission.{Step, Answer, RunAll, step_of, has_room, refused_of, admit, session_after_request, session_after_refusal}
+use Rattle.multi_watch.specs.Admission.{Step, Answer, RunAll, step_of, refused_of, admit, session_after_request, session_after_refusal}
 use Rattle.model.specs.Command.{closes}
 use Rattle.model.specs.Call.{MayAnswer, is_memory, memory_reply, session_after_item}
 use Rattle.machine.specs.Transaction.{is_multi, is_exec, is_discard, is_watch, is_unwatch, is_misuse, may_wait, is_error, is_ok, is_queued, is_array, is_null_array, is_aborted}
@@ -44,23 +45,19 @@ closing_named None e = cc
 closing_named (Some c) e = ap Some (only_quit c e)
 
 module _ (p : Verb → Bool) (on_quit : p verb.Quit ≡ false) (on_misuse : (misuse : Misuse) → p (verb.Misused misuse) ≡ false) where
-  if_quit : (b : Bool) (x y : Result Command Misuse) → p (verb_of_reading x) ≡ false → p (verb_of_reading y) ≡ false → p (verb_of_reading (cond b x y)) ≡ false
-  if_quit true x y this other = this
-  if_quit false x y this other = other
-
-  quit_arguments : (arguments : List (List ℕ)) → p (verb_of_reading (read_arguments name.Quit arguments)) ≡ false
-  quit_arguments arguments =
-      let read : Result Command Misuse = Ok (record { name = name.Quit; arguments = arguments }) in
-      let short : Result Command Misuse = cond (not (are_short (row name.Quit).keys arguments)) (Err LongKey) read in
-      if_quit (not (takes (row name.Quit).words (length arguments + 1))) (Err (WrongNumberOfWords name.Quit)) short (on_misuse (WrongNumberOfWords name.Quit))
-      (if_quit (not (are_short (row name.Quit).keys arguments)) (Err LongKey) read (on_misuse LongKey) on_quit)
+  quit_arguments : (a b : Bool) (arguments : List (List ℕ)) → let read : Result Command Misuse = Ok (record { name = name.Quit; arguments = arguments }) in
+      p (verb_of_reading (cond a (Err (WrongNumberOfWords name.Quit)) (cond b (Err LongKey) read))) ≡ false
+  quit_arguments true b arguments = on_misuse _
+  quit_arguments false true arguments = on_misuse _
+  quit_arguments false false arguments = on_quit
 
   -- a request that closes its connection asks nothing else of its session
   pub closing_only : (words : List (List ℕ)) → request_closes words ≡ true → p (verb_of words) ≡ false
   unfolding request_closes verb_of
   closing_only [] e = on_misuse _
   closing_only (word ∷ arguments) e =
-      ap (λ found. p (verb_of_reading (read_named found arguments))) (closing_named (find COMMANDS word) e) ∙ quit_arguments arguments
+      ap (λ found. p (verb_of_reading (read_named found arguments))) (closing_named (find COMMANDS word) e)
+      ∙ quit_arguments (not (takes (row name.Quit).words (length arguments + 1))) (not (are_short (row name.Quit).keys arguments)) arguments
 
 quit_read : (c : CommandName) (a b : Bool) (arguments : List (List ℕ)) (m n : Misuse)
     → verb_of_reading (cond a (Err m) (cond b (Err n) (Ok (record { name = c; arguments = arguments })))) ≡ verb.Quit → verb_of_name c ≡ verb.Quit
@@ -83,12 +80,7 @@ quit_closes (word ∷ arguments) e = quit_found (find COMMANDS word) arguments e
 -- the reply that tells of memory is one
 pub memory_only : (reply : Reply) → is_memory reply ≡ true → reply ≡ memory_reply
 memory_only (Error text) e = ap Error (same_key text _ e)
-memory_only (Simple text) e = cc
-memory_only (Int n) e = cc
-memory_only (Bulk bytes) e = cc
-memory_only NullBulk e = cc
-memory_only (Array' shape replies) e = cc
-memory_only NullArray e = cc
+memory_only _ e = cc
 
 pub memory_is : is_memory memory_reply ≡ true
 memory_is = refl
@@ -137,56 +129,30 @@ pub record GoesOn (v : Verb) (words : List (List ℕ)) (reply : Reply) (old new 
 abbrev pub Does : Verb → List (List ℕ) → Reply → Session → Session → Type 0
 Does v words reply old new = Ends v reply new ⊎ (Begins v words reply old new ⊎ GoesOn v words reply old new)
 
+pub never : {X : Type 0} {x y : X} → false ≡ true → x ≡ y
+never e = cc
+
 module _ (words : List (List ℕ)) where
   -- where memory was refused in a transaction, for a request that would have waited or is one too many
-  refused_unwatch : (queue : List (List (List ℕ))) (sp : Bool) (watched : List Watch) (b : Bool) → nat_lt (length queue) MAX_QUEUED_REQUESTS ≡ b
+  refused_waiting : (queue : List (List (List ℕ))) (sp : Bool) (watched : List Watch) (b : Bool) → nat_lt (length queue) MAX_QUEUED_REQUESTS ≡ b
       → let old : Session = record { is_open = true; queue = queue; is_spoiled = sp; watched = watched } in
-      GoesOn verb.Unwatch words memory_reply old (cond b (spoiled old) old)
-  refused_unwatch queue sp watched true e =
-      record { ends = refl; opens = refl; is_open = refl; queue = λ h. sym (append-nil queue); spoiled = λ h. sym (or-true sp) ∙ ap (λ b. sp || b) (sym e); watched = refl }
-  refused_unwatch queue sp watched false e =
-      record { ends = refl; opens = refl; is_open = refl; queue = λ h. sym (append-nil queue); spoiled = λ h. sym (or-false sp) ∙ ap (λ b. sp || b) (sym e); watched = refl }
-
-  refused_other : (queue : List (List (List ℕ))) (sp : Bool) (watched : List Watch) (b : Bool) → nat_lt (length queue) MAX_QUEUED_REQUESTS ≡ b
-      → let old : Session = record { is_open = true; queue = queue; is_spoiled = sp; watched = watched } in
-      GoesOn verb.Other words memory_reply old (cond b (spoiled old) old)
-  refused_other queue sp watched true e =
-      record { ends = refl; opens = refl; is_open = refl; queue = λ h. sym (append-nil queue); spoiled = λ h. sym (or-true sp) ∙ ap (λ b. sp || b) (sym e); watched = refl }
-  refused_other queue sp watched false e =
-      record { ends = refl; opens = refl; is_open = refl; queue = λ h. sym (append-nil queue); spoiled = λ h. sym (or-false sp) ∙ ap (λ b. sp || b) (sym e); watched = refl }
+      GoesOn verb.Unwatch words memory_reply old (cond b (spoiled old) old) × GoesOn verb.Other words memory_reply old (cond b (spoiled old) old)
+  refused_waiting queue sp watched true e = search (sym (append-nil queue), sym (or-true sp) ∙ ap (λ b. sp || b) (sym e))
+  refused_waiting queue sp watched false e = search (sym (append-nil queue), sym (or-false sp) ∙ ap (λ b. sp || b) (sym e))
 
   -- where memory was refused
   refused : (v : Verb) (o : Bool) (queue : List (List (List ℕ))) (sp : Bool) (watched : List Watch)
       → let old : Session = record { is_open = o; queue = queue; is_spoiled = sp; watched = watched } in
       GoesOn v words memory_reply old (refused_of v old)
-  refused (verb.Misused misuse) o queue sp watched = record { ends = refl; opens = refl; is_open = refl; queue = λ h. sym (append-nil queue); spoiled = λ h. sym (or-false sp); watched = refl }
-  refused verb.Quit o queue sp watched = record { ends = refl; opens = refl; is_open = refl; queue = λ h. sym (append-nil queue); spoiled = λ h. sym (or-false sp); watched = refl }
-  refused verb.Multi o queue sp watched = record { ends = refl; opens = refl; is_open = refl; queue = λ h. sym (append-nil queue); spoiled = λ h. sym (or-false sp); watched = refl }
-  refused verb.Exec o queue sp watched = record { ends = refl; opens = refl; is_open = refl; queue = λ h. sym (append-nil queue); spoiled = λ h. sym (or-false sp); watched = refl }
-  refused verb.Discard o queue sp watched = record { ends = refl; opens = refl; is_open = refl; queue = λ h. sym (append-nil queue); spoiled = λ h. sym (or-false sp); watched = refl }
-  refused verb.Watch o queue sp watched = record { ends = refl; opens = refl; is_open = refl; queue = λ h. sym (append-nil queue); spoiled = λ h. sym (or-false sp); watched = refl }
-  refused verb.Unwatch true queue sp watched = refused_unwatch queue sp watched (nat_lt (length queue) MAX_QUEUED_REQUESTS) refl
-  refused verb.Unwatch false queue sp watched = record { ends = refl; opens = refl; is_open = refl; queue = λ h. sym (append-nil queue); spoiled = λ h. cc; watched = refl }
-  refused verb.Other true queue sp watched = refused_other queue sp watched (nat_lt (length queue) MAX_QUEUED_REQUESTS) refl
-  refused verb.Other false queue sp watched = record { ends = refl; opens = refl; is_open = refl; queue = λ h. sym (append-nil queue); spoiled = λ h. cc; watched = refl }
+  refused verb.Unwatch true queue sp watched = (refused_waiting queue sp watched _ refl).0
+  refused verb.Other true queue sp watched = (refused_waiting queue sp watched _ refl).1
+  refused v o queue sp watched = search (never, sym (append-nil queue), sym (or-false sp))
 
 module _ (k : Keyspace) (words : List (List ℕ)) where
   -- a reply that the session gives, and what holds of it
   given : (v : Verb) (proper : Reply) (old new : Session) → Does v words proper old new → (reply : Reply) → is_memory reply ≡ false
       → (reply ≡ memory_reply) ⊎ (reply ≡ proper) → Does v words reply old new
   given v proper old new is reply known may = subst (λ r. Does v words r old new) (sym (proper_only reply proper known may)) is
-
-  goes : (v : Verb) (reply : Reply) (old : Session) → ends_of v reply ≡ false → (is_multi v && is_ok reply) ≡ false
-      → is_queued reply ≡ false → (old.is_open ≡ true → spoils_of (length old.queue) v reply ≡ false) → watched_of v words reply old.watched ≡ old.watched → GoesOn v words reply old old
-  goes v reply old ends opens queued spoils watched =
-      record {
-        ends = ends;
-        opens = opens;
-        is_open = refl;
-        queue = λ h. sym (append-nil old.queue) ∙ ap (λ b. old.queue ++ cond b (words ∷ []) []) (sym queued);
-        spoiled = λ h. sym (or-false old.is_spoiled) ∙ ap (λ b. old.is_spoiled || b) (sym (spoils h));
-        watched = sym watched;
-      }
 
   ran : (b : Bool) (sp : Bool) (queue : List (List (List ℕ))) (watched : List Watch) (reply : Reply) → is_memory reply ≡ false
       → let old : Session = record { is_open = true; queue = queue; is_spoiled = false; watched = watched } in
@@ -212,55 +178,22 @@ module _ (k : Keyspace) (words : List (List ℕ)) where
   pub answered : (v : Verb) → v ≢ verb.Quit → (o : Bool) (queue : List (List (List ℕ))) (sp : Bool) (watched : List Watch) (reply : Reply) → is_memory reply ≡ false
       → let old : Session = record { is_open = o; queue = queue; is_spoiled = sp; watched = watched } in
       MayAnswer k (step_of v words old).admission reply → Does v words reply old (step_of v words old).session
-  answered (verb.Misused misuse) stays true queue sp watched reply known may =
-      let is = proper_only reply (Error (misuse_text misuse)) known may in
-      let spoils : is_memory (Error (misuse_text misuse)) ≡ false = ap is_memory (sym is) ∙ known in
-      given (verb.Misused misuse) (Error (misuse_text misuse)) _ _
-      (inr (inr (record {
-        ends = refl;
-        opens = refl;
-        is_open = refl;
-        queue = λ h. sym (append-nil queue);
-        spoiled = λ h. sym (ap (λ b. sp || (not b || false)) spoils ∙ or-true sp);
-        watched = refl;
-      }))) reply known may
-  answered (verb.Misused misuse) stays false queue sp watched reply known may =
-      given (verb.Misused misuse) (Error (misuse_text misuse)) _ _
-      (inr (inr (record { ends = refl; opens = refl; is_open = refl; queue = λ h. sym (append-nil queue); spoiled = λ h. cc; watched = refl }))) reply known may
   answered verb.Quit stays o queue sp watched reply known may = absurd (stays refl)
-  answered verb.Multi stays true queue sp watched reply known may =
-      given verb.Multi (Error (error_text NestedMulti)) _ _ (inr (inr (goes verb.Multi _ _ refl refl refl (λ h. refl) refl))) reply known may
-  answered verb.Multi stays false queue sp watched reply known may =
-      given verb.Multi (Simple (codes "OK")) _ _
-      (inr (inl (record { ends = refl; opens = refl; was = refl; is_open = refl; queue = refl; spoiled = refl; watched = refl }))) reply known may
-  answered verb.Exec stays true queue true watched reply known may =
-      given verb.Exec (Error (error_text Aborted)) _ _ (inl (record { ends = refl; over = refl })) reply known may
+  answered (verb.Misused misuse) stays true queue sp watched reply known may =
+      let spoils : is_memory (Error (misuse_text misuse)) ≡ false = ap is_memory (sym (proper_only reply _ known may)) ∙ known in
+      given (verb.Misused misuse) _ _ _ (inr (inr (search (sym (append-nil queue), sym (ap (λ b. sp || (not b || false)) spoils ∙ or-true sp))))) reply known may
+  answered verb.Multi stays false queue sp watched reply known may = given verb.Multi _ _ _ (inr (inl search)) reply known may
+  answered verb.Discard stays true queue sp watched reply known may = given verb.Discard _ _ _ (inl search) reply known may
+  answered verb.Exec stays true queue true watched reply known may = given verb.Exec _ _ _ (inl search) reply known may
   answered verb.Exec stays true queue false watched reply known may =
       inl (ran (has_modified (record { is_open = true; queue = queue; is_spoiled = false; watched = watched })) false queue watched reply known may)
-  answered verb.Exec stays false queue sp watched reply known may =
-      given verb.Exec (Error (error_text ExecOutside)) _ _ (inr (inr (goes verb.Exec _ _ refl refl refl (λ h. refl) refl))) reply known may
-  answered verb.Discard stays true queue sp watched reply known may =
-      given verb.Discard (Simple (codes "OK")) _ _ (inl (record { ends = refl; over = refl })) reply known may
-  answered verb.Discard stays false queue sp watched reply known may =
-      given verb.Discard (Error (error_text DiscardOutside)) _ _ (inr (inr (goes verb.Discard _ _ refl refl refl (λ h. refl) refl))) reply known may
-  answered verb.Watch stays true queue sp watched reply known may =
-      given verb.Watch (Error (error_text WatchInside)) _ _ (inr (inr (goes verb.Watch _ _ refl refl refl (λ h. refl) refl))) reply known may
-  answered verb.Watch stays false queue sp watched reply known may =
-      given verb.Watch (Simple (codes "OK")) _ _
-      (inr (inr (record { ends = refl; opens = refl; is_open = refl; queue = λ h. cc; spoiled = λ h. cc; watched = refl }))) reply known may
   answered verb.Unwatch stays true queue sp watched reply known may =
-      kept verb.Unwatch (has_room (record { is_open = true; queue = queue; is_spoiled = sp; watched = watched })) queue sp watched reply known
-      (record { ends = refl; opens = refl; is_open = refl; queue = λ h. refl; spoiled = λ h. sym (or-false sp); watched = refl })
-      (record { ends = refl; opens = refl; is_open = refl; queue = λ h. sym (append-nil queue); spoiled = λ h. sym (or-true sp); watched = refl }) may
-  answered verb.Unwatch stays false queue sp watched reply known may =
-      given verb.Unwatch (Simple (codes "OK")) _ _
-      (inr (inr (record { ends = refl; opens = refl; is_open = refl; queue = λ h. cc; spoiled = λ h. cc; watched = refl }))) reply known may
+      kept verb.Unwatch (nat_lt (length queue) MAX_QUEUED_REQUESTS) queue sp watched reply known (search (sym (or-false sp))) (search (sym (append-nil queue), sym (or-true sp))) may
   answered verb.Other stays true queue sp watched reply known may =
-      kept verb.Other (has_room (record { is_open = true; queue = queue; is_spoiled = sp; watched = watched })) queue sp watched reply known
-      (record { ends = refl; opens = refl; is_open = refl; queue = λ h. refl; spoiled = λ h. sym (or-false sp); watched = refl })
-      (record { ends = refl; opens = refl; is_open = refl; queue = λ h. sym (append-nil queue); spoiled = λ h. sym (or-true sp); watched = refl }) may
-  answered verb.Other stays false queue sp watched reply known may =
-      inr (inr (record { ends = refl; opens = refl; is_open = refl; queue = λ h. cc; spoiled = λ h. cc; watched = refl }))
+      kept verb.Other (nat_lt (length queue) MAX_QUEUED_REQUESTS) queue sp watched reply known (search (sym (or-false sp))) (search (sym (append-nil queue), sym (or-true sp))) may
+  answered verb.Other stays false queue sp watched reply known may = inr (inr (search never))
+  answered v stays true queue sp watched reply known may = given v _ _ _ (inr (inr (search (sym (append-nil queue), sym (or-false sp))))) reply known may
+  answered v stays false queue sp watched reply known may = given v _ _ _ (inr (inr (search (never, sym (append-nil queue), sym (or-false sp))))) reply known may
 
 -- ---- an item
 

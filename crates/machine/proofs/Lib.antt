@@ -2,12 +2,9 @@ pub mod ConnectionLemmas
 pub mod GroupLemmas
 pub mod AnswerLemmas
 pub mod InboundLemmas
-pub mod OutboundLemmas
 pub mod OverLemmas
 pub mod CrashLemmas
 pub mod WorkLemmas
-pub mod CommitterLemmas
-pub mod LinkLemmas
 pub mod StandbyLemmas
 pub mod SoundConnection
 pub mod SoundEvents
@@ -18,12 +15,7 @@ pub mod CoverLemmas
 pub mod EveryRun
 pub mod GrowLemmas
 pub mod StayLemmas
-pub mod CountLemmas
-pub mod LawLemmas
 pub mod ItemLemmas
 pub mod TransactionLemmas
-pub mod OpenedLemmas
 pub mod WatchedLemmas
-pub mod ModifiedLemmas
-pub mod ExecLemmas
 pub mod WorkedRun

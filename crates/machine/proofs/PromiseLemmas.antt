@@ -36,8 +36,7 @@ released-reply P w prefix call out released replies texts all_out =
     let reply : Held = record { reply = call.reply; position = position_of (prefix ++ call ∷ []) } in
     let more = answers_from (state_after (prefix ++ call ∷ [])) (0 + position_of (prefix ++ call ∷ [])) c released.rest in
     let all : out ++ replies.rest ≡ answers_to c prefix ++ reply ∷ more =
-    replies.joined ∙ ap (answers_to c) (released.stands ∙ sym (append_assoc prefix (call ∷ []) released.rest)) ∙ answers_from-append start_state 0 c (prefix ++ call ∷ []) released.rest
-    ∙ ap (λ answers. answers ++ more) (answers_to-push_own c prefix call refl) ∙ append_assoc (answers_to c prefix) (reply ∷ []) more in
+    grind (arith, append_assoc, replies.joined, released.stands, answers_from-append start_state 0 c (prefix ++ call ∷ []) released.rest, answers_to-push_own c prefix call refl) in
     let before = ap length (texts_of-answers_to c prefix) in
     let enough = IsPrefix-length texts in
     among P out replies.rest (answers_to c prefix) reply more all (omega (arith, released.written, enough, before)) all_out
@@ -72,7 +71,4 @@ pub replies-add_up : (w : World) → Sound w → (c : ℕ) → is_open w c ≡ t
 replies-add_up w s c is_one =
     let outbound = (connection_of w c).outbound in
     let o = s.outbound c is_one in
-    sym (append_assoc outbound.released outbound.pending (texts_of outbound.held ++ texts_of outbound.made))
-    ∙ ap (λ prefix. prefix ++ (texts_of outbound.held ++ texts_of outbound.made)) o.texts
-    ∙ ap (λ rest. texts_of o.out ++ rest) (sym (texts_of-append outbound.held outbound.made)) ∙ sym (texts_of-append o.out (outbound.held ++ outbound.made))
-    ∙ ap texts_of o.replies ∙ texts_of-answers_to c w.primary.calls
+    grind (arith, append_assoc, texts_of-append, o.texts, ap texts_of o.replies, texts_of-answers_to)

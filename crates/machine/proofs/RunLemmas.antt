@@ -1,14 +1,12 @@
 -- Laws of runs: how they are extended and cut, and what holds between any two events.
-use Rattle.std.proofs.Common.{◌≡◌, ℕ, zero, suc, Bool, true, false, List, [], ◌∷◌, ◌++◌, length, take, drop, All, refl, sym, ap, arith, inl, inr, true≢false}
+use Rattle.std.proofs.Common.{◌≡◌, ℕ, zero, suc, Bool, true, false, List, [], ◌∷◌, ◌++◌, take, drop, All, refl, sym, subst, arith, true≢false}
 use Rattle.std.proofs.lemmas.List.Elements.{All-nil, All-cons}
 use Rattle.machine.specs.declared.event.Event.{Event}
 use Rattle.machine.specs.Event.{World, is_enabled, Happens, Step, Run, start_with, last_world}
-use Rattle.machine.specs.Promise.{SomeWorld}
 use Rattle.machine.specs.Sound.{Sound}
 use Rattle.machine.proofs.OverLemmas.{over-start}
-use Rattle.machine.proofs.CommitterLemmas.{committer-new}
-use Rattle.machine.proofs.LinkLemmas.{link-new}
-use Rattle.machine.proofs.StandbyLemmas.{standby-start, wire-start}
+use Rattle.machine.proofs.WorkLemmas.{committer-new}
+use Rattle.machine.proofs.GroupLemmas.{link-new}
 use Rattle.machine.proofs.SoundEvents.{sound-step}
 
 -- ---- steps
@@ -52,37 +50,18 @@ run-drop (suc n) w [] [] [] run = tt
 run-drop (suc n) w (event ∷ events) (did ∷ done) (new ∷ worlds) run = run-drop n new events done worlds run.1
 run-drop (suc n) w events done worlds run = absurd run
 
-pub length-run : (w : World) (events : List Event) (done : List Bool) (worlds : List World) → Run w events done worlds → (length done ≡ length events) × (length worlds ≡ length events)
-length-run w [] [] [] run = (refl, refl)
-length-run w (event ∷ events) (did ∷ done) (new ∷ worlds) run = let rest = length-run new events done worlds run.1 in (ap suc rest.0, ap suc rest.1)
-length-run w events done worlds run = absurd run
-
--- what holds of the last world holds of one of them
-pub some-last : (P : World → Type 0) (w : World) (worlds : List World) → P (last_world w worlds) → SomeWorld P (w ∷ worlds)
-some-last P w [] h = inl h
-some-last P w (new ∷ worlds) h = inr (some-last P new worlds h)
-
 -- ---- what holds between any two events
 
 pub sound-start : (restarts : Bool) → Sound (start_with restarts)
-sound-start restarts =
-    record {
-      connections = record { seats = omega arith };
-      legal = tt;
-      inbound = λ c is_one. cc;
-      outbound = λ c is_one. cc;
-      over = λ c shut. over-start c;
-      committer = committer-new 0;
-      sent = 0;
-      link = link-new 0;
-      standby = standby-start;
-      wire = wire-start;
-    }
+sound-start restarts = search (arith, over-start, committer-new 0, link-new 0, All-nil)
 
-pub sound-from : (w : World) (events : List Event) (done : List Bool) (worlds : List World) → Run w events done worlds → Sound w → Sound (last_world w worlds)
-sound-from w [] [] [] run s = s
-sound-from w (event ∷ events) (did ∷ done) (new ∷ worlds) run s = sound-from new events done worlds run.1 (sound-step w event did new run.0 s)
-sound-from w events done worlds run s = absurd run
+-- what the steps of sound worlds keep holds after a run
+pub kept-from : (P : World → Type 0) → ((old : World) (event : Event) (did : Bool) (new : World) → Step old event did new → Sound old → P old → P new)
+    → (w : World) (events : List Event) (done : List Bool) (worlds : List World) → Run w events done worlds → Sound w → P w → P (last_world w worlds)
+kept-from P keeps w [] [] [] run s p = p
+kept-from P keeps w (event ∷ events) (did ∷ done) (new ∷ worlds) run s p =
+    kept-from P keeps new events done worlds run.1 (sound-step w event did new run.0 s) (keeps w event did new run.0 s p)
+kept-from P keeps w events done worlds run s p = absurd run
 
 pub sound-worlds_from : (w : World) (events : List Event) (done : List Bool) (worlds : List World) → Run w events done worlds → Sound w → All Sound (w ∷ worlds)
 sound-worlds_from w [] [] [] run s = All-cons Sound w [] s (All-nil Sound)
@@ -91,7 +70,22 @@ sound-worlds_from w (event ∷ events) (did ∷ done) (new ∷ worlds) run s =
 sound-worlds_from w events done worlds run s = absurd run
 
 pub sound-run : (restarts : Bool) (events : List Event) (done : List Bool) (worlds : List World) → Run (start_with restarts) events done worlds → Sound (last_world (start_with restarts) worlds)
-sound-run restarts events done worlds run = sound-from (start_with restarts) events done worlds run (sound-start restarts)
+sound-run restarts events done worlds run =
+    kept-from Sound (λ old event did new step s p. sound-step old event did new step s) (start_with restarts) events done worlds run (sound-start restarts) (sound-start restarts)
 
 pub sound-worlds : (restarts : Bool) (events : List Event) (done : List Bool) (worlds : List World) → Run (start_with restarts) events done worlds → All Sound (start_with restarts ∷ worlds)
 sound-worlds restarts events done worlds run = sound-worlds_from (start_with restarts) events done worlds run (sound-start restarts)
+
+pub last_world-split : (n : ℕ) (w : World) (worlds : List World) → last_world (last_world w (take n worlds)) (drop n worlds) ≡ last_world w worlds
+last_world-split zero w worlds = refl
+last_world-split (suc n) w [] = refl
+last_world-split (suc n) w (new ∷ worlds) = last_world-split n new worlds
+
+-- and between two worlds of a run
+pub kept-later : (P : World → Type 0) → ((old : World) (event : Event) (did : Bool) (new : World) → Step old event did new → Sound old → P old → P new)
+    → (restarts : Bool) (n : ℕ) (events : List Event) (done : List Bool) (worlds : List World) → Run (start_with restarts) events done worlds
+    → P (last_world (start_with restarts) (take n worlds)) → P (last_world (start_with restarts) worlds)
+kept-later P keeps restarts n events done worlds run p =
+    let s = sound-run restarts (take n events) (take n done) (take n worlds) (run-take n (start_with restarts) events done worlds run) in
+    subst P (last_world-split n (start_with restarts) worlds)
+    (kept-from P keeps _ (drop n events) (drop n done) (drop n worlds) (run-drop n (start_with restarts) events done worlds run) s p)

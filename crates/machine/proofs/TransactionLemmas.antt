@@ -1,21 +1,26 @@
--- What a legal list of calls makes of a connection's transaction, call by call.
-use Rattle.std.proofs.Common.{◌≡◌, ◌≢◌, ℕ, Bool, true, false, cond, ◌&&◌, ◌||◌, ◌⊎◌, inl, inr, List, [], ◌++◌, length, map, drop, nat_eq, refl, sym, ap, ap₂, subst, ◌∙◌, append-nil, eqb-true, eq-eqb}
-use Rattle.std.proofs.Math.Bool.{or-false}
-use Rattle.std.proofs.lemmas.Bool.{and_from, or_left}
+-- What a legal list of calls makes of a connection's transaction, call by call; which call opened it, and what waits in it.
+use Rattle.std.proofs.Common.{◌≡◌, ◌≢◌, ℕ, Bool, true, false, cond, ◌&&◌, ◌||◌, ◌⊎◌, inl, inr, List, [], ◌++◌, length, map, drop, nat_eq, refl, sym, ap, ap₂, subst, ◌∙◌, arith, append-nil, eqb-true}
+use Rattle.std.proofs.Common.{eq-eqb, ◌∷◌, append_assoc}
+use Rattle.std.proofs.Math.Bool.{or-false, or_assoc}
+use Rattle.std.proofs.lemmas.Bool.{and_from, or_left, and_parts}
 use Rattle.kv_types.specs.declared.item.Item.{Item}
 use Rattle.kv_types.specs.declared.item.Item.TheVariants.{Request, Fault}
 use Rattle.kv_types.specs.declared.reply.Reply.{Reply}
 use Rattle.multi_watch.specs.Verb.{verb_of}
 use Rattle.multi_watch.specs.declared.watch.Watch.{Watch}
-use Rattle.multi_watch.specs.Session.{Session, watching, marked_where}
+use Rattle.multi_watch.specs.Session.{Session, watching, marked_where, idle_session}
 use Rattle.multi_watch.specs.Modified.{modifies}
 use Rattle.model.specs.declared.call.Call.{Call}
 use Rattle.model.specs.Command.{closes}
-use Rattle.model.specs.State.{State}
-use Rattle.model.specs.Call.{MayReply, changes_of, session_after_item, session_after}
+use Rattle.model.specs.State.{State, start_state}
+use Rattle.model.specs.Call.{MayReply, changes_of, session_after_item, session_after, IsLegal, IsLegalFrom, after_call, state_from, state_after}
 use Rattle.model.proofs.SessionLemmas.{marks, session_after-own, session_after-other}
-use Rattle.machine.specs.Transaction.{asks, is_watch, is_unwatch, words_of, is_ok, opens_one, ends_it, spoils_it, waits_in_it, is_by, does_by, queued_by}
-use Rattle.machine.proofs.ItemLemmas.{Does, ends_of, spoils_of, watched_of, closing_leaves, request_does}
+use Rattle.machine.specs.Transaction.{asks, is_watch, is_unwatch, words_of, is_ok, opens_one, ends_it, spoils_it, waits_in_it, is_by, does_by, queued_by, is_multi, NoneDoes, Opened, queue_of}
+use Rattle.machine.specs.Transaction.{is_spoiled_from, session_now}
+use Rattle.machine.proofs.ItemLemmas.{Does, ends_of, spoils_of, watched_of, closing_leaves, request_does, closing_only}
+use Rattle.multi_watch.specs.declared.verb.Verb.{Verb}
+use Rattle.multi_watch.specs.declared.verb.Verb.TheVariants as verb
+use Rattle.model.proofs.CallsLemmas.{state_from-append, IsLegalFrom-rest}
 
 -- ---- one call
 
@@ -59,19 +64,15 @@ module _ (s : State) (call : Call) where
   -- of another connection
   by_other : (c : ℕ) → is_by c call ≡ false → call.connection ≢ c → GoesAt s c call (s.sessions c) (session_after s call c)
   by_other c other differ =
-      let is = session_after-other s call c differ in
-      let does : (d : Item → Reply → Bool) → does_by d c call ≡ false = λ d. ap (λ b. b && d call.item call.reply) other in
-      let same : watched_by c call (s.sessions c).watched ≡ (s.sessions c).watched =
-      ap₂ (λ a b. cond a [] (cond b (watching (drop 1 (words_of call.item)) (s.sessions c).watched) (s.sessions c).watched))
-      (does (λ item reply. asks is_unwatch item && is_ok reply)) (does (λ item reply. asks is_watch item && is_ok reply)) in
-      record {
-        ends = does ends_it;
-        opens = does opens_one;
-        is_open = ap (λ (t : Session). t.is_open) is;
-        queue = λ h. ap (λ (t : Session). t.queue) is ∙ sym (append-nil (s.sessions c).queue) ∙ ap (λ b. (s.sessions c).queue ++ cond b (waits_in_it call.item call.reply) []) (sym other);
-        spoiled = λ h. ap (λ (t : Session). t.is_spoiled) is ∙ sym (or-false (s.sessions c).is_spoiled) ∙ ap (λ b. (s.sessions c).is_spoiled || b) (sym (does (spoils_it (length (s.sessions c).queue))));
-        watched = ap (λ (t : Session). t.watched) is ∙ ap (marked_by s call) (sym same);
-      }
+      let same : watched_by c call (s.sessions c).watched ≡ (s.sessions c).watched = grind (arith, other) in
+      subst (GoesAt s c call (s.sessions c)) (sym (session_after-other s call c differ)) (record {
+        ends = grind (arith, other);
+        opens = grind (arith, other);
+        is_open = refl;
+        queue = λ h. grind (arith, append-nil, other);
+        spoiled = λ h. grind (arith, other);
+        watched = ap (marked_by s call) (sym same);
+      })
 
 -- ---- a call of the connection's own
 
@@ -117,25 +118,22 @@ module _ (s : State) (c : ℕ) where
         inl (record { ends = ends_at true ends.ends; is_open = ap (λ (t : Session). t.is_open) over; watched = ap (λ (t : Session). t.watched) over })
     at_request (inr (inl begins)) =
         let own = session_after-own s own_call in
-        inr (inl (record {
-          ends = ends_at false begins.ends;
-          opens = does true (opens_one (Request words) reply) begins.opens;
-          was = begins.was;
-          is_open = ap (λ (t : Session). t.is_open) own ∙ begins.is_open;
-          queue = ap (λ (t : Session). t.queue) own ∙ begins.queue;
-          spoiled = ap (λ (t : Session). t.is_spoiled) own ∙ begins.spoiled;
-          watched = watches_at (s.sessions c).watched begins.watched;
-        }))
+        inr (inl (search (
+          ends_at false begins.ends,
+          does true (opens_one (Request words) reply) begins.opens,
+          begins.was,
+          ap (λ (t : Session). t.is_open) own ∙ begins.is_open,
+          ap (λ (t : Session). t.queue) own ∙ begins.queue,
+          ap (λ (t : Session). t.is_spoiled) own ∙ begins.spoiled,
+          watches_at (s.sessions c).watched begins.watched,
+        )))
     at_request (inr (inr goes)) =
         let own = session_after-own s own_call in
-        inr (inr (record {
-          ends = ends_at false goes.ends;
-          opens = does false (opens_one (Request words) reply) goes.opens;
-          is_open = ap (λ (t : Session). t.is_open) own ∙ goes.is_open;
-          queue = λ h. ap (λ (t : Session). t.queue) own ∙ goes.queue h ∙ ap (λ a. (s.sessions c).queue ++ cond a (waits_in_it (Request words) reply) []) (sym itself);
-          spoiled = λ h. ap (λ (t : Session). t.is_spoiled) own ∙ goes.spoiled h ∙ ap (λ b. (s.sessions c).is_spoiled || b) (sym (spoils_at (length (s.sessions c).queue)));
-          watched = watches_at (s.sessions c).watched goes.watched;
-        }))
+        let queue : (s.sessions c).is_open ≡ true → (session_after s own_call c).queue ≡ (s.sessions c).queue ++ queued_by c own_call =
+        λ h. ap (λ (t : Session). t.queue) own ∙ goes.queue h ∙ ap (λ a. (s.sessions c).queue ++ cond a (waits_in_it (Request words) reply) []) (sym itself) in
+        let spoiled : (s.sessions c).is_open ≡ true → (session_after s own_call c).is_spoiled ≡ ((s.sessions c).is_spoiled || does_by (spoils_it (length (s.sessions c).queue)) c own_call) =
+        λ h. ap (λ (t : Session). t.is_spoiled) own ∙ goes.spoiled h ∙ ap (λ b. (s.sessions c).is_spoiled || b) (sym (spoils_at (length (s.sessions c).queue))) in
+        inr (inr (search (ends_at false goes.ends, does false (opens_one (Request words) reply) goes.opens, ap (λ (t : Session). t.is_open) own ∙ goes.is_open, queue, spoiled, watches_at (s.sessions c).watched goes.watched)))
 
   at_own : (item : Item) (reply : Reply) → let call : Call = record { connection = c; item = item; reply = reply } in
       MayReply s call → DoesAt s c call (s.sessions c) (session_after s call c)
@@ -151,8 +149,93 @@ pub does_at : (s : State) (call : Call) (c : ℕ) → MayReply s call → DoesAt
 does_at s call c may =
     elim (is_by c call) as (λ b. is_by c call ≡ b → DoesAt s c call (s.sessions c) (session_after s call c)) [
       | true ↦ λ own. subst (λ d. DoesAt s d call (s.sessions d) (session_after s call d)) (eqb-true call.connection c own) (at_own s call.connection call.item call.reply may)
-      | false ↦ λ other. inr (inr (by_other s call c other (λ same. apart (sym other ∙ eq-eqb call.connection c same))))
+      | false ↦ λ other. inr (inr (by_other s call c other (λ same. let by_it : is_by c call ≡ true = eq-eqb call.connection c same in cc)))
     ] refl
-  where
-    apart : false ≡ true → ⊥
-    apart e = cc
+
+-- ---- which call opened it
+
+pub both : {A : Type 0} {b : Bool} → b ≡ true → b ≡ false → A
+both is isnt = cc
+
+-- ---- what opens a transaction ends none
+
+multi_ends_none : (v : Verb) (reply : Reply) → is_multi v ≡ true → ends_of v reply ≡ false
+multi_ends_none verb.Multi reply is = refl
+multi_ends_none _ reply is = cc
+
+opening : (item : Item) (reply : Reply) → opens_one item reply ≡ true → ends_it item reply ≡ false
+opening (Fault fault) reply is = both is refl
+opening (Request words) reply is =
+    let multi = (and_parts (is_multi (verb_of words)) (is_ok reply) is).0 in
+    elim (closes (Request words)) as (λ b. closes (Request words) ≡ b → (b || ends_of (verb_of words) reply) ≡ false) [
+      | true ↦ λ shuts. both multi (closing_only is_multi refl (λ misuse. refl) words shuts)
+      | false ↦ λ stays. multi_ends_none (verb_of words) reply multi
+    ] refl
+
+pub opens_only : (c : ℕ) (call : Call) → does_by opens_one c call ≡ true → does_by ends_it c call ≡ false
+opens_only c call is = let parts = and_parts (is_by c call) (opens_one call.item call.reply) is in ap (λ b. b && ends_it call.item call.reply) parts.0 ∙ opening call.item call.reply parts.1
+
+-- ---- an open transaction that none of the calls ends
+
+pub record StaysOpen (c : ℕ) (calls : List Call) (old new : Session) : Type 0 where
+  pub is_open : new.is_open ≡ true
+  pub queue : new.queue ≡ old.queue ++ queue_of c calls
+  pub spoiled : new.is_spoiled ≡ (old.is_spoiled || is_spoiled_from c old.queue calls)
+
+pub stays_open : (c : ℕ) (s : State) (calls : List Call) → IsLegalFrom s calls → (s.sessions c).is_open ≡ true → NoneDoes ends_it c calls
+    → StaysOpen c calls (s.sessions c) ((state_from s calls).sessions c)
+stays_open c s [] legal is none = record { is_open = is; queue = sym (append-nil (s.sessions c).queue); spoiled = sym (or-false (s.sessions c).is_spoiled) }
+stays_open c s (call ∷ calls) legal is none =
+    elim (does_at s call c legal.0) [
+      | inl ends ↦ both ends.ends none.0
+      | inr (inl opens) ↦ both is opens.was
+      | inr (inr goes) ↦
+          let rest = stays_open c (after_call s call) calls legal.1 (goes.is_open ∙ is) none.1 in
+          search (
+            rest,
+            rest.queue ∙ ap (λ q. q ++ queue_of c calls) (goes.queue is) ∙ append_assoc (s.sessions c).queue (queued_by c call) (queue_of c calls),
+            rest.spoiled ∙ ap₂ (λ b q. b || is_spoiled_from c q calls) (goes.spoiled is) (goes.queue is) ∙ or_assoc (s.sessions c).is_spoiled _ _,
+          )
+    ]
+
+-- ---- which call opened it
+
+pub opened_or : (c : ℕ) (s : State) (calls : List Call) → IsLegalFrom s calls → ((state_from s calls).sessions c).is_open ≡ true
+    → Opened c calls ⊎ (((s.sessions c).is_open ≡ true) × NoneDoes ends_it c calls)
+opened_or c s [] legal is = inr (is, tt)
+opened_or c s (call ∷ calls) legal is =
+    elim (opened_or c (after_call s call) calls legal.1 is) [
+      | inl o ↦ inl (record { before = call ∷ o.before; multi = o.multi; since = o.since; joined = ap (λ rest. call ∷ rest) o.joined; opens = o.opens; open_still = o.open_still })
+      | inr h ↦ elim (does_at s call c legal.0) [
+        | inl ends ↦ both h.0 ends.is_open
+        | inr (inl opens) ↦ inl (record { before = []; multi = call; since = calls; joined = refl; opens = opens.opens; open_still = h.1 })
+        | inr (inr goes) ↦ inr (sym goes.is_open ∙ h.0, (goes.ends, h.1))
+      ]
+    ]
+
+-- ---- read off the list
+
+after_opening : (c : ℕ) (s : State) (multi : Call) (since : List Call) → IsLegalFrom s (multi ∷ since) → does_by opens_one c multi ≡ true → NoneDoes ends_it c since
+    → StaysOpen c since idle_session ((state_from s (multi ∷ since)).sessions c)
+after_opening c s multi since legal opens none =
+    elim (does_at s multi c legal.0) [
+      | inl ends ↦ both ends.ends (opens_only c multi opens)
+      | inr (inr goes) ↦ both opens goes.opens
+      | inr (inl begun) ↦
+          let rest = stays_open c (after_call s multi) since legal.1 begun.is_open none in
+          record {
+            is_open = rest.is_open;
+            queue = rest.queue ∙ ap (λ q. q ++ queue_of c since) begun.queue;
+            spoiled = rest.spoiled ∙ ap₂ (λ b q. b || is_spoiled_from c q since) begun.spoiled begun.queue;
+          }
+    ]
+
+pub read_off : (c : ℕ) (calls : List Call) → IsLegal calls → (o : Opened c calls) → StaysOpen c o.since idle_session (session_now c calls)
+read_off c calls legal o =
+    let whole : IsLegal (o.before ++ o.multi ∷ o.since) = subst IsLegal (sym o.joined) legal in
+    let is = after_opening c (state_after o.before) o.multi o.since (IsLegalFrom-rest start_state o.before (o.multi ∷ o.since) whole) o.opens o.open_still in
+    subst (λ l. StaysOpen c o.since idle_session (session_now c l)) o.joined
+    (subst (λ (s : State). StaysOpen c o.since idle_session (s.sessions c)) (sym (state_from-append start_state o.before (o.multi ∷ o.since))) is)
+
+pub opened_where : (c : ℕ) (calls : List Call) → IsLegal calls → (session_now c calls).is_open ≡ true → Opened c calls
+opened_where c calls legal is = elim (opened_or c start_state calls legal is) [ inl o ↦ o | inr h ↦ both h.0 refl ]

@@ -1,5 +1,5 @@
 -- The entries that a clear and the changes before it ended.
-use Rattle.std.proofs.Common.{◌≡◌, ℕ, ◌||◌, ◌⊎◌, ⊎_elim, inl, inr, List, [], ◌∷◌, ◌++◌, map, Contains, IsTrue, nat_eq, sym, ap, subst, ◌∙◌, append_assoc, eqb-true, eq-eqb, arith}
+use Rattle.std.proofs.Common.{◌≡◌, ℕ, ◌⊎◌, ◌↔◌, List, [], ◌∷◌, ◌++◌, map, Contains, IsTrue, nat_eq, sym, ap, subst, ◌∙◌, append_assoc, arith}
 use Rattle.std.proofs.lemmas.List.{append-nil}
 use Rattle.std.proofs.lemmas.List.Elements.{Contains-append_left, Contains-append_right, Contains-append_cases}
 use Rattle.std.specs.List.{IsDistinct}
@@ -8,33 +8,27 @@ use Rattle.model.specs.declared.group.PlacedChange.{PlacedChange}
 use Rattle.model.specs.declared.group.PlacedChange.TheVariants as placed
 use Rattle.model.specs.Group.{is_put_at}
 use Rattle.mv_keyspace.specs.Table.{Table, entries_of, place_all, puts_of, AreFresh, IsLawful, AreNumbersEnded}
-use Rattle.mv_keyspace.proofs.AppendedLemmas.{ended-append, fresh-first, lawful-prefix, only, place_all-append, puts_of-append}
+use Rattle.mv_keyspace.proofs.AppendedLemmas.{ended-append, lawful-prefix, only, place_all-append, puts_of-append}
 use Rattle.mv_keyspace.proofs.DistinctLemmas.{distinct-append, distinct-none, distinct-one, entries-distinct, here, later}
-use Rattle.mv_keyspace.proofs.EndedLemmas.{fresh_not, or_left, or_right, sorted-lawful}
+use Rattle.mv_keyspace.proofs.EndedLemmas.{fresh_not, fresh-first, sorted-lawful}
 
 -- the entries of the puts
 abbrev pub numbers_put : List Put → List ℕ
 numbers_put puts = map (λ (put : Put). put.entry.0) puts
 
-put-named : (i : ℕ) (puts : List Put) → IsTrue (is_put_at i puts) → Contains (numbers_put puts) i
-put-named i [] t = cc
-put-named i (put ∷ puts) t =
-    ⊎_elim (λ (own : IsTrue (nat_eq i put.entry.0)). subst (λ k. Contains (numbers_put (put ∷ puts)) k) (sym (eqb-true i put.entry.0 own)) (here put.entry.0 (numbers_put puts)))
-    (λ (other : IsTrue (is_put_at i puts)). later put.entry.0 i (numbers_put puts) (put-named i puts other))
-    (or_left (nat_eq i put.entry.0) (is_put_at i puts) t)
-
+-- an entry is that of one of the puts
 named-put : (i : ℕ) (puts : List Put) → Contains (numbers_put puts) i → IsTrue (is_put_at i puts)
 named-put i [] m = absurd (omega (arith, m.1))
-named-put i (put ∷ puts) m =
-    ⊎_elim (λ (own : Contains (put.entry.0 ∷ []) i). ap (λ b. b || is_put_at i puts) (eq-eqb i put.entry.0 (sym (only put.entry.0 i own))))
-    (λ (other : Contains (numbers_put puts) i). or_right (nat_eq i put.entry.0) (is_put_at i puts) (named-put i puts other))
-    (Contains-append_cases (put.entry.0 ∷ []) (numbers_put puts) i m)
+named-put i (put ∷ puts) m = grind (arith, Contains-append_cases (put.entry.0 ∷ []) (numbers_put puts) i m, only put.entry.0 i, named-put i puts)
+
+put-named : (i : ℕ) (puts : List Put) → IsTrue (is_put_at i puts) → Contains (numbers_put puts) i
+put-named i [] t = cc
+put-named i (put ∷ puts) t = grind (arith, here put.entry.0 (numbers_put puts), later put.entry.0 i (numbers_put puts), put-named i puts)
 
 puts-distinct : (table : Table) (puts : List Put) → AreFresh table puts → IsDistinct nat_eq (numbers_put puts)
 puts-distinct table [] fresh = distinct-none
 puts-distinct table (put ∷ puts) fresh =
-    distinct-append (put.entry.0 ∷ []) (numbers_put puts) (distinct-one put.entry.0) (puts-distinct table puts fresh.2)
-    (λ i own other. fresh.1 (named-put put.entry.0 puts (subst (λ k. Contains (numbers_put puts) k) (sym (only put.entry.0 i own)) other)))
+    distinct-append (put.entry.0 ∷ []) (numbers_put puts) (distinct-one put.entry.0) (puts-distinct table puts fresh.2) (λ i own other. grind (arith, only put.entry.0 i own, named-put i puts other, fresh.1))
 
 module _ (position : ℕ) (table : Table) (before later : List PlacedChange) (lawful : IsLawful table) (fresh : AreFresh table (puts_of (before ++ placed.Clear ∷ later))) where
   -- the changes up to the clear, and with it
@@ -56,9 +50,6 @@ module _ (position : ℕ) (table : Table) (before later : List PlacedChange) (la
   after : IsLawful (place_all position table first) × AreFresh (place_all position table first) (puts_of later)
   after = lawful-prefix position table first later lawful fresh_all
 
-  pub lawful-cleared : IsLawful []
-  lawful-cleared = subst IsLawful nothing after.0
-
   pub fresh-cleared : AreFresh [] (puts_of later)
   fresh-cleared = subst (λ t. AreFresh t (puts_of later)) nothing after.1
 
@@ -73,22 +64,13 @@ module _ (position : ℕ) (table : Table) (before later : List PlacedChange) (la
     once =
         distinct-append (entries_of table) (numbers_put (puts_of before)) (entries-distinct table (sorted-lawful table lawful) lawful.once) (puts-distinct table (puts_of before) fresh_before)
         (λ i own other. fresh_not table (puts_of before) i fresh_before own (named-put i (puts_of before) other));
-    these = λ i. (told i, named i);
+    these = λ i. rw (nothing, first_puts) (numbers i);
   }
     where
-      told : (i : ℕ) → Contains (entries_of table ++ numbers_put (puts_of before)) i → (Contains (entries_of table) i ⊎ IsTrue (is_put_at i (puts_of first))) × (¬ Contains (entries_of (place_all position table first)) i)
-      told i m = (
-        ⊎_elim (λ (own : Contains (entries_of table) i). inl own)
-            (λ (other : Contains (numbers_put (puts_of before)) i). inr (subst (λ puts. IsTrue (is_put_at i puts)) (sym first_puts) (named-put i (puts_of before) other)))
-            (Contains-append_cases (entries_of table) (numbers_put (puts_of before)) i m),
-        λ left. let none = subst (λ t. Contains (entries_of t) i) nothing left in absurd (omega (arith, none.1)),
-      )
-
-      named : (i : ℕ) → (Contains (entries_of table) i ⊎ IsTrue (is_put_at i (puts_of first))) × (¬ Contains (entries_of (place_all position table first)) i) → Contains (entries_of table ++ numbers_put (puts_of before)) i
-      named i h =
-          ⊎_elim (λ (own : Contains (entries_of table) i). Contains-append_left (entries_of table) (numbers_put (puts_of before)) i own)
-          (λ (t : IsTrue (is_put_at i (puts_of first))). Contains-append_right (entries_of table) (numbers_put (puts_of before)) i (put-named i (puts_of before) (subst (λ puts. IsTrue (is_put_at i puts)) first_puts t)))
-          h.0
+      numbers : (i : ℕ) → Contains (entries_of table ++ numbers_put (puts_of before)) i ↔ ((Contains (entries_of table) i ⊎ IsTrue (is_put_at i (puts_of before))) × (¬ Contains (entries_of []) i))
+      numbers i =
+          let none : ¬ Contains (entries_of []) i = λ m. absurd (omega (arith, m.1)) in
+          grind (arith, none, Contains-append_cases (entries_of table) (numbers_put (puts_of before)) i, Contains-append_left (entries_of table) (numbers_put (puts_of before)) i, Contains-append_right (entries_of table) (numbers_put (puts_of before)) i, named-put i (puts_of before), put-named i (puts_of before))
 
   -- the entries that all the changes ended: those that were live, those that were put before the clear, and those that the later changes ended
   pub ended-cleared : (more : List ℕ) → AreNumbersEnded position [] later more → AreNumbersEnded position table (before ++ placed.Clear ∷ later) ((entries_of table ++ numbers_put (puts_of before)) ++ more)

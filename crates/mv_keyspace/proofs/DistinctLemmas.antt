@@ -1,12 +1,14 @@
 -- Distinct numbers of entries.
 use Rattle.std.proofs.Common.{◌≡◌, ℕ, suc, false, List, [], ◌∷◌, ◌++◌, Some, Contains, IsTrue, nat_eq, refl, sym, ap, subst, ◌∙◌, ne_eqb, arith}
 use Rattle.std.proofs.lemmas.Bool.{and_parts}
+use Rattle.std.proofs.lemmas.Map.Keys.{IsDistinct-head, IsDistinct-tail, IsDistinct-cons}
 use Rattle.std.proofs.lemmas.Option.{none-some}
 use Rattle.std.specs.List.{AllByRecursion, IsDistinct}
 use Rattle.std.specs.FinMap.Entries.{is_sorted, below_all}
 use Rattle.kv_types.specs.declared.record_id.RecordId.{RecordId}
 use Rattle.kv_types.specs.Keyspace.{record_cmp}
 use Rattle.mv_keyspace.specs.Table.{Cell, Table, cell_at, entries_of}
+use Rattle.mv_keyspace.proofs.AllLemmas.{All-append}
 use Rattle.mv_keyspace.proofs.TableMembers.{IsSortedTable, found-from_entry, found-first, found-later, missed-below}
 
 -- ---- lists of numbers
@@ -21,10 +23,6 @@ all_other : (x : ℕ) (xs : List ℕ) → ¬ Contains xs x → AllByRecursion (�
 all_other x [] none = tt
 all_other x (y ∷ xs) none = (ne_eqb x y (λ same. none (subst (λ z. Contains (y ∷ xs) z) (sym same) (here y xs))), all_other x xs (λ m. none (later y x xs m)))
 
-all_append : (P : ℕ → Type 0) (xs ys : List ℕ) → AllByRecursion P xs → AllByRecursion P ys → AllByRecursion P (xs ++ ys)
-all_append P [] ys h k = k
-all_append P (x ∷ xs) ys h k = (h.0, all_append P xs ys h.1 k)
-
 pub distinct-none : IsDistinct nat_eq []
 unfolding IsDistinct
 distinct-none = tt
@@ -33,21 +31,12 @@ pub distinct-one : (x : ℕ) → IsDistinct nat_eq (x ∷ [])
 unfolding IsDistinct
 distinct-one x = (tt, tt)
 
-distinct-more : (x : ℕ) (xs : List ℕ) → AllByRecursion (λ y. nat_eq x y ≡ false) xs → IsDistinct nat_eq xs → IsDistinct nat_eq (x ∷ xs)
-unfolding IsDistinct
-distinct-more x xs others distinct = (others, distinct)
-
-distinct-parts : (x : ℕ) (xs : List ℕ) → IsDistinct nat_eq (x ∷ xs) → AllByRecursion (λ y. nat_eq x y ≡ false) xs × IsDistinct nat_eq xs
-unfolding IsDistinct
-distinct-parts x xs distinct = (distinct.0, distinct.1)
-
 -- two lists that share no number
 pub distinct-append : (xs ys : List ℕ) → IsDistinct nat_eq xs → IsDistinct nat_eq ys → ((i : ℕ) → Contains xs i → ¬ Contains ys i) → IsDistinct nat_eq (xs ++ ys)
 distinct-append [] ys distinct distinct' apart = distinct'
 distinct-append (x ∷ xs) ys distinct distinct' apart =
-    let parts = distinct-parts x xs distinct in
-    distinct-more x (xs ++ ys) (all_append (λ y. nat_eq x y ≡ false) xs ys parts.0 (all_other x ys (apart x (here x xs))))
-    (distinct-append xs ys parts.1 distinct' (λ i m. apart i (later x i xs m)))
+    IsDistinct-cons nat_eq x (xs ++ ys) (All-append (λ y. nat_eq x y ≡ false) xs ys (IsDistinct-head nat_eq x xs distinct) (all_other x ys (apart x (here x xs))))
+    (distinct-append xs ys (IsDistinct-tail nat_eq x xs distinct) distinct' (λ i m. apart i (later x i xs m)))
 
 -- ---- the entries of a table
 
@@ -58,7 +47,7 @@ HasEachOnce table = (id other : RecordId) (cell cell' : Cell) → cell_at table 
 pub entries-distinct : (table : Table) → IsSortedTable table → HasEachOnce table → IsDistinct nat_eq (entries_of table)
 entries-distinct [] sorted once = distinct-none
 entries-distinct (row ∷ table) sorted once =
-    distinct-more row.1.entry (entries_of table) (all_other row.1.entry (entries_of table) first_alone)
+    IsDistinct-cons nat_eq row.1.entry (entries_of table) (all_other row.1.entry (entries_of table) first_alone)
     (entries-distinct table parts.1 (λ id other cell cell' found found' same. once id other cell cell' (found-later row table id cell parts.0 found) (found-later row table other cell' parts.0 found') same))
   where
     parts : IsTrue (below_all record_cmp row.0 table) × IsTrue (is_sorted record_cmp table)

@@ -1,58 +1,48 @@
 -- A row that is put behind all others.
-use Rattle.std.proofs.Common.{◌≡◌, Bool, true, false, ◌&&◌, List, [], ◌∷◌, ◌++◌, Some, IsTrue, refl, sym, ap, ap₂, subst, ◌∙◌, append_assoc}
-use Rattle.std.proofs.lemmas.Bool.{and_parts}
+use Rattle.std.proofs.Common.{◌≡◌, List, [], ◌∷◌, ◌++◌, Some, IsTrue, refl, sym, ap, subst, ◌∙◌, append_assoc, arith}
 use Rattle.std.proofs.lemmas.List.{append-nil}
 use Rattle.std.specs.List.Sorted.{IsStrictlySortedBy}
 use Rattle.std.specs.Map.{keys_of, set_value}
 use Rattle.std.specs.BTreeMap.{is_at}
-use Rattle.std.specs.FinMap.Entries.{is_sorted, below_all}
-use Rattle.std.specs.Option.{option_cmp}
-use Rattle.std.specs.Ordering.{is_lt, ordering_then, ordering_reverse}
+use Rattle.std.specs.FinMap.Entries.{below_all}
+use Rattle.std.specs.Ordering.{is_lt}
 use Rattle.std.specs.declared.cmp.Ordering.TheVariants.{Less}
 use Rattle.kv_types.specs.declared.record_id.RecordId.{RecordId}
-use Rattle.kv_types.specs.Keyspace.{key_of, field_of, bytes_cmp, record_cmp}
+use Rattle.kv_types.specs.Keyspace.{key_of, bytes_cmp, record_cmp}
 use Rattle.kv_types.specs.Order.{record_cmp_total}
 use Rattle.mv_keyspace.specs.declared.row.Row.{Row}
 use Rattle.mv_keyspace.specs.declared.slot.Slot.{Slot}
 use Rattle.mv_keyspace.specs.Row.{records_of, table_of}
 use Rattle.mv_keyspace.specs.Slots.{Slots, rows_in, slot_at, AreOfKey, AreSlots}
 use Rattle.mv_keyspace.proofs.EndingLemmas.{AreInOrder}
-use Rattle.mv_keyspace.proofs.SlotLemmas.{AllStand, all-append, slots-written, table_of-append}
+use Rattle.mv_keyspace.proofs.SlotLemmas.{AllStand, slots-written, table_of-append}
+use Rattle.mv_keyspace.proofs.AllLemmas.{All-append}
 use Rattle.mv_keyspace.proofs.WritingLemmas.{own, of-key, rows-found, rows-written}
 
 -- ---- parts of rows in order
 
 below-first : (id : RecordId) (rows more : List Row) → IsTrue (below_all record_cmp id (records_of (rows ++ more))) → IsTrue (below_all record_cmp id (records_of rows))
 below-first id [] more below = refl
-below-first id (row ∷ rows) more below =
-    let parts = and_parts (is_lt (record_cmp id row.id)) (below_all record_cmp id (records_of (rows ++ more))) below in
-    ap₂ (λ (a b : Bool). a && b) parts.0 (below-first id rows more parts.1)
+below-first id (row ∷ rows) more below = grind (arith, below-first id rows more)
 
 below-last : (id : RecordId) (rows : List Row) (row : Row) → IsTrue (below_all record_cmp id (records_of (rows ++ row ∷ []))) → IsTrue (is_lt (record_cmp id row.id))
-below-last id [] row below = (and_parts (is_lt (record_cmp id row.id)) true below).0
-below-last id (next ∷ rows) row below = below-last id rows row (and_parts (is_lt (record_cmp id next.id)) (below_all record_cmp id (records_of (rows ++ row ∷ []))) below).1
+below-last id [] row below = grind arith
+below-last id (next ∷ rows) row below = grind (arith, below-last id rows row)
 
 pub order-first : (rows more : List Row) → AreInOrder (rows ++ more) → AreInOrder rows
 order-first [] more order = refl
-order-first (row ∷ rows) more order =
-    let parts = and_parts (below_all record_cmp row.id (records_of (rows ++ more))) (is_sorted record_cmp (records_of (rows ++ more))) order in
-    ap₂ (λ (a b : Bool). a && b) (below-first row.id rows more parts.0) (order-first rows more parts.1)
+order-first (row ∷ rows) more order = grind (arith, below-first row.id rows more, order-first rows more)
 
 order-last : (rows more : List Row) → AreInOrder (rows ++ more) → AreInOrder more
 order-last [] more order = order
-order-last (row ∷ rows) more order = order-last rows more (and_parts (below_all record_cmp row.id (records_of (rows ++ more))) (is_sorted record_cmp (records_of (rows ++ more))) order).1
+order-last (row ∷ rows) more order = grind (arith, order-last rows more)
 
 -- ---- a row that comes after all others
 
 -- no row of a greater key is among them
 none-after : (row : Row) (after : List Row) → AllStand Less (key_of row.id) (table_of after) → AreInOrder (after ++ row ∷ []) → after ≡ []
 none-after row [] less order = refl
-none-after row (next ∷ after) less order =
-    let parts = and_parts (below_all record_cmp next.id (records_of (after ++ row ∷ []))) (is_sorted record_cmp (records_of (after ++ row ∷ []))) order in
-    let up = below-last next.id after row parts.0 in
-    let down : is_lt (record_cmp next.id row.id) ≡ false =
-    ap is_lt (record_cmp_total.antisymm next.id row.id ∙ ap (λ o. ordering_reverse (ordering_then o (option_cmp bytes_cmp (field_of row.id) (field_of next.id)))) less.0) in
-    cc
+none-after row (next ∷ after) less order = grind (arith, below-last next.id after row, record_cmp_total.antisymm next.id row.id, less.0)
 
 -- the slot is that of its key
 module _ (row : Row) (es : Slots) (slot : Slot) (slots : AreSlots es) (found : slot_at (key_of row.id) es ≡ Some slot) (order : AreInOrder (rows_in es ++ row ∷ [])) where
@@ -80,7 +70,7 @@ module _ (row : Row) (es : Slots) (slot : Slot) (slots : AreSlots es) (found : s
   of-behind : AreOfKey (key_of row.id) (table_of (slot.rows.items ++ row ∷ []))
   of-behind =
       subst (AreOfKey (key_of row.id)) (sym (table_of-append slot.rows.items (row ∷ [])))
-      (all-append (λ other. key_of other.0 ≡ key_of row.id) (table_of slot.rows.items) (table_of (row ∷ [])) (of-key (key_of row.id) es slot slots found) (refl, tt))
+      (All-append (λ other. key_of other.0 ≡ key_of row.id) (table_of slot.rows.items) (table_of (row ∷ [])) (of-key (key_of row.id) es slot slots found) (refl, tt))
 
   -- and it was written with the row behind those that it had
   module _ (other : Slot) (left : Slots) (is : left ≡ set_value (is_at (bytes_cmp (key_of row.id))) es other) (sorted : IsStrictlySortedBy bytes_cmp (keys_of left)) (added : other.rows.items ≡ slot.rows.items ++ row ∷ []) where

@@ -1,9 +1,6 @@
 -- How many keys a keyspace has, with those of one key and without.
-use Rattle.std.proofs.Common.{◌≡◌, ℕ, suc, ◌+◌, ◌≤◌, Bool, true, false, cond, not, ◌||◌, List, [], ◌∷◌, length, Some, None, refl, sym, ap, ap₂, ◌∙◌, arith}
-use Rattle.std.proofs.lemmas.Bool.{false_from_ne_true}
-use Rattle.std.specs.FinMap.Entries.{where_key, by_order}
-use Rattle.std.specs.declared.cmp.Ordering.{Ordering}
-use Rattle.std.specs.declared.cmp.Ordering.TheVariants.{Less, Equal, Greater}
+use Rattle.std.proofs.Common.{◌≡◌, ℕ, ◌+◌, ◌≤◌, Bool, true, false, cond, not, List, [], ◌∷◌, length, Option, Some, None, refl, sym, ap, ◌∙◌, arith}
+use Rattle.std.specs.FinMap.Entries.{where_key}
 use Rattle.kv_types.specs.declared.record_id.RecordId.{RecordId}
 use Rattle.kv_types.specs.declared.record_id.RecordId.TheVariants.{Str, Field}
 use Rattle.kv_types.specs.declared.change.Change.{Change}
@@ -23,18 +20,11 @@ use Rattle.mv_keyspace.proofs.ListLemmas.{length_map}
 use Rattle.mv_keyspace.proofs.TableLemmas.{records-place}
 
 keys-few : (s : Keyspace) → length (keys_of s) ≤ length s
-keys-few [] = let none = ap (λ keys. length keys) keys_none in omega (arith, none)
-keys-few (e ∷ s) = step (has_key s (key_of e.0)) (ap (λ keys. length keys) (keys_more e s)) (keys-few s)
-  where
-    step : (b : Bool) → length (keys_of (e ∷ s)) ≡ length (cond b (keys_of s) (key_of e.0 ∷ keys_of s)) → length (keys_of s) ≤ length s → length (keys_of (e ∷ s)) ≤ suc (length s)
-    step true is rest = omega arith
-    step false is rest = omega arith
+keys-few [] = grind (arith, keys_none)
+keys-few (e ∷ s) = grind (arith, keys_more e s, keys-few s)
 
-pub keys-few_rows : (rows : List Row) → length (keys_of (records_of rows)) ≤ length rows
-keys-few_rows rows =
-    let few = keys-few (records_of rows) in
-    let same = length_map {Y = RecordId × List ℕ} (λ (row : Row). (row.id, row.value)) rows in
-    omega (arith, few, same)
+pub keys_few_rows : (rows : List Row) → length (keys_of (records_of rows)) ≤ length rows
+keys_few_rows rows = omega (arith, keys-few (records_of rows), length_map {Y = RecordId × List ℕ} (λ (row : Row). (row.id, row.value)) rows)
 
 -- ---- without the records of one key
 
@@ -42,54 +32,15 @@ abbrev others : List ℕ → Keyspace → Keyspace
 others key = where_key record_cmp (is_of_other (Some key))
 
 module _ (key : List ℕ) where
-  others_more : (e : RecordId × List ℕ) (s : Keyspace) (b : Bool) → same_bytes (key_of e.0) key ≡ b → others key (e ∷ s) ≡ cond (not b) (e ∷ others key s) (others key s)
-  others_more e s b is = ap (λ c. cond (not c) (e ∷ others key s) (others key s)) is
-
-  differ : (a b : List ℕ) → same_bytes a key ≡ true → same_bytes b key ≡ false → same_bytes a b ≡ false
-  differ a b same other = false_from_ne_true (same_bytes a b) (λ e.
-      let is : same_bytes b key ≡ true = ap (λ k. same_bytes k key) (sym (same_key a b e)) ∙ same in
-      let both : true ≡ false = sym is ∙ other in
-      cc)
-
   has-others : (other : List ℕ) → same_bytes other key ≡ false → (s : Keyspace) → has_key (others key s) other ≡ has_key s other
   has-others other apart [] = refl
-  has-others other apart (e ∷ s) = step (same_bytes (key_of e.0) key) refl (has-others other apart s)
-    where
-      step : (b : Bool) → same_bytes (key_of e.0) key ≡ b → has_key (others key s) other ≡ has_key s other → has_key (others key (e ∷ s)) other ≡ has_key (e ∷ s) other
-      step true is rest =
-          ap (λ t. has_key t other) (others_more e s true is) ∙ rest
-          ∙ ap (λ b. b || has_key s other) (sym (differ (key_of e.0) other is apart)) ∙ sym (has_more e s other)
-      step false is rest =
-          ap (λ t. has_key t other) (others_more e s false is) ∙ has_more e (others key s) other
-          ∙ ap (λ b. same_bytes (key_of e.0) other || b) rest ∙ sym (has_more e s other)
+  has-others other apart (e ∷ s) = grind (arith, has_more e s other, has_more e (others key s) other, same_key (key_of e.0) key, same_key (key_of e.0) other, key_itself key, has-others other apart s)
 
   -- a key that is there counts one
   pub keys-others : (s : Keyspace) → length (keys_of s) ≡ cond (has_key s key) 1 0 + length (keys_of (others key s))
-  keys-others [] =
-      let none = ap (λ keys. length keys) keys_none in
-      let absent = ap {B = ℕ} (λ b. cond b 1 0) (has_none key) in
-      omega (arith, none, absent)
-  keys-others (e ∷ s) = step (same_bytes (key_of e.0) key) refl (keys-others s)
-    where
-      own : (b : Bool) → has_key s key ≡ b → length (keys_of (e ∷ s)) ≡ length (cond b (keys_of s) (key_of e.0 ∷ keys_of s)) → length (keys_of s) ≡ cond b 1 0 + length (keys_of (others key s))
-          → length (keys_of (e ∷ s)) ≡ 1 + length (keys_of (others key s))
-      own true is more rest = omega (arith, more, rest)
-      own false is more rest = omega (arith, more, rest)
-
-      another : (b : Bool) (had : ℕ) → length (keys_of (e ∷ s)) ≡ length (cond b (keys_of s) (key_of e.0 ∷ keys_of s)) → length (keys_of (others key (e ∷ s))) ≡ length (cond b (keys_of (others key s)) (key_of e.0 ∷ keys_of (others key s)))
-          → length (keys_of s) ≡ had + length (keys_of (others key s)) → length (keys_of (e ∷ s)) ≡ had + length (keys_of (others key (e ∷ s)))
-      another true had more more' rest = omega (arith, more, more', rest)
-      another false had more more' rest = omega (arith, more, more', rest)
-
-      step : (b : Bool) → same_bytes (key_of e.0) key ≡ b → length (keys_of s) ≡ cond (has_key s key) 1 0 + length (keys_of (others key s)) → length (keys_of (e ∷ s)) ≡ cond (has_key (e ∷ s) key) 1 0 + length (keys_of (others key (e ∷ s)))
-      step true is rest =
-          own (has_key s key) refl (ap (λ keys. length keys) (keys_more e s ∙ ap (λ k. cond (has_key s k) (keys_of s) (key_of e.0 ∷ keys_of s)) (same_key (key_of e.0) key is))) rest
-          ∙ ap₂ (λ b t. cond b 1 0 + length (keys_of t)) (sym (has_more e s key ∙ ap (λ b. b || has_key s key) is)) (sym (others_more e s true is))
-      step false is rest =
-          another (has_key s (key_of e.0)) (cond (has_key s key) 1 0) (ap (λ keys. length keys) (keys_more e s))
-          (ap (λ t. length (keys_of t)) (others_more e s false is) ∙ ap (λ keys. length keys) (keys_more e (others key s) ∙ ap (λ b. cond b (keys_of (others key s)) (key_of e.0 ∷ keys_of (others key s))) (has-others (key_of e.0) is s)))
-          rest
-          ∙ ap (λ b. cond b 1 0 + length (keys_of (others key (e ∷ s)))) (sym (has_more e s key ∙ ap (λ b. b || has_key s key) is))
+  keys-others [] = grind (arith, keys_none, has_none key)
+  keys-others (e ∷ s) =
+      grind (arith, keys_more e s, keys_more e (others key s), has_more e s key, same_key (key_of e.0) key, λ (apart : same_bytes (key_of e.0) key ≡ false). has-others (key_of e.0) apart s, keys-others s)
 
 -- ---- a change leaves the records of other keys
 
@@ -101,39 +52,18 @@ module _ (key : List ℕ) where
   -- taking out some records of the key
   others-where : (p : RecordId → Bool) → ((id : RecordId) → p id ≡ false → same_bytes (key_of id) key ≡ true) → (s : Keyspace) → others key (where_key record_cmp p s) ≡ others key s
   others-where p own [] = refl
-  others-where p own (e ∷ s) = step (others-where p own s) (p e.0) refl (same_bytes (key_of e.0) key) refl
-    where
-      step : others key (where_key record_cmp p s) ≡ others key s → (b : Bool) → p e.0 ≡ b → (d : Bool) → same_bytes (key_of e.0) key ≡ d → others key (cond b (e ∷ where_key record_cmp p s) (where_key record_cmp p s)) ≡ others key (e ∷ s)
-      step rest true is true same = others_more key e (where_key record_cmp p s) true same ∙ rest ∙ sym (others_more key e s true same)
-      step rest true is false same =
-          others_more key e (where_key record_cmp p s) false same ∙ ap (λ t. e ∷ t) rest ∙ sym (others_more key e s false same)
-      step rest false is d same = rest ∙ sym (others_more key e s true (own e.0 is))
+  others-where p own (e ∷ s) = grind (arith, own e.0, others-where p own s)
 
   -- putting in a record of the key
   others-put : (id : RecordId) (value : List ℕ) → same_bytes (key_of id) key ≡ true → (s : Keyspace) → others key (with_record id value s) ≡ others key s
-  others-put id value own [] = others_more key (id, value) [] true own
-  others-put id value own (e ∷ s) = step (others-put id value own s) (record_cmp id e.0) refl
-    where
-      later : others key (with_record id value s) ≡ others key s → (d : Bool) → same_bytes (key_of e.0) key ≡ d → others key (e ∷ with_record id value s) ≡ others key (e ∷ s)
-      later rest true same = others_more key e (with_record id value s) true same ∙ rest ∙ sym (others_more key e s true same)
-      later rest false same = others_more key e (with_record id value s) false same ∙ ap (λ t. e ∷ t) rest ∙ sym (others_more key e s false same)
-
-      step : others key (with_record id value s) ≡ others key s → (o : Ordering) → record_cmp id e.0 ≡ o → others key (by_order o ((id, value) ∷ e ∷ s) ((e.0, value) ∷ s) (e ∷ with_record id value s)) ≡ others key (e ∷ s)
-      step rest Less is = others_more key (id, value) (e ∷ s) true own
-      step rest Equal is =
-          let same = ap (λ x. same_bytes (key_of x) key) (sym (record_cmp_equal id e.0 is)) ∙ own in
-          others_more key (e.0, value) s true same ∙ sym (others_more key e s true same)
-      step rest Greater is = later rest (same_bytes (key_of e.0) key) refl
-
-not_false : (b : Bool) → not b ≡ false → b ≡ true
-not_false true e = refl
-not_false false e = cc
+  others-put id value own [] = grind arith
+  others-put id value own (e ∷ s) = grind (arith, record_cmp_equal id e.0, others-put id value own s)
 
 of_key : (key : List ℕ) (id : RecordId) → not (same_bytes (key_of id) key) ≡ false → same_bytes (key_of id) key ≡ true
-of_key key id e = not_false (same_bytes (key_of id) key) e
+of_key key id e = grind arith
 
 of_record : (other id : RecordId) → not (is_same id other) ≡ false → same_bytes (key_of id) (key_of other) ≡ true
-of_record other id e = ap (λ x. same_bytes (key_of x) (key_of other)) (same_record id other (not_false (is_same id other) e)) ∙ key_itself (key_of other)
+of_record other id e = grind (arith, same_record id other, key_itself (key_of other))
 
 beside-play : (s : Keyspace) (c : Change) → where_key record_cmp (is_of_other (changed_key c)) (play s c) ≡ where_key record_cmp (is_of_other (changed_key c)) s
 beside-play s (change.Put (Str key) value) =
@@ -157,18 +87,14 @@ keys_beside-placed position rows after c is =
 
 -- ---- the count, where a change touches one key or all
 
-keys-changed : (c : Change) (key : List ℕ) (s : Keyspace) → changed_key c ≡ Some key → length (keys_of s) ≡ cond (has_key s key) 1 0 + length (keys_beside c s)
-keys-changed c key s is = keys-others key s ∙ ap (λ k. cond (has_key s key) 1 0 + length (keys_of (where_key record_cmp (is_of_other k) s))) (sym is)
+-- how many keys a change may touch: the one that it names, if it has records, or all
+abbrev pub keys_at : Option (List ℕ) → Keyspace → ℕ
+keys_at (Some key) s = cond (has_key s key) 1 0
+keys_at None s = length (keys_of s)
 
-pub keys-with : (c : Change) (key : List ℕ) (s : Keyspace) → changed_key c ≡ Some key → has_key s key ≡ true → length (keys_of s) ≡ 1 + length (keys_beside c s)
-keys-with c key s is has = keys-changed c key s is ∙ ap (λ b. cond b 1 0 + length (keys_beside c s)) has
-
-pub keys-without : (c : Change) (key : List ℕ) (s : Keyspace) → changed_key c ≡ Some key → has_key s key ≡ false → length (keys_of s) ≡ length (keys_beside c s)
-keys-without c key s is not_there = keys-changed c key s is ∙ ap (λ b. cond b 1 0 + length (keys_beside c s)) not_there ∙ omega arith
-
-pub keys-without_all : (c : Change) (s : Keyspace) → changed_key c ≡ None → length (keys_beside c s) ≡ 0
-keys-without_all c s is = ap (λ k. length (keys_of (where_key record_cmp (is_of_other k) s))) is ∙ ap (λ t. length (keys_of t)) (none_other s) ∙ ap (λ keys. length keys) keys_none
-
--- the key has records or not, as it is told
-pub keys-told : (c : Change) (key : List ℕ) (s : Keyspace) (has : Bool) → changed_key c ≡ Some key → has ≡ has_key s key → length (keys_of s) ≡ cond has 1 0 + length (keys_beside c s)
-keys-told c key s has is told = keys-changed c key s is ∙ ap (λ b. cond b 1 0 + length (keys_beside c s)) (sym told)
+pub keys_counted : (c : Change) (s : Keyspace) → length (keys_beside c s) + keys_at (changed_key c) s ≡ length (keys_of s)
+keys_counted c s = by (changed_key c)
+  where
+    by : (key : Option (List ℕ)) → length (keys_of (where_key record_cmp (is_of_other key) s)) + keys_at key s ≡ length (keys_of s)
+    by (Some key) = omega (arith, keys-others key s)
+    by None = omega (arith, ap (λ keys. length keys) (ap keys_of (none_other s) ∙ keys_none))

@@ -1,3 +1,4 @@
+pub mod AllLemmas
 pub mod TableLemmas
 pub mod VersionTables
 pub mod TableMembers

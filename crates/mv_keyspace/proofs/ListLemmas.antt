@@ -1,5 +1,5 @@
 -- Rows that are filtered, and rows inserted among others.
-use Rattle.std.proofs.Common.{◌≡◌, ℕ, suc, ◌+◌, Bool, true, false, cond, List, [], ◌∷◌, ◌++◌, map, length, take, drop, insert, IsTrue, refl, sym, ap, ap₂, ◌∙◌, length-append, arith}
+use Rattle.std.proofs.Common.{◌≡◌, ℕ, suc, ◌+◌, Bool, List, [], ◌∷◌, ◌++◌, map, length, take, drop, insert, IsTrue, refl, sym, ap, ap₂, ◌∙◌, length-append, arith}
 use Rattle.std.proofs.lemmas.List.{map-append, take-map, drop-map}
 use Rattle.std.specs.Prelude.{filter}
 use Rattle.std.specs.FinMap.Entries.{where_key, is_sorted}
@@ -25,11 +25,7 @@ entry_of row = (row.id, cell_of_row row)
 -- rows that pass a test, as a table
 pub table_of-filter : (p : RecordId → Bool) (rows : List Row) → table_of (filter (λ row. p row.id) rows) ≡ where_key record_cmp p (table_of rows)
 table_of-filter p [] = refl
-table_of-filter p (row ∷ rows) =
-    elim (p row.id) as (λ b. table_of (cond b (row ∷ filter (λ r. p r.id) rows) (filter (λ r. p r.id) rows)) ≡ cond b (entry_of row ∷ where_key record_cmp p (table_of rows)) (where_key record_cmp p (table_of rows))) [
-      | true ↦ ap (λ t. entry_of row ∷ t) (table_of-filter p rows)
-      | false ↦ table_of-filter p rows
-    ]
+table_of-filter p (row ∷ rows) = grind (arith, table_of-filter p rows)
 
 -- ---- the same by rows
 
@@ -62,12 +58,7 @@ in_order-placed position rows after changes is sorted =
 
 pub length-ended : (before after : List EntryNo) (gone : Table) → numbers_of after ≡ numbers_of before ++ entries_of gone → length after ≡ length before + length gone
 length-ended before after gone is =
-    let a = length_map (λ (entry : EntryNo). entry.0) after in
-    let b = length_map (λ (entry : EntryNo). entry.0) before in
-    let g = length_map (λ (row : RecordId × Cell). row.1.entry) gone in
-    let sum = length-append (numbers_of before) (entries_of gone) in
-    let whole = ap (λ (xs : List ℕ). length xs) is in
-    omega (arith, a, b, g, sum, whole)
+    omega (arith, ap (λ (xs : List ℕ). length xs) is, length-append (numbers_of before) (entries_of gone), length_map (λ (entry : EntryNo). entry.0) after, length_map (λ (entry : EntryNo). entry.0) before, length_map (λ (row : RecordId × Cell). row.1.entry) gone)
 
 -- ---- entries and their numbers
 

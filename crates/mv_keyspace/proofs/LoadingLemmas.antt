@@ -1,6 +1,6 @@
 -- Rows that exclude none of the others make up a lawful table once they are in order.
-use Rattle.std.proofs.Common.{◌≡◌, ℕ, zero, suc, ◌<◌, ◌≤◌, ◌⊎◌, ⊎_elim, ◌&&◌, ◌||◌, List, [], ◌∷◌, length, get_or, Bool, true, false, IsTrue, cond, Option, Some, None, IsSome, Less, Equal, Greater, Contains, nat_eq, refl, sym, ap, ap₂, subst, ◌∙◌, is_lt, arith, eq-eqb, eqb-true}
-use Rattle.std.proofs.lemmas.Bool.{and_parts, cases_order}
+use Rattle.std.proofs.Common.{◌≡◌, ℕ, zero, suc, ◌<◌, ◌≤◌, ◌⊎◌, ⊎_elim, ◌&&◌, ◌||◌, List, [], ◌∷◌, length, get_or, Bool, true, false, IsTrue, cond, Option, Some, None, IsSome, Contains, nat_eq, refl, sym, ap, ap₂, subst, ◌∙◌, is_lt, arith, eq-eqb}
+use Rattle.std.proofs.lemmas.Bool.{and_parts, and_from, or_parts, cases_order}
 use Rattle.std.proofs.lemmas.List.{get_or_default}
 use Rattle.std.proofs.lemmas.List.Sorted.{ranks_by, sorted_far, IsPermutation-map, IsPermutation-sym, Contains-permutation}
 use Rattle.std.proofs.lemmas.Map.Keys.{IsDistinct-head, IsDistinct-tail, IsDistinct-IsPermutation, apart_from_distinct}
@@ -9,7 +9,6 @@ use Rattle.std.specs.FinMap.Entries.{is_sorted, below_all}
 use Rattle.std.specs.List.{AllByRecursion}
 use Rattle.std.specs.List.Sorted.{IsPermutation, IsSortedBy}
 use Rattle.std.specs.Option.{option_map}
-use Rattle.std.specs.Ordering.{ordering_reverse}
 use Rattle.std.specs.Prelude.{is_none}
 use Rattle.kv_types.specs.declared.record_id.RecordId.{RecordId}
 use Rattle.kv_types.specs.declared.record_id.RecordId.TheVariants.{Str, Field}
@@ -22,7 +21,7 @@ use Rattle.mv_keyspace.specs.declared.row.Row.{Row}
 use Rattle.mv_keyspace.specs.Loading.{excludes, AreCompatible, HasRows}
 use Rattle.mv_keyspace.specs.Row.{records_of, records_of_table, table_of}
 use Rattle.mv_keyspace.specs.Table.{Cell, Table, cell_at, IsLawful}
-use Rattle.mv_keyspace.proofs.EndedLemmas.{or_right}
+use Rattle.std.proofs.lemmas.Bool.{or_right}
 use Rattle.mv_keyspace.proofs.ListLemmas.{entry_of}
 use Rattle.mv_keyspace.proofs.TableLemmas.{value_at-records}
 use Rattle.mv_keyspace.proofs.TableMembers.{IsSortedTable, is_sorted-records, found-later}
@@ -30,7 +29,7 @@ use Rattle.mv_keyspace.proofs.TableMembers.{IsSortedTable, is_sorted-records, fo
 -- ---- what excludes what
 
 same_key-flips : (xs ys : List ℕ) → is_same_key xs ys ≡ is_same_key ys xs
-same_key-flips xs ys = both_ways (is_same_key xs ys) (is_same_key ys xs) (λ e. turned xs ys e) (λ e. turned ys xs e)
+same_key-flips xs ys = both_ways (is_same_key xs ys) (is_same_key ys xs) (turned xs ys) (turned ys xs)
   where
     turned : (xs ys : List ℕ) → is_same_key xs ys ≡ true → is_same_key ys xs ≡ true
     turned xs ys e = ap (is_same_key ys) (same_key xs ys e) ∙ key_itself ys
@@ -38,30 +37,17 @@ same_key-flips xs ys = both_ways (is_same_key xs ys) (is_same_key ys xs) (λ e. 
 same-flips : (x y : RecordId) → is_same x y ≡ is_same y x
 same-flips x y = both_ways (is_same x y) (is_same y x) (λ e. is_same_at y x (sym (same_record x y e))) (λ e. is_same_at x y (sym (same_record y x e)))
 
-or-flips : (a b c : Bool) → (a || b || c) ≡ (a || c || b)
-or-flips true b c = refl
-or-flips false true true = refl
-or-flips false true false = refl
-or-flips false false true = refl
-or-flips false false false = refl
-
 clash-flips : (x y : RecordId) → is_clash x y ≡ is_clash y x
-clash-flips x y =
-    ap₂ (λ (a b : Bool). a && (b || is_none (field_of x) || is_none (field_of y))) (same_key-flips (key_of x) (key_of y)) (same-flips x y)
-    ∙ ap (λ b. is_same_key (key_of y) (key_of x) && b) (or-flips (is_same y x) (is_none (field_of x)) (is_none (field_of y)))
-
-nat_eq-flips : (i j : ℕ) → nat_eq i j ≡ nat_eq j i
-nat_eq-flips i j = both_ways (nat_eq i j) (nat_eq j i) (λ e. eq-eqb j i (sym (eqb-true i j e))) (λ e. eq-eqb i j (sym (eqb-true j i e)))
+clash-flips x y = turned (is_none (field_of x)) (is_none (field_of y)) (same_key-flips (key_of x) (key_of y)) (same-flips x y)
+  where
+    turned : {k k' s s' : Bool} (f f' : Bool) → k ≡ k' → s ≡ s' → (k && (s || f || f')) ≡ (k' && (s' || f' || f))
+    turned f f' e e' = grind arith
 
 pub excludes-flips : (x y : RecordId × Cell) → excludes x y ≡ excludes y x
-excludes-flips x y = ap₂ (λ (a b : Bool). a || b) (clash-flips x.0 y.0) (nat_eq-flips x.1.entry y.1.entry)
+excludes-flips x y = ap₂ (λ (a b : Bool). a || b) (clash-flips x.0 y.0) (grind arith)
 
 clash_itself : (x : RecordId) → is_clash x x ≡ true
 clash_itself x = ap₂ (λ (a b : Bool). a && (b || is_none (field_of x) || is_none (field_of x))) (key_itself (key_of x)) (record_itself x)
-
-or_none : (a b : Bool) → (a || b) ≡ false → a ≡ false
-or_none true b e = cc
-or_none false b e = refl
 
 -- two rows of which each excludes the other do not come one after the other
 apart_in_turn : (rows : Table) → AreCompatible rows → (x y : RecordId × Cell) (i j : ℕ) → i < j → j < length rows → get_or rows i x ≡ x → get_or rows j y ≡ y → excludes x y ≡ true → ⊥
@@ -84,22 +70,13 @@ same_row rows apart x y at at' e =
 -- ---- rows that were sorted
 
 rises : (x y : RecordId) → is_lt (record_cmp y x) ≡ false → is_clash x y ≡ false → IsTrue (is_lt (record_cmp x y))
-rises x y up apart =
-    elim (record_cmp x y) as (λ o. record_cmp x y ≡ o → IsTrue (is_lt o)) [
-      | Less ↦ λ e. refl
-      | Equal ↦ λ e.
-          let own : is_clash x x ≡ false = subst (λ z. is_clash x z ≡ false) (sym (record_cmp_equal x y e)) apart in
-          let itself = clash_itself x in
-          cc
-      | Greater ↦ λ e. let less : is_lt (record_cmp y x) ≡ true = ap is_lt (record_cmp_total.antisymm y x ∙ ap ordering_reverse e) in cc
-    ] refl
+rises x y up apart = grind (arith, record_cmp_total.antisymm y x, record_cmp_equal x y, clash_itself x)
 
 below : (row : Row) (rest : List Row) → ((j : ℕ) (d : Row) → j < length rest → is_lt (record_cmp (get_or rest j d).id row.id) ≡ false)
     → AllByRecursion (λ other. excludes (entry_of row) other ≡ false) (table_of rest) → IsTrue (below_all record_cmp row.id (table_of rest))
 below row [] up apart = refl
 below row (next ∷ rest) up apart =
-    ap₂ (λ (a b : Bool). a && b) (rises row.id next.id (up 0 next (omega arith)) (or_none (is_clash row.id next.id) (nat_eq row.entry.0 next.entry.0) apart.0))
-    (below row rest (λ j d lt. up (suc j) d (omega (arith, lt))) apart.1)
+    and_from _ _ (rises row.id next.id (up 0 next (omega arith)) (or_parts (is_clash row.id next.id) (nat_eq row.entry.0 next.entry.0) apart.0).0) (below row rest (λ j d lt. up (suc j) d (omega (arith, lt))) apart.1)
 
 -- no row is of a record before that of an earlier row
 abbrev pub NeverFalls : List Row → Type 0
@@ -129,7 +106,7 @@ pub row-from_found : (table : Table) (id : RecordId) (cell : Cell) → cell_at t
 row-from_found [] id cell e = cc
 row-from_found (row ∷ table) id cell e =
     elim (is_same id row.0) as (λ b. is_same id row.0 ≡ b → cond b (Some row.1) (cell_at table id) ≡ Some cell → Contains (row ∷ table) (id, cell)) [
-      | true ↦ λ t is. let key : id ≡ row.0 = same_record id row.0 t in let same : row.1 ≡ cell = cc in (0, omega arith, λ i. (sym key i, same i))
+      | true ↦ λ t is. let same : row.1 ≡ cell = cc in (0, omega arith, λ i. (sym (same_record id row.0 t) i, same i))
       | false ↦ λ t is. let m = row-from_found table id cell is in (suc m.0, omega (arith, m.1), m.2)
     ] refl e
 

@@ -1,11 +1,10 @@
 -- A change of one key, where its rows stand between those of lesser and of greater keys.
-use Rattle.std.proofs.Common.{◌≡◌, ℕ, ◌+◌, Bool, true, false, cond, not, ◌&&◌, ◌||◌, List, [], ◌∷◌, ◌++◌, length, Option, Some, None, IsSome, IsTrue, nat_eq, refl, sym, ap, ap₂, subst, ◌∙◌, ◌≤◌, arith}
+use Rattle.std.proofs.Common.{◌≡◌, ℕ, Bool, true, false, not, ◌||◌, List, [], ◌∷◌, ◌++◌, length, Some, refl, sym, ap, ap₂, subst, ◌∙◌, ◌≤◌, arith}
 use Rattle.std.proofs.lemmas.List.{append-nil}
+use Rattle.std.proofs.lemmas.List.Elements.{filter-append}
 use Rattle.std.proofs.lemmas.Bool.{false_from_ne_true}
 use Rattle.std.specs.List.{AllByRecursion}
-use Rattle.std.specs.FinMap.Entries.{where_key, by_order}
-use Rattle.std.specs.Ordering.{ordering_then, ordering_reverse}
-use Rattle.std.specs.Option.{option_cmp}
+use Rattle.std.specs.FinMap.Entries.{where_key}
 use Rattle.std.specs.Cmp.{tied_itself}
 use Rattle.std.specs.Cmp.Lexicographic.{nat_list_cmp_total}
 use Rattle.std.specs.declared.cmp.Ordering.{Ordering}
@@ -14,7 +13,7 @@ use Rattle.kv_types.specs.declared.record_id.RecordId.{RecordId}
 use Rattle.kv_types.specs.declared.record_id.RecordId.TheVariants.{Str, Field}
 use Rattle.kv_types.specs.declared.change.Change.{Change}
 use Rattle.kv_types.specs.declared.change.Change.TheVariants as change
-use Rattle.kv_types.specs.Keyspace.{key_of, field_of, bytes_cmp, record_cmp}
+use Rattle.kv_types.specs.Keyspace.{key_of, bytes_cmp, record_cmp}
 use Rattle.kv_types.proofs.OrderLemmas.{same_record, same_key}
 use Rattle.kv_types.proofs.LookUpLemmas.{is_same, is_same_key}
 use Rattle.model.specs.declared.group.PlacedChange.{PlacedChange}
@@ -34,68 +33,35 @@ AllAnswer p b = AllByRecursion (λ row. p row.0 ≡ b)
 
 where-kept : (p : RecordId → Bool) (rows more : Table) → AllAnswer p true rows → where_key record_cmp p (rows ++ more) ≡ rows ++ where_key record_cmp p more
 where-kept p [] more all = refl
-where-kept p (row ∷ rows) more all =
-    ap (λ b. cond b (row ∷ where_key record_cmp p (rows ++ more)) (where_key record_cmp p (rows ++ more))) all.0 ∙ ap (λ t. row ∷ t) (where-kept p rows more all.1)
+where-kept p (row ∷ rows) more all = grind (arith, where-kept p rows more all.1)
 
 where-gone : (p : RecordId → Bool) (rows more : Table) → AllAnswer p false rows → where_key record_cmp p (rows ++ more) ≡ where_key record_cmp p more
 where-gone p [] more all = refl
-where-gone p (row ∷ rows) more all =
-    ap (λ b. cond b (row ∷ where_key record_cmp p (rows ++ more)) (where_key record_cmp p (rows ++ more))) all.0 ∙ where-gone p rows more all.1
-
-where-append : (p : RecordId → Bool) (rows more : Table) → where_key record_cmp p (rows ++ more) ≡ where_key record_cmp p rows ++ where_key record_cmp p more
-where-append p [] more = refl
-where-append p (row ∷ rows) more =
-    elim (p row.0) as (λ b. cond b (row ∷ where_key record_cmp p (rows ++ more)) (where_key record_cmp p (rows ++ more)) ≡ cond b (row ∷ where_key record_cmp p rows) (where_key record_cmp p rows) ++ where_key record_cmp p more) [
-      | true ↦ ap (λ t. row ∷ t) (where-append p rows more)
-      | false ↦ where-append p rows more
-    ]
-
-where-all : (p : RecordId → Bool) (rows : Table) → AllAnswer p true rows → where_key record_cmp p rows ≡ rows
-where-all p [] all = refl
-where-all p (row ∷ rows) all = ap (λ b. cond b (row ∷ where_key record_cmp p rows) (where_key record_cmp p rows)) all.0 ∙ ap (λ t. row ∷ t) (where-all p rows all.1)
-
-where-none : (p : RecordId → Bool) (rows : Table) → AllAnswer p false rows → where_key record_cmp p rows ≡ []
-where-none p [] all = refl
-where-none p (row ∷ rows) all = ap (λ b. cond b (row ∷ where_key record_cmp p rows) (where_key record_cmp p rows)) all.0 ∙ where-none p rows all.1
+where-gone p (row ∷ rows) more all = grind (arith, where-gone p rows more all.1)
 
 where-between : (p : RecordId → Bool) (before rows after : Table) → AllAnswer p true before → AllAnswer p true after → where_key record_cmp p (before ++ (rows ++ after)) ≡ before ++ (where_key record_cmp p rows ++ after)
 where-between p before rows after first last =
-    where-kept p before (rows ++ after) first
-    ∙ ap (λ t. before ++ t) (where-append p rows after ∙ ap (λ t. where_key record_cmp p rows ++ t) (where-all p after last))
+    where-kept p before (rows ++ after) first ∙ ap (λ t. before ++ t) (filter-append (λ row. p row.0) rows after ∙ ap (λ t. where_key record_cmp p rows ++ t) (where-all last))
+  where
+    where-all : AllAnswer p true after → where_key record_cmp p after ≡ after
+    where-all all = ap (where_key record_cmp p) (sym (append-nil after)) ∙ where-kept p after [] all ∙ append-nil after
 
 where-within : (p : RecordId → Bool) (before rows after : Table) → AllAnswer p false before → AllAnswer p false after → where_key record_cmp p (before ++ (rows ++ after)) ≡ where_key record_cmp p rows
 where-within p before rows after first last =
-    where-gone p before (rows ++ after) first ∙ where-append p rows after
-    ∙ ap (λ t. where_key record_cmp p rows ++ t) (where-none p after last) ∙ append-nil (where_key record_cmp p rows)
+    where-gone p before (rows ++ after) first ∙ filter-append (λ row. p row.0) rows after
+    ∙ ap (λ t. where_key record_cmp p rows ++ t) (ap (where_key record_cmp p) (sym (append-nil after)) ∙ where-gone p after [] last) ∙ append-nil (where_key record_cmp p rows)
 
 -- ---- a record put between others
 
 module _ (id : RecordId) (cell : Cell) where
-  above : (row : RecordId × Cell) → bytes_cmp (key_of id) (key_of row.0) ≡ Greater → record_cmp id row.0 ≡ Greater
-  above row is = ap (λ o. ordering_then o (option_cmp bytes_cmp (field_of id) (field_of row.0))) is
-
-  below : (row : RecordId × Cell) → bytes_cmp (key_of id) (key_of row.0) ≡ Less → record_cmp id row.0 ≡ Less
-  below row is = ap (λ o. ordering_then o (option_cmp bytes_cmp (field_of id) (field_of row.0))) is
-
   put-after : (rows more : Table) → AllStand Greater (key_of id) rows → with_cell id cell (rows ++ more) ≡ rows ++ with_cell id cell more
   put-after [] more all = refl
-  put-after (row ∷ rows) more all =
-      ap (λ o. by_order o ((id, cell) ∷ row ∷ (rows ++ more)) ((row.0, cell) ∷ (rows ++ more)) (row ∷ with_cell id cell (rows ++ more))) (above row all.0)
-      ∙ ap (λ t. row ∷ t) (put-after rows more all.1)
-
-  put-first : (after : Table) → AllStand Less (key_of id) after → with_cell id cell after ≡ (id, cell) ∷ after
-  put-first [] all = refl
-  put-first (row ∷ after) all = ap (λ o. by_order o ((id, cell) ∷ row ∷ after) ((row.0, cell) ∷ after) (row ∷ with_cell id cell after)) (below row all.0)
+  put-after (row ∷ rows) more all = grind (arith, put-after rows more all.1)
 
   put-before : (rows after : Table) → AllStand Less (key_of id) after → with_cell id cell (rows ++ after) ≡ with_cell id cell rows ++ after
-  put-before [] after all = put-first after all
-  put-before (row ∷ rows) after all =
-      elim (record_cmp id row.0) as (λ o. by_order o ((id, cell) ∷ row ∷ (rows ++ after)) ((row.0, cell) ∷ (rows ++ after)) (row ∷ with_cell id cell (rows ++ after))
-      ≡ by_order o ((id, cell) ∷ row ∷ rows) ((row.0, cell) ∷ rows) (row ∷ with_cell id cell rows) ++ after) [
-        | Less ↦ refl
-        | Equal ↦ refl
-        | Greater ↦ ap (λ t. row ∷ t) (put-before rows after all)
-      ]
+  put-before [] [] all = refl
+  put-before [] (row ∷ after) all = grind arith
+  put-before (row ∷ rows) after all = grind (arith, put-before rows after all)
 
   put-between : (before rows after : Table) → AllStand Greater (key_of id) before → AllStand Less (key_of id) after → with_cell id cell (before ++ (rows ++ after)) ≡ before ++ (with_cell id cell rows ++ after)
   put-between before rows after lower upper = put-after before (rows ++ after) lower ∙ ap (λ t. before ++ t) (put-before rows after upper)
@@ -177,20 +143,11 @@ ended-within key c before rows after is lower upper =
 
 own-where : (key : List ℕ) (p : RecordId → Bool) (rows : Table) → AreOfKey key rows → AreOfKey key (where_key record_cmp p rows)
 own-where key p [] own = tt
-own-where key p (row ∷ rows) own =
-    elim (p row.0) as (λ b. AreOfKey key (cond b (row ∷ where_key record_cmp p rows) (where_key record_cmp p rows))) [
-      | true ↦ (own.0, own-where key p rows own.1)
-      | false ↦ own-where key p rows own.1
-    ]
+own-where key p (row ∷ rows) own = grind (arith, own-where key p rows own.1)
 
 own-put : (key : List ℕ) (id : RecordId) (cell : Cell) (rows : Table) → key_of id ≡ key → AreOfKey key rows → AreOfKey key (with_cell id cell rows)
 own-put key id cell [] is own = (is, tt)
-own-put key id cell (row ∷ rows) is own =
-    elim (record_cmp id row.0) as (λ o. AreOfKey key (by_order o ((id, cell) ∷ row ∷ rows) ((row.0, cell) ∷ rows) (row ∷ with_cell id cell rows))) [
-      | Less ↦ (is, own)
-      | Equal ↦ (own.0, own.1)
-      | Greater ↦ (own.0, own-put key id cell rows is own.1)
-    ]
+own-put key id cell (row ∷ rows) is own = grind (arith, own-put key id cell rows is own.1)
 
 own-placed_at : (key : List ℕ) (id : RecordId) (cell : Cell) (rows : Table) → key_of id ≡ key → AreOfKey key rows → AreOfKey key (placed_at id cell rows)
 own-placed_at key (Str own) cell rows is of = own-put key (Str own) cell (without_rows own rows) is (own-where key (λ other. not (is_same_key (key_of other) own)) rows of)
@@ -206,13 +163,7 @@ own-placed position key placed.Clear rows is of = tt
 -- ---- a change that makes no row, where there is none
 
 pub none-made : (c : PlacedChange) → length (put_of c) ≤ 0 → put_of c ≡ []
-none-made (placed.Put put) few = absurd (omega (arith, few))
-none-made (placed.Drop id) few = refl
-none-made (placed.DropKey key) few = refl
-none-made placed.Clear few = refl
+none-made c few = grind arith
 
 pub place-none : (position : ℕ) (c : PlacedChange) → put_of c ≡ [] → place position [] c ≡ []
-place-none position (placed.Put put) none = cc
-place-none position (placed.Drop id) none = refl
-place-none position (placed.DropKey key) none = refl
-place-none position placed.Clear none = refl
+place-none position c none = grind arith

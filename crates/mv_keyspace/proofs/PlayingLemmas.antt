@@ -1,5 +1,5 @@
 -- Changes made one after another: what holds between two of them.
-use Rattle.std.proofs.Common.{◌≡◌, ℕ, ◌<◌, List, [], ◌∷◌, ◌++◌, length, refl, sym, ap, subst, ◌∙◌, append_assoc, subst₂, drop, get_or, ◌+◌, ◌≤◌, not, length-append, arith}
+use Rattle.std.proofs.Common.{drop_of_length-le, ◌≡◌, ℕ, ◌<◌, List, [], ◌∷◌, ◌++◌, length, refl, sym, ap, subst, ◌∙◌, append_assoc, subst₂, drop, get_or, ◌+◌, ◌≤◌, not, length-append, arith}
 use Rattle.std.proofs.lemmas.List.Filters.{length-filter_both}
 use Rattle.std.proofs.lemmas.List.{append-nil, drop_more}
 use Rattle.std.specs.FinMap.Entries.{where_key}
@@ -9,15 +9,17 @@ use Rattle.kv_types.specs.declared.change.Change.TheVariants as kinds
 use Rattle.kv_types.specs.Keyspace.{record_cmp}
 use Rattle.kv_types.specs.declared.change.Change.{Change}
 use Rattle.mv_keyspace.specs.declared.row.Row.{Row}
-use Rattle.mv_keyspace.proofs.ListLemmas.{length_map, entry_of}
+use Rattle.mv_keyspace.proofs.ListLemmas.{length_map, entry_of, more_entries}
+use Rattle.kv_types.specs.declared.place.EntryNo.{EntryNo}
 use Rattle.model.specs.declared.group.Put.{Put}
 use Rattle.model.specs.declared.group.PlacedChange.{PlacedChange}
 use Rattle.model.specs.declared.group.PlacedChange.TheVariants as placed
 use Rattle.model.specs.Group.{change_of, ends_record, put_of}
-use Rattle.mv_keyspace.specs.Table.{Cell, Table, with_cell, entries_of, cell_of_put, place, place_all, puts_of, AreFresh, IsLawful, AreNumbersEnded}
-use Rattle.mv_keyspace.specs.Row.{ended_rows, spared_rows, rows_of_puts, table_of}
+use Rattle.mv_keyspace.specs.Table.{Cell, Table, with_cell, entries_of, cell_of_put, place, place_all, puts_of, AreFresh, IsLawful, AreEnded, AreNumbersEnded}
+use Rattle.mv_keyspace.specs.Row.{ended_rows, spared_rows, rows_of_puts, numbers_of, table_of}
 use Rattle.mv_keyspace.proofs.TableMembers.{IsSortedTable}
-use Rattle.mv_keyspace.proofs.EndedLemmas.{place-made, lawful-place, fresh-place, none-ended, ended-first}
+use Rattle.mv_keyspace.proofs.AppendedLemmas.{ended-first}
+use Rattle.mv_keyspace.proofs.EndedLemmas.{place-made, lawful-place, fresh-place, none-ended}
 
 -- The numbers after those that were there are exactly the ones that the changes ended.
 pub record NamesMore (position : ℕ) (table : Table) (changes : List PlacedChange) (before after : List ℕ) : Type 0 where
@@ -67,32 +69,30 @@ ended-put_id id other value value' table is = (λ k. length (where_key record_cm
 
 -- the first row that is staged is that of the put
 module _ (position : ℕ) (put : Put) (later : List Put) (table : Table) (staged left : Table) (id : RecordId) (cell : Cell) (is : staged ≡ rows_of_puts position (put ∷ later)) (first : staged ≡ (id, cell) ∷ left) where
-  both : (id, cell) ∷ left ≡ (put.id, cell_of_put position put) ∷ rows_of_puts position later
-  both = sym first ∙ is
+  same_row : ◌≡◌ {A = RecordId × Cell} (id, cell) (put.id, cell_of_put position put)
+  same_row = cc
 
   pub id-first : id ≡ put.id
-  id-first = let e = both in let pair : (id, cell) ≡ (put.id, cell_of_put position put) = cc in ap (λ (p : RecordId × Cell). p.0) pair
-
-  cell_is : cell ≡ cell_of_put position put
-  cell_is = let e = both in let pair : (id, cell) ≡ (put.id, cell_of_put position put) = cc in ap (λ (p : RecordId × Cell). p.1) pair
+  id-first = ap (λ (p : RecordId × Cell). p.0) same_row
 
   pub left-first : left ≡ rows_of_puts position later
-  left-first = let e = both in cc
+  left-first = cc
 
   pub placed-first : IsSortedTable table → with_cell id cell (spared_rows (change_of (placed.Put put)) table) ≡ place position table (placed.Put put)
-  placed-first sorted = (λ k. with_cell (id-first k) (cell_is k) (spared_rows (change_of (placed.Put put)) table)) ∙ place-made position put table sorted
+  placed-first sorted = ap (λ (p : RecordId × Cell). with_cell p.0 p.1 (spared_rows (change_of (placed.Put put)) table)) same_row ∙ place-made position put table sorted
 
--- a put finds its row staged
-pub staged-first : (position : ℕ) (put : Put) (later : List Put) → [] ≡ rows_of_puts position (put ∷ later) → ⊥
-staged-first position put later e = cc
-
-pub playing-end : (position : ℕ) (start : Table) (all : List PlacedChange) (before : List ℕ) (table : Table) (staged : Table) (ended : List ℕ) → Playing position start all before table [] staged ended
-    → (table ≡ place_all position start all) × NamesMore position start all before ended
-playing-end position start all before table staged ended playing = (playing.same, subst (λ numbers. NamesMore position start all before numbers) (append-nil ended) (playing.numbers [] (none-ended position table)))
+-- ended entries of which the later ones are those that the changes ended
+pub playing-named : {position : ℕ} {start : Table} {all : List PlacedChange} {table : Table} {waiting : Table} (n : ℕ) (before ended : List EntryNo) → Playing position start all (numbers_of before) table (drop n all) waiting (numbers_of ended) → length all ≤ n
+    → (more : List EntryNo) × (ended ≡ before ++ more) × AreEnded position start all more
+playing-named {position} {start} {all} {table} {waiting} n before ended playing past =
+    let last = subst (λ rest. Playing position start all (numbers_of before) table rest waiting (numbers_of ended)) (drop_of_length-le all past) playing in
+    let names = subst (λ numbers. NamesMore position start all (numbers_of before) numbers) (append-nil (numbers_of ended)) (last.numbers [] (none-ended position table)) in
+    let more = more_entries before ended names.more names.after_is in
+    (more.0, more.1, subst (AreNumbersEnded position start all) (sym more.2) names.ended)
 
 -- ---- the same along the list of all changes
 
-module _ (position : ℕ) (start : Table) (all : List PlacedChange) (before : List ℕ) (table : Table) (n : ℕ) (c : PlacedChange) (waiting : Table) (ended : List ℕ)
+module _ {position : ℕ} {start : Table} {all : List PlacedChange} {before : List ℕ} {table : Table} {waiting : Table} {ended : List ℕ} (n : ℕ) {c : PlacedChange}
     (playing : Playing position start all before table (drop n all) waiting ended) (lt : n < length all) (is : c ≡ get_or all n c) where
   at_change : Playing position start all before table (c ∷ drop (n + 1) all) waiting ended
   at_change = subst (λ rest. Playing position start all before table rest waiting ended) (drop_more all n c lt ∙ ap (λ x. x ∷ drop (n + 1) all) (sym is)) playing
@@ -109,24 +109,13 @@ module _ (position : ℕ) (start : Table) (all : List PlacedChange) (before : Li
 -- ---- room
 
 -- the rows of these puts are staged
+pub length-made : (position : ℕ) (puts : List Put) (rows : List Row) → table_of rows ≡ rows_of_puts position puts → length rows ≡ length puts
+length-made position puts rows is =
+    omega (arith, ap (λ (t : Table). length t) is, length_map entry_of rows, length_map {Y = RecordId × Cell} (λ (put : Put). (put.id, cell_of_put position put)) puts)
+
 pub length-staged : (position : ℕ) (puts later : List Put) (rows : List Row) → table_of rows ≡ rows_of_puts position (puts ++ later) → length puts ≤ length rows
-length-staged position puts later rows is =
-    let same = ap (λ (t : Table). length t) is in
-    let all = length_map entry_of rows in
-    let made = length_map {Y = RecordId × Cell} (λ (put : Put). (put.id, cell_of_put position put)) (puts ++ later) in
-    let parts = length-append puts later in
-    omega (arith, same, all, made, parts)
+length-staged position puts later rows is = omega (arith, length-made position (puts ++ later) rows is, length-append puts later)
 
 -- a change ends rows that are there
 pub ended-few : (c : Change) (rows : List Row) → length (ended_rows c (table_of rows)) ≤ length rows
-ended-few c rows =
-    let both = length-filter_both (λ (row : RecordId × Cell). ends_record c row.0) (λ row. not (ends_record c row.0)) (λ row. refl) (table_of rows) in
-    let all = length_map entry_of rows in
-    omega (arith, both, all)
-
-pub length-made : (position : ℕ) (puts : List Put) (rows : List Row) → table_of rows ≡ rows_of_puts position puts → length rows ≡ length puts
-length-made position puts rows is =
-    let same = ap (λ (t : Table). length t) is in
-    let all = length_map entry_of rows in
-    let made = length_map {Y = RecordId × Cell} (λ (put : Put). (put.id, cell_of_put position put)) puts in
-    omega (arith, same, all, made)
+ended-few c rows = omega (arith, length-filter_both (λ (row : RecordId × Cell). ends_record c row.0) (λ row. not (ends_record c row.0)) (λ row. refl) (table_of rows), length_map entry_of rows)

@@ -1,25 +1,21 @@
 -- Where the row of a put goes in, and what it replaces.
-use Rattle.std.proofs.Common.{◌≡◌, ℕ, zero, suc, ◌+◌, ◌<◌, ◌≤◌, Bool, true, false, cond, not, ◌&&◌, ◌||◌, List, [], ◌∷◌, ◌++◌, length, insert, get_or, Option, Some, None, IsTrue, Vec, vec_capacity, slice_range, refl, sym, ap, subst, ◌∙◌, append_assoc, length-append, take, drop, set, ◌-◌, ap₂, arith}
-use Rattle.std.proofs.lemmas.Bool.{and_parts}
+use Rattle.std.proofs.Common.{◌≡◌, ℕ, zero, suc, ◌+◌, ◌<◌, ◌≤◌, Bool, true, false, cond, not, ◌||◌, List, [], ◌∷◌, ◌++◌, length, insert, get_or, None, IsTrue, Vec, vec_capacity, slice_range, refl, sym, ap, ◌∙◌, append_assoc, length-append, take, drop, set, ◌-◌, ap₂, arith}
 use Rattle.std.proofs.lemmas.List.{map-append, append-nil, length-take-le, take_at, drop_at, drop_more, drop-set-lt}
 use Rattle.std.specs.List.{remove_range, replace_range}
 use Rattle.std.specs.Cmp.{tied_itself}
 use Rattle.std.specs.Cmp.Lexicographic.{nat_list_cmp_total}
 use Rattle.std.specs.Global.{Global}
-use Rattle.std.specs.FinMap.Entries.{where_key, by_order, is_sorted, below_all}
-use Rattle.std.specs.declared.cmp.Ordering.{Ordering}
-use Rattle.std.specs.declared.cmp.Ordering.TheVariants.{Less, Equal, Greater}
-use Rattle.std.specs.Ordering.{is_lt, ordering_then, ordering_reverse}
+use Rattle.std.specs.FinMap.Entries.{where_key, is_sorted, below_all}
 use Rattle.kv_types.specs.declared.record_id.RecordId.{RecordId}
 use Rattle.kv_types.specs.declared.record_id.RecordId.TheVariants.{Str, Field}
 use Rattle.kv_types.specs.declared.change.Change.TheVariants as change
 use Rattle.kv_types.specs.declared.place.EntryNo.{EntryNo}
-use Rattle.kv_types.specs.Keyspace.{bytes_cmp, record_cmp}
+use Rattle.kv_types.specs.Keyspace.{record_cmp}
 use Rattle.kv_types.specs.Order.{record_cmp_total}
 use Rattle.kv_types.proofs.OrderLemmas.{same_record}
 use Rattle.kv_types.proofs.LookUpLemmas.{is_same}
 use Rattle.cmd_core.specs.Record.{SplitsAt, comes_before, is_up_to, has_key_up_to}
-use Rattle.cmd_core.proofs.OrderedLemmas.{cuts-rise, splits-rest, splits-first, splits-none, splits-later, comes_after, key_between, key-comes_before, record_between, record-is_up_to}
+use Rattle.cmd_core.proofs.OrderedLemmas.{splits-rest, splits-first, splits-none, splits-later, comes_after}
 use Rattle.model.proofs.VersionsLemmas.{ends_record-own}
 use Rattle.model.specs.Group.{ends_record}
 use Rattle.mv_keyspace.specs.declared.row.Row.{Row}
@@ -27,12 +23,9 @@ use Rattle.mv_keyspace.specs.Table.{Cell, Table, cell_at, with_cell, entries_of}
 use Rattle.mv_keyspace.specs.Row.{cell_of_row, table_of, numbers_of, TakesOut, is_string_of, stands_for, IsRangeOf, PutsIn}
 use Rattle.mv_keyspace.proofs.ListLemmas.{length_map, entry_of, table_of-insert}
 use Rattle.mv_keyspace.proofs.EndedLemmas.{cell_at-spared}
-use Rattle.mv_keyspace.proofs.EndingLemmas.{length_slice, AreInOrder, order-table, range-passes, left-passes, length-taken, length-left, takes_out}
+use Rattle.mv_keyspace.proofs.EndingLemmas.{length_slice, AreInOrder, order-table, cut-field, cut-key, length-taken, length-left, takes_out}
 
 -- ---- a field and the string of its key, ended one after the other
-
-string_first : (o : Ordering) → o ≡ Equal → is_lt (ordering_then o Greater) ≡ false
-string_first o e = ap (λ p. is_lt (ordering_then p Greater)) e
 
 module _ (key field : List ℕ) where
   abbrev is_string : RecordId → Bool
@@ -41,59 +34,19 @@ module _ (key field : List ℕ) where
   abbrev is_field : RecordId → Bool
   is_field id = is_same id (Field key field)
 
-  is_no_string : (id : RecordId) → is_lt (record_cmp (Field key field) id) ≡ true → (b : Bool) → is_string id ≡ b → b ≡ false
-  is_no_string id lt true same =
-      let at : is_lt (record_cmp (Field key field) (Str key)) ≡ true = ap (λ x. is_lt (record_cmp (Field key field) x)) (sym (same_record id (Str key) same)) ∙ lt in
-      let no : is_lt (record_cmp (Field key field) (Str key)) ≡ false = string_first (bytes_cmp key key) (tied_itself nat_list_cmp_total key) in
-      let both : true ≡ false = sym at ∙ no in
-      cc
-  is_no_string id lt false same = refl
-
   -- no string of the key comes behind its field
   no_strings : (table : Table) → IsTrue (below_all record_cmp (Field key field) table) → where_key record_cmp is_string table ≡ []
   no_strings [] below = refl
-  no_strings (row ∷ table) below =
-      let parts = and_parts (is_lt (record_cmp (Field key field) row.0)) (below_all record_cmp (Field key field) table) below in
-      ap (λ b. cond b (row ∷ where_key record_cmp is_string table) (where_key record_cmp is_string table)) (is_no_string row.0 parts.0 (is_string row.0) refl)
-      ∙ no_strings table parts.1
+  no_strings (row ∷ table) below = grind (arith, same_record row.0 (Str key), tied_itself nat_list_cmp_total key, no_strings table)
 
-  abbrev ended_both : Table → Table
-  ended_both table = where_key record_cmp is_string table ++ where_key record_cmp is_field (where_key record_cmp (λ id. not (is_string id)) table)
-
-  first_step : (row : RecordId × Cell) (table : Table) → IsTrue (below_all record_cmp row.0 table) → (s f : Bool) → is_string row.0 ≡ s → is_field row.0 ≡ f → ended_both table ≡ where_key record_cmp (λ id. is_field id || is_string id) table
-      → cond s (row ∷ where_key record_cmp is_string table) (where_key record_cmp is_string table)
-      ++ where_key record_cmp is_field (cond (not s) (row ∷ where_key record_cmp (λ id. not (is_string id)) table) (where_key record_cmp (λ id. not (is_string id)) table))
-      ≡ cond (f || s) (row ∷ where_key record_cmp (λ id. is_field id || is_string id) table) (where_key record_cmp (λ id. is_field id || is_string id) table)
-  first_step row table below true true a b rest = ap (λ t. row ∷ t) rest
-  first_step row table below true false a b rest = ap (λ t. row ∷ t) rest
-  first_step row table below false false a b rest =
-      ap (λ c. where_key record_cmp is_string table ++ cond c (row ∷ where_key record_cmp is_field (where_key record_cmp (λ id. not (is_string id)) table)) (where_key record_cmp is_field (where_key record_cmp (λ id. not (is_string id)) table))) b
-      ∙ rest
-  first_step row table below false true a b rest =
-      let none = no_strings table (subst (λ id. IsTrue (below_all record_cmp id table)) (same_record row.0 (Field key field) b) below) in
-      ap (λ c. where_key record_cmp is_string table ++ cond c (row ∷ where_key record_cmp is_field (where_key record_cmp (λ id. not (is_string id)) table)) (where_key record_cmp is_field (where_key record_cmp (λ id. not (is_string id)) table))) b
-      ∙ ap (λ t. t ++ row ∷ where_key record_cmp is_field (where_key record_cmp (λ id. not (is_string id)) table)) none
-      ∙ ap (λ t. row ∷ t) (sym (ap (λ t. t ++ where_key record_cmp is_field (where_key record_cmp (λ id. not (is_string id)) table)) none) ∙ rest)
-
-  ended-both : (table : Table) → IsTrue (is_sorted record_cmp table) → ended_both table ≡ where_key record_cmp (λ id. is_field id || is_string id) table
+  ended-both : (table : Table) → IsTrue (is_sorted record_cmp table)
+      → where_key record_cmp is_string table ++ where_key record_cmp is_field (where_key record_cmp (λ id. not (is_string id)) table) ≡ where_key record_cmp (λ id. is_field id || is_string id) table
   ended-both [] sorted = refl
-  ended-both (row ∷ table) sorted =
-      let parts = and_parts (below_all record_cmp row.0 table) (is_sorted record_cmp table) sorted in
-      first_step row table parts.0 (is_string row.0) (is_field row.0) refl refl (ended-both table parts.1)
-
-  spared_step : (row : RecordId × Cell) (left whole : Table) → (s f : Bool) → is_field row.0 ≡ f → where_key record_cmp (λ id. not (is_field id)) left ≡ whole
-      → where_key record_cmp (λ id. not (is_field id)) (cond (not s) (row ∷ left) left) ≡ cond (not (f || s)) (row ∷ whole) whole
-  spared_step row left whole true true e rest = rest
-  spared_step row left whole true false e rest = rest
-  spared_step row left whole false true e rest =
-      ap (λ c. cond (not c) (row ∷ where_key record_cmp (λ id. not (is_field id)) left) (where_key record_cmp (λ id. not (is_field id)) left)) e ∙ rest
-  spared_step row left whole false false e rest =
-      ap (λ c. cond (not c) (row ∷ where_key record_cmp (λ id. not (is_field id)) left) (where_key record_cmp (λ id. not (is_field id)) left)) e ∙ ap (λ t. row ∷ t) rest
+  ended-both (row ∷ table) sorted = grind (arith, same_record row.0 (Field key field), no_strings table, ended-both table)
 
   spared-both : (table : Table) → where_key record_cmp (λ id. not (is_field id)) (where_key record_cmp (λ id. not (is_string id)) table) ≡ where_key record_cmp (λ id. not (is_field id || is_string id)) table
   spared-both [] = refl
-  spared-both (row ∷ table) =
-      spared_step row (where_key record_cmp (λ id. not (is_string id)) table) (where_key record_cmp (λ id. not (is_field id || is_string id)) table) (is_string row.0) (is_field row.0) refl (spared-both table)
+  spared-both (row ∷ table) = grind (arith, spared-both table)
 
 where_none : (table : Table) → where_key record_cmp (λ id. false) table ≡ []
 where_none [] = refl
@@ -112,9 +65,7 @@ ended-put (Field key field) value table sorted = ended-both key field table sort
 pub length-ended_put : (id : RecordId) (value : List ℕ) (table : Table) → IsTrue (is_sorted record_cmp table)
     → length (where_key record_cmp (is_string_of id) table) + length (where_key record_cmp (stands_for id) (where_key record_cmp (λ other. not (is_string_of id other)) table)) ≡ length (where_key record_cmp (ends_record (change.Put id value)) table)
 length-ended_put id value table sorted =
-    let whole = ap (λ (t : Table). length t) (ended-put id value table sorted) in
-    let parts = length-append (where_key record_cmp (is_string_of id) table) (where_key record_cmp (stands_for id) (where_key record_cmp (λ other. not (is_string_of id other)) table)) in
-    omega (arith, whole, parts)
+    omega (arith, ap (λ (t : Table). length t) (ended-put id value table sorted), length-append (where_key record_cmp (is_string_of id) table) (where_key record_cmp (stands_for id) (where_key record_cmp (λ other. not (is_string_of id other)) table)))
 
 spared-put : (id : RecordId) (value : List ℕ) (table : Table)
     → where_key record_cmp (λ other. not (stands_for id other)) (where_key record_cmp (λ other. not (is_string_of id other)) table) ≡ where_key record_cmp (λ other. not (ends_record (change.Put id value) other)) table
@@ -123,29 +74,13 @@ spared-put (Field key field) value table = spared-both key field table
 
 -- ---- where a row goes in
 
-missed_first : (b : Bool) (cell : Cell) (rest : Option Cell) → cond b (Some cell) rest ≡ None → (b ≡ false) × (rest ≡ None)
-missed_first true cell rest e = cc
-missed_first false cell rest e = (refl, e)
-
-lt_Less : (o : Ordering) → is_lt o ≡ true → o ≡ Less
-lt_Less Less e = refl
-lt_Less Equal e = cc
-lt_Less Greater e = cc
-
 -- a record that the rows do not have goes in where those stop that come before it
 pub place-at_cut : (id : RecordId) (rows : List Row) (n : ℕ) → SplitsAt (λ (row : Row). comes_before id row.id) rows n → cell_at (table_of rows) id ≡ None → (cell : Cell) → with_cell id cell (table_of rows) ≡ insert (table_of rows) n (id, cell)
 place-at_cut id [] zero cut absent cell = refl
 place-at_cut id [] (suc n) cut absent cell = absurd (omega (arith, cut.0))
-place-at_cut id (row ∷ rows) zero cut absent cell =
-    let missed = missed_first (is_same id row.id) (cell_of_row row) (cell_at (table_of rows) id) absent in
-    let less = lt_Less (record_cmp id row.id) (comes_after id row.id (splits-none (λ (r : Row). comes_before id r.id) row rows cut) missed.0) in
-    ap (λ o. by_order o ((id, cell) ∷ entry_of row ∷ table_of rows) ((row.id, cell) ∷ table_of rows) (entry_of row ∷ with_cell id cell (table_of rows))) less
+place-at_cut id (row ∷ rows) zero cut absent cell = grind (arith, comes_after id row.id (splits-none (λ (r : Row). comes_before id r.id) row rows cut))
 place-at_cut id (row ∷ rows) (suc n) cut absent cell =
-    let missed = missed_first (is_same id row.id) (cell_of_row row) (cell_at (table_of rows) id) absent in
-    let before = splits-first (λ (r : Row). comes_before id r.id) row rows n cut in
-    let greater = record_cmp_total.antisymm id row.id ∙ ap ordering_reverse (lt_Less (record_cmp row.id id) before) in
-    ap (λ o. by_order o ((id, cell) ∷ entry_of row ∷ table_of rows) ((row.id, cell) ∷ table_of rows) (entry_of row ∷ with_cell id cell (table_of rows))) greater
-    ∙ ap (λ t. entry_of row ∷ t) (place-at_cut id rows n (splits-rest (λ (r : Row). comes_before id r.id) row rows n cut) missed.1 cell)
+    grind (arith, splits-first (λ (r : Row). comes_before id r.id) row rows n cut, record_cmp_total.antisymm id row.id, place-at_cut id rows n (splits-rest (λ (r : Row). comes_before id r.id) row rows n cut))
 
 -- ---- a row in the place of a range
 
@@ -189,11 +124,7 @@ module _ (row : Row) (rows : List Row) (i j : ℕ) (rise : i ≤ j) (within : j 
       ∙ sym (place-at_cut row.id (remove_range rows i j) i (splits-removed (λ (r : Row). comes_before row.id r.id) rows i j rise cut) absent (cell_of_row row))
 
   length-replaced : length (replace_range rows i j (row ∷ [])) ≡ length (remove_range rows i j) + 1
-  length-replaced =
-      let a = length-append (take i rows ++ row ∷ []) (drop j rows) in
-      let b = length-append (take i rows) (row ∷ []) in
-      let c = length-append (take i rows) (drop j rows) in
-      omega (arith, a, b, c)
+  length-replaced = omega (arith, length-append (take i rows ++ row ∷ []) (drop j rows), length-append (take i rows) (row ∷ []), length-append (take i rows) (drop j rows))
 
 -- the first of a range, whose place another row takes, and the others
 slice-over : (rows : List Row) (row first : Row) (i j : ℕ) → i < j → j ≤ length rows → first ≡ get_or rows i first → slice_range rows i j ≡ first ∷ slice_range (set rows i row) (i + 1) j
@@ -216,27 +147,13 @@ numbers-over rows row first i j before pushed after lt within is push named =
 -- as many rows are in the range as the record goes in the place of
 pub length-range_of : (id : RecordId) (rows : List Row) (i j : ℕ) → IsRangeOf id rows i j → i + length (where_key record_cmp (stands_for id) (table_of rows)) ≡ j
 length-range_of id rows i j range =
-    let same = ap (λ (t : Table). length t) range.inside in
-    let slice = length_map entry_of (slice_range rows i j) in
-    let few = length_slice rows i j range.rise range.within in
-    omega (arith, same, slice, few)
-
-module _ (id : RecordId) (later : RecordId → Bool) (both : (other : RecordId) → comes_before id other ≡ true → later other ≡ true) (between : (other : RecordId) → stands_for id other ≡ (later other && not (comes_before id other))) (rows : List Row) (i j : ℕ)
-    (start : SplitsAt (λ (row : Row). comes_before id row.id) rows i) (end : SplitsAt (λ (row : Row). later row.id) rows j) where
-  range-cuts : IsRangeOf id rows i j
-  range-cuts = record {
-    rise = cuts-rise (λ (row : Row). comes_before id row.id) (λ (row : Row). later row.id) (λ row. both row.id) rows i j start end;
-    within = end.0;
-    start = start;
-    inside = range-passes (comes_before id) later (stands_for id) both between rows i j start end;
-    outside = left-passes (comes_before id) later (stands_for id) both between rows i j start end;
-  }
+    omega (arith, ap (λ (t : Table). length t) range.inside, length_map entry_of (slice_range rows i j), length_slice rows i j range.rise range.within)
 
 pub range-string : (key : List ℕ) (rows : List Row) (i j : ℕ) → SplitsAt (λ (row : Row). comes_before (Str key) row.id) rows i → SplitsAt (λ (row : Row). has_key_up_to key row.id) rows j → IsRangeOf (Str key) rows i j
-range-string key rows i j start end = range-cuts (Str key) (has_key_up_to key) (key-comes_before key) (key_between key) rows i j start end
+range-string key rows i j start end = let cut = cut-key key rows i j start end in record { rise = cut.rise; within = cut.within; start = start; inside = cut.inside; outside = cut.outside }
 
 pub range-field : (key field : List ℕ) (rows : List Row) (i j : ℕ) → SplitsAt (λ (row : Row). comes_before (Field key field) row.id) rows i → SplitsAt (λ (row : Row). is_up_to (Field key field) row.id) rows j → IsRangeOf (Field key field) rows i j
-range-field key field rows i j start end = range-cuts (Field key field) (is_up_to (Field key field)) (record-is_up_to (Field key field)) (record_between (Field key field)) rows i j start end
+range-field key field rows i j start end = let cut = cut-field key field rows i j start end in record { rise = cut.rise; within = cut.within; start = start; inside = cut.inside; outside = cut.outside }
 
 -- a put of a string ends nothing beside the rows in whose place it goes
 pub takes_out-none : (key : List ℕ) (rows : Vec Row Global) (ended : Vec EntryNo Global) → TakesOut (is_string_of (Str key)) rows rows ended ended
@@ -275,14 +192,10 @@ module _ (row : Row) (value : List ℕ) (rows mid after : Vec Row Global) (befor
         ∙ ap entries_of (ended-put row.id value whole (sym (order-table rows.items) ∙ order)));
     len =
         let moved = length-taken (stands_for row.id) mid.items (remove_range mid.items i j) between.items named.items range.outside second_numbers in
-        let one = length-replaced row mid.items i j range.rise range.within in
-        let same = ap (λ items. length items) put in
-        omega (arith, moved, one, same, first.len, rows.ok.0, mid.ok.0, after.ok.0, before.ok.0, between.ok.0, named.ok.0);
+        omega (arith, moved, length-replaced row mid.items i j range.rise range.within, ap (λ items. length items) put, first.len, rows.ok.0, mid.ok.0, after.ok.0, before.ok.0, between.ok.0, named.ok.0);
     fewer =
         let left = length-left (stands_for row.id) mid.items (remove_range mid.items i j) range.outside in
-        let one = length-replaced row mid.items i j range.rise range.within in
-        let same = ap (λ items. length items) put in
-        omega (arith, left, one, same, first.fewer, rows.ok.0, mid.ok.0, after.ok.0);
-    capacity = let kept = first.capacity in omega (arith, kept, capacity);
-    capacity_for_ended = let kept = first.capacity_for_ended in omega (arith, kept, capacity_for_ended);
+        omega (arith, left, length-replaced row mid.items i j range.rise range.within, ap (λ items. length items) put, first.fewer, rows.ok.0, mid.ok.0, after.ok.0);
+    capacity = omega (arith, first.capacity, capacity);
+    capacity_for_ended = omega (arith, first.capacity_for_ended, capacity_for_ended);
   }

@@ -1,5 +1,5 @@
 -- What is read of a key among all rows is what is read of it among its own.
-use Rattle.std.proofs.Common.{◌≡◌, ℕ, ◌+◌, ◌≤◌, Bool, true, false, cond, ◌||◌, List, [], ◌∷◌, ◌++◌, length, Option, Some, None, refl, sym, ap, ◌∙◌, arith}
+use Rattle.std.proofs.Common.{◌≡◌, ℕ, ◌+◌, ◌≤◌, Bool, false, cond, ◌||◌, List, [], ◌∷◌, ◌++◌, length, Option, Some, None, refl, sym, ap, ◌∙◌, arith}
 use Rattle.std.proofs.lemmas.Bool.{false_from_ne_true}
 use Rattle.std.specs.Cmp.{tied_itself}
 use Rattle.std.specs.Cmp.Lexicographic.{nat_list_cmp_total}
@@ -48,18 +48,18 @@ other_record : (order : Ordering) → (order ≡ Equal → ⊥) → (id other : 
 other_record order apart id other at =
     false_from_ne_true (is_same id other) (λ e. apart (sym at ∙ ap (λ x. bytes_cmp (key_of id) (key_of x)) (sym (same_record id other e)) ∙ tied_itself nat_list_cmp_total (key_of id)))
 
-pub value_at-own : (id : RecordId) (es : Slots) → AreSlots es → value_at (records_of (rows_in es)) id ≡ value_at (records_of (rows_at (key_of id) es)) id
-value_at-own id es slots =
+pub value_at_own : (id : RecordId) (es : Slots) → AreSlots es → value_at (records_of (rows_in es)) id ≡ value_at (records_of (rows_at (key_of id) es)) id
+value_at_own id es slots =
     read-at (Option (List ℕ)) (key_of id) (λ s. value_at s id) (λ e x. cond (is_same id e.0) (Some e.1) x) (λ e s. refl)
     (λ order apart e x at. ap (λ b. cond b (Some e.1) x) (other_record order apart id e.0 at)) es slots
 
-pub has_key-own : (key : List ℕ) (es : Slots) → AreSlots es → has_key (records_of (rows_in es)) key ≡ has_key (records_of (rows_at key es)) key
-has_key-own key es slots =
+pub has_key_own : (key : List ℕ) (es : Slots) → AreSlots es → has_key (records_of (rows_in es)) key ≡ has_key (records_of (rows_at key es)) key
+has_key_own key es slots =
     read-at Bool key (λ s. has_key s key) (λ e x. same_bytes (key_of e.0) key || x) (λ e s. has_more e s key)
     (λ order apart e x at. ap (λ b. b || x) (apart-keys order key (key_of e.0) at apart)) es slots
 
-pub fields_of-own : (key : List ℕ) (es : Slots) → AreSlots es → fields_of (records_of (rows_in es)) key ≡ fields_of (records_of (rows_at key es)) key
-fields_of-own key es slots =
+pub fields_of_own : (key : List ℕ) (es : Slots) → AreSlots es → fields_of (records_of (rows_in es)) key ≡ fields_of (records_of (rows_at key es)) key
+fields_of_own key es slots =
     read-at (List (List ℕ × List ℕ)) key (λ s. fields_of s key) (λ e x. with_field (field_at e.0 key) e.1 x) (λ e s. fields_more e s key)
     (λ order apart e x at. ap (λ f. with_field f e.1 x) (no_field order apart e.0 at)) es slots
   where
@@ -69,31 +69,19 @@ fields_of-own key es slots =
 
 -- the key has records where its slot has some of it
 pub has-found : (key : List ℕ) (es : Slots) (slot : Slot) → AreSlots es → slot_at key es ≡ Some slot → has_key (records_of slot.rows.items) key ≡ has_key (records_of (rows_in es)) key
-has-found key es slot slots found = ap (λ s. has_key (records_of (rows_of_slot s)) key) (sym found) ∙ sym (has_key-own key es slots)
+has-found key es slot slots found = ap (λ s. has_key (records_of (rows_of_slot s)) key) (sym found) ∙ sym (has_key_own key es slots)
 
 pub has-missing : (key : List ℕ) (es : Slots) → AreSlots es → slot_at key es ≡ None → false ≡ has_key (records_of (rows_in es)) key
-has-missing key es slots missing = sym (has_key-own key es slots ∙ ap (λ s. has_key (records_of (rows_of_slot s)) key) missing ∙ has_none key)
+has-missing key es slots missing = sym (has_key_own key es slots ∙ ap (λ s. has_key (records_of (rows_of_slot s)) key) missing ∙ has_none key)
 
 -- ---- how many keys there are
 
 key-once : (key : List ℕ) (rows others : List Row) → AreOfKey key (table_of rows) → length (keys_of (records_of (rows ++ others))) ≤ 1 + length (keys_of (records_of others))
 key-once key [] others own = omega arith
-key-once key (row ∷ []) others own = step (has_key (records_of others) (key_of row.id)) (ap (λ keys. length keys) (keys_more (record_of row) (records_of others)))
-  where
-    step : (b : Bool) → length (keys_of (records_of ((row ∷ []) ++ others))) ≡ length (cond b (keys_of (records_of others)) (key_of row.id ∷ keys_of (records_of others))) → length (keys_of (records_of ((row ∷ []) ++ others))) ≤ 1 + length (keys_of (records_of others))
-    step true is = omega (arith, is)
-    step false is = omega (arith, is)
+key-once key (row ∷ []) others own = grind (arith, keys_more (record_of row) (records_of others))
 key-once key (row ∷ next ∷ rows) others own =
-    let s = records_of (next ∷ rows ++ others) in
-    let same = own.0 ∙ sym own.1.0 in
-    let has = ap (has_key s) same ∙ has_more (record_of next) (records_of (rows ++ others)) (key_of next.id) ∙ ap (λ b. b || has_key (records_of (rows ++ others)) (key_of next.id)) (key_itself (key_of next.id)) in
-    let keys = ap (λ keys. length keys) (keys_more (record_of row) s ∙ ap (λ b. cond b (keys_of s) (key_of row.id ∷ keys_of s)) has) in
-    let rest = key-once key (next ∷ rows) others own.1 in
-    omega (arith, keys, rest)
+    grind (arith, own.0, own.1.0, keys_more (record_of row) (records_of (next ∷ rows ++ others)), has_more (record_of next) (records_of (rows ++ others)) key, key_itself key, key-once key (next ∷ rows) others own.1)
 
-pub keys-few_slots : (es : Slots) → AreSlots es → length (keys_of (records_of (rows_in es))) ≤ length es
-keys-few_slots [] slots = let none = ap (λ keys. length keys) keys_none in omega (arith, none)
-keys-few_slots (e ∷ es) slots =
-    let first = key-once e.0 e.1.rows.items (rows_in es) slots.own.0 in
-    let rest = keys-few_slots es (slots-tail e es slots) in
-    omega (arith, first, rest)
+pub keys_few_slots : (es : Slots) → AreSlots es → length (keys_of (records_of (rows_in es))) ≤ length es
+keys_few_slots [] slots = omega (arith, ap (λ keys. length keys) keys_none)
+keys_few_slots (e ∷ es) slots = omega (arith, key-once e.0 e.1.rows.items (rows_in es) slots.own.0, keys_few_slots es (slots-tail e es slots))

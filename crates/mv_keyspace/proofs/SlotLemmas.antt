@@ -1,11 +1,11 @@
 -- Where the rows of a key stand among those of all slots.
-use Rattle.std.proofs.Common.{◌≡◌, ℕ, Bool, true, false, cond, List, [], ◌∷◌, ◌++◌, Some, None, IsSome, refl, sym, ap, subst, ◌∙◌, append_assoc}
+use Rattle.std.proofs.Common.{◌≡◌, ℕ, true, false, cond, List, [], ◌∷◌, ◌++◌, Some, None, IsSome, refl, sym, ap, subst, ◌∙◌, append_assoc, arith}
 use Rattle.std.proofs.lemmas.List.{map-append}
 use Rattle.std.specs.List.{AllByRecursion}
 use Rattle.std.specs.List.Sorted.{IsStrictlySortedBy}
 use Rattle.std.specs.Map.{keys_of, set_value, remove_entry}
 use Rattle.std.specs.BTreeMap.{is_at, insert_entry}
-use Rattle.std.specs.Ordering.{is_eq, match_ordering}
+use Rattle.std.specs.Ordering.{is_eq}
 use Rattle.std.specs.Cmp.Lexicographic.{nat_list_cmp_total}
 use Rattle.std.specs.declared.cmp.Ordering.{Ordering}
 use Rattle.std.specs.declared.cmp.Ordering.TheVariants.{Less, Equal, Greater}
@@ -17,15 +17,12 @@ use Rattle.mv_keyspace.specs.declared.slot.Slot.{Slot}
 use Rattle.mv_keyspace.specs.Row.{table_of}
 use Rattle.mv_keyspace.specs.Table.{Table}
 use Rattle.mv_keyspace.specs.Slots.{Slots, rows_in, slot_at, rows_of_slot, rows_at, AreOfKey, AreSlots}
+use Rattle.mv_keyspace.proofs.AllLemmas.{All-append}
 use Rattle.mv_keyspace.proofs.ListLemmas.{entry_of}
 
 -- the rows are of keys to which this one compares so
 abbrev pub AllStand : Ordering → List ℕ → Table → Type 0
 AllStand order key = AllByRecursion (λ row. bytes_cmp key (key_of row.0) ≡ order)
-
-pub all-append : {A : Type 0} (P : A → Type 0) (xs ys : List A) → AllByRecursion P xs → AllByRecursion P ys → AllByRecursion P (xs ++ ys)
-all-append P [] ys p q = q
-all-append P (x ∷ xs) ys p q = (p.0, all-append P xs ys p.1 q)
 
 pub table_of-append : (rows more : List Row) → table_of (rows ++ more) ≡ table_of rows ++ table_of more
 table_of-append rows more = map-append entry_of rows more
@@ -55,7 +52,7 @@ later-stand : (key : List ℕ) (es : Slots) → AllByRecursion (λ k. bytes_cmp 
 later-stand key [] less own = tt
 later-stand key (e ∷ es) less own =
     subst (AllStand Less key) (sym (table_of-append e.1.rows.items (rows_in es)))
-    (all-append (λ row. bytes_cmp key (key_of row.0) ≡ Less) (table_of e.1.rows.items) (table_of (rows_in es)) (own-stand Less key e.0 (table_of e.1.rows.items) less.0 own.0) (later-stand key es less.1 own.1))
+    (All-append (λ row. bytes_cmp key (key_of row.0) ≡ Less) (table_of e.1.rows.items) (table_of (rows_in es)) (own-stand Less key e.0 (table_of e.1.rows.items) less.0 own.0) (later-stand key es less.1 own.1))
 
 none-later : (key : List ℕ) (es : Slots) → AllByRecursion (λ k. bytes_cmp key k ≡ Less) (keys_of es) → slot_at key es ≡ None
 none-later key [] less = refl
@@ -107,7 +104,7 @@ around key (e ∷ es) slots = step (around key es (slots-tail e es slots)) (byte
           after = rest.after;
           lower =
               subst (AllStand Greater key) (sym (table_of-append e.1.rows.items rest.before))
-              (all-append (λ row. bytes_cmp key (key_of row.0) ≡ Greater) (table_of e.1.rows.items) (table_of rest.before) (own-stand Greater key e.0 (table_of e.1.rows.items) is slots.own.0) rest.lower);
+              (All-append (λ row. bytes_cmp key (key_of row.0) ≡ Greater) (table_of e.1.rows.items) (table_of rest.before) (own-stand Greater key e.0 (table_of e.1.rows.items) is slots.own.0) rest.lower);
           upper = rest.upper;
           rows =
               ap (λ rows. e.1.rows.items ++ rows) rest.rows
@@ -123,49 +120,28 @@ around key (e ∷ es) slots = step (around key es (slots-tail e es slots)) (byte
 
 pub rows_in-inserted : (key : List ℕ) (slot : Slot) (es : Slots) → slot.rows.items ≡ [] → slot_at key es ≡ None → rows_in (insert_entry bytes_cmp es key slot) ≡ rows_in es
 rows_in-inserted key slot [] empty none = ap (λ rows. rows ++ []) empty
-rows_in-inserted key slot (e ∷ es) empty none = step (rows_in-inserted key slot es empty) (bytes_cmp key e.0) none
-  where
-    step : (slot_at key es ≡ None → rows_in (insert_entry bytes_cmp es key slot) ≡ rows_in es) → (o : Ordering) → cond (is_eq o) (Some e.1) (slot_at key es) ≡ None → rows_in (match_ordering o ((key, slot) ∷ e ∷ es) ((e.0, slot) ∷ es) (e ∷ insert_entry bytes_cmp es key slot)) ≡ rows_in (e ∷ es)
-    step rest Less none = ap (λ rows. rows ++ rows_in (e ∷ es)) empty
-    step rest Equal none = cc
-    step rest Greater none = ap (λ rows. e.1.rows.items ++ rows) (rest none)
+rows_in-inserted key slot (e ∷ es) empty none = grind (arith, rows_in-inserted key slot es empty)
 
 pub rows_in-removed : (key : List ℕ) (es : Slots) → rows_at key es ≡ [] → rows_in (remove_entry (is_at (bytes_cmp key)) es) ≡ rows_in es
 rows_in-removed key [] empty = refl
-rows_in-removed key (e ∷ es) empty = step (rows_in-removed key es) (is_at (bytes_cmp key) e.0) empty
-  where
-    step : (rows_at key es ≡ [] → rows_in (remove_entry (is_at (bytes_cmp key)) es) ≡ rows_in es) → (b : Bool) → rows_of_slot (cond b (Some e.1) (slot_at key es)) ≡ [] → rows_in (cond b es (e ∷ remove_entry (is_at (bytes_cmp key)) es)) ≡ rows_in (e ∷ es)
-    step rest true empty = sym (ap (λ rows. rows ++ rows_in es) empty)
-    step rest false empty = ap (λ rows. e.1.rows.items ++ rows) (rest empty)
+rows_in-removed key (e ∷ es) empty = grind (arith, rows_in-removed key es)
 
 abbrev OwnRows : List ℕ × Slot → Type 0
 OwnRows e = AreOfKey e.0 (table_of e.1.rows.items)
 
 own-inserted : (key : List ℕ) (slot : Slot) (es : Slots) → AreOfKey key (table_of slot.rows.items) → AllByRecursion OwnRows es → AllByRecursion OwnRows (insert_entry bytes_cmp es key slot)
 own-inserted key slot [] of own = (of, tt)
-own-inserted key slot (e ∷ es) of own = step (own-inserted key slot es of own.1) (bytes_cmp key e.0) refl
-  where
-    step : AllByRecursion OwnRows (insert_entry bytes_cmp es key slot) → (o : Ordering) → bytes_cmp key e.0 ≡ o → AllByRecursion OwnRows (match_ordering o ((key, slot) ∷ e ∷ es) ((e.0, slot) ∷ es) (e ∷ insert_entry bytes_cmp es key slot))
-    step rest Less is = (of, own)
-    step rest Equal is = (subst (λ k. AreOfKey k (table_of slot.rows.items)) (bytes_cmp_equal key e.0 is) of, own.1)
-    step rest Greater is = (own.0, rest)
+own-inserted key slot (e ∷ es) of own =
+    grind (arith, own-inserted key slot es of own.1, λ (is : bytes_cmp key e.0 ≡ Equal). subst (λ k. AreOfKey k (table_of slot.rows.items)) (bytes_cmp_equal key e.0 is) of)
 
 own-removed : (key : List ℕ) (es : Slots) → AllByRecursion OwnRows es → AllByRecursion OwnRows (remove_entry (is_at (bytes_cmp key)) es)
 own-removed key [] own = tt
-own-removed key (e ∷ es) own =
-    elim (is_at (bytes_cmp key) e.0) as (λ b. AllByRecursion OwnRows (cond b es (e ∷ remove_entry (is_at (bytes_cmp key)) es))) [
-      | true ↦ own.1
-      | false ↦ (own.0, own-removed key es own.1)
-    ]
+own-removed key (e ∷ es) own = grind (arith, own-removed key es own.1)
 
 own-written : (key : List ℕ) (slot : Slot) (es : Slots) → AreOfKey key (table_of slot.rows.items) → AllByRecursion OwnRows es → AllByRecursion OwnRows (set_value (is_at (bytes_cmp key)) es slot)
 own-written key slot [] of own = tt
-own-written key slot (e ∷ es) of own = step (own-written key slot es of own.1) (bytes_cmp key e.0) refl
-  where
-    step : AllByRecursion OwnRows (set_value (is_at (bytes_cmp key)) es slot) → (o : Ordering) → bytes_cmp key e.0 ≡ o → AllByRecursion OwnRows (cond (is_eq o) ((e.0, slot) ∷ es) (e ∷ set_value (is_at (bytes_cmp key)) es slot))
-    step rest Less is = (own.0, rest)
-    step rest Equal is = (subst (λ k. AreOfKey k (table_of slot.rows.items)) (bytes_cmp_equal key e.0 is) of, own.1)
-    step rest Greater is = (own.0, rest)
+own-written key slot (e ∷ es) of own =
+    grind (arith, own-written key slot es of own.1, λ (is : bytes_cmp key e.0 ≡ Equal). subst (λ k. AreOfKey k (table_of slot.rows.items)) (bytes_cmp_equal key e.0 is) of)
 
 pub slots-inserted : (key : List ℕ) (slot : Slot) (es after : Slots) → after ≡ insert_entry bytes_cmp es key slot → IsStrictlySortedBy bytes_cmp (keys_of after) → AreOfKey key (table_of slot.rows.items) → AreSlots es → AreSlots after
 slots-inserted key slot es after is sorted of slots = record { sorted = sorted; own = subst (AllByRecursion OwnRows) (sym is) (own-inserted key slot es of slots.own) }

@@ -1,8 +1,7 @@
 -- A table moves as its keyspace does, and as the versions do.
-use Rattle.std.proofs.Common.{◌≡◌, ℕ, Bool, true, false, cond, not, List, [], ◌∷◌, map, Some, None, refl, sym, ap, ◌∙◌}
+use Rattle.std.proofs.Common.{◌≡◌, ℕ, Bool, cond, not, List, [], ◌∷◌, map, Some, None, refl, sym, ap, ◌∙◌, arith}
 use Rattle.std.specs.Option.{option_map}
-use Rattle.std.specs.FinMap.Entries.{put, where_key, find-put, find-where_key, by_order}
-use Rattle.std.specs.declared.cmp.Ordering.TheVariants.{Less, Equal, Greater}
+use Rattle.std.specs.FinMap.Entries.{put, where_key, find-put, find-where_key}
 use Rattle.kv_types.specs.declared.record_id.RecordId.{RecordId}
 use Rattle.kv_types.specs.declared.record_id.RecordId.TheVariants.{Str, Field}
 use Rattle.kv_types.specs.declared.change.Change.TheVariants as change
@@ -17,34 +16,17 @@ use Rattle.mv_keyspace.specs.Table.{Cell, Table, records, cell_at, with_cell, wi
 
 -- ---- the records of a table
 
-abbrev row_of : RecordId × Cell → RecordId × List ℕ
-row_of row = (row.0, row.1.value)
-
 pub value_at-records : (table : Table) (id : RecordId) → value_at (records table) id ≡ option_map (λ cell. cell.value) (cell_at table id)
 value_at-records [] id = refl
-value_at-records (row ∷ table) id =
-    elim (is_same id row.0) as (λ b. cond b (Some row.1.value) (value_at (records table) id) ≡ option_map (λ cell. cell.value) (cond b (Some row.1) (cell_at table id))) [
-      | true ↦ refl
-      | false ↦ value_at-records table id
-    ]
+value_at-records (row ∷ table) id = grind (arith, value_at-records table id)
 
 pub records-with_cell : (id : RecordId) (cell : Cell) (table : Table) → records (with_cell id cell table) ≡ with_record id cell.value (records table)
 records-with_cell id cell [] = refl
-records-with_cell id cell (row ∷ table) =
-    elim (record_cmp id row.0) as (λ o. records (by_order o ((id, cell) ∷ row ∷ table) ((row.0, cell) ∷ table) (row ∷ with_cell id cell table))
-    ≡ by_order o ((id, cell.value) ∷ records (row ∷ table)) ((row.0, cell.value) ∷ records table) (row_of row ∷ with_record id cell.value (records table))) [
-      | Less ↦ refl
-      | Equal ↦ refl
-      | Greater ↦ ap (λ rows. row_of row ∷ rows) (records-with_cell id cell table)
-    ]
+records-with_cell id cell (row ∷ table) = grind (arith, records-with_cell id cell table)
 
 records-where : (p : RecordId → Bool) (table : Table) → records (where_key record_cmp p table) ≡ where_key record_cmp p (records table)
 records-where p [] = refl
-records-where p (row ∷ table) =
-    elim (p row.0) as (λ b. records (cond b (row ∷ where_key record_cmp p table) (where_key record_cmp p table)) ≡ cond b (row_of row ∷ where_key record_cmp p (records table)) (where_key record_cmp p (records table))) [
-      | true ↦ ap (λ rows. row_of row ∷ rows) (records-where p table)
-      | false ↦ records-where p table
-    ]
+records-where p (row ∷ table) = grind (arith, records-where p table)
 
 pub records-without_row : (id : RecordId) (table : Table) → records (without_row id table) ≡ without_record id (records table)
 records-without_row id table = records-where (λ other. not (is_same other id)) table
@@ -68,19 +50,14 @@ records-place_all position table (change ∷ changes) = records-place_all positi
 
 -- ---- what is found in a table
 
-cond_not : {A : Type 0} (b : Bool) (x y : A) → cond (not b) x y ≡ cond b y x
-cond_not true x y = refl
-cond_not false x y = refl
+pub cell_at-where : (p : RecordId → Bool) (table : Table) (q : RecordId) → cell_at (where_key record_cmp p table) q ≡ cond (p q) (cell_at table q) None
+cell_at-where p table q = find-where_key record_cmp p q (λ x e. ap p (sym (record_cmp_equal q x e))) table
 
 pub cell_at-with_cell : (table : Table) (id : RecordId) (cell : Cell) (q : RecordId) → cell_at (with_cell id cell table) q ≡ cond (is_same q id) (Some cell) (cell_at table q)
 cell_at-with_cell table id cell q = find-put record_cmp record_cmp_total q id cell table
 
 pub cell_at-without_row : (table : Table) (id q : RecordId) → cell_at (without_row id table) q ≡ cond (is_same q id) None (cell_at table q)
-cell_at-without_row table id q =
-    find-where_key record_cmp (λ other. not (is_same other id)) q (λ x e. ap (λ y. not (is_same y id)) (sym (record_cmp_equal q x e))) table
-    ∙ cond_not (is_same q id) (cell_at table q) None
+cell_at-without_row table id q = grind (arith, cell_at-where (λ other. not (is_same other id)) table q)
 
 pub cell_at-without_rows : (table : Table) (key : List ℕ) (q : RecordId) → cell_at (without_rows key table) q ≡ cond (is_same_key (key_of q) key) None (cell_at table q)
-cell_at-without_rows table key q =
-    find-where_key record_cmp (λ other. not (is_same_key (key_of other) key)) q (λ x e. ap (λ y. not (is_same_key (key_of y) key)) (sym (record_cmp_equal q x e))) table
-    ∙ cond_not (is_same_key (key_of q) key) (cell_at table q) None
+cell_at-without_rows table key q = grind (arith, cell_at-where (λ other. not (is_same_key (key_of other) key)) table q)

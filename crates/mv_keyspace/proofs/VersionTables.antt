@@ -1,5 +1,5 @@
 -- The table of the live versions moves as the versions do.
-use Rattle.std.proofs.Common.{◌≡◌, ℕ, Bool, true, false, cond, ◌||◌, List, [], Option, Some, None, nat_eq, refl, sym, ap, subst, ◌∙◌, eq-eqb, ne_eqb}
+use Rattle.std.proofs.Common.{◌≡◌, ℕ, Bool, true, false, cond, ◌||◌, List, [], ◌∷◌, Option, Some, None, nat_eq, refl, sym, ap, subst, ◌∙◌, eq-eqb, ne_eqb}
 use Rattle.std.specs.List.{AllByRecursion}
 use Rattle.kv_types.specs.declared.record_id.RecordId.{RecordId}
 use Rattle.kv_types.specs.declared.record_id.RecordId.TheVariants.{Str, Field}
@@ -38,6 +38,21 @@ cell_at-placed_at table (Field key field) cell value q =
     cell_at-with_cell (without_row (Str key) table) (Field key field) cell q
     ∙ ap (cond (is_same q (Field key field)) (Some cell)) (cell_at-without_row table (Str key) q)
     ∙ cond_or (is_same q (Field key field)) (is_same q (Str key)) (Some cell) (cell_at table q)
+
+-- what is found once the puts of a change were made
+abbrev pub made_at : ℕ → List Put → RecordId → Option Cell → Option Cell
+made_at position [] q found = found
+made_at position (put ∷ puts) q found = cond (is_same q put.id) (Some (cell_of_put position put)) found
+
+-- what is found after a change, where `found_at` is what was found before it
+abbrev pub found_after : ℕ → PlacedChange → (RecordId → Option Cell) → RecordId → Option Cell
+found_after position c found_at q = made_at position (put_of c) q (without_ended (change_of c) found_at q)
+
+pub cell_at-place : (position : ℕ) (table : Table) (c : PlacedChange) (q : RecordId) → cell_at (place position table c) q ≡ found_after position c (cell_at table) q
+cell_at-place position table (placed.Put put) q = cell_at-placed_at table put.id (cell_of_put position put) put.value q
+cell_at-place position table (placed.Drop id) q = cell_at-without_row table id q
+cell_at-place position table (placed.DropKey key) q = cell_at-without_rows table key q
+cell_at-place position table placed.Clear q = refl
 
 -- ---- cells and versions
 
@@ -85,19 +100,6 @@ cell-beside position versions put id cell empty is =
     cell-of (with_put position put versions) id cell (live_beside position versions put cell.entry id cell.value empty is.live)
     is.live.version (with_put-other position put versions cell.entry apart ∙ is.live.begun) is.position_is
 
--- a record's cell is that of the put, or it was its cell before
-data CellWithPut (position : ℕ) (versions : Versions) (put : Put) (id : RecordId) (cell : Cell) : Type 0 where
-  own : (same_id : put.id ≡ id) (same : cell_of_put position put ≡ cell) → CellWithPut position versions put id cell
-  other : (is : IsCellOf versions id cell) → CellWithPut position versions put id cell
-
-cell-with_put : (position : ℕ) (versions : Versions) (put : Put) (id : RecordId) (cell : Cell) → IsCellOf (with_put position put versions) id cell → LiveWithPut versions put cell.entry id cell.value → CellWithPut position versions put id cell
-cell-with_put position versions put id cell is (live.own at same_id same_value) =
-    let both : Some (version_of_put position put) ≡ Some is.live.version = sym (ap (with_put position put versions) at ∙ with_put-own position put versions) ∙ is.live.begun in
-    let same : version_of_put position put ≡ is.live.version = cc in
-    own same_id (λ k. record { value = same_value k; entry = sym at k; position = (ap (λ (v : Version). v.position) same ∙ sym is.position_is) k })
-cell-with_put position versions put id cell is (live.other apart before) =
-    other (cell-of versions id cell before is.live.version (sym (with_put-other position put versions cell.entry apart) ∙ is.live.begun) is.position_is)
-
 -- ---- rows and live versions, where what is found is any function
 
 record Rows (versions : Versions) (found_at : RecordId → Option Cell) : Type 0 where
@@ -132,17 +134,20 @@ module _ (position : ℕ) (versions : Versions) (put : Put) (found_at : RecordId
   no_other : (id : RecordId) (cell : Cell) → IsCellOf versions id cell → put.id ≡ id → ⊥
   no_other id cell is same = let found = rows.found id cell is in let gone = subst (λ q. found_at q ≡ None) same absent in cc
 
-  found_of_put : (id : RecordId) (cell : Cell) → CellWithPut position versions put id cell → cond (is_same id put.id) (Some (cell_of_put position put)) (found_at id) ≡ Some cell
-  found_of_put id cell (own same_id same) = ap (λ b. cond b (Some (cell_of_put position put)) (found_at id)) (is_same_at id put.id (sym same_id)) ∙ ap Some same
-  found_of_put id cell (other is) =
-      ap (λ b. cond b (Some (cell_of_put position put)) (found_at id)) (is_other id put.id (λ same. no_other id cell is (sym same))) ∙ rows.found id cell is
+  found_of_put : (id : RecordId) (cell : Cell) → IsCellOf (with_put position put versions) id cell → LiveWithPut versions put cell.entry id cell.value → cond (is_same id put.id) (Some (cell_of_put position put)) (found_at id) ≡ Some cell
+  found_of_put id cell is (live.own at same_id same_value) =
+      let both : Some (version_of_put position put) ≡ Some is.live.version = sym (ap (with_put position put versions) at ∙ with_put-own position put versions) ∙ is.live.begun in
+      let same : version_of_put position put ≡ is.live.version = cc in
+      ap (λ b. cond b (Some (cell_of_put position put)) (found_at id)) (is_same_at id put.id (sym same_id))
+      ∙ (λ k. Some (record { value = same_value k; entry = sym at k; position = (ap (λ (v : Version). v.position) same ∙ sym is.position_is) k }))
+  found_of_put id cell is (live.other apart before) =
+      let was = cell-of versions id cell before is.live.version (sym (with_put-other position put versions cell.entry apart) ∙ is.live.begun) is.position_is in
+      ap (λ b. cond b (Some (cell_of_put position put)) (found_at id)) (is_other id put.id (λ same. no_other id cell was (sym same))) ∙ rows.found id cell was
 
   rows-with_put : Rows (with_put position put versions) (λ id. cond (is_same id put.id) (Some (cell_of_put position put)) (found_at id))
   rows-with_put = record {
     live = λ id cell e. live_of_put id cell (is_same id put.id) refl e;
-    found = λ id cell is.
-        found_of_put id cell
-        (cell-with_put position versions put id cell is (live_with_put position versions put cell.entry id cell.value (nat_eq cell.entry put.entry.0) refl is.live));
+    found = λ id cell is. found_of_put id cell is (live_with_put position versions put cell.entry id cell.value (nat_eq cell.entry put.entry.0) refl is.live);
   }
 
 -- ---- one change
@@ -152,20 +157,18 @@ abbrev pub AreEmpty : Versions → List Put → Type 0
 AreEmpty versions puts = AllByRecursion (λ put. versions put.entry.0 ≡ None) puts
 
 rows-change : (position : ℕ) (versions : Versions) (table : Table) (c : PlacedChange) → AreEmpty versions (put_of c) → Rows versions (cell_at table) → Rows (change_versions position versions c) (cell_at (place position table c))
-rows-change position versions table (placed.Put put) empty rows =
-    let c = change.Put put.id put.value in
-    let found_at = without_ended c (cell_at table) in
-    let ended = λ (j : ℕ). ended_where_begun c (versions j) in
-    let absent : found_at put.id ≡ None = ap (λ b. cond b None (cell_at table put.id)) (ends_record-own put.id put.value) in
-    rows-same (with_put position put ended) (λ id. cond (is_same id put.id) (Some (cell_of_put position put)) (found_at id)) (cell_at (placed_at put.id (cell_of_put position put) table))
-    (cell_at-placed_at table put.id (cell_of_put position put) put.value)
-    (rows-with_put position ended put found_at (still_empty versions c put.entry.0 empty.0) absent (rows-ended versions c (cell_at table) rows))
-rows-change position versions table (placed.Drop id) empty rows =
-    rows-same _ (without_ended (change.Drop id) (cell_at table)) (cell_at (without_row id table)) (cell_at-without_row table id) (rows-ended versions (change.Drop id) (cell_at table) rows)
-rows-change position versions table (placed.DropKey key) empty rows =
-    rows-same _ (without_ended (change.DropKey key) (cell_at table)) (cell_at (without_rows key table)) (cell_at-without_rows table key) (rows-ended versions (change.DropKey key) (cell_at table) rows)
-rows-change position versions table placed.Clear empty rows =
-    rows-same _ (without_ended change.Clear (cell_at table)) (cell_at []) (λ id. refl) (rows-ended versions change.Clear (cell_at table) rows)
+rows-change position versions table c empty rows = rows-same _ (found_after position c (cell_at table)) (cell_at (place position table c)) (cell_at-place position table c) (made c empty)
+  where
+    ended : (c : PlacedChange) → Rows (λ j. ended_where_begun (change_of c) (versions j)) (without_ended (change_of c) (cell_at table))
+    ended c = rows-ended versions (change_of c) (cell_at table) rows
+
+    made : (c : PlacedChange) → AreEmpty versions (put_of c) → Rows (change_versions position versions c) (found_after position c (cell_at table))
+    made (placed.Put put) empty =
+        rows-with_put position (λ j. ended_where_begun (change.Put put.id put.value) (versions j)) put (without_ended (change.Put put.id put.value) (cell_at table)) (still_empty versions (change.Put put.id put.value) put.entry.0 empty.0)
+        (ap (λ b. cond b None (cell_at table put.id)) (ends_record-own put.id put.value)) (ended (placed.Put put))
+    made (placed.Drop id) empty = ended (placed.Drop id)
+    made (placed.DropKey key) empty = ended (placed.DropKey key)
+    made placed.Clear empty = ended placed.Clear
 
 pub IsTable-change : (position : ℕ) (versions : Versions) (table : Table) (c : PlacedChange) → AreEmpty versions (put_of c) → IsTable versions table → IsTable (change_versions position versions c) (place position table c)
 IsTable-change position versions table c empty is =

@@ -1,5 +1,5 @@
 -- The slot of a key, once another is written in its place.
-use Rattle.std.proofs.Common.{◌≡◌, ℕ, ◌+◌, Bool, true, false, cond, length, ◌≤◌, List, [], ◌++◌, Option, Some, None, IsSome, refl, sym, ap, subst, ◌∙◌, arith}
+use Rattle.std.proofs.Common.{◌≡◌, ℕ, ◌+◌, true, cond, length, ◌≤◌, List, [], ◌++◌, Some, None, IsSome, refl, sym, ap, subst, ◌∙◌, arith}
 use Rattle.std.specs.List.Sorted.{IsStrictlySortedBy}
 use Rattle.std.specs.Map.{keys_of, set_value}
 use Rattle.std.specs.BTreeMap.{is_at}
@@ -8,7 +8,7 @@ use Rattle.std.specs.Cmp.{tied_itself}
 use Rattle.std.specs.Cmp.Lexicographic.{nat_list_cmp_total}
 use Rattle.mv_keyspace.proofs.PlayingLemmas.{ended-few}
 use Rattle.std.specs.declared.cmp.Ordering.{Ordering}
-use Rattle.std.specs.declared.cmp.Ordering.TheVariants.{Less, Equal, Greater}
+use Rattle.std.specs.declared.cmp.Ordering.TheVariants.{Equal}
 use Rattle.kv_types.specs.Keyspace.{key_of, bytes_cmp}
 use Rattle.kv_types.proofs.OrderLemmas.{bytes_cmp_equal}
 use Rattle.model.specs.declared.group.PlacedChange.{PlacedChange}
@@ -19,7 +19,7 @@ use Rattle.mv_keyspace.specs.declared.slot.Slot.{Slot}
 use Rattle.mv_keyspace.specs.Keys.{changed_key}
 use Rattle.mv_keyspace.specs.Row.{ended_rows, table_of}
 use Rattle.mv_keyspace.specs.Table.{Table, place}
-use Rattle.mv_keyspace.specs.Slots.{Slots, rows_in, slot_at, rows_of_slot, rows_at, awaited_of, awaited_at, awaits_of, AreOfKey, AreSlots}
+use Rattle.mv_keyspace.specs.Slots.{Slots, rows_in, slot_at, rows_of_slot, rows_at, awaited_at, awaits_of, AreOfKey, AreSlots}
 use Rattle.mv_keyspace.proofs.SlotLemmas.{Around, around, own-at, slots-written, table_of-append}
 use Rattle.mv_keyspace.proofs.PlacingLemmas.{place-between, ended-within, own-placed}
 
@@ -93,40 +93,20 @@ module _ (key : List ℕ) (es : Slots) (slots : AreSlots es) (missing : slot_at 
 -- ---- how many rows are awaited
 
 is_eq_Equal : (o : Ordering) → is_eq o ≡ true → o ≡ Equal
-is_eq_Equal Less e = cc
-is_eq_Equal Equal e = refl
-is_eq_Equal Greater e = cc
-
-tied : (key q : List ℕ) → is_at (bytes_cmp key) q ≡ true → key ≡ q
-tied key q e = bytes_cmp_equal key q (is_eq_Equal (bytes_cmp key q) e)
+is_eq_Equal o e = grind arith
 
 module _ (key q : List ℕ) (es after : Slots) (other : Slot) (updates : slot_at q after ≡ cond (is_at (bytes_cmp key) q) (Some other) (slot_at q es)) where
-  awaited-by : (b : Bool) → is_at (bytes_cmp key) q ≡ b → awaited_at q after ≡ awaited_of (cond b (Some other) (slot_at q es))
-  awaited-by b is = ap awaited_of updates ∙ ap (λ b. awaited_of (cond b (Some other) (slot_at q es))) is
-
-  at-key : (slot : Option Slot) → slot_at key es ≡ slot → is_at (bytes_cmp key) q ≡ true → awaited_at q es ≡ awaited_of slot
-  at-key slot found is = ap (λ k. awaited_at k es) (sym (tied key q is)) ∙ ap awaited_of found
+  tied : is_at (bytes_cmp key) q ≡ true → slot_at key es ≡ slot_at q es
+  tied e = ap (λ k. slot_at k es) (bytes_cmp_equal key q (is_eq_Equal (bytes_cmp key q) e))
 
   pub awaited-more : (slot : Slot) → slot_at key es ≡ Some slot → other.awaited ≡ slot.awaited + 1 → awaited_at q after ≡ awaited_at q es + cond (is_at (bytes_cmp key) q) 1 0
-  awaited-more slot found more = by (is_at (bytes_cmp key) q) refl
-    where
-      by : (b : Bool) → is_at (bytes_cmp key) q ≡ b → awaited_at q after ≡ awaited_at q es + cond b 1 0
-      by true is = let a = awaited-by true is in let k = at-key (Some slot) found is in omega (arith, a, k, more)
-      by false is = let a = awaited-by false is in omega (arith, a)
+  awaited-more slot found more = grind (arith, tied)
 
   pub awaited-less : (slot : Slot) (n : ℕ) → slot_at key es ≡ Some slot → other.awaited + n ≡ slot.awaited → awaited_at q after + cond (is_at (bytes_cmp key) q) n 0 ≡ awaited_at q es
-  awaited-less slot n found less = by (is_at (bytes_cmp key) q) refl
-    where
-      by : (b : Bool) → is_at (bytes_cmp key) q ≡ b → awaited_at q after + cond b n 0 ≡ awaited_at q es
-      by true is = let a = awaited-by true is in let k = at-key (Some slot) found is in omega (arith, a, k, less)
-      by false is = let a = awaited-by false is in omega (arith, a)
+  awaited-less slot n found less = grind (arith, tied)
 
   pub awaited-made : (n : ℕ) → slot_at key es ≡ None → other.awaited ≡ n → awaited_at q after ≡ awaited_at q es + cond (is_at (bytes_cmp key) q) n 0
-  awaited-made n missing one = by (is_at (bytes_cmp key) q) refl
-    where
-      by : (b : Bool) → is_at (bytes_cmp key) q ≡ b → awaited_at q after ≡ awaited_at q es + cond b n 0
-      by true is = let a = awaited-by true is in let k = at-key None missing is in omega (arith, a, k, one)
-      by false is = let a = awaited-by false is in omega (arith, a)
+  awaited-made n missing one = grind (arith, tied)
 
 -- ---- a change of the key
 
@@ -134,25 +114,19 @@ module _ (key q : List ℕ) (es after : Slots) (other : Slot) (updates : slot_at
 pub ended-few_at : (key : List ℕ) (es : Slots) (c : PlacedChange) → AreSlots es → changed_key (change_of c) ≡ Some key → length (ended_rows (change_of c) (table_of (rows_in es))) ≤ length (rows_at key es)
 ended-few_at key es c slots is =
     let own = around key es slots in
-    let same = ap (λ rows. length (ended_rows (change_of c) (table_of rows))) own.rows in
-    let parts = ap (λ (t : Table). length (ended_rows (change_of c) t)) (table_of-parts own.before (rows_at key es) own.after) in
-    let within = ap (λ (t : Table). length t) (ended-within key (change_of c) (table_of own.before) (table_of (rows_at key es)) (table_of own.after) is own.lower own.upper) in
-    let few = ended-few (change_of c) (rows_at key es) in
-    omega (arith, same, parts, within, few)
+    let parts = ap table_of own.rows ∙ table_of-parts own.before (rows_at key es) own.after in
+    let within = ended-within key (change_of c) (table_of own.before) (table_of (rows_at key es)) (table_of own.after) is own.lower own.upper in
+    omega (arith, ap (λ (t : Table). length (ended_rows (change_of c) t)) parts, ap (λ (t : Table). length t) within, ended-few (change_of c) (rows_at key es))
 
 same_Some : (x y : List ℕ) → Some x ≡ Some y → x ≡ y
 same_Some x y e = cc
 
-none_awaited : (b : Bool) (n : ℕ) → n ≡ 0 → cond b n 0 ≡ 0
-none_awaited true n zero = zero
-none_awaited false n zero = refl
-
 -- it makes rows of the key only
 pub awaits-at : (key q : List ℕ) (c : PlacedChange) → changed_key (change_of c) ≡ Some key → cond (is_at (bytes_cmp key) q) (length (put_of c)) 0 ≡ awaits_of q c
 awaits-at key q (placed.Put put) is = ap (λ k. cond (is_at (bytes_cmp k) q) 1 0) (sym (same_Some (key_of put.id) key is))
-awaits-at key q (placed.Drop id) is = none_awaited (is_at (bytes_cmp key) q) 0 refl
-awaits-at key q (placed.DropKey other) is = none_awaited (is_at (bytes_cmp key) q) 0 refl
-awaits-at key q placed.Clear is = none_awaited (is_at (bytes_cmp key) q) 0 refl
+awaits-at key q (placed.Drop id) is = grind arith
+awaits-at key q (placed.DropKey other) is = grind arith
+awaits-at key q placed.Clear is = cc
 
 pub awaits-own : (key : List ℕ) (c : PlacedChange) → changed_key (change_of c) ≡ Some key → length (put_of c) ≡ awaits_of key c
 awaits-own key c is = ap (λ o. cond (is_eq o) (length (put_of c)) 0) (sym (tied_itself nat_list_cmp_total key)) ∙ awaits-at key key c is

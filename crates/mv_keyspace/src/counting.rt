@@ -14,6 +14,7 @@ use kv_types::Key;
 use model::PlacedChange;
 
 /// How many keys there are that a change does not touch, where there are `keys` in all.
+#[tactic(auto, using(crate::proofs::KeyCountLemmas::keys_counted, crate::proofs::KeyCountLemmas::keys_few_rows))]
 pub(crate) fn count_others(rows: &[Row], keys: u64, change: &PlacedChange) -> u64
     requires order { IsTrue (is_sorted record_cmp (records_of rows.now)) }
     requires counted { keys ≡ length (keys_of (records_of rows.now)) }
@@ -31,6 +32,7 @@ pub(crate) fn count_others(rows: &[Row], keys: u64, change: &PlacedChange) -> u6
 }
 
 /// How many keys there are after a change, where it left `others` beside that which it touched.
+#[tactic(auto, using(crate::proofs::KeyCountLemmas::keys_counted))]
 pub(crate) fn count_with(rows: &[Row], others: u64, change: &PlacedChange) -> u64
     requires order { IsTrue (is_sorted record_cmp (records_of rows.now)) }
     requires others { others ≡ length (keys_beside (change_of change.now) (records_of rows.now)) }

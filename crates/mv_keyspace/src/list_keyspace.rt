@@ -40,6 +40,7 @@ impl ListKeyspace {
     ghost use Rattle.mv_keyspace.specs.Row.{table_of};
 
     /// A keyspace without records. It takes no memory.
+    #[tactic(auto, using(cmd_core::proofs::RecordsLemmas::keys_none))]
     pub fn new(alloc: Global) -> ListKeyspace
         ensures { table_of result.rows.items ≡ [] }
     {
@@ -80,6 +81,7 @@ impl Lookup for ListKeyspace {
         has_in_order(&self.rows, key)
     }
 
+    #[tactic(auto, using(crate::proofs::KeyCountLemmas::keys_few_rows))]
     fn count_keys(&self) -> u64 {
         self.keys
     }

@@ -40,6 +40,7 @@ impl MvKeyspace {
     ghost use Rattle.mv_keyspace.specs.Slots.{rows_in};
 
     /// A keyspace without records. It takes no memory.
+    #[tactic(auto, using(cmd_core::proofs::RecordsLemmas::keys_none))]
     pub fn new(alloc: Global) -> MvKeyspace
         ensures { table_of (rows_in result.slots.entries) ≡ [] }
     {
@@ -56,27 +57,33 @@ impl Lookup for MvKeyspace {
 
     ghost keyspace = { λ keyspace. records_of (rows_in keyspace.slots.entries) };
 
+    #[tactic(auto, using(crate::proofs::ReadingLemmas::value_at_own))]
     fn string(&self, key: &[u8]) -> Option<&Value> {
         string_in_order(rows_at(&self.slots, key), key)
     }
 
+    #[tactic(auto, using(crate::proofs::ReadingLemmas::value_at_own))]
     fn field(&self, key: &[u8], field: &[u8]) -> Option<&Value> {
         field_in_order(rows_at(&self.slots, key), key, field)
     }
 
+    #[tactic(auto, using(crate::proofs::ReadingLemmas::has_key_own))]
     fn has(&self, key: &[u8]) -> bool {
         has_in_order(rows_at(&self.slots, key), key)
     }
 
+    #[tactic(auto, using(crate::proofs::ReadingLemmas::keys_few_slots))]
     fn count_keys(&self) -> u64 {
         let _slots = self.slots.len();
         self.keys
     }
 
+    #[tactic(auto, using(crate::proofs::ReadingLemmas::fields_of_own))]
     fn count_fields(&self, key: &[u8]) -> u64 {
         count_fields_in_order(rows_at(&self.slots, key), key)
     }
 
+    #[tactic(auto, using(crate::proofs::ReadingLemmas::fields_of_own))]
     fn fields(&self, alloc: Global, key: &[u8]) -> Result<Vec<(Field, Value)>, AllocError> {
         fields_in_order(alloc, rows_at(&self.slots, key), key)
     }

@@ -12,7 +12,7 @@ use Rattle.mv_keyspace.proofs.EndedLemmas.{none-ended}
 use Rattle.mv_keyspace.proofs.AppendedLemmas.{ended-append, place_all-append, puts_of-append}
 use Rattle.placing.specs.Left.{IsBeside}
 use Rattle.placing.specs.Place.{TakesPlaces}
-use Rattle.placing.specs.Performs.{Performs, IsSamePart, AddsTo}
+use Rattle.placing.specs.Performs.{Performs, AddsTo}
 use Rattle.placing.proofs.BesideLemmas.{beside_lawful, beside_fresh}
 use Rattle.placing.proofs.PlacesLemmas.{TakesPlaces-append}
 
@@ -24,19 +24,6 @@ performs-none part position table room at changes ended = record {
   places = subst (λ items. TakesPlaces room (puts_of items) room) (sym changes) refl;
   table_is = subst (λ items. table ≡ place_all part.position table items) (sym changes) refl;
   ended = subst₂ (λ items named. AreEnded part.position table items named) (sym changes) (sym ended) (none-ended part.position table);
-}
-
--- two parts that say the same are made by the same changes
-pub performs-same : (table : Table) (room : Room) (position : ℕ) (changes : List Change) (old new : Part) (after : Table) (left : Room) → Performs table room position changes old after left → IsSamePart old new
-    → Performs table room position changes new after left
-performs-same table room position changes old new after left had same = record {
-  changes_are = ap (map change_of) same.changes ∙ had.changes_are;
-  position_is = same.position ∙ had.position_is;
-  places = subst (λ items. TakesPlaces room (puts_of items) left) (sym same.changes) had.places;
-  table_is = subst₂ (λ at items. after ≡ place_all at table items) (sym same.position) (sym same.changes) had.table_is;
-  ended =
-      subst (λ at. AreEnded at table new.changes.items new.ended.items) (sym same.position)
-      (subst₂ (λ items named. AreEnded old.position table items named) (sym same.changes) (sym same.ended) had.ended);
 }
 
 -- the changes of a part, once some were added

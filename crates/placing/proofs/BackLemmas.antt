@@ -1,6 +1,7 @@
 -- What comes back to a heap can be given back in parts, in any order, and the heap then has more that is free in the contents.
-use Rattle.std.proofs.Common.{◌≡◌, ℕ, ◌+◌, ◌-◌, ◌<◌, ◌≤◌, ◌||◌, ◌&&◌, not, Bool, true, false, IsTrue, List, [], ◌∷◌, ◌++◌, length, nat_eq, None, refl, sym, ap, ap₂, subst, ◌∙◌, arith, eq-eqb, ne_eqb, length-append}
+use Rattle.std.proofs.Common.{◌≡◌, ℕ, ◌+◌, ◌-◌, ◌<◌, ◌≤◌, ◌||◌, ◌&&◌, not, Bool, false, IsTrue, List, [], ◌∷◌, ◌++◌, length, nat_eq, None, refl, sym, ap, ap₂, subst, ◌∙◌, arith, eq-eqb, length-append}
 use Rattle.std.proofs.lemmas.Bool.{false≢true, false_from_ne_true, or_left, or_right}
+use Rattle.std.proofs.lemmas.List.{map-append}
 use Rattle.std.proofs.lemmas.Map.Keys.{IsDistinct-head, IsDistinct-tail, IsDistinct-cons}
 use Rattle.std.specs.List.{AllByRecursion, IsDistinct, flat_map}
 use Rattle.kv_types.specs.declared.place.EntryNo.{EntryNo}
@@ -30,27 +31,17 @@ use Rattle.placing.proofs.TakenLemmas.{All-map, All-prefix, All-rest, AreDistinc
 
 -- ---- entries in a list
 
-or_append : (a b c : Bool) → (a || (b || c)) ≡ ((a || b) || c)
-or_append true b c = refl
-or_append false b c = refl
-
 pub listed-append : (i : ℕ) (xs ys : List EntryNo) → is_listed i (xs ++ ys) ≡ (is_listed i xs || is_listed i ys)
 listed-append i [] ys = refl
-listed-append i (x ∷ xs) ys = ap (λ b. nat_eq i x.0 || b) (listed-append i xs ys) ∙ or_append (nat_eq i x.0) (is_listed i xs) (is_listed i ys)
+listed-append i (x ∷ xs) ys = grind (arith, listed-append i xs ys)
 
-numbers_front : (P : ℕ → Type 0) (xs ys : List EntryNo) → AllByRecursion P (numbers_of (xs ++ ys)) → AllByRecursion P (numbers_of xs)
-numbers_front P [] ys all = tt
-numbers_front P (x ∷ xs) ys all = (all.0, numbers_front P xs ys all.1)
-
-numbers_back : (P : ℕ → Type 0) (xs ys : List EntryNo) → AllByRecursion P (numbers_of (xs ++ ys)) → AllByRecursion P (numbers_of ys)
-numbers_back P [] ys all = all
-numbers_back P (x ∷ xs) ys all = numbers_back P xs ys all.1
+distinct_front : (ns ms : List ℕ) → IsDistinct nat_eq (ns ++ ms) → IsDistinct nat_eq ns
+distinct_front [] ms once = distinct_none nat_eq
+distinct_front (n ∷ ns) ms once =
+    IsDistinct-cons nat_eq n ns (All-prefix (λ m. nat_eq n m ≡ false) ns ms (IsDistinct-head nat_eq n (ns ++ ms) once)) (distinct_front ns ms (IsDistinct-tail nat_eq n (ns ++ ms) once))
 
 once_front : (xs ys : List EntryNo) → IsDistinct nat_eq (numbers_of (xs ++ ys)) → IsDistinct nat_eq (numbers_of xs)
-once_front [] ys once = distinct_none nat_eq
-once_front (x ∷ xs) ys once =
-    IsDistinct-cons nat_eq x.0 (numbers_of xs) (numbers_front (λ m. nat_eq x.0 m ≡ false) xs ys (IsDistinct-head nat_eq x.0 (numbers_of (xs ++ ys)) once))
-    (once_front xs ys (IsDistinct-tail nat_eq x.0 (numbers_of (xs ++ ys)) once))
+once_front xs ys once = distinct_front (numbers_of xs) (numbers_of ys) (rw map-append at once)
 
 once_back : (xs ys : List EntryNo) → IsDistinct nat_eq (numbers_of (xs ++ ys)) → IsDistinct nat_eq (numbers_of ys)
 once_back [] ys once = once
@@ -58,15 +49,14 @@ once_back (x ∷ xs) ys once = once_back xs ys (IsDistinct-tail nat_eq x.0 (numb
 
 unlisted : (n : ℕ) (ys : List EntryNo) → AllByRecursion (λ m. nat_eq n m ≡ false) (numbers_of ys) → is_listed n ys ≡ false
 unlisted n [] apart = refl
-unlisted n (y ∷ ys) apart = ap (λ b. b || is_listed n ys) apart.0 ∙ unlisted n ys apart.1
+unlisted n (y ∷ ys) apart = grind (arith, unlisted n ys apart.1)
 
 -- an entry of the second part is none of the first
 listed_beside : (xs ys : List EntryNo) → IsDistinct nat_eq (numbers_of (xs ++ ys)) → (i : ℕ) → IsTrue (is_listed i ys) → is_listed i xs ≡ false
 listed_beside [] ys once i listed = refl
 listed_beside (x ∷ xs) ys once i listed =
-    let apart = numbers_back (λ m. nat_eq x.0 m ≡ false) xs ys (IsDistinct-head nat_eq x.0 (numbers_of (xs ++ ys)) once) in
-    ap (λ b. b || is_listed i xs) (ne_eqb i x.0 (λ same. false≢true (sym (unlisted x.0 ys apart) ∙ subst (λ k. IsTrue (is_listed k ys)) same listed)))
-    ∙ listed_beside xs ys (IsDistinct-tail nat_eq x.0 (numbers_of (xs ++ ys)) once) i listed
+    let apart = All-rest (λ m. nat_eq x.0 m ≡ false) (numbers_of xs) (numbers_of ys) (rw map-append at (IsDistinct-head nat_eq x.0 (numbers_of (xs ++ ys)) once)) in
+    grind (arith, unlisted x.0 ys apart, listed_beside xs ys (IsDistinct-tail nat_eq x.0 (numbers_of (xs ++ ys)) once) i listed)
 
 -- ---- extents in a list
 
@@ -83,16 +73,13 @@ no_line : (extent : Extent) (ys : List Extent) (line : ℕ) → AllByRecursion (
 no_line extent [] line apart is = refl
 no_line extent (y ∷ ys) line apart is =
     let bounds = line_bounds extent line is in
-    ap (λ b. b || has_line ys line) (not_line_of y extent.first_line extent.lines line (swapped extent.first_line extent.lines y.first_line y.lines apart.0) bounds.0 bounds.1)
-    ∙ no_line extent ys line apart.1 is
+    grind (arith, not_line_of y extent.first_line extent.lines line (swapped extent.first_line extent.lines y.first_line y.lines apart.0) bounds.0 bounds.1, no_line extent ys line apart.1 is)
 
 -- a line of the second part is none of the first
 line_beside : (xs ys : List Extent) → AreExtentsApart (xs ++ ys) → (line : ℕ) → IsTrue (has_line ys line) → has_line xs line ≡ false
 line_beside [] ys apart line has = refl
 line_beside (x ∷ xs) ys apart line has =
-    let others = All-rest (λ (other : Extent). AreApart x.first_line x.lines other.first_line other.lines) xs ys apart.0 in
-    ap (λ b. b || has_line xs line) (false_from_ne_true (is_line_of x line) (λ is. false≢true (sym (no_line x ys line others is) ∙ has)))
-    ∙ line_beside xs ys apart.1 line has
+    grind (arith, no_line x ys line (All-rest (λ (other : Extent). AreApart x.first_line x.lines other.first_line other.lines) xs ys apart.0), line_beside xs ys apart.1 line has)
 
 -- ---- what is out
 
@@ -115,10 +102,6 @@ taken_extents room (x ∷ xs) some told =
 
 -- ---- a part of what comes back
 
-or_elim : (a b : Bool) (P : Type 0) → IsTrue (a || b) → (IsTrue a → P) → (IsTrue b → P) → P
-or_elim true b P t left right = left refl
-or_elim false b P t left right = right t
-
 module _ (contents : Contents) (room : Room) (e e' : List EntryNo) (x x' : List Extent) (back : ComesBack contents room (e ++ e') (x ++ x')) where
   entry_first : (i : ℕ) → IsTrue (is_listed i e) → IsEntryBack contents room i
   entry_first i listed = back.entries_back i (listed-append i e e' ∙ or_left (is_listed i e) (is_listed i e') listed)
@@ -134,23 +117,18 @@ module _ (contents : Contents) (room : Room) (e e' : List EntryNo) (x x' : List 
 
   pub can-give : CanGiveAll room e x
   can-give =
-      let held = back.out.held in
-      let sum = length-append x x' in
       record {
         once = once_front e e' back.once;
         entries_out = out_entries room e (λ i listed. (subst (λ n. i < n) (sym back.out.end_entry) (entry_first i listed).within, (entry_first i listed).out));
         apart = apart_front x x' back.apart;
         extents_out = taken_extents room x (All-prefix (λ (extent : Extent). 0 < extent.lines) x x' back.some)
             (λ line has. (subst (λ n. line < n) (sym back.out.end_line) (line_first line has).within, (line_first line has).out));
-        held = omega (arith, held, sum);
+        held = omega (arith, back.out.held, length-append x x');
       }
 
   module _ (new : Room) (gives : GivesAll room e x new) where
     pub rest-comes-back : ComesBack contents new e' x'
     rest-comes-back =
-        let held = back.out.held in
-        let sum = length-append x x' in
-        let given = gives.held in
         record {
           once = once_back e e' back.once;
           entries_back = λ i listed.
@@ -171,17 +149,19 @@ module _ (contents : Contents) (room : Room) (e e' : List EntryNo) (x x' : List 
                 none = was.none;
                 out = gives.lines_given line ∙ ap₂ (λ (a b : Bool). a || b) was.out (line_beside x x' back.apart line has);
               };
-          out = record { end_line = gives.end_line ∙ back.out.end_line; end_entry = gives.end_entry ∙ back.out.end_entry; held = omega (arith, held, sum, given) };
+          out = record { end_line = gives.end_line ∙ back.out.end_line; end_entry = gives.end_entry ∙ back.out.end_entry; held = omega (arith, back.out.held, length-append x x', gives.held) };
         }
+
+    was_entry : (i : ℕ) → IsTrue (is_listed i e) → (i < entries_of_lines contents.lines) × IsTrue (contents.is_free i) × (contents.versions i ≡ None)
+    was_entry i listed = let was = entry_first i listed in (was.within, was.is_free, was.none)
+
+    was_line : (line : ℕ) → IsTrue (has_line x line) → (first_extent_line contents.lines ≤ line) × (line < contents.lines)
+    was_line line has = let was = line_first line has in (was.above, was.within)
 
     pub left-given : IsLeftOf contents room → IsLeftOf contents new
     left-given left = record {
-      entries = λ i free.
-          or_elim (is_free_entry room i) (is_listed i e) _ (sym (gives.entries_given i) ∙ free) (left.entries i)
-          (λ listed. let was = entry_first i listed in (was.within, was.is_free, was.none));
-      lines = λ line free.
-          or_elim (is_free_line room line) (has_line x line) _ (sym (gives.lines_given line) ∙ free) (left.lines line)
-          (λ has. let was = line_first line has in (was.above, was.within));
+      entries = λ i free. grind (arith, gives.entries_given i, left.entries i, was_entry i);
+      lines = λ line free. grind (arith, gives.lines_given line, left.lines line, was_line line);
       apart = λ i version begun. record {
         some = (left.apart i version begun).some;
         none = λ line from before.
@@ -196,8 +176,7 @@ module _ (contents : Contents) (room : Room) (e e' : List EntryNo) (x x' : List 
 -- of a heap without versions nothing is out
 pub fresh-has_out : (contents : Contents) (lines : ℕ) → contents.lines ≡ lines → ((i : ℕ) → contents.versions i ≡ None) → HasOut contents (fresh_room (first_extent_line lines) lines (entries_of_lines lines)) 0
 fresh-has_out contents lines is empty =
-    let none = none_counted contents.versions (entries_of_lines contents.lines) (λ i lt. ap has_version (empty i)) in
-    record { end_line = sym is; end_entry = ap entries_of_lines (sym is); held = omega (arith, none) }
+    record { end_line = sym is; end_entry = ap entries_of_lines (sym is); held = omega (arith, none_counted contents.versions (entries_of_lines contents.lines) (λ i lt. ap has_version (empty i))) }
 
 -- ---- places are taken in between
 
@@ -254,12 +233,10 @@ module _ (contents after : Contents) (position : ℕ) (changes : List PlacedChan
       let more = changes_counted position contents.versions changes n below none (AreDistinct-from_apart puts (places_apart room puts left takes)) in
       let count : count_versions after.versions (entries_of_lines after.lines) ≡ count_versions (changes_versions position contents.versions changes) n =
       ap₂ (λ (versions : Versions) (lines : ℕ). count_versions versions (entries_of_lines lines)) versions_are lines_are in
-      let held = back.out.held in
-      let held' = taken.held in
       record {
         end_line = taken.end_line ∙ back.out.end_line ∙ sym lines_are;
         end_entry = taken.end_entry ∙ back.out.end_entry ∙ ap entries_of_lines (sym lines_are);
-        held = omega (arith, count, more, held, held');
+        held = omega (arith, count, more, back.out.held, taken.held);
       }
 
   pub comes-back-after : ComesBack after left e x
@@ -279,9 +256,7 @@ comes-back-taken contents position room left changes e x takes empty back =
     comes-back-after contents _ position changes room left e x refl refl (λ i. refl) empty takes back
 
 and_not_or : (a b c : Bool) → (a && not (b || c)) ≡ ((a && not b) && not c)
-and_not_or true true c = refl
-and_not_or true false c = refl
-and_not_or false b c = refl
+and_not_or a b c = grind arith
 
 -- so it is where one more part waits
 pub comes-back-part : (epoch epoch' : ℕ) (contents : Contents) (waiting : List Part) (part : Part) (room left : Room) (e : List EntryNo) (x : List Extent) → TakesPlaces room (puts_of_part part) left
@@ -290,8 +265,5 @@ pub comes-back-part : (epoch epoch' : ℕ) (contents : Contents) (waiting : List
 comes-back-part epoch epoch' contents waiting part room left e x takes empty back =
     comes-back-after (after_parts epoch contents waiting) (after_parts epoch' contents (waiting ++ part ∷ [])) part.position part.changes.items room left e x refl
     (parts_versions-append contents.versions waiting part)
-    (λ i.
-    ap (λ (puts : List Put). contents.is_free i && not (is_put_at i puts)) (puts_of_parts-append waiting part)
-    ∙ ap (λ b. contents.is_free i && not b) (is_put_at-append i (flat_map puts_of_part waiting) (puts_of_part part))
-    ∙ and_not_or (contents.is_free i) (is_put_at i (flat_map puts_of_part waiting)) (is_put_at i (puts_of_part part)))
+    (λ i. rw (puts_of_parts-append waiting part, is_put_at-append i (flat_map puts_of_part waiting) (puts_of_part part)) (and_not_or (contents.is_free i) (is_put_at i (flat_map puts_of_part waiting)) (is_put_at i (puts_of_part part))))
     empty takes back

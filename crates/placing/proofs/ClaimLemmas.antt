@@ -1,5 +1,5 @@
 -- What was read is claimed of a heap, one entry and extent after another.
-use Rattle.std.proofs.Common.{◌≡◌, ℕ, ◌+◌, ◌<◌, ◌≤◌, ◌&&◌, ◌||◌, ⊎_elim, Bool, true, false, not, IsTrue, List, [], ◌∷◌, length, drop, get_or, nat_eq, refl, sym, ap, subst, ◌∙◌, arith, ne_eqb}
+use Rattle.std.proofs.Common.{◌≡◌, ℕ, ◌+◌, ◌<◌, ◌≤◌, ◌&&◌, ⊎_elim, false, not, List, [], ◌∷◌, length, drop, get_or, nat_eq, sym, ap, subst, ◌∙◌, arith}
 use Rattle.std.proofs.lemmas.Bool.{false_from_ne_true}
 use Rattle.std.proofs.lemmas.List.{drop_more}
 use Rattle.std.proofs.lemmas.Map.Keys.{IsDistinct-head, IsDistinct-tail}
@@ -13,22 +13,7 @@ use Rattle.extent_heap.specs.Runs.{has_line}
 use Rattle.extent_heap.proofs.RunsLemmas.{line_bounds}
 use Rattle.model.specs.Group.{AreApart}
 use Rattle.mv_keyspace.specs.Row.{numbers_of}
-use Rattle.placing.specs.Rebuilt.{CanClaim, LiesApart, CanClaimAll, has_line_read, has_entry_read, has_entry, ClaimsAll, AreFreeEntries, ClaimsEntries}
-use Rattle.placing.proofs.MemberLemmas.{differ}
-
--- ---- tests
-
-without_both : (has first others : Bool) → ((has && not first) && not others) ≡ (has && not (first || others))
-without_both true true others = refl
-without_both true false others = refl
-without_both false first others = refl
-
-without_none : (has : Bool) → (has && not false) ≡ has
-without_none true = refl
-without_none false = refl
-
-still : (has is : Bool) → IsTrue has → is ≡ false → IsTrue (has && not is)
-still has is own none = ap (λ b. b && not is) own ∙ ap not none
+use Rattle.placing.specs.Rebuilt.{CanClaim, LiesApart, CanClaimAll, has_line_read, has_entry_read, has_entry, AreFreeEntries}
 
 -- a line of one of two runs that are apart is none of the other
 pub not_line_of : (extent : Extent) (first lines line : ℕ) → AreApart extent.first_line extent.lines first lines → first ≤ line → line < first + lines → is_line_of extent line ≡ false
@@ -50,11 +35,9 @@ module _ (room : Room) (read : EntryNo × Entry) (between new : Room) (extent : 
 
   can_still : (other : EntryNo × Entry) → LiesApart read other → CanClaim room other → CanClaim new other
   can_still other apart can = record {
-    entry = claimed_entry other.0.0 ∙ still (is_free_entry room other.0.0) (nat_eq other.0.0 read.0.0) can.entry (ne_eqb other.0.0 read.0.0 (λ same. apart.entries (sym same)));
+    entry = grind (arith, claimed_entry other.0.0, apart.entries, can.entry);
     some = can.some;
-    run = λ line from before.
-        claimed_line line
-        ∙ still (is_free_line room line) (is_line_of read.1.extent line) (can.run line from before) (not_line_of read.1.extent other.1.extent.first_line other.1.extent.lines line apart.lines from before);
+    run = λ line from before. grind (arith, claimed_line line, can.run line from before, not_line_of read.1.extent other.1.extent.first_line other.1.extent.lines line apart.lines from before);
   }
 
   pub can_still_all : (rest : List (EntryNo × Entry)) → AllByRecursion (LiesApart read) rest → CanClaimAll room rest → CanClaimAll new rest
@@ -72,43 +55,19 @@ pub record Claiming (start : Room) (all : List (EntryNo × Entry)) (room : Room)
   pub end_line : room.end_line ≡ start.end_line
   pub end_entry : room.end_entry ≡ start.end_entry
 
-pub claiming-start : (start : Room) (all : List (EntryNo × Entry)) → CanClaimAll start all → Claiming start all start all
-claiming-start start all can = record { can = can; lines = λ line. refl; entries = λ i. refl; held = refl; end_line = refl; end_entry = refl }
-
-pub claiming-end : (start : Room) (all : List (EntryNo × Entry)) (room : Room) → Claiming start all room [] → ClaimsAll start all room
-claiming-end start all room claiming = record {
-  lines = λ line. sym (without_none (is_free_line room line)) ∙ claiming.lines line;
-  entries = λ i. sym (without_none (is_free_entry room i)) ∙ claiming.entries i;
-  held = let held = claiming.held in omega (arith, held);
-  end_line = claiming.end_line;
-  end_entry = claiming.end_entry;
-}
-
 module _ (start : Room) (all : List (EntryNo × Entry)) (room : Room) (n : ℕ) (read : EntryNo × Entry) (claiming : Claiming start all room (drop n all)) (lt : n < length all) (is : read ≡ get_or all n read) where
   at_read : Claiming start all room (read ∷ drop (n + 1) all)
   at_read = subst (λ rest. Claiming start all room rest) (drop_more all n read lt ∙ ap (λ x. x ∷ drop (n + 1) all) (sym is)) claiming
 
-  pub can-first : CanClaim room read
-  can-first = at_read.can.0
-
   pub claiming-step : (between new : Room) → ClaimsExtent room read.1.extent between → ClaimsEntry between read.0 new → Claiming start all new (drop (n + 1) all)
-  claiming-step between new extent entry =
-      let rest = drop (n + 1) all in
-      let before = at_read.held in
-      let one = extent.held in
-      let same = entry.held in
-      record {
-        can = can_still_all room read between new extent entry rest at_read.can.1 at_read.can.2;
-        lines = λ line.
-            ap (λ b. b && not (has_line_read rest line)) (claimed_line room read between new extent entry line)
-            ∙ without_both (is_free_line room line) (is_line_of read.1.extent line) (has_line_read rest line) ∙ at_read.lines line;
-        entries = λ i.
-            ap (λ b. b && not (has_entry_read rest i)) (claimed_entry room read between new extent entry i)
-            ∙ without_both (is_free_entry room i) (nat_eq i read.0.0) (has_entry_read rest i) ∙ at_read.entries i;
-        held = omega (arith, before, one, same);
-        end_line = entry.end_line ∙ extent.end_line ∙ at_read.end_line;
-        end_entry = entry.end_entry ∙ extent.end_entry ∙ at_read.end_entry;
-      }
+  claiming-step between new extent entry = record {
+    can = can_still_all room read between new extent entry (drop (n + 1) all) at_read.can.1 at_read.can.2;
+    lines = λ line. grind (arith, claimed_line room read between new extent entry line, at_read.lines line);
+    entries = λ i. grind (arith, claimed_entry room read between new extent entry i, at_read.entries i);
+    held = omega (arith, at_read.held, extent.held, entry.held);
+    end_line = entry.end_line ∙ extent.end_line ∙ at_read.end_line;
+    end_entry = entry.end_entry ∙ extent.end_entry ∙ at_read.end_entry;
+  }
 
 -- ---- entries alone
 
@@ -121,43 +80,21 @@ pub record ClaimingEntries (start : Room) (all : List EntryNo) (room : Room) (re
   pub end_line : room.end_line ≡ start.end_line
   pub end_entry : room.end_entry ≡ start.end_entry
 
-pub entries-start : (start : Room) (all : List EntryNo) → AreFreeEntries start all → IsDistinct nat_eq (numbers_of all) → ClaimingEntries start all start all
-entries-start start all free once = record { free = free; once = once; lines = λ line. refl; entries = λ i. refl; held = refl; end_line = refl; end_entry = refl }
-
-pub entries-end : (start : Room) (all : List EntryNo) (room : Room) → ClaimingEntries start all room [] → ClaimsEntries start all room
-entries-end start all room claiming = record {
-  lines = claiming.lines;
-  free = λ i. sym (without_none (is_free_entry room i)) ∙ claiming.entries i;
-  held = claiming.held;
-  end_line = claiming.end_line;
-  end_entry = claiming.end_entry;
-}
-
 free_still : (room : Room) (entry : EntryNo) (new : Room) → ClaimsEntry room entry new → (rest : List EntryNo) → AllByRecursion (λ m. nat_eq entry.0 m ≡ false) (numbers_of rest) → AreFreeEntries room rest → AreFreeEntries new rest
 free_still room entry new claims [] apart free = tt
-free_still room entry new claims (other ∷ rest) apart free = (
-  claims.taken other.0 ∙ still (is_free_entry room other.0) (nat_eq other.0 entry.0) free.0 (ne_eqb other.0 entry.0 (λ same. differ entry.0 other.0 apart.0 (sym same))),
-  free_still room entry new claims rest apart.1 free.1,
-)
+free_still room entry new claims (other ∷ rest) apart free = (grind (arith, claims.taken other.0, free.0, apart.0), free_still room entry new claims rest apart.1 free.1)
 
 module _ (start : Room) (all : List EntryNo) (room : Room) (n : ℕ) (entry : EntryNo) (claiming : ClaimingEntries start all room (drop n all)) (lt : n < length all) (is : entry ≡ get_or all n entry) where
   at_entry : ClaimingEntries start all room (entry ∷ drop (n + 1) all)
   at_entry = subst (λ rest. ClaimingEntries start all room rest) (drop_more all n entry lt ∙ ap (λ x. x ∷ drop (n + 1) all) (sym is)) claiming
 
-  pub free-first : IsTrue (is_free_entry room entry.0)
-  free-first = at_entry.free.0
-
   pub entries-step : (new : Room) → ClaimsEntry room entry new → ClaimingEntries start all new (drop (n + 1) all)
-  entries-step new claims =
-      let rest = drop (n + 1) all in
-      record {
-        free = free_still room entry new claims rest (IsDistinct-head nat_eq entry.0 (numbers_of rest) at_entry.once) at_entry.free.1;
-        once = IsDistinct-tail nat_eq entry.0 (numbers_of rest) at_entry.once;
-        lines = λ line. ap (λ (runs : List Extent). has_line runs line) claims.lines ∙ at_entry.lines line;
-        entries = λ i.
-            ap (λ b. b && not (has_entry rest i)) (claims.taken i)
-            ∙ without_both (is_free_entry room i) (nat_eq i entry.0) (has_entry rest i) ∙ at_entry.entries i;
-        held = claims.held ∙ at_entry.held;
-        end_line = claims.end_line ∙ at_entry.end_line;
-        end_entry = claims.end_entry ∙ at_entry.end_entry;
-      }
+  entries-step new claims = record {
+    free = free_still room entry new claims (drop (n + 1) all) (IsDistinct-head nat_eq entry.0 (numbers_of (drop (n + 1) all)) at_entry.once) at_entry.free.1;
+    once = IsDistinct-tail nat_eq entry.0 (numbers_of (drop (n + 1) all)) at_entry.once;
+    lines = λ line. ap (λ (runs : List Extent). has_line runs line) claims.lines ∙ at_entry.lines line;
+    entries = λ i. grind (arith, claims.taken i, at_entry.entries i);
+    held = claims.held ∙ at_entry.held;
+    end_line = claims.end_line ∙ at_entry.end_line;
+    end_entry = claims.end_entry ∙ at_entry.end_entry;
+  }

@@ -1,21 +1,19 @@
 -- How many entries have a version, and what puts, ends and freeing do to their number.
-use Rattle.std.proofs.Common.{◌≡◌, ◌≢◌, ℕ, zero, suc, ◌+◌, ◌<◌, ◌≤◌, ◌||◌, if◌then◌else◌, Bool, true, false, cond, IsTrue, List, [], ◌∷◌, length, Contains, nat_eq, Option, Some, None, ⊎_elim, refl, sym, ap, ap₂, ◌∙◌, arith, eq-eqb, eqb-true, ne_eqb}
-use Rattle.std.proofs.lemmas.Bool.{true≢false, or_parts}
+use Rattle.std.proofs.Common.{◌≡◌, ◌≢◌, ℕ, zero, suc, ◌+◌, ◌<◌, ◌≤◌, ◌||◌, if◌then◌else◌, Bool, true, false, cond, IsTrue, List, [], ◌∷◌, length, Contains, nat_eq, Option, Some, None, ⊎_elim, refl, sym, ap, ap₂, ◌∙◌, arith, eq-eqb, ne_eqb, length-append, ◌⊎◌}
+use Rattle.std.proofs.lemmas.Bool.{cases_eq, false_from_ne_true}
 use Rattle.std.specs.List.{AllByRecursion}
 use Rattle.kv_types.specs.declared.change.Change.{Change}
 use Rattle.kv_types.specs.declared.place.EntryNo.{EntryNo}
 use Rattle.model.specs.declared.group.Put.{Put}
 use Rattle.model.specs.declared.group.PlacedChange.{PlacedChange}
-use Rattle.model.specs.declared.group.PlacedChange.TheVariants as placed
-use Rattle.model.specs.Group.{AreEnded, Contents, Versions, change_of, change_versions, changes_versions, ended_where_begun, is_ended_version, is_listed, is_put_at, version_of_put, with_puts}
+use Rattle.model.specs.Group.{AreEnded, Contents, Versions, change_of, put_of, change_versions, changes_versions, ended_where_begun, is_ended_version, is_listed, with_puts}
 use Rattle.model.specs.Image.{Version, entries_of_lines}
-use Rattle.model.proofs.GroupsLemmas.{change_versions-none}
 use Rattle.mv_keyspace.specs.Table.{puts_of}
-use Rattle.mv_keyspace.proofs.PartTables.{AreDistinct}
+use Rattle.mv_keyspace.proofs.PartTables.{AreDistinct, distinct-first, empty-rest, with_puts-other}
 use Rattle.mv_keyspace.proofs.VersionTables.{AreEmpty}
 use Rattle.placing.specs.Out.{count_versions, has_version}
 use Rattle.placing.proofs.MemberLemmas.{first_or_later, no_member}
-use Rattle.placing.proofs.TakenLemmas.{All-map}
+use Rattle.placing.proofs.TakenLemmas.{All-map, All-prefix, All-rest}
 
 -- ---- two versions of the same entries
 
@@ -28,33 +26,15 @@ same_count versions versions' zero same = refl
 same_count versions versions' (suc n) same =
     ap₂ (λ (has : Bool) (k : ℕ). one_if has + k) (same n (omega arith)) (same_count versions versions' n (λ i lt. same i (omega (arith, lt))))
 
-raised : (before after : Bool) (x y : ℕ) → before ≡ false → after ≡ true → y ≡ x → one_if after + y ≡ one_if before + x + 1
-raised true after x y none some rest = absurd (true≢false none)
-raised false true x y none some rest = omega (arith, rest)
-raised false false x y none some rest = absurd (true≢false (sym some))
-
-kept : (before after : Bool) (x y : ℕ) → after ≡ before → y ≡ x + 1 → one_if after + y ≡ one_if before + x + 1
-kept true true x y same rest = omega (arith, rest)
-kept true false x y same rest = absurd (true≢false (sym same))
-kept false true x y same rest = absurd (true≢false same)
-kept false false x y same rest = omega (arith, rest)
-
 -- one entry has a version that had none
 pub one_counted : (versions versions' : Versions) (j n : ℕ) → j < n → has_version (versions j) ≡ false → has_version (versions' j) ≡ true
     → ((i : ℕ) → i ≢ j → has_version (versions' i) ≡ has_version (versions i)) → count_versions versions' n ≡ count_versions versions n + 1
 one_counted versions versions' j zero lt none some same = absurd (omega (arith, lt))
 one_counted versions versions' j (suc n) lt none some same =
-    elim (nat_eq n j) as (λ b. nat_eq n j ≡ b → count_versions versions' (suc n) ≡ count_versions versions (suc n) + 1) [
-      | true ↦ λ is.
-          let at = eqb-true n j is in
-          raised (has_version (versions n)) (has_version (versions' n)) (count_versions versions n) (count_versions versions' n)
-          (ap (λ k. has_version (versions k)) at ∙ none) (ap (λ k. has_version (versions' k)) at ∙ some)
-          (same_count versions versions' n (λ i lt'. same i (λ e. omega (arith, lt', at, e))))
-      | false ↦ λ apart.
-          let other : n ≢ j = λ e. true≢false (sym (eq-eqb n j e) ∙ apart) in
-          kept (has_version (versions n)) (has_version (versions' n)) (count_versions versions n) (count_versions versions' n) (same n other)
-          (one_counted versions versions' j n (below n j lt other) none some same)
-    ] refl
+    ⊎_elim
+    (λ (at : n ≡ j). grind (arith, none, some, at, same_count versions versions' n (λ i lt'. same i (λ e. omega (arith, lt', at, e)))))
+    (λ (other : n ≢ j). grind (arith, same n other, one_counted versions versions' j n (below n j lt other) none some same))
+    (cases_eq n j)
   where
     below : (n j : ℕ) → j < suc n → n ≢ j → j < n
     below n j lt other = grind arith
@@ -65,45 +45,23 @@ none_counted versions (suc n) none = ap₂ (λ (has : Bool) (k : ℕ). one_if ha
 
 -- ---- entries that a list names
 
-pub has_none : (entry : Option Version) → entry ≡ None → has_version entry ≡ false
-has_none entry none = ap has_version none
-
-dropped : (has : Bool) (x y : ℕ) → y ≡ x → one_if has + x ≤ one_if false + y + 1
-dropped true x y rest = omega (arith, rest)
-dropped false x y rest = omega (arith, rest)
-
 -- without the version of one entry, there is at most one fewer
 one_fewer : (m : ℕ) (versions : Versions) (n : ℕ) → count_versions versions n ≤ count_versions (λ i. cond (nat_eq i m) None (versions i)) n + 1
 one_fewer m versions zero = omega arith
 one_fewer m versions (suc n) =
     let without = λ (i : ℕ). cond (nat_eq i m) None (versions i) in
-    elim (nat_eq n m) as (λ b. nat_eq n m ≡ b → one_if (has_version (versions n)) + count_versions versions n ≤ one_if (has_version (cond b None (versions n))) + count_versions without n + 1) [
-      | true ↦ λ is.
-          let at = eqb-true n m is in
-          dropped (has_version (versions n)) (count_versions versions n) (count_versions without n)
-          (same_count versions without n (λ i lt. ap (λ b. has_version (cond b None (versions i))) (ne_eqb i m (λ e. omega (arith, lt, at, e)))))
-      | false ↦ λ apart. let rest = one_fewer m versions n in omega (arith, rest)
-    ] refl
+    ⊎_elim (λ (at : n ≡ m). grind (arith, at, same_count versions without n (λ i lt. ap (λ b. has_version (cond b None (versions i))) (ne_eqb i m (λ e. omega (arith, lt, at, e))))))
+    (λ (other : n ≢ m). grind (arith, other, one_fewer m versions n)) (cases_eq n m)
 
 -- there are no more versions than numbers in a list that has those of all their entries
 pub listed_counted : (numbers : List ℕ) (versions : Versions) (n : ℕ) → ((i : ℕ) → IsTrue (has_version (versions i)) → Contains numbers i) → count_versions versions n ≤ length numbers
-listed_counted [] versions n listed =
-    let none = none_counted versions n (λ i lt. cond_none (has_version (versions i)) (λ has. no_member i (listed i has))) in
-    omega (arith, none)
-  where
-    cond_none : (b : Bool) → (IsTrue b → ⊥) → b ≡ false
-    cond_none true none = absurd (none refl)
-    cond_none false none = refl
+listed_counted [] versions n listed = omega (arith, none_counted versions n (λ i lt. false_from_ne_true (has_version (versions i)) (λ has. no_member i (listed i has))))
 listed_counted (m ∷ numbers) versions n listed =
     let without = λ (i : ℕ). cond (nat_eq i m) None (versions i) in
-    let fewer = one_fewer m versions n in
-    let rest = listed_counted numbers without n (λ i has. others i (nat_eq i m) refl has) in
-    omega (arith, fewer, rest)
+    omega (arith, one_fewer m versions n, listed_counted numbers without n (λ i has. others i has))
   where
-    others : (i : ℕ) (b : Bool) → nat_eq i m ≡ b → IsTrue (has_version (cond b None (versions i))) → Contains numbers i
-    others i true is has = absurd (true≢false (sym has))
-    others i false apart has =
-        ⊎_elim (λ (same : m ≡ i). absurd (true≢false (sym (eq-eqb i m (sym same)) ∙ apart))) (λ (rest : Contains numbers i). rest) (first_or_later m i numbers (listed i has))
+    others : (i : ℕ) → IsTrue (has_version (cond (nat_eq i m) None (versions i))) → Contains numbers i
+    others i has = let old : IsTrue (has_version (versions i)) → (m ≡ i) ⊎ Contains numbers i = λ h. first_or_later m i numbers (listed i h) in grind (arith, old)
 
 -- ---- changes
 
@@ -115,48 +73,27 @@ ended_has change (Some version) = refl
 pub ended_counted : (change : Change) (versions : Versions) (n : ℕ) → count_versions (λ i. ended_where_begun change (versions i)) n ≡ count_versions versions n
 ended_counted change versions n = same_count versions (λ i. ended_where_begun change (versions i)) n (λ i lt. ended_has change (versions i))
 
--- a put at an entry without a version adds one
-pub put_counted : (position : ℕ) (put : Put) (versions : Versions) (n : ℕ) → put.entry.0 < n → versions put.entry.0 ≡ None
-    → count_versions (with_puts position (put ∷ []) versions) n ≡ count_versions versions n + 1
-put_counted position put versions n lt none =
-    one_counted versions (with_puts position (put ∷ []) versions) put.entry.0 n lt (ap has_version none)
-    (ap (λ b. has_version (cond b (Some (version_of_put position put)) (versions put.entry.0))) (eq-eqb put.entry.0 put.entry.0 refl))
-    (λ i other. ap (λ b. has_version (cond b (Some (version_of_put position put)) (versions i))) (ne_eqb i put.entry.0 other))
-
 abbrev pub AreBelow : ℕ → List Put → Type 0
 AreBelow n puts = AllByRecursion (λ (put : Put). put.entry.0 < n) puts
 
-apart_empty : (position : ℕ) (versions : Versions) (put : Put) (puts : List Put) → is_put_at put.entry.0 puts ≡ false → AreEmpty versions puts → AreEmpty (change_versions position versions (placed.Put put)) puts
-apart_empty position versions put [] apart empty = tt
-apart_empty position versions put (other ∷ puts) apart empty =
-    let parts = or_parts (nat_eq put.entry.0 other.entry.0) (is_put_at put.entry.0 puts) apart in (
-      change_versions-none position versions (placed.Put put) other.entry.0 empty.0
-          (ap (λ b. b || false) (ne_eqb other.entry.0 put.entry.0 (λ same. true≢false (sym (eq-eqb put.entry.0 other.entry.0 (sym same)) ∙ parts.0)))),
-      apart_empty position versions put puts parts.1 empty.1,
-    )
+-- the versions with puts at entries of their own are as many more as there are puts
+puts_counted : (position : ℕ) (versions : Versions) (puts : List Put) (n : ℕ) → AreBelow n puts → AreEmpty versions puts → AreDistinct puts → count_versions (with_puts position puts versions) n ≡ count_versions versions n + length puts
+puts_counted position versions [] n below empty distinct = omega arith
+puts_counted position versions (put ∷ puts) n below empty distinct =
+    let rest = puts_counted position versions puts n below.1 empty.1 distinct.1 in
+    let one = one_counted (with_puts position puts versions) (with_puts position (put ∷ puts) versions) put.entry.0 n below.0 (ap has_version (with_puts-other position puts versions put.entry.0 distinct.0 ∙ empty.0)) (grind arith) (λ i other. grind arith) in
+    omega (arith, rest, one)
 
 -- the versions after changes are as many more as there are puts among them
 pub changes_counted : (position : ℕ) (versions : Versions) (changes : List PlacedChange) (n : ℕ) → AreBelow n (puts_of changes) → AreEmpty versions (puts_of changes) → AreDistinct (puts_of changes)
     → count_versions (changes_versions position versions changes) n ≡ count_versions versions n + length (puts_of changes)
 changes_counted position versions [] n below empty distinct = omega arith
-changes_counted position versions (placed.Put put ∷ changes) n below empty distinct =
-    let ended = λ (i : ℕ). ended_where_begun (change_of (placed.Put put)) (versions i) in
-    let first = put_counted position put ended n below.0 (ap (ended_where_begun (change_of (placed.Put put))) empty.0) in
-    let same = ended_counted (change_of (placed.Put put)) versions n in
-    let rest = changes_counted position (change_versions position versions (placed.Put put)) changes n below.1 (apart_empty position versions put (puts_of changes) distinct.0 empty.1) distinct.1 in
-    omega (arith, first, same, rest)
-changes_counted position versions (placed.Drop id ∷ changes) n below empty distinct =
-    changes_counted position (change_versions position versions (placed.Drop id)) changes n below
-    (All-map _ _ (λ put none. ap (ended_where_begun (change_of (placed.Drop id))) none) (puts_of changes) empty) distinct
-    ∙ ap (λ k. k + length (puts_of changes)) (ended_counted (change_of (placed.Drop id)) versions n)
-changes_counted position versions (placed.DropKey key ∷ changes) n below empty distinct =
-    changes_counted position (change_versions position versions (placed.DropKey key)) changes n below
-    (All-map _ _ (λ put none. ap (ended_where_begun (change_of (placed.DropKey key))) none) (puts_of changes) empty) distinct
-    ∙ ap (λ k. k + length (puts_of changes)) (ended_counted (change_of (placed.DropKey key)) versions n)
-changes_counted position versions (placed.Clear ∷ changes) n below empty distinct =
-    changes_counted position (change_versions position versions placed.Clear) changes n below
-    (All-map _ _ (λ put none. ap (ended_where_begun (change_of placed.Clear)) none) (puts_of changes) empty) distinct
-    ∙ ap (λ k. k + length (puts_of changes)) (ended_counted (change_of placed.Clear) versions n)
+changes_counted position versions (c ∷ changes) n below empty distinct =
+    let ended = λ (i : ℕ). ended_where_begun (change_of c) (versions i) in
+    let first = puts_counted position ended (put_of c) n (All-prefix _ (put_of c) (puts_of changes) below)
+    (All-map _ _ (λ put none. ap (ended_where_begun (change_of c)) none) (put_of c) (All-prefix _ (put_of c) (puts_of changes) empty)) (distinct-first (put_of c) (puts_of changes) distinct) in
+    let after = empty-rest position versions c changes empty distinct in
+    omega (arith, first, ended_counted (change_of c) versions n, changes_counted position (change_versions position versions c) changes n (All-rest _ (put_of c) (puts_of changes) below) after.0 after.1, length-append (put_of c) (puts_of changes))
 
 -- ---- freeing
 

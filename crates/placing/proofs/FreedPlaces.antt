@@ -1,7 +1,7 @@
 -- Entries whose versions are freed, or that are cleared, come back to the heap, and so do the extents of those versions.
-use Rattle.std.proofs.Common.{◌≡◌, ◌≢◌, ℕ, ◌+◌, ◌<◌, ◌≤◌, ◌||◌, ⊎_elim, Bool, true, false, cond, IsTrue, List, [], ◌∷◌, ◌++◌, length, get_or, nat_eq, Option, Some, None, refl, sym, ap, ap₂, subst, ◌∙◌, arith, eq-eqb, eqb-true, ne_eqb, length-append}
+use Rattle.std.proofs.Common.{◌≡◌, ◌≢◌, ℕ, ◌+◌, ◌<◌, ◌≤◌, ◌||◌, ⊎_elim, Bool, true, false, cond, IsTrue, List, [], ◌∷◌, ◌++◌, length, nat_eq, Option, Some, None, refl, sym, ap, ap₂, subst, ◌∙◌, arith, eq-eqb, eqb-true, length-append}
 use Rattle.std.proofs.lemmas.Bool.{false≢true, or_cases, or_left, or_right, or_parts, false_from_ne_true}
-use Rattle.std.proofs.lemmas.Map.Keys.{IsDistinct-head, IsDistinct-tail, IsDistinct-cons}
+use Rattle.std.proofs.lemmas.List.{map-append}
 use Rattle.std.specs.List.{AllByRecursion, IsDistinct, flat_map}
 use Rattle.kv_types.specs.declared.change.Change.{Change}
 use Rattle.kv_types.specs.declared.place.EntryNo.{EntryNo}
@@ -11,28 +11,23 @@ use Rattle.extent_heap.specs.Room.{Room, is_free_entry}
 use Rattle.extent_heap.specs.Runs.{has_line}
 use Rattle.extent_heap.proofs.RunsLemmas.{has_line-append, line_bounds, line_within}
 use Rattle.model.specs.declared.group.Part.{Part}
-use Rattle.model.specs.declared.group.Put.{Put}
 use Rattle.model.specs.declared.group.PlacedChange.{PlacedChange}
-use Rattle.model.specs.declared.group.PlacedChange.TheVariants as placed
-use Rattle.model.specs.Group.{AreApart, AreEnded, Contents, Versions, after_free, change_of, put_of, puts_of_part, change_versions, changes_versions, part_versions, parts_versions, ended_where_begun, ends_record, extent_of, extents_of, is_ended_version, is_listed, is_put_at, version_of_put}
+use Rattle.model.specs.Group.{AreApart, AreEnded, Contents, Versions, after_free, change_of, put_of, puts_of_part, change_versions, changes_versions, part_versions, parts_versions, ended_where_begun, ends_record, extent_of, extents_of, is_ended_version, is_listed, is_put_at}
 use Rattle.model.specs.Image.{Version, entries_of_lines, first_extent_line}
 use Rattle.model.proofs.GroupsLemmas.{is_put_at-append}
 use Rattle.mv_keyspace.specs.Row.{numbers_of}
-use Rattle.mv_keyspace.proofs.VersionTables.{AreEmpty}
+use Rattle.mv_keyspace.proofs.DistinctLemmas.{distinct-append, distinct-one}
+use Rattle.mv_keyspace.proofs.PartTables.{with_puts-other}
 use Rattle.placing.specs.Back.{AreExtentsApart, ComesBack, HasOut, IsLineBack, count_versions, has_version}
 use Rattle.placing.specs.Left.{HasNoFreeLine}
 use Rattle.placing.specs.Read.{LiesIn}
 use Rattle.placing.specs.Rebuilt.{IsLineOfVersion}
 use Rattle.placing.proofs.BackLemmas.{listed-append}
 use Rattle.placing.proofs.CountLemmas.{freed_counted, same_count}
-use Rattle.placing.proofs.MemberLemmas.{distinct_none}
+use Rattle.placing.proofs.MemberLemmas.{distinct_none, first_or_later, no_member, listed-from_member}
 use Rattle.placing.proofs.TakenLemmas.{All-append}
 
 -- ---- extents of versions
-
--- the versions have the same extent
-pub same_extent : (before after : Option Version) (version other : Version) → before ≡ Some version → after ≡ Some other → other.first_line ≡ version.first_line → other.lines ≡ version.lines → extent_of before ≡ extent_of after
-same_extent before after version other was is first lines = ap extent_of was ∙ sym (ap extent_of is ∙ ap₂ (λ (n m : ℕ). extent_of (Some (record version { first_line = n; lines = m }))) first lines)
 
 -- the entries have the same extents at both times where each of them has
 pub extents-ahead : (versions later : Versions) (entries : List EntryNo) → ((i : ℕ) → IsTrue (is_listed i entries) → extent_of (versions i) ≡ extent_of (later i)) → extents_of versions entries ≡ extents_of later entries
@@ -47,12 +42,8 @@ extent_where_begun change (Some version) = refl
 
 -- an entry that no put takes keeps its extent
 extent_after_change : (position : ℕ) (versions : Versions) (change : PlacedChange) (i : ℕ) → is_put_at i (put_of change) ≡ false → extent_of (change_versions position versions change i) ≡ extent_of (versions i)
-extent_after_change position versions (placed.Put put) i beside =
-    let c = change_of (placed.Put put) in
-    ap (λ b. extent_of (cond b (Some (version_of_put position put)) (ended_where_begun c (versions i)))) (or_parts (nat_eq i put.entry.0) false beside).0 ∙ extent_where_begun c (versions i)
-extent_after_change position versions (placed.Drop id) i beside = extent_where_begun (change_of (placed.Drop id)) (versions i)
-extent_after_change position versions (placed.DropKey key) i beside = extent_where_begun (change_of (placed.DropKey key)) (versions i)
-extent_after_change position versions placed.Clear i beside = extent_where_begun (change_of placed.Clear) (versions i)
+extent_after_change position versions change i beside =
+    ap extent_of (with_puts-other position (put_of change) (λ j. ended_where_begun (change_of change) (versions j)) i beside) ∙ extent_where_begun (change_of change) (versions i)
 
 pub extent-after_changes : (position : ℕ) (versions : Versions) (changes : List PlacedChange) (i : ℕ) → is_put_at i (flat_map put_of changes) ≡ false → extent_of (changes_versions position versions changes i) ≡ extent_of (versions i)
 extent-after_changes position versions [] i beside = refl
@@ -70,20 +61,6 @@ extent-after_parts versions (part ∷ parts) i beside =
 pub extents-after_parts : (versions : Versions) (parts : List Part) (entries : List EntryNo) → ((i : ℕ) → IsTrue (is_listed i entries) → is_put_at i (flat_map puts_of_part parts) ≡ false)
     → extents_of (parts_versions versions parts) entries ≡ extents_of versions entries
 extents-after_parts versions parts entries beside = extents-ahead (parts_versions versions parts) versions entries (λ i listed. extent-after_parts versions parts i (beside i listed))
-
-with_extent : (entry : Option Version) (version : Version) → extent_of entry ≡ extent_of (Some version) → (after : Version) × (entry ≡ Some after) × (after.first_line ≡ version.first_line) × (after.lines ≡ version.lines)
-with_extent None version same = cc
-with_extent (Some after) version same = (
-  after,
-  refl,
-  ap (λ (extents : List Extent). (get_or extents 0 (record { first_line = 0; lines = 0 })).first_line) same,
-  ap (λ (extents : List Extent). (get_or extents 0 (record { first_line = 0; lines = 0 })).lines) same,
-)
-
--- its version has the same lines after the parts
-pub version-after_parts : (versions : Versions) (parts : List Part) (i : ℕ) (version : Version) → is_put_at i (flat_map puts_of_part parts) ≡ false → versions i ≡ Some version
-    → (after : Version) × (parts_versions versions parts i ≡ Some after) × (after.first_line ≡ version.first_line) × (after.lines ≡ version.lines)
-version-after_parts versions parts i version beside begun = with_extent (parts_versions versions parts i) version (extent-after_parts versions parts i beside ∙ ap extent_of begun)
 
 -- ---- entries that have ended
 
@@ -112,36 +89,19 @@ begun_version (Some version) ended = (version, refl)
 ended_not_none : (entry : Option Version) → IsTrue (is_ended_version entry) → entry ≡ None → ⊥
 ended_not_none entry ended none = false≢true (sym (ap is_ended_version none) ∙ ended)
 
--- no put at an entry without a version is at one of them
-pub ended-not_put : (contents : Contents) (entries : List EntryNo) (puts : List Put) → AreEnded contents entries → AreEmpty contents.versions puts → (i : ℕ) → IsTrue (is_listed i entries) → is_put_at i puts ≡ false
-ended-not_put contents entries [] ended empty i listed = refl
-ended-not_put contents entries (put ∷ puts) ended empty i listed =
-    ap (λ b. b || is_put_at i puts)
-    (ne_eqb i put.entry.0 (λ same. ended_not_none (contents.versions i) (ended_listed contents entries ended i listed).1 (ap contents.versions same ∙ empty.0)))
-    ∙ ended-not_put contents entries puts ended empty.1 i listed
-
 -- ---- entries of two lists
-
-other_numbers : (n : ℕ) (entries : List EntryNo) → is_listed n entries ≡ false → AllByRecursion (λ m. nat_eq n m ≡ false) (numbers_of entries)
-other_numbers n [] none = tt
-other_numbers n (entry ∷ entries) none = let parts = or_parts (nat_eq n entry.0) (is_listed n entries) none in (parts.0, other_numbers n entries parts.1)
 
 ended_once : (contents : Contents) (entries : List EntryNo) → AreEnded contents entries → IsDistinct nat_eq (numbers_of entries)
 ended_once contents [] ended = distinct_none nat_eq
-ended_once contents (entry ∷ entries) ended = IsDistinct-cons nat_eq entry.0 (numbers_of entries) (other_numbers entry.0 entries ended.2) (ended_once contents entries ended.3)
-
-numbers_both : (P : ℕ → Type 0) (xs ys : List EntryNo) → AllByRecursion P (numbers_of xs) → AllByRecursion P (numbers_of ys) → AllByRecursion P (numbers_of (xs ++ ys))
-numbers_both P [] ys all all' = all'
-numbers_both P (x ∷ xs) ys all all' = (all.0, numbers_both P xs ys all.1 all')
+ended_once contents (entry ∷ entries) ended =
+    distinct-append (entry.0 ∷ []) (numbers_of entries) (distinct-one entry.0) (ended_once contents entries ended.3)
+    (λ i own m. grind (arith, ended.2, first_or_later entry.0 i [] own, no_member i, listed-from_member i entries m))
 
 -- two lists without a common entry
 pub once-append : (xs ys : List EntryNo) → IsDistinct nat_eq (numbers_of xs) → IsDistinct nat_eq (numbers_of ys) → ((i : ℕ) → IsTrue (is_listed i xs) → IsTrue (is_listed i ys) → ⊥)
     → IsDistinct nat_eq (numbers_of (xs ++ ys))
-once-append [] ys once once' apart = once'
-once-append (x ∷ xs) ys once once' apart =
-    let none = false_from_ne_true (is_listed x.0 ys) (apart x.0 (first_listed x xs)) in
-    IsDistinct-cons nat_eq x.0 (numbers_of (xs ++ ys)) (numbers_both (λ m. nat_eq x.0 m ≡ false) xs ys (IsDistinct-head nat_eq x.0 (numbers_of xs) once) (other_numbers x.0 ys none))
-    (once-append xs ys (IsDistinct-tail nat_eq x.0 (numbers_of xs) once) once' (λ i listed. apart i (later_listed i x xs listed)))
+once-append xs ys once once' apart =
+    rw map-append (distinct-append (numbers_of xs) (numbers_of ys) once once' (λ i m m'. apart i (listed-from_member i xs m) (listed-from_member i ys m')))
 
 -- an entry of two lists is in one of them
 listed_either : {P : Type 0} (i : ℕ) (xs ys : List EntryNo) → IsTrue (is_listed i (xs ++ ys)) → (IsTrue (is_listed i xs) → P) → (IsTrue (is_listed i ys) → P) → P
@@ -258,8 +218,7 @@ extents_of-length contents [] ended = refl
 extents_of-length contents (entry ∷ entries) ended =
     let rest = extents_of-length contents entries ended.3 in
     let begun = begun_version (contents.versions entry.0) ended.1 in
-    let first = ap (λ held. length (extent_of held ++ extents_of contents.versions entries)) begun.1 in
-    omega (arith, rest, first)
+    omega (arith, rest, ap (λ held. length (extent_of held ++ extents_of contents.versions entries)) begun.1)
 
 -- ---- extents that are apart
 
@@ -398,12 +357,8 @@ ended_change_ended change (Some version) ended = or_left version.is_ended (ends_
 
 still_ended_change : (position : ℕ) (versions : Versions) (change : PlacedChange) (i : ℕ) → is_put_at i (put_of change) ≡ false → IsTrue (is_ended_version (versions i))
     → IsTrue (is_ended_version (change_versions position versions change i))
-still_ended_change position versions (placed.Put put) i beside ended =
-    let c = change_of (placed.Put put) in
-    ap (λ b. is_ended_version (cond b (Some (version_of_put position put)) (ended_where_begun c (versions i)))) (or_parts (nat_eq i put.entry.0) false beside).0 ∙ ended_change_ended c (versions i) ended
-still_ended_change position versions (placed.Drop id) i beside ended = ended_change_ended (change_of (placed.Drop id)) (versions i) ended
-still_ended_change position versions (placed.DropKey key) i beside ended = ended_change_ended (change_of (placed.DropKey key)) (versions i) ended
-still_ended_change position versions placed.Clear i beside ended = ended_change_ended (change_of placed.Clear) (versions i) ended
+still_ended_change position versions change i beside ended =
+    ap is_ended_version (with_puts-other position (put_of change) (λ j. ended_where_begun (change_of change) (versions j)) i beside) ∙ ended_change_ended (change_of change) (versions i) ended
 
 still_ended_changes : (position : ℕ) (versions : Versions) (changes : List PlacedChange) (i : ℕ) → is_put_at i (flat_map put_of changes) ≡ false → IsTrue (is_ended_version (versions i))
     → IsTrue (is_ended_version (changes_versions position versions changes i))

@@ -1,13 +1,13 @@
 -- What a heap has left is free in the contents, and stays so where a commit makes a part durable that was taken from it.
-use Rattle.std.proofs.Common.{◌≡◌, ℕ, ◌+◌, ◌-◌, inl, inr, Bool, true, false, not, ◌&&◌, cond, IsTrue, List, [], ◌∷◌, length, nat_eq, Option, Some, None, refl, ap, subst, ◌∙◌, arith}
+use Rattle.std.proofs.Common.{◌≡◌, ℕ, ◌+◌, ◌-◌, inl, inr, Bool, false, not, ◌&&◌, IsTrue, List, [], ◌∷◌, length, nat_eq, Option, Some, None, refl, ap, subst, ◌∙◌, arith}
+use Rattle.std.proofs.lemmas.Bool.{cond_both}
 use Rattle.std.specs.List.{flat_map, AllByRecursion}
 use Rattle.model.specs.declared.group.Part.{Part}
 use Rattle.model.specs.declared.group.Put.{Put}
 use Rattle.model.specs.declared.group.PlacedChange.{PlacedChange}
-use Rattle.model.specs.declared.group.PlacedChange.TheVariants as placed
 use Rattle.model.specs.declared.image.TheConstants.{STAMP_WINDOW}
 use Rattle.model.specs.Image.{Version}
-use Rattle.model.specs.Group.{Contents, Versions, change_of, put_of, puts_of_part, change_versions, changes_versions, part_versions, parts_versions, ended_where_begun, version_of_put, last_position, IsPlaced, IsUnused, AreApart, is_put_at}
+use Rattle.model.specs.Group.{Contents, Versions, change_of, put_of, puts_of_part, with_puts, change_versions, changes_versions, part_versions, parts_versions, ended_where_begun, version_of_put, last_position, IsPlaced, IsUnused, AreApart, is_put_at}
 use Rattle.model.proofs.GroupsLemmas.{parts_versions-none}
 use Rattle.extent_heap.specs.Room.{Room}
 use Rattle.mv_keyspace.specs.Table.{puts_of}
@@ -64,21 +64,17 @@ module _ (Good : ℕ → ℕ → Type 0) where
       let lines : old.lines ≡ version.lines = cc in
       subst (Good version.first_line) lines (subst (λ n. Good n old.lines) first (good i old is))
 
-  good_with_put : (position : ℕ) (put : Put) (versions : Versions) → AllGood versions → HasGood put → (i : ℕ) (here : Bool) (version : Version) → cond here (Some (version_of_put position put)) (versions i) ≡ Some version
-      → Good version.first_line version.lines
-  good_with_put position put versions good new i true version begun =
-      let first : put.extent.first_line ≡ version.first_line = cc in
-      let lines : put.extent.lines ≡ version.lines = cc in
-      subst (Good version.first_line) lines (subst (λ n. Good n put.extent.lines) first new)
-  good_with_put position put versions good new i false version begun = good i version begun
+  good_puts : (position : ℕ) (puts : List Put) (versions : Versions) → AllGood versions → AllByRecursion HasGood puts → AllGood (with_puts position puts versions)
+  good_puts position [] versions good new i version begun = good i version begun
+  good_puts position (put ∷ puts) versions good new i version begun =
+      cond_both (nat_eq i put.entry.0) (Some (version_of_put position put)) (with_puts position puts versions i) (λ entry. entry ≡ Some version → Good version.first_line version.lines)
+      (λ own e. own_put (version_of_put position put) e new.0) (λ other e. good_puts position puts versions good new.1 i version e) begun
+    where
+      own_put : (made : Version) → Some made ≡ Some version → Good made.first_line made.lines → Good version.first_line version.lines
+      own_put made e is = let same : made ≡ version = cc in subst (λ (v : Version). Good v.first_line v.lines) same is
 
   good_change : (position : ℕ) (versions : Versions) (c : PlacedChange) → AllGood versions → AllByRecursion HasGood (put_of c) → AllGood (change_versions position versions c)
-  good_change position versions (placed.Put put) good new i version begun =
-      let ended = λ (j : ℕ). ended_where_begun (change_of (placed.Put put)) (versions j) in
-      good_with_put position put ended (λ j v e. good_where_begun versions (placed.Put put) good j (versions j) v refl e) new.0 i (nat_eq i put.entry.0) version begun
-  good_change position versions (placed.Drop id) good new i version begun = good_where_begun versions (placed.Drop id) good i (versions i) version refl begun
-  good_change position versions (placed.DropKey key) good new i version begun = good_where_begun versions (placed.DropKey key) good i (versions i) version refl begun
-  good_change position versions placed.Clear good new i version begun = good_where_begun versions placed.Clear good i (versions i) version refl begun
+  good_change position versions c good new = good_puts position (put_of c) _ (λ j version begun. good_where_begun versions c good j (versions j) version refl begun) new
 
   -- if the lines of all versions and of all new puts are good, so are those of the versions after the changes
   pub good_changes : (position : ℕ) (versions : Versions) (changes : List PlacedChange) → AllGood versions → AllByRecursion HasGood (puts_of changes) → AllGood (changes_versions position versions changes)

@@ -1,6 +1,9 @@
 -- Elements of lists, and of what is made of some of them.
-use Rattle.std.proofs.Common.{◌≡◌, ◌≢◌, ℕ, zero, suc, ◌<◌, ◌||◌, ◌⊎◌, inl, inr, ⊎_elim, Bool, true, false, cond, IsTrue, List, [], ◌∷◌, ◌++◌, length, map, get_or, Contains, nat_eq, refl, sym, ap, subst, ◌∙◌, arith, eq-eqb}
-use Rattle.std.proofs.lemmas.Bool.{true≢false}
+use Rattle.std.proofs.Common.{◌≡◌, ◌≢◌, ℕ, zero, suc, ◌<◌, ◌||◌, ◌⊎◌, inl, inr, ⊎_elim, Bool, true, false, cond, IsTrue, List, [], ◌∷◌, ◌++◌, length, map, get_or, Contains, nat_eq, refl, sym, ap, ◌∙◌, arith, eq-eqb}
+use Rattle.std.proofs.lemmas.Bool.{true≢false, false_from_ne_true}
+use Rattle.kv_types.specs.declared.place.EntryNo.{EntryNo}
+use Rattle.model.specs.Group.{is_listed}
+use Rattle.mv_keyspace.specs.Row.{numbers_of}
 use Rattle.std.specs.declared.cmp.Ordering.TheVariants.{Less}
 use Rattle.std.proofs.lemmas.Map.Keys.{IsDistinct-head, IsDistinct-tail, IsDistinct-cons, sorted_head, sorted_tail}
 use Rattle.std.specs.List.{AllByRecursion, IsDistinct, flat_map, list_any}
@@ -25,10 +28,22 @@ no_member y m = let lt = m.1 in omega arith
 
 pub mapped_member : {X A : Type 0} (made : X → A) (xs : List X) (x : X) → Contains xs x → Contains (map made xs) (made x)
 mapped_member made [] x m = absurd (no_member x m)
-mapped_member made (y ∷ xs) x m =
-    ⊎_elim (λ (same : y ≡ x). subst (λ z. Contains (made y ∷ map made xs) (made z)) same (here (made y) (map made xs)))
-    (λ (rest : Contains xs x). later (made y) (made x) (map made xs) (mapped_member made xs x rest))
-    (first_or_later y x xs m)
+mapped_member made (y ∷ xs) x m = grind (arith, first_or_later y x xs m, here (made y) (map made xs), later (made y) (made x) (map made xs), mapped_member made xs x)
+
+pub member-from_map : {X A : Type 0} (made : X → A) (xs : List X) (a : A) → Contains (map made xs) a → (x : X) × Contains xs x × (made x ≡ a)
+member-from_map made [] a m = absurd (no_member a m)
+member-from_map made (x ∷ xs) a m =
+    ⊎_elim (λ (same : made x ≡ a). (x, here x xs, same)) (λ (rest : Contains (map made xs) a). let found = member-from_map made xs a rest in (found.0, later x found.0 xs found.1, found.2)) (first_or_later (made x) a (map made xs) m)
+
+-- ---- entries that a list names
+
+pub member-from_listed : (i : ℕ) (entries : List EntryNo) → IsTrue (is_listed i entries) → Contains (numbers_of entries) i
+member-from_listed i [] t = cc
+member-from_listed i (entry ∷ entries) t = grind (arith, here entry.0 (numbers_of entries), later entry.0 i (numbers_of entries), member-from_listed i entries)
+
+pub listed-from_member : (i : ℕ) (entries : List EntryNo) → Contains (numbers_of entries) i → IsTrue (is_listed i entries)
+listed-from_member i [] m = absurd (no_member i m)
+listed-from_member i (entry ∷ entries) m = grind (arith, first_or_later entry.0 i (numbers_of entries) m, listed-from_member i entries)
 
 -- ---- elements that pass a test
 
@@ -42,17 +57,10 @@ member-from_any test (x ∷ xs) t =
 
 pub any-from_member : {X : Type 0} (test : X → Bool) (xs : List X) (y : X) → Contains xs y → IsTrue (test y) → IsTrue (list_any test xs)
 any-from_member test [] y m t = absurd (no_member y m)
-any-from_member test (x ∷ xs) y m t =
-    ⊎_elim (λ (same : x ≡ y). ap (λ b. b || list_any test xs) (ap test same ∙ t))
-    (λ (rest : Contains xs y). elim (test x) as (λ b. IsTrue (b || list_any test xs)) [ true ↦ refl | false ↦ any-from_member test xs y rest t ])
-    (first_or_later x y xs m)
+any-from_member test (x ∷ xs) y m t = grind (arith, first_or_later x y xs m, any-from_member test xs y)
 
 pub any_false : {X : Type 0} (test : X → Bool) (xs : List X) → ((x : X) → Contains xs x → IsTrue (test x) → ⊥) → list_any test xs ≡ false
-any_false test xs none =
-    elim (list_any test xs) as (λ b. list_any test xs ≡ b → b ≡ false) [
-      | true ↦ λ some. let found = member-from_any test xs some in absurd (none found.0 found.1 found.2)
-      | false ↦ λ is. refl
-    ] refl
+any_false test xs none = false_from_ne_true (list_any test xs) (λ some. let found = member-from_any test xs some in none found.0 found.1 found.2)
 
 -- ---- elements with different numbers
 
@@ -92,23 +100,13 @@ module _ {X A : Type 0} (test : X → Bool) (made : X → A) where
   chosen-from_member [] y m t = absurd (no_member y m)
   chosen-from_member (x ∷ xs) y m t =
       elim (test x) as (λ b. test x ≡ b → Contains (cond b (made x ∷ []) [] ++ chosen xs) (made y)) [
-        | true ↦ λ own.
-            ⊎_elim (λ (same : x ≡ y). subst (λ z. Contains (made x ∷ chosen xs) (made z)) same (here (made x) (chosen xs)))
-            (λ (rest : Contains xs y). later (made x) (made y) (chosen xs) (chosen-from_member xs y rest t))
-            (first_or_later x y xs m)
-        | false ↦ λ other.
-            ⊎_elim (λ (same : x ≡ y). absurd (true≢false (sym t ∙ ap test (sym same) ∙ other)))
-            (λ (rest : Contains xs y). chosen-from_member xs y rest t)
-            (first_or_later x y xs m)
+        | true ↦ λ own. grind (arith, first_or_later x y xs m, here (made x) (chosen xs), later (made x) (made y) (chosen xs), chosen-from_member xs y)
+        | false ↦ λ other. ⊎_elim (λ (same : x ≡ y). absurd (true≢false (sym t ∙ ap test (sym same) ∙ other))) (λ (rest : Contains xs y). chosen-from_member xs y rest t) (first_or_later x y xs m)
       ] refl
 
   pub all_chosen : (P : A → Type 0) (xs : List X) → AllByRecursion (λ x. IsTrue (test x) → P (made x)) xs → AllByRecursion P (chosen xs)
   all_chosen P [] all = tt
-  all_chosen P (x ∷ xs) all =
-      elim (test x) as (λ b. test x ≡ b → AllByRecursion P (cond b (made x ∷ []) [] ++ chosen xs)) [
-        | true ↦ λ own. (all.0 own, all_chosen P xs all.1)
-        | false ↦ λ other. all_chosen P xs all.1
-      ] refl
+  all_chosen P (x ∷ xs) all = grind (arith, all.0, all_chosen P xs all.1)
 
   -- they differ by any test by which those of elements with different numbers do
   pub distinct_chosen : (number : X → ℕ) (same : A → A → Bool) (all xs : List X) → ((x : X) → Contains xs x → Contains all x) → IsDistinct nat_eq (map number xs)

@@ -1,9 +1,9 @@
 -- Places are taken in turn, and for each put a heap can hand out only one place.
-use Rattle.std.proofs.Common.{◌≡◌, ℕ, ◌+◌, ◌/◌, ◌<◌, ◌==◌, ◌≤◌, if◌then◌else◌, true, false, List, [], ◌∷◌, ◌++◌, map, length, take, drop, refl, sym, ap, ap₂, subst, ◌∙◌, append_assoc, length-append, arith}
+use Rattle.std.proofs.Common.{◌≡◌, ℕ, ◌+◌, ◌<◌, ◌≤◌, List, [], ◌∷◌, ◌++◌, map, length, take, drop, refl, sym, ap, ap₂, subst, ◌∙◌, append_assoc, arith}
 use Rattle.std.proofs.lemmas.Bool.{eqb-false}
 use Rattle.std.proofs.lemmas.Grind.{flat_map-append}
-use Rattle.std.proofs.lemmas.List.{append-nil, map-append, drop-append-le, take-append-le}
-use Rattle.std.proofs.Math.Seq.{drop-append_seam, take-append_seam}
+use Rattle.std.proofs.lemmas.List.{map-append, drop-append-le, take-append-le}
+use Rattle.std.proofs.Math.Seq.{drop-append_seam}
 use Rattle.kv_types.specs.declared.place.EntryNo.{EntryNo}
 use Rattle.kv_types.specs.declared.record_id.RecordId.{RecordId}
 use Rattle.kv_types.specs.declared.change.Change.{Change}
@@ -53,6 +53,9 @@ pub TakesPlaces-append : (old : Room) (xs ys : List Put) (between new : Room) �
 TakesPlaces-append old [] ys between new prefix rest = subst (λ room. TakesPlaces room ys new) prefix rest
 TakesPlaces-append old (put ∷ xs) ys between new prefix rest = (prefix.0, prefix.1, TakesPlaces-append prefix.0 xs ys between new prefix.2 rest)
 
+none_taken : (old : Room) (change : PlacedChange) (new : Room) → put_of change ≡ [] → TakesPlaces old (put_of change) new → new ≡ old
+none_taken old change new none takes = subst (λ puts. TakesPlaces old puts new) none takes
+
 -- the same changes take the same places
 pub same_places : (old : Room) (p q : PlacedChange) (new new' : Room) → change_of p ≡ change_of q → TakesPlaces old (put_of p) new → TakesPlaces old (put_of q) new' → new ≡ new'
 same_places old (Put' put) (Put' put') new new' e takes takes' =
@@ -62,18 +65,9 @@ same_places old (Put' put) (Put' put') new new' e takes takes' =
 same_places old (Put' put) (Drop id) new new' e takes takes' = cc
 same_places old (Put' put) (DropKey key) new new' e takes takes' = cc
 same_places old (Put' put) Clear new new' e takes takes' = cc
-same_places old (Drop id) (Put' put) new new' e takes takes' = cc
-same_places old (DropKey key) (Put' put) new new' e takes takes' = cc
-same_places old Clear (Put' put) new new' e takes takes' = cc
-same_places old (Drop id) (Drop id') new new' e takes takes' = takes ∙ sym takes'
-same_places old (Drop id) (DropKey key) new new' e takes takes' = takes ∙ sym takes'
-same_places old (Drop id) Clear new new' e takes takes' = takes ∙ sym takes'
-same_places old (DropKey key) (Drop id) new new' e takes takes' = takes ∙ sym takes'
-same_places old (DropKey key) (DropKey key') new new' e takes takes' = takes ∙ sym takes'
-same_places old (DropKey key) Clear new new' e takes takes' = takes ∙ sym takes'
-same_places old Clear (Drop id) new new' e takes takes' = takes ∙ sym takes'
-same_places old Clear (DropKey key) new new' e takes takes' = takes ∙ sym takes'
-same_places old Clear Clear new new' e takes takes' = takes ∙ sym takes'
+same_places old (Drop id) q new new' e takes takes' = takes ∙ sym (none_taken old q new' (grind arith) takes')
+same_places old (DropKey key) q new new' e takes takes' = takes ∙ sym (none_taken old q new' (grind arith) takes')
+same_places old Clear q new new' e takes takes' = takes ∙ sym (none_taken old q new' (grind arith) takes')
 
 -- a put without a place is a change without one
 pub no_places : (old : Room) (id : RecordId) (value : List ℕ) → ((put : Put) (left : Room) → put.id ≡ id → put.value ≡ value → ¬ TakesPlace old put left)
@@ -87,14 +81,11 @@ no_places old id value none (DropKey key) left e takes = cc
 no_places old id value none Clear left e takes = cc
 
 -- a record has at least one line
+pub one_at_least : (bytes : ℕ) → 0 < lines_of_bytes bytes
+one_at_least bytes = grind (arith, eqb-false bytes 0)
+
 pub some_lines : (put : Put) → HasItsLines put → 0 < put.extent.lines
 some_lines put fitting = subst (λ n. 0 < n) (sym fitting) (one_at_least (bytes_of_id put.id + length put.value))
-  where
-    one_at_least : (bytes : ℕ) → 0 < lines_of_bytes bytes
-    one_at_least bytes = elim (bytes == 0) as (λ none. (bytes == 0) ≡ none → 0 < (if none then 1 else (bytes + 63) / 64)) [
-      | true ↦ λ e. omega arith
-      | false ↦ λ e. let some = eqb-false bytes 0 e in omega arith
-    ] refl
 
 -- the last change took its place from what those before it left
 pub last_place : (old : Room) (placed : List PlacedChange) (last : PlacedChange) (new : Room) → TakesPlaces old (puts_of (placed ++ last ∷ [])) new → (between : Room) × TakesPlaces old (puts_of placed) between × TakesPlaces between (put_of last) new
@@ -122,15 +113,6 @@ module _ (room : Room) (before : List PlacedChange) (changes : List Change) (aft
   pub added : (from : ℕ) → from ≡ length before → drop from after ≡ is.placed
   added from at = ap₂ (λ (n : ℕ) (items : List PlacedChange). drop n items) at is.after_is ∙ drop-append_seam before is.placed
 
-  pub kept : (from : ℕ) → from ≡ length before → take from after ≡ before
-  kept from at = ap₂ (λ (n : ℕ) (items : List PlacedChange). take n items) at is.after_is ∙ take-append_seam before is.placed
-
-  pub length-after : length before ≤ length after
-  length-after =
-      let whole = ap (λ (items : List PlacedChange). length items) is.after_is in
-      let sum = length-append before is.placed in
-      omega (arith, whole, sum)
-
   pub added_places : (from : ℕ) → from ≡ length before → TakesPlaces room (puts_of (drop from after)) left
   added_places from at = subst (λ items. TakesPlaces room (puts_of items) left) (sym (added from at)) is.places
 
@@ -142,10 +124,6 @@ module _ (room : Room) (before : List PlacedChange) (changes : List Change) (aft
     changes_are = map-append change_of is.placed (next ∷ []) ∙ ap (λ xs. xs ++ change_of next ∷ []) is.changes_are;
     places = more_places room is.placed left next new is.places takes;
   }
-
--- no changes have no places
-pub none_more : (room : Room) (before after : List PlacedChange) → after ≡ before → PlacesAfter room before [] after room
-none_more room before after same = record { placed = []; after_is = same ∙ sym (append-nil before); changes_are = refl; places = refl }
 
 -- where the next change finds no place after those before it, there is no room for all of them
 module _ (next : Change) (rest : List Change) where

@@ -1,9 +1,9 @@
 -- What is read of an image, entry by entry, are the lists of its contents.
-use Rattle.std.proofs.Common.{◌≡◌, ◌≢◌, ℕ, zero, suc, ◌+◌, ◌<◌, ◌≤◌, ◌/◌, ◌&&◌, ◌||◌, ◌==◌, if◌then◌else◌, ◌⊎◌, inl, inr, ⊎_elim, Bool, true, false, not, cond, IsTrue, List, [], ◌∷◌, ◌++◌, map, Contains, nat_eq, Option, Some, None, IsSome, refl, sym, ap, ap₂, subst, subst₂, ◌∙◌, arith, eqb-true}
-use Rattle.std.proofs.lemmas.Bool.{and_parts, cases_eq, cases_lt, eqb-false, false_from_ne_true, lt-ltb, true≢false}
+use Rattle.std.proofs.Common.{◌≡◌, ◌≢◌, ℕ, zero, suc, ◌+◌, ◌<◌, ◌≤◌, ◌&&◌, ◌||◌, ◌==◌, ◌⊎◌, inl, inr, ⊎_elim, Bool, true, false, not, cond, IsTrue, List, [], ◌∷◌, ◌++◌, map, Contains, nat_eq, Option, Some, None, IsSome, refl, sym, ap, ap₂, subst, subst₂, ◌∙◌, arith, eqb-true, ne_eqb}
+use Rattle.std.proofs.lemmas.Bool.{and_parts, not-true, cases_eq, cases_lt, false_from_ne_true, lt-ltb, true≢false}
 use Rattle.std.proofs.lemmas.List.{append-nil, map-append}
 use Rattle.std.proofs.lemmas.List.Elements.{Contains-append_cases, Contains-append_left, Contains-append_right}
-use Rattle.std.proofs.lemmas.Map.Keys.{IsDistinct-cons, sorted_head, sorted_tail}
+use Rattle.std.proofs.lemmas.Map.Keys.{IsDistinct-from_apart, below_from_sorted, sorted_head, sorted_tail}
 use Rattle.std.specs.declared.cmp.Ordering.TheVariants.{Less, Equal, Greater}
 use Rattle.std.specs.List.{AllByRecursion, IsDistinct}
 use Rattle.std.specs.List.Sorted.{IsStrictlySortedBy}
@@ -21,11 +21,11 @@ use Rattle.model.specs.declared.record.Record.{Record}
 use Rattle.model.specs.Group.{Contents, AreApart}
 use Rattle.model.specs.ReadImage.{is_clash, record_in}
 use Rattle.model.proofs.MapLemmas.{IsMapOf-map_below, IsMapOf-same, is_sorted-map_below}
-use Rattle.model.specs.Image.{Image, Version, IsLive, IsMapOf, counts, entries_of_lines, entry_bytes, entry_word, lines_of_bytes, map_below, version_at, version_in}
+use Rattle.model.specs.Image.{Image, Version, IsLive, IsMapOf, counts, entries_of_lines, entry_bytes, entry_word, map_below, version_at, version_in}
 use Rattle.mv_keyspace.specs.Row.{numbers_of}
-use Rattle.mv_keyspace.proofs.DistinctLemmas.{distinct-append}
 use Rattle.placing.specs.Read.{AreInOrder, AreOf, IsRead, LiesIn, Shows, numbers_read}
-use Rattle.placing.proofs.MemberLemmas.{distinct_none, first_or_later, here, later, no_member, rises_more, rises_none}
+use Rattle.placing.proofs.MemberLemmas.{mapped_member, member-from_map, here, later, no_member, rises_more, rises_none}
+use Rattle.placing.proofs.PlacesLemmas.{one_at_least}
 
 -- ---- numbers that rise
 
@@ -52,19 +52,15 @@ module _ {X : Type 0} (number : X → ℕ) (passes : ℕ → Bool) (made : ℕ �
   all_below zero = []
   all_below (suc i) = all_below i ++ one_at i
 
-  member-from_one : (n : ℕ) (x : X) → Contains (one_at n) x → IsTrue (passes n) × (made n ≡ x)
-  member-from_one n x m =
-      elim (passes n) as (λ b. passes n ≡ b → Contains (cond b (made n ∷ []) []) x → IsTrue (passes n) × (made n ≡ x)) [
-        | true ↦ λ own h. (own, ⊎_elim (λ (same : made n ≡ x). same) (λ (rest : Contains [] x). absurd (no_member x rest)) (first_or_later (made n) x [] h))
-        | false ↦ λ other h. absurd (no_member x h)
-      ] refl m
-
   pub member-from_below : (n : ℕ) (x : X) → Contains (all_below n) x → (i : ℕ) × (i < n) × IsTrue (passes i) × (made i ≡ x)
   member-from_below zero x m = absurd (no_member x m)
   member-from_below (suc n) x m =
       ⊎_elim (λ (h : Contains (all_below n) x). let found = member-from_below n x h in (found.0, omega (arith, found.1), found.2, found.3))
-      (λ (h : Contains (one_at n) x). let found = member-from_one n x h in (n, omega arith, found.0, found.1))
+      (λ (h : Contains (one_at n) x). let found = member-from_one h in (n, omega arith, found.0, found.1))
       (Contains-append_cases (all_below n) (one_at n) x m)
+    where
+      member-from_one : Contains (one_at n) x → IsTrue (passes n) × (made n ≡ x)
+      member-from_one h = grind arith
 
   pub below-from_member : (n i : ℕ) → i < n → IsTrue (passes i) → Contains (all_below n) (made i)
   below-from_member zero i lt t = absurd (omega (arith, lt))
@@ -78,19 +74,11 @@ module _ {X : Type 0} (number : X → ℕ) (passes : ℕ → Bool) (made : ℕ �
 
   -- their numbers are the numbers that pass
   pub number-from_below : (n i : ℕ) → Contains (map number (all_below n)) i → (i < n) × IsTrue (passes i)
-  number-from_below zero i m = absurd (no_member i m)
-  number-from_below (suc n) i m =
-      ⊎_elim (λ (h : Contains (map number (all_below n)) i). let found = number-from_below n i h in (omega (arith, found.0), found.1))
-      (λ (h : Contains (map number (one_at n)) i). let found = number-from_one n i h in (omega (arith, found.0), subst (λ k. IsTrue (passes k)) found.0 found.1))
-      (Contains-append_cases (map number (all_below n)) (map number (one_at n)) i (subst (λ ns. Contains ns i) (map-append number (all_below n) (one_at n)) m))
-    where
-      number-from_one : (n i : ℕ) → Contains (map number (one_at n)) i → (n ≡ i) × IsTrue (passes n)
-      number-from_one n i m =
-          elim (passes n) as (λ b. passes n ≡ b → Contains (map number (cond b (made n ∷ []) [])) i → (n ≡ i) × IsTrue (passes n)) [
-            | true ↦ λ own h.
-                (⊎_elim (λ (same : number (made n) ≡ i). sym (number-made n) ∙ same) (λ (rest : Contains [] i). absurd (no_member i rest)) (first_or_later (number (made n)) i [] h), own)
-            | false ↦ λ other h. absurd (no_member i h)
-          ] refl m
+  number-from_below n i m =
+      let of = member-from_map number (all_below n) i m in
+      let found = member-from_below n of.0 of.1 in
+      let same : found.0 ≡ i = sym (number-made found.0) ∙ ap number found.3 ∙ of.2 in
+      (subst (λ k. k < n) same found.1, subst (λ k. IsTrue (passes k)) same found.2)
 
   pub numbers_rise : (n : ℕ) → IsStrictlySortedBy nat_cmp (map number (all_below n))
   numbers_rise zero = rises_none
@@ -102,37 +90,10 @@ module _ {X : Type 0} (number : X → ℕ) (passes : ℕ → Bool) (made : ℕ �
       ])
 
   pub numbers_distinct : (n : ℕ) → IsDistinct nat_eq (map number (all_below n))
-  numbers_distinct zero = distinct_none nat_eq
-  numbers_distinct (suc n) =
-      subst (IsDistinct nat_eq) (sym (map-append number (all_below n) (one_at n)))
-      (distinct-append (map number (all_below n)) (map number (one_at n)) (numbers_distinct n) (one_distinct n)
-      (λ i m m'. let lower = number-from_below n i m in let own = at_one n i m' in omega (arith, lower.0, own)))
-    where
-      one_distinct : (n : ℕ) → IsDistinct nat_eq (map number (one_at n))
-      one_distinct n = elim (passes n) as (λ b. IsDistinct nat_eq (map number (cond b (made n ∷ []) []))) [
-        | true ↦ IsDistinct-cons nat_eq (number (made n)) [] tt (distinct_none nat_eq)
-        | false ↦ distinct_none nat_eq
-      ]
-
-      at_one : (n i : ℕ) → Contains (map number (one_at n)) i → n ≡ i
-      at_one n i m =
-          elim (passes n) as (λ b. Contains (map number (cond b (made n ∷ []) [])) i → n ≡ i) [
-            | true ↦ λ h. ⊎_elim (λ (same : number (made n) ≡ i). sym (number-made n) ∙ same) (λ (rest : Contains [] i). absurd (no_member i rest)) (first_or_later (number (made n)) i [] h)
-            | false ↦ λ h. absurd (no_member i h)
-          ] m
+  numbers_distinct n =
+      IsDistinct-from_apart nat_eq (map number (all_below n)) (λ i j d lt within. ne_eqb _ _ (λ same. omega (arith, below_from_sorted (map number (all_below n)) i j d (numbers_rise n) lt within, same)))
 
 -- ---- helpers
-
-member_map : {X : Type 0} (f : X → ℕ) (xs : List X) (x : X) → Contains xs x → Contains (map f xs) (f x)
-member_map f [] x m = absurd (no_member x m)
-member_map f (y ∷ xs) x m =
-    ⊎_elim (λ (same : y ≡ x). subst (λ z. Contains (map f (y ∷ xs)) (f z)) same (here (f y) (map f xs))) (λ (rest : Contains xs x). later (f y) (f x) (map f xs) (member_map f xs x rest)) (first_or_later y x xs m)
-
-one_at_least : (bytes : ℕ) → 0 < lines_of_bytes bytes
-one_at_least bytes = elim (bytes == 0) as (λ none. (bytes == 0) ≡ none → 0 < (if none then 1 else (bytes + 63) / 64)) [
-  | true ↦ λ e. omega arith
-  | false ↦ λ e. let some = eqb-false bytes 0 e in omega arith
-] refl
 
 clash_itself : (x : RecordId) → is_clash x x ≡ true
 clash_itself x = ap₂ (λ (a b : Bool). a && (b || is_none (field_of x) || is_none (field_of x))) (key_itself (key_of x)) (record_itself x)
@@ -165,11 +126,7 @@ begun_at : (r : Record) (image : Image) (i : ℕ) → is_counted r image i ≡ t
 begun_at r image i begun = ap (λ b. cond b (Some (version_in r image i)) None) begun
 
 version_found : (r : Record) (image : Image) (i : ℕ) (v : Version) → version_at r image i ≡ Some v → IsTrue (is_counted r image i) × (version_in r image i ≡ v)
-version_found r image i v is =
-    elim (is_counted r image i) as (λ b. is_counted r image i ≡ b → cond b (Some (version_in r image i)) None ≡ Some v → IsTrue (is_counted r image i) × (version_in r image i ≡ v)) [
-      | true ↦ λ own h. (own, let same : version_in r image i ≡ v = cc in same)
-      | false ↦ λ other h. cc
-    ] refl is
+version_found r image i v is = grind arith
 
 module _ (contents : Contents) (image : Image) (shows : Shows contents image) where
   abbrev r : Record
@@ -228,25 +185,17 @@ module _ (contents : Contents) (image : Image) (shows : Shows contents image) wh
       let found = number-from_below (λ (entry : EntryNo). entry.0) (is_gapped r image) no_made (λ j. refl) count i (subst (λ entries. Contains (numbers_of entries) i) (gapped_is r image count) m) in
       let parts = and_parts (not (image (entry_word i 0) == 0)) (not (is_counted r image i)) found.1 in (
         found.0,
-        shows.is_free i found.0 ∙ turned (image (entry_word i 0) == 0) parts.0,
-        sym (shows.versions i found.0) ∙ ap (λ b. cond b (Some (version_in r image i)) None) (turned (is_counted r image i) parts.1),
+        shows.is_free i found.0 ∙ not-true (image (entry_word i 0) == 0) parts.0,
+        sym (shows.versions i found.0) ∙ ap (λ b. cond b (Some (version_in r image i)) None) (not-true (is_counted r image i) parts.1),
       )
-    where
-      turned : (b : Bool) → IsTrue (not b) → b ≡ false
-      turned true t = sym t
-      turned false t = refl
 
   gapped_listed : (i : ℕ) → (i < count) × (contents.is_free i ≡ false) × (contents.versions i ≡ None) → Contains (numbers_of gapped) i
   gapped_listed i told =
       let begun = ap not (sym (shows.is_free i told.0) ∙ told.1) in
-      let uncounted = ap not (none_counted (is_counted r image i) (shows.versions i told.0 ∙ told.2)) in
+      let uncounted : not (is_counted r image i) ≡ true = grind (arith, shows.versions i told.0, told.2) in
       subst (λ entries. Contains (numbers_of entries) i) (sym (gapped_is r image count))
-      (member_map (λ (entry : EntryNo). entry.0) (all_below (λ (entry : EntryNo). entry.0) (is_gapped r image) no_made (λ j. refl) count) (no_made i)
+      (mapped_member (λ (entry : EntryNo). entry.0) (all_below (λ (entry : EntryNo). entry.0) (is_gapped r image) no_made (λ j. refl) count) (no_made i)
       (below-from_member (λ (entry : EntryNo). entry.0) (is_gapped r image) no_made (λ j. refl) count i told.0 (ap₂ (λ (a b : Bool). a && b) begun uncounted)))
-    where
-      none_counted : (b : Bool) → cond b (Some (version_in r image i)) None ≡ None → b ≡ false
-      none_counted true e = cc
-      none_counted false e = refl
 
   -- ---- the versions are in order
 

@@ -10,7 +10,7 @@ use Rattle.kv_types.specs.declared.record_id.RecordId.{RecordId}
 use Rattle.kv_types.specs.declared.record_id.RecordId.TheVariants.{Str, Field}
 use Rattle.kv_types.specs.Keyspace.{Keyspace, IsKeyspace, value_at}
 use Rattle.kv_types.proofs.OrderLemmas.{same_record, same_key}
-use Rattle.kv_types.proofs.LookUpLemmas.{is_same, is_same_key}
+use Rattle.kv_types.proofs.LookUpLemmas.{is_same_key}
 use Rattle.heap_layout.specs.declared.entry.Entry.{Entry}
 use Rattle.heap_layout.specs.Version.{version_of}
 use Rattle.extent_heap.specs.Extents.{is_line_of}
@@ -27,13 +27,9 @@ use Rattle.placing.specs.Out.{HasOut, has_version}
 use Rattle.placing.specs.Read.{AreOf, ended_read, numbers_read, row_read, rows_read}
 use Rattle.placing.specs.Rebuilt.{AreEndedOf, AreFreeEntries, CanClaim, CanClaimAll, ClaimsAll, ClaimsEntries, IsHeapOf, IsLineOfVersion, IsRebuilt, LiesApart, has_entry, has_entry_read, has_line_read}
 use Rattle.placing.proofs.CountLemmas.{listed_counted}
-use Rattle.placing.proofs.MemberLemmas.{mapped_member, here, later, no_member, first_or_later, any-from_member, any_false, all_other, member-from_chosen, chosen-from_member, distinct_chosen}
+use Rattle.placing.proofs.MemberLemmas.{mapped_member, listed-from_member, member-from_listed, here, later, any-from_member, any_false, all_other, member-from_chosen, chosen-from_member, distinct_chosen}
 
 -- ---- records of one keyspace that clash are the same
-
-or_false : (b : Bool) → (b || false) ≡ b
-or_false true = refl
-or_false false = refl
 
 clash_apart : (s : Keyspace) → IsKeyspace s → (x y : RecordId) (v w : List ℕ) → value_at s x ≡ Some v → value_at s y ≡ Some w → is_clash x y ≡ true → x ≡ y
 clash_apart s lawful (Str a) (Str b) v w found found' clash = ap Str (same_key a b (and_parts (is_same_key a b) _ clash).0)
@@ -49,27 +45,25 @@ clash_apart s lawful (Field a f) (Str b) v w found found' clash =
     cc
 clash_apart s lawful (Field a f) (Field b g) v w found found' clash =
     let test = (and_parts (is_same_key a b) _ clash).1 in
-    same_record (Field a f) (Field b g) (sym (or_false (is_same (Field a f) (Field b g))) ∙ sym (or_false (is_same (Field a f) (Field b g) || false)) ∙ test)
+    same_record (Field a f) (Field b g) (grind arith)
 
 -- ---- a new heap, in terms of the contents
 
-pub fresh_lines : (contents : Contents) (fresh : Room) (lines first : ℕ) → contents.lines ≡ lines → first ≡ first_extent_line lines
-    → ((line : ℕ) → IsTrue (is_free_line fresh line) ↔ ((first ≤ line) × (line < lines)))
-    → (line : ℕ) → IsTrue (is_free_line fresh line) ↔ ((first_extent_line contents.lines ≤ line) × (line < contents.lines))
-fresh_lines contents fresh lines first is first_is told =
-    subst₂ (λ (a b : ℕ). (line : ℕ) → IsTrue (is_free_line fresh line) ↔ ((a ≤ line) × (line < b))) (first_is ∙ ap first_extent_line (sym is)) (sym is) told
+-- all lines of the extents and all entries of the directory are free
+pub record IsFresh (contents : Contents) (fresh : Room) : Type 0 where
+  pub lines : (line : ℕ) → IsTrue (is_free_line fresh line) ↔ ((first_extent_line contents.lines ≤ line) × (line < contents.lines))
+  pub entries : (i : ℕ) → IsTrue (is_free_entry fresh i) ↔ (i < entries_of_lines contents.lines)
+  pub end_line : fresh.end_line ≡ contents.lines
+  pub end_entry : fresh.end_entry ≡ entries_of_lines contents.lines
 
-pub fresh_entries : (contents : Contents) (fresh : Room) (lines count : ℕ) → contents.lines ≡ lines → count ≡ entries_of_lines lines
-    → ((i : ℕ) → IsTrue (is_free_entry fresh i) ↔ (i < count)) → (i : ℕ) → IsTrue (is_free_entry fresh i) ↔ (i < entries_of_lines contents.lines)
-fresh_entries contents fresh lines count is count_is told =
-    subst (λ (n : ℕ). (i : ℕ) → IsTrue (is_free_entry fresh i) ↔ (i < n)) (count_is ∙ ap entries_of_lines (sym is)) told
-
-pub fresh_end_line : (contents : Contents) (fresh : Room) (first lines count : ℕ) → contents.lines ≡ lines → fresh ≡ fresh_room first lines count → fresh.end_line ≡ contents.lines
-fresh_end_line contents fresh first lines count is room = ap (λ (r : Room). r.end_line) room ∙ sym is
-
-pub fresh_end_entry : (contents : Contents) (fresh : Room) (first lines count : ℕ) → contents.lines ≡ lines → count ≡ entries_of_lines lines → fresh ≡ fresh_room first lines count
-    → fresh.end_entry ≡ entries_of_lines contents.lines
-fresh_end_entry contents fresh first lines count is count_is room = ap (λ (r : Room). r.end_entry) room ∙ count_is ∙ ap entries_of_lines (sym is)
+pub fresh_of : (contents : Contents) (fresh : Room) (lines first count : ℕ) → contents.lines ≡ lines → first ≡ first_extent_line lines → count ≡ entries_of_lines lines
+    → ((line : ℕ) → IsTrue (is_free_line fresh line) ↔ ((first ≤ line) × (line < lines))) → ((i : ℕ) → IsTrue (is_free_entry fresh i) ↔ (i < count)) → fresh ≡ fresh_room first lines count → IsFresh contents fresh
+fresh_of contents fresh lines first count is first_is count_is free_lines free_entries room = record {
+  lines = subst₂ (λ (a b : ℕ). (line : ℕ) → IsTrue (is_free_line fresh line) ↔ ((a ≤ line) × (line < b))) (first_is ∙ ap first_extent_line (sym is)) (sym is) free_lines;
+  entries = subst (λ (n : ℕ). (i : ℕ) → IsTrue (is_free_entry fresh i) ↔ (i < n)) (count_is ∙ ap entries_of_lines (sym is)) free_entries;
+  end_line = ap (λ (r : Room). r.end_line) room ∙ sym is;
+  end_entry = ap (λ (r : Room). r.end_entry) room ∙ count_is ∙ ap entries_of_lines (sym is);
+}
 
 -- ---- what was read, and the contents
 
@@ -98,16 +92,15 @@ module _ (contents : Contents) (counted : List (EntryNo × Entry)) (gapped : Lis
 
   -- ---- what may be claimed
 
-  module _ (fresh : Room) (lines : (line : ℕ) → IsTrue (is_free_line fresh line) ↔ ((first_extent_line contents.lines ≤ line) × (line < contents.lines)))
-      (entries : (i : ℕ) → IsTrue (is_free_entry fresh i) ↔ (i < entries_of_lines contents.lines)) where
+  module _ (fresh : Room) (new : IsFresh contents fresh) where
     can_claim : (read : EntryNo × Entry) → Contains counted read → CanClaim fresh read
     can_claim read m =
         let is = begun read m in
         let lies = are.lawful.placed read.0.0 (version read) is in
         record {
-          entry = (entries read.0.0).1 (are.lawful.begun read.0.0 (version read) is).0;
+          entry = (new.entries read.0.0).1 (are.lawful.begun read.0.0 (version read) is).0;
           some = lies.some;
-          run = λ line from before. (lines line).1 (omega (arith, lies.above, from), omega (arith, lies.within, before));
+          run = λ line from before. (new.lines line).1 (omega (arith, lies.above, from), omega (arith, lies.within, before));
         }
 
     apart : (read other : EntryNo × Entry) → Contains counted read → Contains counted other → read.0.0 ≢ other.0.0 → LiesApart read other
@@ -140,7 +133,7 @@ module _ (contents : Contents) (counted : List (EntryNo × Entry)) (gapped : Lis
       free_gap : (i : ℕ) → Contains (numbers_of gapped) i → IsTrue (is_free_entry between i)
       free_gap i m =
           let told = (are.gapped_are i).0 m in
-          claims.entries i ∙ ap₂ (λ (a b : Bool). a && not b) ((entries i).1 told.0) (not_read i told.2)
+          claims.entries i ∙ ap₂ (λ (a b : Bool). a && not b) ((new.entries i).1 told.0) (not_read i told.2)
 
       free_gaps_of : (rest : List EntryNo) → ((i : ℕ) → Contains (numbers_of rest) i → Contains (numbers_of gapped) i) → AreFreeEntries between rest
       free_gaps_of [] among = tt
@@ -163,9 +156,7 @@ module _ (contents : Contents) (counted : List (EntryNo × Entry)) (gapped : Lis
             (line_within read.0.1.extent line (omega (arith, first, of.from)) (omega (arith, first, lines, of.before)))
 
         line_not_read : (line : ℕ) → (¬ IsLineOfVersion versions line) → has_line_read counted line ≡ false
-        line_not_read line none =
-            any_false (λ (read : EntryNo × Entry). is_line_of read.1.extent line) counted
-            (λ read m is.
+        line_not_read line none = any_false (λ (read : EntryNo × Entry). is_line_of read.1.extent line) counted (λ read m is.
             let bounds = line_bounds read.1.extent line is in
             none (record { i = read.0.0; version = version read; begun = begun read m; from = bounds.0; before = bounds.1 }))
 
@@ -173,36 +164,18 @@ module _ (contents : Contents) (counted : List (EntryNo × Entry)) (gapped : Lis
         free_line line = (
           λ free.
               let parts = and_parts (is_free_line fresh line) (not (has_line_read counted line)) (sym (line_is line) ∙ free) in
-              let bounds = (lines line).0 parts.0 in
+              let bounds = (new.lines line).0 parts.0 in
               (bounds.0, bounds.1, λ of. true≢false (sym parts.1 ∙ ap not (line_read line of))),
-          λ told. line_is line ∙ ap₂ (λ (a b : Bool). a && not b) ((lines line).1 (told.0, told.1)) (line_not_read line told.2),
+          λ told. line_is line ∙ ap₂ (λ (a b : Bool). a && not b) ((new.lines line).1 (told.0, told.1)) (line_not_read line told.2),
         )
 
         entry_is : (i : ℕ) → is_free_entry room i ≡ (is_free_entry fresh i && not (has_entry_read counted i) && not (has_entry gapped i))
         entry_is i = gaps.free i ∙ ap (λ b. b && not (has_entry gapped i)) (claims.entries i)
 
-        in_gaps : (i : ℕ) → Contains (numbers_of gapped) i → IsTrue (has_entry gapped i)
-        in_gaps i m = gap_of gapped i m
-          where
-            gap_of : (rest : List EntryNo) (i : ℕ) → Contains (numbers_of rest) i → IsTrue (has_entry rest i)
-            gap_of [] i m = absurd (no_member i m)
-            gap_of (entry ∷ rest) i m =
-                ⊎_elim (λ (same : entry.0 ≡ i). ap (λ b. b || has_entry rest i) (eq-eqb i entry.0 (sym same)))
-                (λ (others : Contains (numbers_of rest) i). elim (nat_eq i entry.0) as (λ b. IsTrue (b || has_entry rest i)) [ true ↦ refl | false ↦ gap_of rest i others ])
-                (first_or_later entry.0 i (numbers_of rest) m)
-
-        from_gaps : (rest : List EntryNo) (i : ℕ) → IsTrue (has_entry rest i) → Contains (numbers_of rest) i
-        from_gaps [] i t = cc
-        from_gaps (entry ∷ rest) i t =
-            elim (nat_eq i entry.0) as (λ b. nat_eq i entry.0 ≡ b → IsTrue (b || has_entry rest i) → Contains (numbers_of (entry ∷ rest)) i) [
-              | true ↦ λ own h. subst (λ k. Contains (numbers_of (entry ∷ rest)) k) (sym (eqb-true i entry.0 own)) (here entry.0 (numbers_of rest))
-              | false ↦ λ other h. later entry.0 i (numbers_of rest) (from_gaps rest i h)
-            ] refl t
-
         -- a free entry of the heap is free in the contents
         is_free_of : (i : ℕ) → i < entries_of_lines contents.lines → IsTrue (not (has_entry_read counted i)) → IsTrue (not (has_entry gapped i)) → (entry : Option Version) → versions i ≡ entry → (b : Bool) → contents.is_free i ≡ b → b ≡ true
         is_free_of i lt unread ungapped entry is true free = refl
-        is_free_of i lt unread ungapped None is false taken = absurd (true≢false (sym ungapped ∙ ap not (in_gaps i ((are.gapped_are i).1 (lt, taken, is)))))
+        is_free_of i lt unread ungapped None is false taken = absurd (true≢false (sym ungapped ∙ ap not (listed-from_member i gapped ((are.gapped_are i).1 (lt, taken, is)))))
         is_free_of i lt unread ungapped (Some v) is false taken =
             let read = read_of i v is in
             absurd (true≢false (sym unread ∙ ap not (any-from_member (λ (other : EntryNo × Entry). nat_eq i other.0.0) counted read.0 read.1 (eq-eqb i read.0.0.0 (sym read.2)))))
@@ -213,18 +186,18 @@ module _ (contents : Contents) (counted : List (EntryNo × Entry)) (gapped : Lis
         empty_of_free i (Some v) is free = absurd (true≢false (sym free ∙ (are.lawful.begun i v is).1))
 
         no_gap : (i : ℕ) → contents.is_free i ≡ true → has_entry gapped i ≡ false
-        no_gap i free = false_from_ne_true (has_entry gapped i) (λ t. true≢false (sym free ∙ ((are.gapped_are i).0 (from_gaps gapped i t)).1))
+        no_gap i free = false_from_ne_true (has_entry gapped i) (λ t. true≢false (sym free ∙ ((are.gapped_are i).0 (member-from_listed i gapped t)).1))
 
         free_entry : (i : ℕ) → IsTrue (is_free_entry room i) ↔ ((i < entries_of_lines contents.lines) × IsTrue (contents.is_free i))
         free_entry i = (
           λ free.
               let outer = and_parts (is_free_entry fresh i && not (has_entry_read counted i)) (not (has_entry gapped i)) (sym (entry_is i) ∙ free) in
               let inner = and_parts (is_free_entry fresh i) (not (has_entry_read counted i)) outer.0 in
-              let lt = (entries i).0 inner.0 in
+              let lt = (new.entries i).0 inner.0 in
               (lt, is_free_of i lt inner.1 outer.1 (versions i) refl (contents.is_free i) refl),
           λ told.
               entry_is i
-              ∙ ap (λ b. b && not (has_entry_read counted i) && not (has_entry gapped i)) ((entries i).1 told.0)
+              ∙ ap (λ b. b && not (has_entry_read counted i) && not (has_entry gapped i)) ((new.entries i).1 told.0)
               ∙ ap₂ (λ (a b : Bool). not a && not b) (not_read i (empty_of_free i (versions i) refl told.1)) (no_gap i told.1),
         )
 
@@ -261,25 +234,22 @@ module _ (contents : Contents) (counted : List (EntryNo × Entry)) (gapped : Lis
             subst (λ k. Contains (numbers_read counted) k) read.2 (mapped_member (λ (other : EntryNo × Entry). other.0.0) counted read.0 read.1)
 
         -- each version took an extent
-        out_of : fresh.end_line ≡ contents.lines → fresh.end_entry ≡ entries_of_lines contents.lines → HasOut contents room 0
-        out_of end_line end_entry =
+        out_of : HasOut contents room 0
+        out_of =
             let few = listed_counted (numbers_read counted) versions (entries_of_lines contents.lines) (λ i has. number_read i (versions i) refl has) in
-            let length_is = length-map counted (λ (other : EntryNo × Entry). other.0.0) in
-            let all = claims.held in
-            let same = gaps.held in
             record {
-              end_line = gaps.end_line ∙ claims.end_line ∙ end_line;
-              end_entry = gaps.end_entry ∙ claims.end_entry ∙ end_entry;
-              held = omega (arith, few, length_is, all, same);
+              end_line = gaps.end_line ∙ claims.end_line ∙ new.end_line;
+              end_entry = gaps.end_entry ∙ claims.end_entry ∙ new.end_entry;
+              held = omega (arith, few, length-map counted (λ (other : EntryNo × Entry). other.0.0), claims.held, gaps.held);
             }
 
-        pub rebuilt_of : fresh.end_line ≡ contents.lines → fresh.end_entry ≡ entries_of_lines contents.lines → (table : Table) → IsTable versions table → IsRebuilt contents table room
-        rebuilt_of end_line end_entry table table_is = record {
+        pub rebuilt_of : (table : Table) → IsTable versions table → IsRebuilt contents table room
+        rebuilt_of table table_is = record {
           consistent = consistent_of;
           table_is = table_is;
           heap_is = heap_of;
           left = left_of;
-          out = out_of end_line end_entry;
+          out = out_of;
           beside = record { versions = versions; table_is = table_is; empty = λ i free. empty_of_free i (versions i) refl ((free_entry i).0 free).1 };
         }
 

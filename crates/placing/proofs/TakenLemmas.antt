@@ -1,37 +1,16 @@
 -- What was taken from a heap was free before and is taken afterwards, and no two places have anything in common.
-use Rattle.std.proofs.Common.{◌≡◌, ℕ, ◌+◌, ◌<◌, ◌≤◌, Bool, false, ◌||◌, IsTrue, List, [], ◌∷◌, ◌++◌, length, refl, sym, ap, subst, ◌∙◌, arith, ne_eqb}
+use Rattle.std.proofs.Common.{◌≡◌, ℕ, ◌+◌, ◌<◌, ◌≤◌, Bool, false, IsTrue, List, [], ◌∷◌, ◌++◌, length, refl, sym, ap, subst, ◌∙◌, arith}
 use Rattle.std.proofs.lemmas.Bool.{false≢true, false_from_ne_true}
 use Rattle.std.specs.List.{AllByRecursion}
 use Rattle.model.specs.declared.group.Put.{Put}
 use Rattle.model.specs.Group.{AreApart, IsApartFrom, AreAllApart, HasItsLines, is_put_at}
+pub use Rattle.mv_keyspace.proofs.AllLemmas.{All-map, All-both, All-prefix, All-rest, All-append}
 use Rattle.mv_keyspace.proofs.PartTables.{AreDistinct}
 use Rattle.extent_heap.specs.Room.{Room, is_free_line, is_free_entry, IsFreeRun}
 use Rattle.extent_heap.proofs.Rooms.{out_entry_again, TakesEntry-gone, TakesEntry-free, TakesEntry-line, TakesExtent-gone, TakesExtent-free, TakesExtent-entry}
 use Rattle.placing.specs.Place.{TakesPlace, TakesPlaces}
 use Rattle.placing.specs.Left.{HasNoFreeLine, IsTaken}
 use Rattle.placing.proofs.PlacesLemmas.{some_lines}
-
--- ---- facts of each element
-
-pub All-map : {X : Type 0} (P Q : X → Type 0) → ((x : X) → P x → Q x) → (xs : List X) → AllByRecursion P xs → AllByRecursion Q xs
-All-map P Q f [] h = tt
-All-map P Q f (x ∷ xs) h = (f x h.0, All-map P Q f xs h.1)
-
-pub All-both : {X : Type 0} (P Q R : X → Type 0) → ((x : X) → P x → Q x → R x) → (xs : List X) → AllByRecursion P xs → AllByRecursion Q xs → AllByRecursion R xs
-All-both P Q R f [] h k = tt
-All-both P Q R f (x ∷ xs) h k = (f x h.0 k.0, All-both P Q R f xs h.1 k.1)
-
-pub All-prefix : {X : Type 0} (P : X → Type 0) (xs ys : List X) → AllByRecursion P (xs ++ ys) → AllByRecursion P xs
-All-prefix P [] ys h = tt
-All-prefix P (x ∷ xs) ys h = (h.0, All-prefix P xs ys h.1)
-
-pub All-rest : {X : Type 0} (P : X → Type 0) (xs ys : List X) → AllByRecursion P (xs ++ ys) → AllByRecursion P ys
-All-rest P [] ys h = h
-All-rest P (x ∷ xs) ys h = All-rest P xs ys h.1
-
-pub All-append : {X : Type 0} (P : X → Type 0) (xs ys : List X) → AllByRecursion P xs → AllByRecursion P ys → AllByRecursion P (xs ++ ys)
-All-append P [] ys h k = k
-All-append P (x ∷ xs) ys h k = (h.0, All-append P xs ys h.1 k)
 
 -- ---- one place
 
@@ -118,7 +97,7 @@ pub record HasTaken (old : Room) (puts : List Put) (new : Room) : Type 0 where
 
 pub places_held : (old : Room) (puts : List Put) (new : Room) → TakesPlaces old puts new → HasTaken old puts new
 places_held old [] new same = record {
-  held = let held = ap (λ (room : Room). room.held) same in omega (arith, held);
+  held = omega (arith, ap (λ (room : Room). room.held) same);
   end_line = ap (λ (room : Room). room.end_line) same;
   end_entry = ap (λ (room : Room). room.end_entry) same;
 }
@@ -126,11 +105,8 @@ places_held old (put ∷ puts) new takes =
     let rest = places_held takes.0 puts new takes.2 in
     let entry = takes.1.entry.after in
     let extent = takes.1.extent.after in
-    let others = rest.held in
-    let one = extent.held in
-    let none = entry.held in
     record {
-      held = omega (arith, others, one, none);
+      held = omega (arith, rest.held, extent.held, entry.held);
       end_line = rest.end_line ∙ extent.end_line ∙ entry.end_line;
       end_entry = rest.end_entry ∙ extent.end_entry ∙ entry.end_entry;
     }
@@ -181,20 +157,16 @@ AreAllApart-append room (x ∷ xs) ys apart apart' taken free = (
 -- a free entry is not the entry of a put whose place is taken
 pub not_put_at : (room : Room) (puts : List Put) (i : ℕ) → AllByRecursion (IsTaken room) puts → IsTrue (is_free_entry room i) → is_put_at i puts ≡ false
 not_put_at room [] i taken free = refl
-not_put_at room (put ∷ puts) i taken free =
-    ap (λ b. b || is_put_at i puts) (ne_eqb i put.entry.0 (λ same. false≢true (sym taken.0.entry ∙ subst (λ j. IsTrue (is_free_entry room j)) same free)))
-    ∙ not_put_at room puts i taken.1 free
+not_put_at room (put ∷ puts) i taken free = grind (arith, taken.0.entry, not_put_at room puts i taken.1 free)
 
 -- nor is an entry that is not free the entry of a put whose place is still free
 pub not_put_at_free : (room : Room) (puts : List Put) (i : ℕ) → AllByRecursion (IsFree room) puts → is_free_entry room i ≡ false → is_put_at i puts ≡ false
 not_put_at_free room [] i free out = refl
-not_put_at_free room (put ∷ puts) i free out =
-    ap (λ b. b || is_put_at i puts) (ne_eqb i put.entry.0 (λ same. false≢true (sym out ∙ subst (λ j. IsTrue (is_free_entry room j)) (sym same) free.0.entry)))
-    ∙ not_put_at_free room puts i free.1 out
+not_put_at_free room (put ∷ puts) i free out = grind (arith, free.0.entry, not_put_at_free room puts i free.1 out)
 
 apart_distinct : (put : Put) (puts : List Put) → AllByRecursion (IsApartFrom put) puts → is_put_at put.entry.0 puts ≡ false
 apart_distinct put [] apart = refl
-apart_distinct put (other ∷ puts) apart = ap (λ b. b || is_put_at put.entry.0 puts) (ne_eqb put.entry.0 other.entry.0 apart.0.entries) ∙ apart_distinct put puts apart.1
+apart_distinct put (other ∷ puts) apart = grind (arith, apart.0.entries, apart_distinct put puts apart.1)
 
 pub AreDistinct-from_apart : (puts : List Put) → AreAllApart puts → AreDistinct puts
 AreDistinct-from_apart [] apart = tt

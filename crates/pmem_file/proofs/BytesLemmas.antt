@@ -1,5 +1,5 @@
 -- Words to bytes and back.
-use Rattle.std.proofs.Common.{◌≡◌, ℕ, ◌+◌, ◌%◌, ◌^◌, ◌<◌, ◌≤◌, zero, suc, List, [], ◌∷◌, ◌++◌, length, drop, get_or, refl, ap, ◌∙◌, arith}
+use Rattle.std.proofs.Common.{◌≡◌, ℕ, ◌+◌, ◌%◌, ◌^◌, ◌<◌, ◌≤◌, zero, suc, List, [], ◌∷◌, ◌++◌, length, take, drop, get_or, refl, ap, ◌∙◌, arith}
 use Rattle.std.proofs.lemmas.List.{get_or-drop, length-drop, drop-drop}
 use Rattle.std.proofs.lemmas.Nat.{from_le_bytes-to_le_bytes_8, le_bytes_8}
 use Rattle.std.specs.Int.{w64, from_le_bytes}
@@ -61,17 +61,12 @@ words_in-bytes_of (word ∷ words) fits =
     ap (λ (x : ℕ). x ∷ words_in (bytes_of words)) (from_le_bytes-to_le_bytes_8 word (fits 0))
     ∙ ap (λ (xs : List ℕ). word ∷ xs) (words_in-bytes_of words (λ k. fits (suc k)))
 
-eight_fit : (a b c d e f g h : ℕ) (bytes : List ℕ) → ((k : ℕ) → get_or (a ∷ b ∷ c ∷ d ∷ e ∷ f ∷ g ∷ h ∷ bytes) k 0 < 256)
-    → (k : ℕ) → get_or (a ∷ b ∷ c ∷ d ∷ e ∷ f ∷ g ∷ h ∷ []) k 0 < 256
-eight_fit a b c d e f g h bytes fits zero = fits 0
-eight_fit a b c d e f g h bytes fits (suc zero) = fits 1
-eight_fit a b c d e f g h bytes fits (suc (suc zero)) = fits 2
-eight_fit a b c d e f g h bytes fits (suc (suc (suc zero))) = fits 3
-eight_fit a b c d e f g h bytes fits (suc (suc (suc (suc zero)))) = fits 4
-eight_fit a b c d e f g h bytes fits (suc (suc (suc (suc (suc zero))))) = fits 5
-eight_fit a b c d e f g h bytes fits (suc (suc (suc (suc (suc (suc zero)))))) = fits 6
-eight_fit a b c d e f g h bytes fits (suc (suc (suc (suc (suc (suc (suc zero))))))) = fits 7
-eight_fit a b c d e f g h bytes fits (suc (suc (suc (suc (suc (suc (suc (suc k)))))))) = omega arith
+-- each of the first elements of a list of small numbers is small
+pub take-below : (n most : ℕ) (xs : List ℕ) → 0 < most → ((k : ℕ) → get_or xs k 0 < most) → (k : ℕ) → get_or (take n xs) k 0 < most
+take-below zero most xs some fits k = some
+take-below (suc n) most [] some fits k = some
+take-below (suc n) most (x ∷ xs) some fits zero = fits 0
+take-below (suc n) most (x ∷ xs) some fits (suc k) = take-below n most xs some (λ j. fits (suc j)) k
 
 -- and the bytes of the words of bytes are these bytes, where none is left over
 pub bytes_of-words_in : (bytes : List ℕ) → length bytes % 8 ≡ 0 → ((k : ℕ) → get_or bytes k 0 < 256) → bytes_of (words_in bytes) ≡ bytes
@@ -85,6 +80,6 @@ bytes_of-words_in (a ∷ b ∷ c ∷ d ∷ e ∷ f ∷ []) whole fits = absurd (
 bytes_of-words_in (a ∷ b ∷ c ∷ d ∷ e ∷ f ∷ g ∷ []) whole fits = absurd (omega (arith, whole))
 bytes_of-words_in (a ∷ b ∷ c ∷ d ∷ e ∷ f ∷ g ∷ h ∷ bytes) whole fits =
     let first = a ∷ b ∷ c ∷ d ∷ e ∷ f ∷ g ∷ h ∷ [] in
-    ap (λ (xs : List ℕ). xs ++ bytes_of (words_in bytes)) (le_bytes_8 first (from_le_bytes w64 first) refl (eight_fit a b c d e f g h bytes fits) refl)
+    ap (λ (xs : List ℕ). xs ++ bytes_of (words_in bytes)) (le_bytes_8 first (from_le_bytes w64 first) refl (take-below 8 256 (a ∷ b ∷ c ∷ d ∷ e ∷ f ∷ g ∷ h ∷ bytes) (omega arith) fits) refl)
     ∙ ap (λ (xs : List ℕ). first ++ xs)
     (bytes_of-words_in bytes (omega (arith, whole)) (λ k. fits (suc (suc (suc (suc (suc (suc (suc (suc k))))))))))

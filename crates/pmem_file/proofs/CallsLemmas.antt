@@ -1,47 +1,22 @@
 -- What the calls of a fence make of the words that the file may hold.
 use Rattle.std.proofs.Common.{◌≡◌, ◌⊎◌, ℕ, ◌+◌, ◌*◌, ◌/◌, ◌-◌, ◌^◌, ◌<◌, ◌≤◌, Bool, true, false, not, cond, ◌&&◌, ◌||◌, ◌==◌, nat_le, nat_lt, List, [], ◌∷◌, length, take, drop, get_or, refl, inl, inr, sym, subst, ap, ◌∙◌, arith}
-use Rattle.std.proofs.lemmas.Bool.{eqb-true, eq-eqb, leb-true, ltb-true, le-leb, lt-ltb}
-use Rattle.std.proofs.lemmas.List.{get_or-drop, get_or-take, get_or_past, length-take, length-drop}
-use Rattle.pmem.proofs.Walks.{below_or_past}
+use Rattle.std.proofs.lemmas.Bool.{or_cases, or_left, or_right, and_parts, and_from, cond_both, cond-true, cond-false, eqb-true, eq-eqb, leb-true, ltb-true, le-leb, lt-ltb}
+use Rattle.std.proofs.lemmas.List.{get_or-drop, get_or-take, length-take, length-drop}
+use Rattle.std.proofs.lemmas.Bool.Decides.{nat_tests}
+use Rattle.std.proofs.Math.Bool.{or-false}
 use Rattle.pmem_file.specs.declared.run.TheConstants.{LINES_A_WRITE}
 use Rattle.pmem_file.specs.Byte.{words_in}
 use Rattle.pmem_file.specs.Call.{Call, Wrote, Measured, Synced, has_failed, reaches, brought, written, may_hold, Brings}
 use Rattle.pmem_file.specs.Line.{has_line, runs_from, runs_of, run_bytes, with_writes, Fixes}
-use Rattle.pmem_file.proofs.BytesLemmas.{words_in-bytes_of}
+use Rattle.pmem_file.proofs.BytesLemmas.{take-below, words_in-bytes_of}
 use Rattle.pmem_file.proofs.LinesLemmas.{has_line-at}
-
-pub or_cases : (a b : Bool) → (a || b) ≡ true → (a ≡ true) ⊎ (b ≡ true)
-or_cases true b e = inl refl
-or_cases false b e = inr e
-
-pub or_left : (a b : Bool) → a ≡ true → (a || b) ≡ true
-or_left true b e = refl
-or_left false b e = absurd (let h : false ≡ true = e in cc)
-
-pub or_right : (a b : Bool) → b ≡ true → (a || b) ≡ true
-or_right true b e = refl
-or_right false b e = e
-
-pub and_both : (a b : Bool) → (a && b) ≡ true → (a ≡ true) × (b ≡ true)
-and_both true b e = (refl, e)
-and_both false b e = absurd (let h : false ≡ true = e in cc)
-
-both_and : (a b : Bool) → a ≡ true → b ≡ true → (a && b) ≡ true
-both_and true b x y = y
-both_and false b x y = absurd (let h : false ≡ true = x in cc)
 
 -- each word fits 64 bits
 abbrev pub Fit : List ℕ → Type 0
 Fit words = (k : ℕ) → get_or words k 0 < 2 ^ 64
 
 Fit-part : (words : List ℕ) (n m : ℕ) → Fit words → Fit (take n (drop m words))
-Fit-part words n m fit k =
-    elim (below_or_past k n) [
-      | inl below ↦
-          subst (λ (x : ℕ). x < 2 ^ 64) (sym (get_or-take n (drop m words) k 0 below ∙ get_or-drop m words k 0)) (fit (m + k))
-      | inr past ↦
-          subst (λ (x : ℕ). x < 2 ^ 64) (sym (get_or_past (take n (drop m words)) k 0 (omega (arith, length-take n (drop m words))))) (omega arith)
-    ]
+Fit-part words n m fit = take-below n (2 ^ 64) (drop m words) (omega arith) (λ k. rw (get_or-drop m words k 0) (fit (m + k)))
 
 -- the words of a run
 run_words : (words : List ℕ) (first count : ℕ) → Fit words → words_in (run_bytes words (first, count)) ≡ take (8 * count) (drop (8 * first) words)
@@ -63,7 +38,7 @@ brought-run : (words : List ℕ) (first count word : ℕ) → Fit words → reac
     → brought (64 * first) (run_bytes words (first, count)) word ≡ get_or words word 0
 brought-run words first count word fit e =
     let part = take (8 * count) (drop (8 * first) words) in
-    let both = and_both (nat_le (8 * first) word) (nat_lt word (8 * first + length part)) (sym (reaches-run words first count word fit) ∙ e) in
+    let both = and_parts (nat_le (8 * first) word) (nat_lt word (8 * first + length part)) (sym (reaches-run words first count word fit) ∙ e) in
     let low : 8 * first ≤ word = leb-true (8 * first) word both.0 in
     let high : word < 8 * first + length part = ltb-true word (8 * first + length part) both.1 in
     ap (λ (n : ℕ). get_or (words_in (run_bytes words (first, count))) (word - n) 0) (first_word first)
@@ -78,7 +53,7 @@ reaches-lines : (words : List ℕ) (first count word : ℕ) → Fit words → 8 
     → reaches (64 * first) (run_bytes words (first, count)) word ≡ true
 reaches-lines words first count word fit room low high =
     reaches-run words first count word fit
-    ∙ both_and (nat_le (8 * first) word) (nat_lt word (8 * first + length (take (8 * count) (drop (8 * first) words))))
+    ∙ and_from (nat_le (8 * first) word) (nat_lt word (8 * first + length (take (8 * count) (drop (8 * first) words))))
     (le-leb (8 * first) word (omega arith))
     (lt-ltb word (8 * first + length (take (8 * count) (drop (8 * first) words)))
     (omega (arith, length-take (8 * count) (drop (8 * first) words), length-drop (8 * first) words)))
@@ -94,17 +69,11 @@ Brings-write words old calls first count done fit brings read word x may =
     let bytes = run_bytes words (first, count) in
     elim (or_cases (reaches offset bytes word && (x == brought offset bytes word)) (may_hold read calls word x) may) [
       | inl here ↦
-          let both = and_both (reaches offset bytes word) (x == brought offset bytes word) here in
+          let both = and_parts (reaches offset bytes word) (x == brought offset bytes word) here in
           or_right (may_hold read old word x) (x == get_or words word 0)
           (subst (λ (y : ℕ). (x == y) ≡ true) (brought-run words first count word fit both.0) both.1)
       | inr before ↦ brings read word x before
     ]
-
-pub Brings-writes : (words : List ℕ) (runs : List (ℕ × ℕ)) (old calls : List Call) → Fit words → Brings words old calls
-    → Brings words old (with_writes words runs calls)
-Brings-writes words [] old calls fit brings = brings
-Brings-writes words (run ∷ runs) old calls fit brings =
-    Brings-writes words runs old (Wrote (64 * run.0) (run_bytes words run) true ∷ calls) fit (Brings-write words old calls run.0 run.1 true fit brings)
 
 last_may : (r : Bool) (b w : ℕ) (may : ℕ → Bool) → may w ≡ true → ((r && (cond r b w == b)) || may (cond r b w)) ≡ true
 last_may true b w may e = or_left (b == b) (may b) (eq-eqb b b refl)
@@ -133,18 +102,10 @@ Brings-synced words old calls done brings read word x may =
     brings read word x
     (only_or_before (done && not (has_failed calls)) x (written read calls word) (may_hold read calls word) (written-may_hold read calls word) may)
 
-pub or_nothing : (b : Bool) → (b || false) ≡ b
-or_nothing true = refl
-or_nothing false = refl
-
 pub has_failed-writes : (words : List ℕ) (runs : List (ℕ × ℕ)) (calls : List Call) → has_failed (with_writes words runs calls) ≡ has_failed calls
 has_failed-writes words [] calls = refl
 has_failed-writes words (run ∷ runs) calls =
-    has_failed-writes words runs (Wrote (64 * run.0) (run_bytes words run) true ∷ calls) ∙ or_nothing (has_failed calls)
-
-either_way : (r : Bool) (b w x : ℕ) → (r ≡ true → b ≡ x) → w ≡ x → cond r b w ≡ x
-either_way true b w x reached e = reached refl
-either_way false b w x reached e = e
+    has_failed-writes words runs (Wrote (64 * run.0) (run_bytes words run) true ∷ calls) ∙ or-false (has_failed calls)
 
 -- a word that has its value keeps it
 written-keeps : (words : List ℕ) (runs : List (ℕ × ℕ)) (read : List ℕ) (calls : List Call) (word : ℕ) → Fit words
@@ -152,12 +113,8 @@ written-keeps : (words : List ℕ) (runs : List (ℕ × ℕ)) (read : List ℕ) 
 written-keeps words [] read calls word fit e = e
 written-keeps words (run ∷ runs) read calls word fit e =
     written-keeps words runs read (Wrote (64 * run.0) (run_bytes words run) true ∷ calls) word fit
-    (either_way (reaches (64 * run.0) (run_bytes words run) word) (brought (64 * run.0) (run_bytes words run) word) (written read calls word)
-    (get_or words word 0) (brought-run words run.0 run.1 word fit) e)
-
-reached_way : (r : Bool) (b w x : ℕ) → r ≡ true → b ≡ x → cond r b w ≡ x
-reached_way true b w x reached e = e
-reached_way false b w x reached e = absurd (let h : false ≡ true = reached in cc)
+    (cond_both (reaches (64 * run.0) (run_bytes words run) word) (brought (64 * run.0) (run_bytes words run) word) (written read calls word)
+    (λ x. x ≡ get_or words word 0) (brought-run words run.0 run.1 word fit) (λ _. e))
 
 -- the write of a run gives its words their values
 written-run : (words : List ℕ) (first count : ℕ) (read : List ℕ) (calls : List Call) (word : ℕ) → Fit words → 8 * (first + count) ≤ length words
@@ -165,8 +122,7 @@ written-run : (words : List ℕ) (first count : ℕ) (read : List ℕ) (calls : 
     → written read (Wrote (64 * first) (run_bytes words (first, count)) true ∷ calls) word ≡ get_or words word 0
 written-run words first count read calls word fit room low high =
     let there = reaches-lines words first count word fit room low high in
-    reached_way (reaches (64 * first) (run_bytes words (first, count)) word) (brought (64 * first) (run_bytes words (first, count)) word)
-    (written read calls word) (get_or words word 0) there (brought-run words first count word fit there)
+    cond-true (reaches (64 * first) (run_bytes words (first, count)) word) _ _ there ∙ brought-run words first count word fit there
 
 -- each of these lines lies within the words
 abbrev pub InRange : List ℕ → List ℕ → Type 0
@@ -183,53 +139,27 @@ written-runs : (words : List ℕ) (lines : List ℕ) (first count : ℕ) (read :
 written-runs words [] first count read calls word fit range room (inl here) = written-run words first count read calls word fit room here.0 here.1
 written-runs words [] first count read calls word fit range room (inr there) = absurd (let h : false ≡ true = there in cc)
 written-runs words (line ∷ lines) first count read calls word fit range room which =
+    let test = (line == first + count) && nat_lt count LINES_A_WRITE in
     let range' : InRange words lines = λ l has. range l (or_right (l == line) (has_line lines l) has) in
     let last : 8 * line + 8 ≤ length words = range line (line_is line lines) in
-    let go : (b : Bool) → ((line == first + count) && nat_lt count LINES_A_WRITE) ≡ b
-    → written read (with_writes words (cond b (runs_from first (count + 1) lines) ((first, count) ∷ runs_from line 1 lines)) calls) word ≡ get_or words word 0 =
-    elim [
-      | true ↦ λ e.
-          let next : line ≡ first + count = eqb-true line (first + count) (and_both (line == first + count) (nat_lt count LINES_A_WRITE) e).0 in
-          written-runs words lines first (count + 1) read calls word fit range' (omega (arith, next, last))
-          (elim which [
-            | inl here ↦ inl (here.0, omega (arith, here.1))
-            | inr there ↦
-                elim (or_cases (word / 8 == line) (has_line lines (word / 8)) there) [
-                  | inl now ↦
-                      let at : word / 8 ≡ line = eqb-true (word / 8) line now in
-                      inl (omega (arith, at, next), omega (arith, at, next))
-                  | inr later ↦ inr later
-                ]
-          ])
-      | false ↦ λ e.
-          elim which [
-            | inl here ↦
-                written-keeps words (runs_from line 1 lines) read (Wrote (64 * first) (run_bytes words (first, count)) true ∷ calls) word fit
-                (written-run words first count read calls word fit room here.0 here.1)
-            | inr there ↦
-                written-runs words lines line 1 read (Wrote (64 * first) (run_bytes words (first, count)) true ∷ calls) word fit range' (omega (arith, last))
-                (elim (or_cases (word / 8 == line) (has_line lines (word / 8)) there) [
-                  | inl now ↦
-                      let at : word / 8 ≡ line = eqb-true (word / 8) line now in
-                      inl (omega (arith, at), omega (arith, at))
-                  | inr later ↦ inr later
-                ])
-          ]
-    ] in
-    go ((line == first + count) && nat_lt count LINES_A_WRITE) refl
+    let wrote = Wrote (64 * first) (run_bytes words (first, count)) true ∷ calls in
+    cond_both test (runs_from first (count + 1) lines) ((first, count) ∷ runs_from line 1 lines)
+    (λ (runs : List (ℕ × ℕ)). written read (with_writes words runs calls) word ≡ get_or words word 0)
+    (λ e.
+    let next : line ≡ first + count = eqb-true line (first + count) (and_parts (line == first + count) (nat_lt count LINES_A_WRITE) e).0 in
+    written-runs words lines first (count + 1) read calls word fit range' (omega (arith, next, last)) (grind (arith, nat_tests, which, next)))
+    (λ _.
+    elim which [
+      | inl here ↦ written-keeps words (runs_from line 1 lines) read wrote word fit (written-run words first count read calls word fit room here.0 here.1)
+      | inr there ↦ written-runs words lines line 1 read wrote word fit range' (omega (arith, last)) (grind (arith, nat_tests, there))
+    ])
 
 written-lines : (words : List ℕ) (lines : List ℕ) (read : List ℕ) (calls : List Call) (word : ℕ) → Fit words → InRange words lines
     → has_line lines (word / 8) ≡ true → written read (with_writes words (runs_of lines) calls) word ≡ get_or words word 0
 written-lines words [] read calls word fit range has = absurd (let h : false ≡ true = has in cc)
 written-lines words (line ∷ lines) read calls word fit range has =
     written-runs words lines line 1 read calls word fit (λ l has. range l (or_right (l == line) (has_line lines l) has))
-    (let last = range line (line_is line lines) in omega (arith, last))
-    (elim (or_cases (word / 8 == line) (has_line lines (word / 8)) has) [
-      | inl now ↦
-          let at : word / 8 ≡ line = eqb-true (word / 8) line now in
-          inl (omega (arith, at), omega (arith, at))
-      | inr later ↦ inr later
-    ])
+    (omega (arith, range line (line_is line lines))) (grind (arith, nat_tests, has))
 
 -- a sync after writes that succeeded leaves the lines' words their values alone
 pub Fixes-synced : (words : List ℕ) (lines : List ℕ) (calls : List Call) → Fit words → InRange words lines → has_failed calls ≡ false
@@ -254,34 +184,23 @@ pub Writing-start : (words lines : List ℕ) (old : List Call) (first : ℕ) (re
 Writing-start words lines old first rest are range =
     record {
       plan = ap (λ (ls : List ℕ). with_writes words (runs_of ls) old) (sym are);
-      room =
-          let last = range first (subst (λ (ls : List ℕ). has_line ls first ≡ true) (sym are) (line_is first rest)) in
-          omega (arith, last);
+      room = omega (arith, range first (rw are (line_is first rest)));
       short = omega arith;
       unfailed = refl;
       brings = Brings-none words old;
     }
-
-plan_cases : (words : List ℕ) (b : Bool) (more less : List (ℕ × ℕ)) (calls : List Call) (e : b ≡ true) → with_writes words (cond b more less) calls ≡ with_writes words more calls
-plan_cases words true more less calls e = refl
-plan_cases words false more less calls e = absurd (let h : false ≡ true = e in cc)
-
-plan_other : (words : List ℕ) (b : Bool) (more less : List (ℕ × ℕ)) (calls : List Call) (e : b ≡ false) → with_writes words (cond b more less) calls ≡ with_writes words less calls
-plan_other words false more less calls e = refl
-plan_other words true more less calls e = absurd (let h : true ≡ false = e in cc)
 
 -- the next line goes on with the run
 pub Writing-joined : (words lines : List ℕ) (old : List Call) (first count line : ℕ) (rest : List ℕ) (calls : List Call) → 8 * line + 8 ≤ length words
     → ((line == first + count) && nat_lt count LINES_A_WRITE) ≡ true → Writing words lines old first count (line ∷ rest) calls
     → Writing words lines old first (count + 1) rest calls
 Writing-joined words lines old first count line rest calls last e writing =
-    let both = and_both (line == first + count) (nat_lt count LINES_A_WRITE) e in
+    let both = and_parts (line == first + count) (nat_lt count LINES_A_WRITE) e in
     let next : line ≡ first + count = eqb-true line (first + count) both.0 in
     let few : count < LINES_A_WRITE = ltb-true count LINES_A_WRITE both.1 in
     record {
       plan =
-          sym (plan_cases words ((line == first + count) && nat_lt count LINES_A_WRITE) (runs_from first (count + 1) rest) ((first, count) ∷ runs_from line 1 rest) calls e)
-          ∙ writing.plan;
+          sym (ap (λ (runs : List (ℕ × ℕ)). with_writes words runs calls) (cond-true ((line == first + count) && nat_lt count LINES_A_WRITE) _ _ e)) ∙ writing.plan;
       room = omega (arith, next, last);
       short = omega (arith, few);
       unfailed = writing.unfailed;
@@ -295,11 +214,10 @@ pub Writing-written : (words lines : List ℕ) (old : List Call) (first count li
 Writing-written words lines old first count line rest calls fit last e writing =
     record {
       plan =
-          sym (plan_other words ((line == first + count) && nat_lt count LINES_A_WRITE) (runs_from first (count + 1) rest) ((first, count) ∷ runs_from line 1 rest) calls e)
-          ∙ writing.plan;
+          sym (ap (λ (runs : List (ℕ × ℕ)). with_writes words runs calls) (cond-false ((line == first + count) && nat_lt count LINES_A_WRITE) _ _ e)) ∙ writing.plan;
       room = omega (arith, last);
       short = omega arith;
-      unfailed = or_nothing (has_failed calls) ∙ writing.unfailed;
+      unfailed = or-false (has_failed calls) ∙ writing.unfailed;
       brings = Brings-write words old calls first count true fit writing.brings;
     }
 

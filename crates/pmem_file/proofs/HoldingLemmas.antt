@@ -1,6 +1,6 @@
 -- A device over a file knows its candidates through each call.
-use Rattle.std.proofs.Common.{◌≡◌, ℕ, ◌/◌, ◌<◌, Bool, true, false, not, cond, ◌||◌, ◌==◌, List, [], ◌∷◌, ◌++◌, filter, length, get_or, set, refl, inl, inr, sym, subst, ap, ◌∙◌, get_or-set_same, get_or-set_other}
-use Rattle.std.proofs.lemmas.Bool.{eqb-true, eqb-false}
+use Rattle.std.proofs.Common.{◌≡◌, ℕ, ◌/◌, ◌<◌, Bool, true, false, not, ◌||◌, ◌==◌, List, [], ◌∷◌, ◌++◌, filter, length, get_or, set, refl, inl, inr, sym, subst, ap, ◌∙◌, get_or-set_same, get_or-set_other}
+use Rattle.std.proofs.lemmas.Bool.{or_cases, or_left, or_parts, or_from, not-true, not_from_false, cond-true, cond_both, cases_Bool, eqb-true, eqb-false}
 use Rattle.pmem.specs.Device.{Older, Word, store_word, flush_word, fence_word, store_at, flush_at, fenced, settled}
 use Rattle.pmem.specs.Cell.{may_be}
 use Rattle.pmem.proofs.Words.{MayBe-store_word, flush_word-MayBe}
@@ -11,7 +11,6 @@ use Rattle.pmem_file.specs.Call.{Call, may_hold, Brings}
 use Rattle.pmem_file.specs.Line.{has_line, Fixes}
 use Rattle.pmem_file.specs.Noted.{is_noted}
 use Rattle.pmem_file.specs.Holding.{has_passed, Holds}
-use Rattle.pmem_file.proofs.CallsLemmas.{or_cases, or_left}
 
 -- a file that was just read holds its words
 pub Holds-read : (copy : List ℕ) (notes : Notes) → Holds copy notes copy [] (λ (word : ℕ). settled (get_or copy word 0))
@@ -33,11 +32,8 @@ Holds-stored copy notes read calls words at x below holds =
     record {
       newest = λ word.
           elim (same_or_other word at) [
-            | inl e ↦
-                subst (λ (w : ℕ). get_or (set copy at x) w 0 ≡ x) (sym e) (get_or-set_same copy at x 0 below)
-                ∙ sym (ap (λ (w : Word). w.newest) (store_at-same at x words word e))
-            | inr n ↦
-                get_or-set_other copy at word x 0 n ∙ holds.newest word ∙ sym (ap (λ (w : Word). w.newest) (store_at-other at x words word n))
+            | inl e ↦ rw e (get_or-set_same copy at x 0 below) ∙ sym (ap (λ (w : Word). w.newest) (store_at-same at x words word e))
+            | inr n ↦ get_or-set_other copy at word x 0 n ∙ holds.newest word ∙ sym (ap (λ (w : Word). w.newest) (store_at-other at x words word n))
           ];
       noted = λ word un.
           elim (same_or_other word at) [
@@ -55,10 +51,6 @@ Holds-stored copy notes read calls words at x below holds =
           ];
     }
 
-neither : (a b : Bool) → (a || b) ≡ false → (a ≡ false) × (b ≡ false)
-neither false b e = (refl, e)
-neither true b e = absurd (let h : true ≡ false = e in cc)
-
 -- a flush, which notes its line
 pub Holds-flushed : (copy : List ℕ) (notes notes' : Notes) (read : List ℕ) (calls : List Call) (words : ℕ → Word) (line : ℕ)
     → ((other : ℕ) → is_noted notes' other ≡ ((other == line) || is_noted notes other))
@@ -67,7 +59,7 @@ Holds-flushed copy notes notes' read calls words line noted holds =
     record {
       newest = λ word. holds.newest word ∙ sym (newest-flush_at line words word);
       noted = λ word un.
-          let both = neither (word / 8 == line) (is_noted notes (word / 8)) (sym (noted (word / 8)) ∙ un) in
+          let both = or_parts (word / 8 == line) (is_noted notes (word / 8)) (sym (noted (word / 8)) ∙ un) in
           ap (λ (w : Word). has_passed w.older) (flush_at-other line words word (eqb-false (word / 8) line both.0)) ∙ holds.noted word both.1;
       within = λ word y may.
           elim (same_or_other (word / 8) line) [
@@ -78,37 +70,18 @@ Holds-flushed copy notes notes' read calls words line noted holds =
           ];
     }
 
--- a fence that failed
-pub Holds-failed : (copy : List ℕ) (notes notes' : Notes) (read : List ℕ) (calls calls' : List Call) (words : ℕ → Word)
-    → ((line : ℕ) → is_noted notes' line ≡ is_noted notes line) → Brings copy calls calls'
-    → Holds copy notes read calls words → Holds copy notes' read calls' words
-Holds-failed copy notes notes' read calls calls' words same brings holds =
-    record {
-      newest = holds.newest;
-      noted = λ word un. holds.noted word (sym (same (word / 8)) ∙ un);
-      within = λ word y may.
-          elim (or_cases (may_hold read calls word y) (y == get_or copy word 0) (brings read word y may)) [
-            | inl before ↦ holds.within word y before
-            | inr new ↦
-                MayBe-may_be (words word) y (inl (eqb-true y (get_or copy word 0) new ∙ holds.newest word))
-          ];
-    }
-
 fence_keeps : (older : List Older) → has_passed older ≡ false → filter (λ o. not o.passed) older ≡ older
 fence_keeps [] none = refl
 fence_keeps (o ∷ older) none =
-    let both = neither o.passed (has_passed older) none in
-    ap (λ (b : Bool). cond (not b) (o ∷ filter (λ o. not o.passed) older) (filter (λ o. not o.passed) older)) both.0
-    ∙ ap (λ (os : List Older). o ∷ os) (fence_keeps older both.1)
-
-passed_cond : (b : Bool) (o : Older) (older : List Older) → o.passed ≡ b → has_passed older ≡ false → has_passed (cond (not b) (o ∷ older) older) ≡ false
-passed_cond true o older is none = none
-passed_cond false o older is none = ap (λ (b : Bool). b || has_passed older) is ∙ none
+    let both = or_parts o.passed (has_passed older) none in
+    cond-true (not o.passed) _ _ (not_from_false o.passed both.0) ∙ ap (λ (os : List Older). o ∷ os) (fence_keeps older both.1)
 
 -- after a fence no candidate is passed
 fence_leaves : (older : List Older) → has_passed (filter (λ o. not o.passed) older) ≡ false
 fence_leaves [] = refl
-fence_leaves (o ∷ older) = passed_cond o.passed o (filter (λ o. not o.passed) older) refl (fence_leaves older)
+fence_leaves (o ∷ older) =
+    cond_both (not o.passed) (o ∷ filter (λ o. not o.passed) older) (filter (λ o. not o.passed) older) (λ (os : List Older). has_passed os ≡ false)
+    (λ kept. or_from o.passed _ (not-true o.passed kept) (fence_leaves older)) (λ _. fence_leaves older)
 
 -- a fence that succeeded, after which no line is noted
 pub Holds-fenced : (copy : List ℕ) (notes notes' : Notes) (lines : List ℕ) (read : List ℕ) (calls calls' : List Call) (words : ℕ → Word)
@@ -119,11 +92,10 @@ Holds-fenced copy notes notes' lines read calls calls' words listed brings fixes
       newest = holds.newest;
       noted = λ word un. fence_leaves (words word).older;
       within = λ word y may.
-          let go : (b : Bool) → is_noted notes (word / 8) ≡ b → may_be (fence_word (words word)) y ≡ true =
-          elim [
-            | true ↦ λ is.
+          elim (cases_Bool (is_noted notes (word / 8))) [
+            | inl is ↦
                 MayBe-may_be (fence_word (words word)) y (inl (fixes read word y may (listed (word / 8) ∙ is) ∙ holds.newest word))
-            | false ↦ λ is.
+            | inr is ↦
                 let same : fence_word (words word) ≡ words word =
                 ap (λ (os : List Older). record { newest = (words word).newest; older = os }) (fence_keeps (words word).older (holds.noted word is)) in
                 subst (λ (w : Word). may_be w y ≡ true) (sym same)
@@ -131,6 +103,5 @@ Holds-fenced copy notes notes' lines read calls calls' words listed brings fixes
                   | inl before ↦ holds.within word y before
                   | inr new ↦ MayBe-may_be (words word) y (inl (eqb-true y (get_or copy word 0) new ∙ holds.newest word))
                 ])
-          ] in
-          go (is_noted notes (word / 8)) refl;
+          ];
     }

@@ -1,40 +1,21 @@
 -- Noted lines and their marks.
-use Rattle.std.proofs.Common.{◌≡◌, ℕ, ◌+◌, ◌<◌, ◌≤◌, suc, zero, Bool, true, false, ◌||◌, ◌==◌, List, [], ◌∷◌, ◌++◌, length, get_or, set, replicate, cond, is_ok, is_err, IsOk, Result, Ok, Err, refl, inl, inr, sym, subst, ap, ◌∙◌, arith, get_or-set_same, get_or-set_other}
-use Rattle.std.proofs.lemmas.Bool.{eq-eqb}
-use Rattle.pmem.proofs.Staging.{same_or_other, unequal}
+use Rattle.std.proofs.Common.{◌≡◌, ℕ, ◌+◌, ◌<◌, ◌≤◌, suc, zero, Bool, true, false, ◌||◌, ◌==◌, List, [], ◌∷◌, ◌++◌, length, get_or, set, replicate, cond, is_ok, is_err, IsOk, Result, Ok, Err, refl, sym, ap, ◌∙◌, arith, get_or-set_same, get_or-set_other}
+use Rattle.std.proofs.lemmas.Bool.Decides.{nat_tests}
+use Rattle.std.proofs.lemmas.Bool.{or_right, false_from_ne_true, true≢false, eq-eqb}
 use Rattle.std.specs.List.{sum_by}
 use Rattle.std.specs.List.Sorted.{IsPermutation}
 use Rattle.std.proofs.lemmas.List.Sorted.{sum_by-IsPermutation}
 use Rattle.std.proofs.lemmas.List.Sums.{sum_by-cons}
 use Rattle.pmem_file.specs.Line.{has_line, one_if, marked}
 
-true_or : (a b : Bool) → b ≡ true → (a || b) ≡ true
-true_or true b e = refl
-true_or false b e = e
-
-or-swap : (a b c : Bool) → (a || (b || c)) ≡ (b || (a || c))
-or-swap true true c = refl
-or-swap true false c = refl
-or-swap false true c = refl
-or-swap false false c = refl
-
 pub has_line-push : (lines : List ℕ) (l line : ℕ) → has_line (lines ++ l ∷ []) line ≡ ((line == l) || has_line lines line)
 has_line-push [] l line = refl
-has_line-push (m ∷ lines) l line =
-    ap (λ (b : Bool). (line == m) || b) (has_line-push lines l line) ∙ or-swap (line == m) (line == l) (has_line lines line)
+has_line-push (m ∷ lines) l line = grind (arith, has_line-push lines l line)
 
 -- a line that is marked, and the others as before
 pub get_or-marked : (marks : List Bool) (line other : ℕ) → line < length marks
     → get_or (set marks line true) other false ≡ ((other == line) || get_or marks other false)
-get_or-marked marks line other below =
-    elim (same_or_other other line) [
-      | inl e ↦
-          subst (λ (l : ℕ). get_or (set marks line true) l false ≡ true) (sym e) (get_or-set_same marks line true false below)
-          ∙ sym (ap (λ (b : Bool). b || get_or marks other false) (eq-eqb other line e))
-      | inr apart ↦
-          get_or-set_other marks line other true false apart
-          ∙ sym (ap (λ (b : Bool). b || get_or marks other false) (unequal other line apart))
-    ]
+get_or-marked marks line other below = grind (arith, nat_tests, get_or-set_same marks line true false below, get_or-set_other marks line other true false)
 
 pub marked-le : (marks : List Bool) → marked marks ≤ length marks
 marked-le [] = omega arith
@@ -82,10 +63,7 @@ counts (l ∷ lines) line =
     listed-sum (line == l) (has_line lines line) (times line lines) (times line (l ∷ lines)) (sum_by-cons (λ (l : ℕ). one_if (line == l)) l lines) (counts lines line)
 
 same_by_sum : (a b : Bool) (m n : ℕ) → (a ≡ false → m ≡ 0) × (a ≡ true → 0 < m) → (b ≡ false → n ≡ 0) × (b ≡ true → 0 < n) → m ≡ n → a ≡ b
-same_by_sum true true m n x y e = refl
-same_by_sum false false m n x y e = refl
-same_by_sum true false m n x y e = absurd (omega (arith, x.1 refl, y.0 refl))
-same_by_sum false true m n x y e = absurd (omega (arith, x.0 refl, y.1 refl))
+same_by_sum a b m n x y e = grind arith
 
 -- the same lines in another order
 pub has_line-permuted : (old new : List ℕ) → IsPermutation old new → (line : ℕ) → has_line new line ≡ has_line old line
@@ -95,15 +73,12 @@ has_line-permuted old new moved line =
 
 -- a mark that would make false true is not set
 pub not_marked : (marks : List Bool) (line : ℕ) → (get_or marks line false ≡ true → false ≡ true) → get_or marks line false ≡ false
-not_marked marks line h =
-    let go : (b : Bool) → get_or marks line false ≡ b → get_or marks line false ≡ false =
-    elim [ true ↦ λ e. absurd (let f : false ≡ true = h e in cc) | false ↦ λ e. e ] in
-    go (get_or marks line false) refl
+not_marked marks line h = false_from_ne_true (get_or marks line false) (λ e. true≢false (sym (h e)))
 
 pub has_line-at : (lines : List ℕ) (i : ℕ) → i < length lines → has_line lines (get_or lines i 0) ≡ true
 has_line-at [] i below = absurd (omega arith)
 has_line-at (line ∷ lines) zero below = ap (λ (b : Bool). b || has_line lines line) (eq-eqb line line refl)
-has_line-at (line ∷ lines) (suc i) below = true_or (get_or lines i 0 == line) (has_line lines (get_or lines i 0)) (has_line-at lines i (omega arith))
+has_line-at (line ∷ lines) (suc i) below = or_right (get_or lines i 0 == line) (has_line lines (get_or lines i 0)) (has_line-at lines i (omega arith))
 
 pub unmarked : (n line : ℕ) → get_or (replicate n false) line false ≡ false
 unmarked zero line = refl
@@ -122,6 +97,4 @@ pushed (Err t) b x y is e = absurd (let h : true ≡ false = sym is ∙ e in cc)
 -- a mark that was taken away
 pub cleared : (marks : List Bool) (line other : ℕ) → line < length marks → other ≡ line → get_or (set marks line false) other false ≡ true → ⊥
 cleared marks line other below same e =
-    let h : false ≡ true =
-    sym (subst (λ (l : ℕ). get_or (set marks line false) l false ≡ false) (sym same) (get_or-set_same marks line false false below)) ∙ e in
-    cc
+    true≢false (sym e ∙ rw same (get_or-set_same marks line false false below))

@@ -1,35 +1,36 @@
 -- What a sequencer is ahead of, and what it expects to come back, while versions that have ended are freed and gaps are cleared.
 use mathlib.Core.Path.{fun_ext}
-use Rattle.std.proofs.Common.{◌≡◌, ℕ, ◌+◌, ◌<◌, ◌≤◌, Bool, true, false, cond, not, ◌||◌, ◌&&◌, IsTrue, List, [], ◌∷◌, ◌++◌, inl, inr, Option, None, Some, nat_eq, refl, sym, ap, subst, ◌∙◌, arith}
-use Rattle.std.proofs.lemmas.Bool.{both_ways, cases_lt, cond-false, false_from_ne_true, ne_eqb, or_from, or_left}
+use Rattle.std.proofs.Common.{rules, ◌≡◌, ℕ, Bool, false, not, ◌||◌, ◌&&◌, IsTrue, List, [], ◌∷◌, ◌++◌, inl, None, Some, nat_eq, refl, sym, ap, subst, ◌∙◌}
+use Rattle.std.proofs.lemmas.Bool.{both_ways, ne_eqb, or_from, or_left}
 use Rattle.std.specs.List.{AllByRecursion}
 use Rattle.kv_types.specs.declared.place.EntryNo.{EntryNo}
 use Rattle.kv_types.specs.declared.place.Extent.{Extent}
-use Rattle.kv_types.specs.declared.record_id.RecordId.{RecordId}
 use Rattle.pmem.specs.Device.{State}
 use Rattle.pmem.specs.Crash.{image_of}
 use Rattle.model.specs.declared.group.Group.{Group}
 use Rattle.model.specs.declared.group.Part.{Part}
 use Rattle.model.specs.declared.group.Put.{Put}
-use Rattle.model.specs.Image.{Image, Version, counts, entry_word, entries_of_lines, version_in}
-use Rattle.model.specs.Group.{AreAllApart, AreEnded, Contents, IsConsistent, IsGroup, IsPlaced, IsUnused, Versions, after_free, after_group, extents_of, is_listed, is_put_at, parts_versions, puts_of_group, without}
+use Rattle.model.specs.Image.{Version}
+use Rattle.model.specs.Group.{AreAllApart, AreEnded, Contents, IsConsistent, IsGroup, IsPlaced, IsUnused, Versions, after_free, after_group, extents_of, is_listed, is_put_at, parts_versions, puts_of_group}
 use Rattle.model.proofs.GroupsLemmas.{IsConsistent-after_group, parts_versions-none}
-use Rattle.mv_keyspace.specs.Table.{Cell, IsCellOf, IsTable, Table}
+use Rattle.mv_keyspace.specs.Table.{IsTable}
 use Rattle.placing.specs.Back.{ComesBack}
 use Rattle.placing.specs.Left.{IsLeftOf}
 use Rattle.placing.specs.Read.{LiesIn}
 use Rattle.placing.proofs.FreedPlaces.{AreEnded-after_parts, comes-back-cleared, comes-back-freed, extents-after_parts}
 use Rattle.placing.proofs.LeftLemmas.{AllGood, HasGood, good_parts, left-after_parts}
 use Rattle.placing.proofs.TakenLemmas.{All-map}
-use Rattle.wbl_engine.specs.Contents.{IsDurable, Keeps}
+use Rattle.wbl_engine.specs.Contents.{IsDurable}
 use Rattle.wbl_engine.specs.Freeing.{Clears, record_after_clearing}
 use Rattle.wbl_engine.specs.Lawful.{AreLawful}
 use Rattle.wbl_engine.proofs.ApartLemmas.{AreVersionsApart, IsFresh, parts_apart}
-use Rattle.wbl_engine.proofs.WithoutLemmas.{AllEnded, versions_without, was_there}
+use Rattle.wbl_engine.proofs.WithoutLemmas.{AllEnded, versions_without}
 use Rattle.redis_core.specs.Sequencing.{Expects, IsAheadOf, Sequencing, contents_ahead, puts_of_parts}
 use Rattle.group_commit.specs.Group.{AreGroups, after_groups}
 use Rattle.primary.specs.Leading.{AreLaid, LiesInside}
-use Rattle.group_commit.proofs.FreedLemmas.{AllEnded-listed, AllEnded-parts, AreEnded-after_group, AreParts-without, NonePut, NonePut-unused, parts-without}
+use Rattle.standby.proofs.EndedLemmas.{inside-from_keeps}
+use Rattle.standby.proofs.FreedLemmas.{left-without, still_none, table-without}
+use Rattle.group_commit.proofs.FreedLemmas.{free_without, unused_without, AllEnded-listed, AllEnded-parts, AreEnded-after_group, AreParts-without, NonePut, NonePut-unused, parts-without}
 
 -- ---- versions in the lines of the extents
 
@@ -62,97 +63,15 @@ laid-ahead s contents stands laid = record {
 
 -- those of a sound engine
 module _ (device : State) (contents : Contents) (consistent : IsConsistent contents) (lawful : AreLawful contents) (durable : IsDurable device contents) where
-  abbrev image : Image
-  image = image_of device.words
-
-  keeps : Keeps contents image
-  keeps = durable image (λ word. inl refl)
-
-  counted : (begun : Bool) (i : ℕ) (version : Version) → cond begun (Some (version_in contents.current image i)) None ≡ Some version
-      → IsTrue begun × (version_in contents.current image i ≡ version)
-  counted true i version is = (refl, cc)
-  counted false i version is = cc
-
-  in_directory : (i : ℕ) (version : Version) → contents.versions i ≡ Some version → i < entries_of_lines contents.lines
-  in_directory i version is = elim (cases_lt i (entries_of_lines contents.lines)) [
-    | inl within ↦ within
-    | inr beyond ↦ absurd (let none = consistent.beyond i beyond in cc)
-  ]
-
   lies : (i : ℕ) (version : Version) → contents.versions i ≡ Some version → LiesInside contents.lines version.first_line version.lines
   lies i version is =
-      let within = in_directory i version is in
-      let told = counted (counts contents.current (image (entry_word i 0))) i version (keeps.versions i within ∙ is) in
-      let entry = (keeps.entries i within).whole told.0 in
-      let inside : LiesInside contents.lines (image (entry_word i 3)) (image (entry_word i 4)) = record {
-        above = entry.above;
-        within = subst (λ n. image (entry_word i 3) + n ≤ contents.lines) (sym entry.lines_are) entry.in_format.extent;
-      } in
-      subst (λ (v : Version). LiesInside contents.lines v.first_line v.lines) told.1 inside
+      let inside = inside-from_keeps contents (image_of device.words) consistent (durable (image_of device.words) (λ word. inl refl)) i version is in
+      record { above = inside.above; within = inside.within }
 
   pub laid-engine : AreLaid contents
   laid-engine = record { inside = lies; apart = lawful.apart }
 
--- ---- a table without versions that have ended
-
-cell_without : (gone : ℕ → Bool) (versions : Versions) (id : RecordId) (cell : Cell) → AllEnded gone versions → IsCellOf versions id cell
-    → IsCellOf (versions_without gone versions) id cell
-cell_without gone versions id cell ended is =
-    let live = is.live in
-    let left = false_from_ne_true (gone cell.entry) (λ of. both_ways live.version.is_ended live.not_ended (let also = ended cell.entry of in let begun = live.begun in grind arith)) in
-    record {
-      live = record {
-        version = live.version;
-        begun = cond-false (gone cell.entry) None (versions cell.entry) left ∙ live.begun;
-        not_ended = live.not_ended;
-        id_is = live.id_is;
-        value_is = live.value_is;
-      };
-      position_is = is.position_is;
-    }
-
-cell_within : (gone : ℕ → Bool) (versions : Versions) (id : RecordId) (cell : Cell) → IsCellOf (versions_without gone versions) id cell → IsCellOf versions id cell
-cell_within gone versions id cell is =
-    let live = is.live in
-    record {
-      live = record {
-        version = live.version;
-        begun = was_there (gone cell.entry) (versions cell.entry) live.version live.begun;
-        not_ended = live.not_ended;
-        id_is = live.id_is;
-        value_is = live.value_is;
-      };
-      position_is = is.position_is;
-    }
-
-table_without : (gone : ℕ → Bool) (versions : Versions) (table : Table) → AllEnded gone versions → IsTable versions table → IsTable (versions_without gone versions) table
-table_without gone versions table ended is = record {
-  keyspace = is.keyspace;
-  live = λ id cell at. cell_without gone versions id cell ended (is.live id cell at);
-  found = λ id cell of. is.found id cell (cell_within gone versions id cell of);
-}
-
 -- ---- what is free
-
-still_none : (gone : Bool) (old : Option Version) → old ≡ None → cond gone None old ≡ None
-still_none true old none = refl
-still_none false old none = none
-
-free_beside : (free gone put : Bool) → (gone ≡ true → put ≡ false) → ((free || gone) && not put) ≡ ((free && not put) || gone)
-free_beside free true true none = absurd (both_ways true (none refl) refl)
-free_beside true true false none = refl
-free_beside false true false none = refl
-free_beside true false true none = refl
-free_beside true false false none = refl
-free_beside false false true none = refl
-free_beside false false false none = refl
-
-unused_without : (gone : ℕ → Bool) (contents : Contents) (put : Put) → IsUnused contents.versions contents.is_free put
-    → IsUnused (without gone contents).versions (without gone contents).is_free put
-unused_without gone contents put is = record {
-  entry = or_left (contents.is_free put.entry.0) (gone put.entry.0) is.entry;
-  lines = λ i version begun. is.lines i version (was_there (gone i) (contents.versions i) version begun);
-}
 
 -- no put is at an entry that is not free
 not_put : (versions : Versions) (is_free : ℕ → Bool) (puts : List Put) (i : ℕ) → AllByRecursion (IsUnused versions is_free) puts → is_free i ≡ false → is_put_at i puts ≡ false
@@ -181,35 +100,19 @@ module _ (s : Sequencing) (contents : Contents) (entries : List EntryNo) (consis
   versions_are : parts_versions (after_free entries contents).versions s.waiting ≡ versions_without gone (parts_versions contents.versions s.waiting)
   versions_are = parts-without gone contents.versions s.waiting none_put
 
-  left_freed : IsLeftOf (after_free entries contents) s.room
-  left_freed = record {
-    entries = λ i free.
-        let was = stands.left.entries i free in
-        (was.0, or_left (contents.is_free i) (gone i) was.1, still_none (gone i) (contents.versions i) was.2);
-    lines = stands.left.lines;
-    apart = λ i version begun. stands.left.apart i version (was_there (gone i) (contents.versions i) version begun);
-  }
-
   -- the sequencer is as far ahead of what is left
   pub IsAheadOf-freed : IsAheadOf s (after_free entries contents)
-  IsAheadOf-freed = record {
-    epoch = stands.epoch;
-    before = stands.before;
-    last = stands.last;
-    parts = AreParts-without gone s.before contents.versions s.waiting all_ended none_put stands.parts;
-    once = stands.once;
-    placed = stands.placed;
-    fitting = stands.fitting;
-    unused = All-map (IsUnused contents.versions contents.is_free) (IsUnused (after_free entries contents).versions (after_free entries contents).is_free)
-        (unused_without gone contents) puts stands.unused;
-    empty = All-map (λ (put : Put). contents.versions put.entry.0 ≡ None) (λ (put : Put). (after_free entries contents).versions put.entry.0 ≡ None)
-        (λ put is. still_none (gone put.entry.0) (contents.versions put.entry.0) is) puts stands.empty;
-    apart = stands.apart;
-    taken = stands.taken;
-    left = left_freed;
-    table = subst (λ versions. IsTable versions s.table) (sym versions_are)
-        (table_without gone (parts_versions contents.versions s.waiting) s.table (AllEnded-parts gone contents.versions s.waiting all_ended none_put) stands.table);
-  }
+  IsAheadOf-freed =
+      search (
+        rules,
+        AreParts-without gone s.before contents.versions s.waiting all_ended none_put stands.parts,
+        unused_without gone contents puts stands.unused,
+        All-map (λ (put : Put). contents.versions put.entry.0 ≡ None) (λ (put : Put). (after_free entries contents).versions put.entry.0 ≡ None)
+            (λ put is. still_none (gone put.entry.0) (contents.versions put.entry.0) is) puts stands.empty,
+        left-without gone contents s.room stands.left,
+        subst (λ versions. IsTable versions s.table) (sym versions_are)
+            (table-without gone (parts_versions contents.versions s.waiting) s.table (AllEnded-parts gone contents.versions s.waiting all_ended none_put) stands.table),
+      )
 
   abbrev ahead : Contents
   ahead = contents_ahead contents s.waiting
@@ -219,7 +122,7 @@ module _ (s : Sequencing) (contents : Contents) (entries : List EntryNo) (consis
   ahead_freed =
       let with_versions : Versions → Contents = λ others. record (contents_ahead (after_free entries contents) s.waiting) { versions = others } in
       let with_free : (ℕ → Bool) → Contents = λ free. record (after_free entries ahead) { is_free = free } in
-      ap with_versions versions_are ∙ ap with_free (fun_ext (λ i. free_beside (contents.is_free i) (gone i) (is_put_at i puts) (none_put i)))
+      ap with_versions versions_are ∙ ap with_free (fun_ext (λ i. free_without (contents.is_free i) (gone i) (is_put_at i puts) (none_put i)))
 
   left_ahead : IsLeftOf ahead s.room
   left_ahead =
@@ -275,22 +178,13 @@ module _ (s : Sequencing) (contents new : Contents) (cleared : List EntryNo) (st
   }
 
   ahead_cleared : IsAheadOf s after
-  ahead_cleared = record {
-    epoch = stands.epoch;
-    before = stands.before;
-    last = stands.last;
-    parts = stands.parts;
-    once = stands.once;
-    placed = stands.placed;
-    fitting = stands.fitting;
-    unused = All-map (IsUnused contents.versions contents.is_free) (IsUnused after.versions after.is_free)
-        (λ put is. record { entry = or_left (contents.is_free put.entry.0) (is_listed put.entry.0 cleared) is.entry; lines = is.lines }) (puts_of_parts s.waiting) stands.unused;
-    empty = stands.empty;
-    apart = stands.apart;
-    taken = stands.taken;
-    left = left_cleared;
-    table = stands.table;
-  }
+  ahead_cleared =
+      search (
+        rules,
+        left_cleared,
+        All-map (IsUnused contents.versions contents.is_free) (IsUnused after.versions after.is_free)
+            (λ put is. record { entry = or_left (contents.is_free put.entry.0) (is_listed put.entry.0 cleared) is.entry; lines = is.lines }) (puts_of_parts s.waiting) stands.unused,
+      )
 
   -- the sequencer is as far ahead of the contents without the gap
   pub IsAheadOf-cleared : IsAheadOf s new
@@ -303,7 +197,7 @@ module _ (s : Sequencing) (contents new : Contents) (cleared : List EntryNo) (st
   expects_cleared e x expects =
       let left = left-after_parts 0 contents s.room s.waiting stands.left stands.taken in
       comes-back-cleared (contents_ahead contents s.waiting) (contents_ahead after s.waiting) s.room refl (λ i. refl) e cleared x
-      (λ i. free_beside (contents.is_free i) (is_listed i cleared) (is_put_at i (puts_of_parts s.waiting)) (beside_cleared i))
+      (λ i. free_without (contents.is_free i) (is_listed i cleared) (is_put_at i (puts_of_parts s.waiting)) (beside_cleared i))
       (λ i listed. (
         clears.within i listed,
         ap (λ free. free && not (is_put_at i (puts_of_parts s.waiting))) (clears.were_not_free i listed),

@@ -1,5 +1,5 @@
 -- What is left of a primary where a group or a list is closed, and where a call is made.
-use Rattle.std.proofs.Common.{◌≡◌, Bool, true, false, List, [], Result, Ok, Err, IfOk, OnErr, refl, sym, ap, subst, inl, inr}
+use Rattle.std.proofs.Common.{rules, ◌≡◌, Bool, true, false, List, [], Result, Ok, Err, IfOk, OnErr, refl, sym, ap, subst, inl, inr}
 use Rattle.pmem.specs.Device.{State}
 use Rattle.heap_layout.specs.declared.entry.Entry.{Entry}
 use Rattle.kv_types.specs.declared.place.EntryNo.{EntryNo}
@@ -15,36 +15,23 @@ use Rattle.redis_core.specs.Sequencing.{Sequencing}
 use Rattle.redis_core.specs.Turn.{OnServed, OnUnserved}
 use Rattle.pipes.specs.Waiting.{Waiting}
 use Rattle.primary.specs.Closing.{ClosesOne, MayClose}
-use Rattle.primary.specs.Leading.{AreLaid, KeepsLead}
+use Rattle.primary.specs.Leading.{AreLaid}
 use Rattle.primary.specs.Resuming.{IsOver}
 use Rattle.primary.specs.Standing.{StandsOver}
 use Rattle.primary.proofs.LeadsLemmas.{Leads-group, Leads-list}
 
 module _ (device : State) (contents : Contents) (aside : List FreeList) (old new : Sequencing) (before after : Waiting Work) where
   closed-stands : ClosesOne old before new after → StandsOver device contents before.items aside old [] → StandsOver device contents after.items aside new []
-  closed-stands (inl group) over = record {
-    leads = Leads-group contents before after aside old new [] over.consistent over.leads group;
-    consistent = over.consistent;
-    laid = over.laid;
-    durable = over.durable;
-  }
-  closed-stands (inr list) over = record {
-    leads = Leads-list contents before after aside old new [] over.leads list;
-    consistent = over.consistent;
-    laid = over.laid;
-    durable = over.durable;
-  }
+  closed-stands (inl group) over = search (rules, Leads-group contents before after aside old new [] over.consistent over.leads group)
+  closed-stands (inr list) over = search (rules, Leads-list contents before after aside old new [] over.leads list)
 
   pub close-stands : (result : Result Bool Refusal) → IfOk result (λ did. did ≡ true → MayClose old before × ClosesOne old before new after)
       → IfOk result (λ did. did ≡ false → (¬ MayClose old before) × (new ≡ old) × (after ≡ before))
       → OnErr result (MayClose old before × (new ≡ old) × (after.items ≡ before.items))
       → StandsOver device contents before.items aside old [] → StandsOver device contents after.items aside new []
   close-stands (Ok true) closed none refused over = closed-stands (closed refl).1 over
-  close-stands (Ok false) closed none refused over =
-      let same = none refl in
-      subst (λ (w : Waiting Work). StandsOver device contents w.items aside new []) (sym same.2) (subst (λ (s : Sequencing). StandsOver device contents before.items aside s []) (sym same.1) over)
-  close-stands (Err refusal) closed none refused over =
-      subst (λ (items : List Work). StandsOver device contents items aside new []) (sym refused.2) (subst (λ (s : Sequencing). StandsOver device contents before.items aside s []) (sym refused.1) over)
+  close-stands (Ok false) closed none refused over = let same = none refl in rw (same.2, same.1) over
+  close-stands (Err refusal) closed none refused over = rw (refused.2, refused.1) over
 
 -- a turn that served, or did not, left the list of what has ended
 pub ended-same : (t : Turn) (old new : Sequencing) (A B : Type 0) → OnServed t A → OnUnserved t B → (A → new.ended ≡ old.ended) → (B → new.ended ≡ old.ended) → new.ended ≡ old.ended
@@ -53,16 +40,6 @@ ended-same turn.Idle old new A B served unserved a b = b unserved
 ended-same turn.Blocked old new A B served unserved a b = b unserved
 ended-same turn.GroupFull old new A B served unserved a b = b unserved
 ended-same turn.Ended old new A B served unserved a b = b unserved
-
--- a sequencer that keeps its lead has kept all that stood
-pub kept-stands : (device : State) (contents : Contents) (items : List Work) (aside : List FreeList) (old new : Sequencing) → KeepsLead old new
-    → StandsOver device contents items aside old [] → StandsOver device contents items aside new []
-kept-stands device contents items aside old new keeps over = record {
-  leads = keeps contents items aside over.leads;
-  consistent = over.consistent;
-  laid = over.laid;
-  durable = over.durable;
-}
 
 -- nothing waits at first
 pub starts-so : (device : State) (contents : Contents) (s : Sequencing) → IsOver contents s → IsConsistent contents → AreLaid contents → IsDurable device contents → StandsOver device contents [] [] s []

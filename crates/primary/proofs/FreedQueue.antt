@@ -1,5 +1,5 @@
 -- What waits for the committer stays lawful while what has ended is freed, gaps are cleared, and the sequencer is told.
-use Rattle.std.proofs.Common.{◌≡◌, ℕ, false, IsTrue, List, [], ◌∷◌, ◌++◌, refl, sym, ap, subst, ◌∙◌, append-nil, append_assoc}
+use Rattle.std.proofs.Common.{rules, ◌≡◌, ℕ, false, IsTrue, List, [], ◌∷◌, ◌++◌, refl, sym, ap, subst, ◌∙◌, append-nil, append_assoc}
 use Rattle.std.proofs.lemmas.Bool.{both_ways, false_from_ne_true, or_left, or_right}
 use Rattle.std.proofs.lemmas.List.Concat.{flat_map-append}
 use Rattle.kv_types.specs.declared.place.EntryNo.{EntryNo}
@@ -158,12 +158,9 @@ pub Leads-accepted : (contents : Contents) (items : List Work) (aside : List Fre
     → ((c : Contents) (e : List EntryNo) (x : List Extent) → IsAheadOf old c → Expects old c (freed.entries.items ++ e) (freed.extents.items ++ x) → IsAheadOf new c × Expects new c e x)
     → Leads contents items aside new notices
 Leads-accepted contents items aside old new freed notices leads takes stands =
-    let both = stands (after_work contents items) (entries_told notices) (extents_told notices) leads.stands leads.expects in
-    record {
-      work_is = leads.work_is;
-      epochs = leads.epochs;
-      stands = both.0;
-      expects = both.1;
-      aside_ended = leads.aside_ended;
-      listed = subst (λ (ended : List EntryNo). AreEnded (after_work contents items) (entries_of_lists (aside ++ lists_of items) ++ ended)) (sym (ap (λ (s : Sequencing). s.ended) takes.after)) leads.listed;
-    }
+    let last = after_work contents items in
+    search (
+      rules,
+      stands last (entries_told notices) (extents_told notices) leads.stands leads.expects,
+      subst (λ (ended : List EntryNo). AreEnded last (entries_of_lists (aside ++ lists_of items) ++ ended)) (sym (ap (λ (s : Sequencing). s.ended) takes.after)) leads.listed,
+    )

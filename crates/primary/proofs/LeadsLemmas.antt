@@ -1,5 +1,5 @@
 -- What is to be committed leads to the sequencer, where a group or a free list is closed, while calls are made, and once a group has committed.
-use Rattle.std.proofs.Common.{◌≡◌, ℕ, List, [], ◌∷◌, ◌++◌, map, nat_eq, refl, sym, ap, ap₂, subst, ◌∙◌, append-nil, append_assoc, inl, inr, true≢false}
+use Rattle.std.proofs.Common.{rules, ◌≡◌, ℕ, List, [], ◌∷◌, ◌++◌, map, nat_eq, refl, sym, ap, ap₂, subst, ◌∙◌, append-nil, append_assoc, inl, inr, true≢false}
 use Rattle.std.proofs.lemmas.Bool.{or_cases}
 use Rattle.std.proofs.lemmas.Grind.{flat_map-append}
 use Rattle.std.proofs.lemmas.List.Folds.{list_any-append}
@@ -96,14 +96,13 @@ pub Leads-still : (contents : Contents) (items : List Work) (aside : List FreeLi
     → ((c : Contents) (e : List EntryNo) (x : List Extent) → IsAheadOf old c → Expects old c e x → Expects new c e x)
     → new.ended ≡ old.ended → Leads contents items aside old notices → Leads contents items aside new notices
 Leads-still contents items aside old new notices stands expects ended leads =
-    record {
-      work_is = leads.work_is;
-      epochs = leads.epochs;
-      stands = stands _ leads.stands;
-      expects = expects _ _ _ leads.stands leads.expects;
-      aside_ended = leads.aside_ended;
-      listed = subst (λ (xs : List EntryNo). AreEnded (after_work contents items) (entries_of_lists (aside ++ lists_of items) ++ xs)) (sym ended) leads.listed;
-    }
+    let last = after_work contents items in
+    search (
+      rules,
+      stands last leads.stands,
+      expects last (entries_told notices) (extents_told notices) leads.stands leads.expects,
+      subst (λ (xs : List EntryNo). AreEnded last (entries_of_lists (aside ++ lists_of items) ++ xs)) (sym ended) leads.listed,
+    )
 
 -- ---- what a turn may take
 

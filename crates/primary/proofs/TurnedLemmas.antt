@@ -1,5 +1,6 @@
 -- What a turn of the committer leaves of a primary.
-use Rattle.std.proofs.Common.{◌≡◌, ◌⊎◌, ℕ, ◌≤◌, Bool, List, [], ◌∷◌, ◌++◌, map, Some, None, Result, Ok, Err, IfOk, IsErrOf, refl, sym, ap, subst, ◌∙◌, inl, inr, append-nil, append_assoc, arith, le_refl}
+use Rattle.std.proofs.Common.{Global, IfErr, ◌≡◌, ◌⊎◌, ℕ, ◌≤◌, Bool, List, [], ◌∷◌, ◌++◌, map, Some, None, Result, Ok, Err, IfOk, IsErrOf, refl, sym, ap, subst, ◌∙◌, inl, inr, append-nil, append_assoc, arith, le_refl}
+use Rattle.std.specs.declared.collections.VecDeque.{VecDeque}
 use Rattle.pmem.specs.Device.{State}
 use Rattle.kv_types.specs.declared.place.EntryNo.{EntryNo}
 use Rattle.kv_types.specs.declared.refusal.Refusal.{Refusal}
@@ -178,10 +179,7 @@ module _ {E : Type 0} (device : E → State) (contents : E → Contents) (is_fau
   idle-stands old new before between after room remote lists came s takes drains stays over =
       let is : came ≡ done.Idle = ok_is came done.Idle stays.answer in
       let leads = drained room before between after lists old.aside.items (contents old.engine) s [] takes drains over.leads in
-      subst (λ (d : Done). Over new after s (notices_of d)) (sym is)
-      (subst (λ (xs : List FreeList). StandsOver (device new.engine) (contents new.engine) after.items xs s []) (sym stays.aside_is)
-      (subst (λ (e : E). StandsOver (device e) (contents e) after.items (old.aside.items ++ lists) s []) (sym stays.engine)
-      (record { leads = leads; consistent = over.consistent; laid = over.laid; durable = over.durable })))
+      rw (is, stays.aside_is, stays.engine) (record { leads = leads; consistent = over.consistent; laid = over.laid; durable = over.durable })
 
   -- ---- a turn that may take a group
 
@@ -205,9 +203,7 @@ module _ {E : Type 0} (device : E → State) (contents : E → Contents) (is_fau
   unmoved : (old new : Committer E) (before after : Waiting Work) (aside : List FreeList) (s : Sequencing) → new.engine ≡ old.engine → new.aside.items ≡ aside
       → Leads (contents old.engine) after.items aside s [] → Over old before s [] → Over new after s []
   unmoved old new before after aside s same aside_is leads over =
-      subst (λ (xs : List FreeList). StandsOver (device new.engine) (contents new.engine) after.items xs s []) (sym aside_is)
-      (subst (λ (e : E). StandsOver (device e) (contents e) after.items aside s []) (sym same)
-      (record { leads = leads; consistent = over.consistent; laid = over.laid; durable = over.durable }))
+      rw (aside_is, same) (record { leads = leads; consistent = over.consistent; laid = over.laid; durable = over.durable })
 
   ready-again : (old new : Committer E) (before after : Waiting Work) (room remote : ℕ) (s : Sequencing)
       → TurnsReady device contents is_faulted LocalTakes old before room remote (Err Memory) new after → Over old before s [] → Over new after s []
@@ -240,149 +236,120 @@ module _ {E : Type 0} (device : E → State) (contents : E → Contents) (is_fau
     pub shown : (group : Group) → old.stage ≡ stage.Shown group
         → (after ≡ before) × (((result ≡ Ok done.Handed) × (new ≡ ready_again old)) ⊎ ((result ≡ Ok done.Idle) × (new ≡ old)))
 
-  turn-stands : (old new : Committer E) (before after : Waiting Work) (room remote : ℕ) (came : Done) (s : Sequencing) → Turned old new before after room remote (Ok came)
-      → Over old before s [] → Over new after s (notices_of came)
-  turn-stands old new before after room remote came s turned over =
-      elim old.stage as (λ st. old.stage ≡ st → Over new after s (notices_of came)) [
-        | stage.Ready ↦ λ is. ready-stands old new before after room remote came s (turned.ready is) over
-        | stage.Durable group ↦ λ is.
-            let told = turned.durable group is in
-            subst (λ (d : Done). Over new after s (notices_of d)) (sym (ok_is came done.Raised told.0))
-            (subst (λ (c : Committer E). Over c after s []) (sym told.1)
-            (subst (λ (w : Waiting Work). Over (raised device contents is_faulted group old) w s []) (sym told.2)
-            (record { leads = over.leads; consistent = over.consistent; laid = over.laid; durable = over.durable })))
-        | stage.Shown group ↦ λ is.
-            let told = turned.shown group is in
-            subst (λ (w : Waiting Work). Over new w s (notices_of came)) (sym told.0)
-            (elim told.1 [
-              | inl handed ↦
-                  subst (λ (d : Done). Over new before s (notices_of d)) (sym (ok_is came done.Handed handed.0))
-                  (subst (λ (c : Committer E). Over c before s []) (sym handed.1)
-                  (record { leads = over.leads; consistent = over.consistent; laid = over.laid; durable = over.durable }))
-              | inr idle ↦
-                  subst (λ (d : Done). Over new before s (notices_of d)) (sym (ok_is came done.Idle idle.0))
-                  (subst (λ (c : Committer E). Over c before s []) (sym idle.1) over)
-            ])
-      ] refl
+  -- nothing was taken from the queue, and the engine is as it was
+  record Passes (old new : Committer E) (before after : Waiting Work) (result : Result Done Refusal) : Type 0 where
+    engine : new.engine ≡ old.engine
+    aside : new.aside.items ≡ old.aside.items
+    queue : after ≡ before
+    tells : IfOk result (λ came. notices_of came ≡ [])
+    stays : IfOk result (λ came. (p : ℕ) → position_after came p ≡ p)
+    answers : IfErr result (λ _. ⊥)
 
-  pub told-for-all : (old new : Committer E) (before after : Waiting Work) (room remote : ℕ) (result : Result Done Refusal) → Turned old new before after room remote result
-      → IfOk result (λ came. (s : Sequencing) → Over old before s [] → Over new after s (notices_of came))
-  told-for-all old new before after room remote (Ok came) turned = λ s over. turn-stands old new before after room remote came s turned over
-  told-for-all old new before after room remote (Err refusal) turned = tt
+  passes-by : (old new c : Committer E) (before after : Waiting Work) (came : Done) → new ≡ c → c.engine ≡ old.engine → c.aside ≡ old.aside → after ≡ before → notices_of came ≡ []
+      → ((p : ℕ) → position_after came p ≡ p) → Passes old new before after (Ok came)
+  passes-by old new c before after came is engine aside queue tells stays = rw is record { engine = engine; aside = ap (λ (lists : VecDeque FreeList Global). lists.items) aside; queue = queue; tells = tells; stays = stays; answers = tt }
 
-  again-stands : (old new : Committer E) (before after : Waiting Work) (room remote : ℕ) (s : Sequencing) → Turned old new before after room remote (Err Memory)
-      → Over old before s [] → Over new after s []
-  again-stands old new before after room remote s turned over =
-      elim old.stage as (λ st. old.stage ≡ st → Over new after s []) [
-        | stage.Ready ↦ λ is. ready-again old new before after room remote s (turned.ready is) over
-        | stage.Durable group ↦ λ is. absurd (ok_not_err done.Raised (sym (turned.durable group is).0))
-        | stage.Shown group ↦ λ is. absurd (elim (turned.shown group is).1 [ inl handed ↦ ok_not_err done.Handed (sym handed.0) | inr idle ↦ ok_not_err done.Idle (sym idle.0) ])
-      ] refl
+  module _ (old new : Committer E) (before after : Waiting Work) (room remote : ℕ) where
+    came-by : (result : Result Done Refusal) → Turned old new before after room remote result
+        → TurnsReady device contents is_faulted LocalTakes old before room remote result new after ⊎ Passes old new before after result
+    came-by result turned =
+        elim old.stage as (λ st. old.stage ≡ st → TurnsReady device contents is_faulted LocalTakes old before room remote result new after ⊎ Passes old new before after result) [
+          | stage.Ready ↦ λ is. inl (turned.ready is)
+          | stage.Durable group ↦ λ is.
+              let told = turned.durable group is in
+              inr (rw told.0 (passes-by old new (raised device contents is_faulted group old) before after done.Raised told.1 refl refl told.2 refl (λ p. refl)))
+          | stage.Shown group ↦ λ is.
+              let told = turned.shown group is in
+              inr (elim told.1 [
+                | inl handed ↦ rw handed.0 (passes-by old new (ready_again old) before after done.Handed handed.1 refl refl told.0 refl (λ p. refl))
+                | inr idle ↦ rw idle.0 (passes-by old new old before after done.Idle idle.1 refl refl told.0 refl (λ p. refl))
+              ])
+        ] refl
 
-  -- where memory was refused the step can be taken again
-  pub turn-again : (old new : Committer E) (before after : Waiting Work) (room remote : ℕ) (result : Result Done Refusal) (s : Sequencing) → Turned old new before after room remote result
-      → Over old before s [] → IsErrOf result Memory → Over new after s []
-  turn-again old new before after room remote result s turned over refused =
-      let is : result ≡ Err Memory = refused in
-      again-stands old new before after room remote s (subst (λ (r : Result Done Refusal). Turned old new before after room remote r) is turned) over
+    pub told-for-all : (result : Result Done Refusal) → Turned old new before after room remote result
+        → IfOk result (λ came. (s : Sequencing) → Over old before s [] → Over new after s (notices_of came))
+    told-for-all (Ok came) turned = λ s over. elim (came-by (Ok came) turned) [
+      | inl ready ↦ ready-stands old new before after room remote came s ready over
+      | inr passes ↦ rw (passes.tells, passes.queue, passes.aside, passes.engine) over
+    ]
+    told-for-all (Err refusal) turned = tt
 
-  -- ---- the position of the engine
+    -- where memory was refused the step can be taken again
+    pub turn-again : (result : Result Done Refusal) (s : Sequencing) → Turned old new before after room remote result → Over old before s [] → IsErrOf result Memory → Over new after s []
+    turn-again result s turned over refused =
+        elim (came-by (Err Memory) (subst (λ (r : Result Done Refusal). Turned old new before after room remote r) refused turned)) [
+          | inl ready ↦ ready-again old new before after room remote s ready over
+          | inr passes ↦ absurd passes.answers
+        ]
 
-  -- a commit moves it, and no other turn
-  position-ready : (old new : Committer E) (before after : Waiting Work) (room remote : ℕ) (came : Done)
-      → TurnsReady device contents is_faulted LocalTakes old before room remote (Ok came) new after → (contents new.engine).current.position ≡ position_after came (contents old.engine).current.position
-  position-ready old new before after room remote came turned =
-      let p = (contents old.engine).current.position in
-      let so : (d : Done) → d ≡ came → (contents new.engine).current.position ≡ position_after d p → (contents new.engine).current.position ≡ position_after came p =
-      λ d is at. subst (λ (d : Done). (contents new.engine).current.position ≡ position_after d p) is at in
-      elim turned.came [
-        | inl took ↦ let commits = took.3 in so (done.Committed (contents new.engine).current.position) (sym commits.answer) refl
-        | inr (inl frees) ↦ let freed = frees.5 in so (done.Freed freed.answer.0) (sym freed.answer.1) (ap (λ (r : Record). r.position) freed.moved.current)
-        | inr (inr (inl clears)) ↦ let cleared = clears.3 in so (done.Cleared cleared.answer.0) (sym cleared.answer.1) (ap (λ (r : Record). r.position) cleared.answer.3.current)
-        | inr (inr (inr (inl idle))) ↦ so done.Idle (sym (ok_is came done.Idle idle.1.answer)) (ap (λ (e : E). (contents e).current.position) idle.1.engine)
-        | inr (inr (inr (inr refuses))) ↦ absurd (ok_not_err came refuses.2.answer)
-      ]
+    -- ---- the position of the engine
 
-  position-turn : (old new : Committer E) (before after : Waiting Work) (room remote : ℕ) (came : Done) → Turned old new before after room remote (Ok came)
-      → (contents new.engine).current.position ≡ position_after came (contents old.engine).current.position
-  position-turn old new before after room remote came turned =
-      let p = (contents old.engine).current.position in
-      let so : (d : Done) (c : Committer E) → d ≡ came → new ≡ c → (contents c.engine).current.position ≡ position_after d p → (contents new.engine).current.position ≡ position_after came p =
-      λ d c is there at. subst (λ (d : Done). (contents new.engine).current.position ≡ position_after d p) is
-      (subst (λ (c : Committer E). (contents c.engine).current.position ≡ position_after d p) (sym there) at) in
-      elim old.stage as (λ st. old.stage ≡ st → (contents new.engine).current.position ≡ position_after came p) [
-        | stage.Ready ↦ λ is. position-ready old new before after room remote came (turned.ready is)
-        | stage.Durable group ↦ λ is. let told = turned.durable group is in so done.Raised (raised device contents is_faulted group old) (sym (ok_is came done.Raised told.0)) told.1 refl
-        | stage.Shown group ↦ λ is.
-            elim (turned.shown group is).1 [
-              | inl handed ↦ so done.Handed (ready_again old) (sym (ok_is came done.Handed handed.0)) handed.1 refl
-              | inr idle ↦ so done.Idle old (sym (ok_is came done.Idle idle.0)) idle.1 refl
+    -- a commit moves it, and no other turn
+    position-ready : (came : Done) → TurnsReady device contents is_faulted LocalTakes old before room remote (Ok came) new after
+        → (contents new.engine).current.position ≡ position_after came (contents old.engine).current.position
+    position-ready came turned =
+        elim turned.came [
+          | inl took ↦ rw took.3.answer refl
+          | inr (inl frees) ↦ let freed = frees.5 in rw freed.answer.1 (ap (λ (r : Record). r.position) freed.moved.current)
+          | inr (inr (inl clears)) ↦ let cleared = clears.3 in rw cleared.answer.1 (ap (λ (r : Record). r.position) cleared.answer.3.current)
+          | inr (inr (inr (inl idle))) ↦ rw (ok_is came done.Idle idle.1.answer) (ap (λ (e : E). (contents e).current.position) idle.1.engine)
+          | inr (inr (inr (inr refuses))) ↦ absurd (ok_not_err came refuses.2.answer)
+        ]
+
+    pub turn-position : (result : Result Done Refusal) → Turned old new before after room remote result
+        → IfOk result (λ came. (contents new.engine).current.position ≡ position_after came (contents old.engine).current.position)
+    turn-position (Ok came) turned = elim (came-by (Ok came) turned) [
+      | inl ready ↦ position-ready came ready
+      | inr passes ↦ rw passes.engine (sym (passes.stays _))
+    ]
+    turn-position (Err refusal) turned = tt
+
+    -- it never falls
+    rises-ready : (came : Done) (s : Sequencing) → TurnsReady device contents is_faulted LocalTakes old before room remote (Ok came) new after → Over old before s []
+        → (contents old.engine).current.position ≤ (contents new.engine).current.position
+    rises-ready came s turned over =
+        elim turned.came [
+          | inl took ↦
+              let items = TakesLists-items before turned.between turned.lists turned.takes ∙ ap (λ (xs : List Work). map work.Free turned.lists ++ xs) took.2 in
+              let group_is = (AreWork-behind (contents old.engine) turned.lists (work.Commit took.0 ∷ after.items)
+              (subst (λ (xs : List Work). AreWork (contents old.engine) xs) items over.leads.work_is)).0 in
+              let moved = ap (λ (r : Record). r.position) took.3.moved.current in
+              rw moved (subst (λ (p : ℕ). p ≤ last_position p took.0.parts.items) group_is.before (rises_within took.0.before (contents old.engine).versions took.0.parts.items group_is.parts))
+          | inr (inl frees) ↦ omega (arith, ap (λ (r : Record). r.position) frees.5.moved.current)
+          | inr (inr (inl clears)) ↦ omega (arith, ap (λ (r : Record). r.position) clears.3.answer.3.current)
+          | inr (inr (inr (inl idle))) ↦ omega (arith, ap (λ (e : E). (contents e).current.position) idle.1.engine)
+          | inr (inr (inr (inr refuses))) ↦ absurd (ok_not_err came refuses.2.answer)
+        ]
+
+    pub turn-rises : (result : Result Done Refusal) (s : Sequencing) → Turned old new before after room remote result → Over old before s []
+        → IfOk result (λ came. (contents old.engine).current.position ≤ (contents new.engine).current.position)
+    turn-rises (Ok came) s turned over = elim (came-by (Ok came) turned) [
+      | inl ready ↦ rises-ready came s ready over
+      | inr passes ↦ rw passes.engine (le_refl _)
+    ]
+    turn-rises (Err refusal) s turned over = tt
+
+    -- where memory was refused the engine is as it was
+    pub turn-stays : (result : Result Done Refusal) → Turned old new before after room remote result → IsErrOf result Memory
+        → (contents new.engine).current.position ≡ (contents old.engine).current.position
+    turn-stays result turned refused =
+        elim (came-by (Err Memory) (subst (λ (r : Result Done Refusal). Turned old new before after room remote r) refused turned)) [
+          | inl ready ↦ ap (λ (e : E). (contents e).current.position) (engine-ready ready)
+          | inr passes ↦ absurd passes.answers
+        ]
+      where
+        engine-ready : TurnsReady device contents is_faulted LocalTakes old before room remote (Err Memory) new after → new.engine ≡ old.engine
+        engine-ready turned =
+            elim turned.came [
+              | inl took ↦ absurd (elim took.3.causes [ inl e ↦ cc | inr e ↦ cc ])
+              | inr (inl frees) ↦ frees.5.memory refl
+              | inr (inr (inl clears)) ↦ clears.3.memory refl
+              | inr (inr (inr (inl idle))) ↦ absurd (ok_not_err done.Idle (sym idle.1.answer))
+              | inr (inr (inr (inr refuses))) ↦ refuses.2.engine
             ]
-      ] refl
-
-  pub turn-position : (old new : Committer E) (before after : Waiting Work) (room remote : ℕ) (result : Result Done Refusal) → Turned old new before after room remote result
-      → IfOk result (λ came. (contents new.engine).current.position ≡ position_after came (contents old.engine).current.position)
-  turn-position old new before after room remote (Ok came) turned = position-turn old new before after room remote came turned
-  turn-position old new before after room remote (Err refusal) turned = tt
-
-  -- it never falls
-  rises-ready : (old new : Committer E) (before after : Waiting Work) (room remote : ℕ) (came : Done) (s : Sequencing)
-      → TurnsReady device contents is_faulted LocalTakes old before room remote (Ok came) new after → Over old before s [] → (contents old.engine).current.position ≤ (contents new.engine).current.position
-  rises-ready old new before after room remote came s turned over =
-      elim turned.came [
-        | inl took ↦
-            let items = TakesLists-items before turned.between turned.lists turned.takes ∙ ap (λ (xs : List Work). map work.Free turned.lists ++ xs) took.2 in
-            let group_is = (AreWork-behind (contents old.engine) turned.lists (work.Commit took.0 ∷ after.items)
-            (subst (λ (xs : List Work). AreWork (contents old.engine) xs) items over.leads.work_is)).0 in
-            let moved = ap (λ (r : Record). r.position) took.3.moved.current in
-            rw moved (subst (λ (p : ℕ). p ≤ last_position p took.0.parts.items) group_is.before (rises_within took.0.before (contents old.engine).versions took.0.parts.items group_is.parts))
-        | inr (inl frees) ↦ omega (arith, ap (λ (r : Record). r.position) frees.5.moved.current)
-        | inr (inr (inl clears)) ↦ omega (arith, ap (λ (r : Record). r.position) clears.3.answer.3.current)
-        | inr (inr (inr (inl idle))) ↦ omega (arith, ap (λ (e : E). (contents e).current.position) idle.1.engine)
-        | inr (inr (inr (inr refuses))) ↦ absurd (ok_not_err came refuses.2.answer)
-      ]
-
-  rises-turn : (old new : Committer E) (before after : Waiting Work) (room remote : ℕ) (came : Done) (s : Sequencing) → Turned old new before after room remote (Ok came)
-      → Over old before s [] → (contents old.engine).current.position ≤ (contents new.engine).current.position
-  rises-turn old new before after room remote came s turned over =
-      let same : (c : Committer E) → new ≡ c → (contents c.engine).current.position ≡ (contents old.engine).current.position → (contents old.engine).current.position ≤ (contents new.engine).current.position =
-      λ c there at. omega (arith, at, ap (λ (c : Committer E). (contents c.engine).current.position) there) in
-      elim old.stage as (λ st. old.stage ≡ st → (contents old.engine).current.position ≤ (contents new.engine).current.position) [
-        | stage.Ready ↦ λ is. rises-ready old new before after room remote came s (turned.ready is) over
-        | stage.Durable group ↦ λ is. same (raised device contents is_faulted group old) (turned.durable group is).1 refl
-        | stage.Shown group ↦ λ is. elim (turned.shown group is).1 [ inl handed ↦ same (ready_again old) handed.1 refl | inr idle ↦ same old idle.1 refl ]
-      ] refl
-
-  pub turn-rises : (old new : Committer E) (before after : Waiting Work) (room remote : ℕ) (result : Result Done Refusal) (s : Sequencing) → Turned old new before after room remote result
-      → Over old before s [] → IfOk result (λ came. (contents old.engine).current.position ≤ (contents new.engine).current.position)
-  turn-rises old new before after room remote (Ok came) s turned over = rises-turn old new before after room remote came s turned over
-  turn-rises old new before after room remote (Err refusal) s turned over = tt
 
   -- what it says to be durable is
   pub turn-committed : (p : ℕ) (new : Committer E) (result : Result Done Refusal) → IfOk result (λ came. (contents new.engine).current.position ≡ position_after came p)
       → IfOk result (λ came. (position : ℕ) → came ≡ done.Committed position → position ≡ (contents new.engine).current.position)
   turn-committed p new (Ok came) at = λ position is. sym (subst (λ (d : Done). (contents new.engine).current.position ≡ position_after d p) is at)
   turn-committed p new (Err refusal) at = tt
-
-  -- and where memory was refused the engine is as it was
-  engine-ready : (old new : Committer E) (before after : Waiting Work) (room remote : ℕ)
-      → TurnsReady device contents is_faulted LocalTakes old before room remote (Err Memory) new after → new.engine ≡ old.engine
-  engine-ready old new before after room remote turned =
-      elim turned.came [
-        | inl took ↦ absurd (elim took.3.causes [ inl e ↦ cc | inr e ↦ cc ])
-        | inr (inl frees) ↦ frees.5.memory refl
-        | inr (inr (inl clears)) ↦ clears.3.memory refl
-        | inr (inr (inr (inl idle))) ↦ absurd (ok_not_err done.Idle (sym idle.1.answer))
-        | inr (inr (inr (inr refuses))) ↦ refuses.2.engine
-      ]
-
-  pub turn-stays : (old new : Committer E) (before after : Waiting Work) (room remote : ℕ) (result : Result Done Refusal) → Turned old new before after room remote result
-      → IsErrOf result Memory → (contents new.engine).current.position ≡ (contents old.engine).current.position
-  turn-stays old new before after room remote result turned refused =
-      let is : result ≡ Err Memory = refused in
-      let t : Turned old new before after room remote (Err Memory) = subst (λ (r : Result Done Refusal). Turned old new before after room remote r) is turned in
-      elim old.stage as (λ st. old.stage ≡ st → (contents new.engine).current.position ≡ (contents old.engine).current.position) [
-        | stage.Ready ↦ λ at. ap (λ (e : E). (contents e).current.position) (engine-ready old new before after room remote (t.ready at))
-        | stage.Durable group ↦ λ at. absurd (ok_not_err done.Raised (sym (t.durable group at).0))
-        | stage.Shown group ↦ λ at. absurd (elim (t.shown group at).1 [ inl handed ↦ ok_not_err done.Handed (sym handed.0) | inr idle ↦ ok_not_err done.Idle (sym idle.0) ])
-      ] refl

@@ -123,9 +123,3 @@ unmoved_step verb.Other words session = unmoved_other session.is_open words sess
 
 pub run-unmoved : (session : Session) (words other : List (List ℕ)) → admit session words ≡ Run other → session_after_refusal session words ≡ session_after_request session words
 run-unmoved session words other e = unmoved_step (verb_of words) words session other e
-
-pub run_all-requests : (requests other : List (List (List ℕ))) → RunAll requests ≡ RunAll other → requests ≡ other
-run_all-requests requests other e = cc
-
-pub run-words : (words other : List (List ℕ)) → Run words ≡ Run other → words ≡ other
-run-words words other e = cc

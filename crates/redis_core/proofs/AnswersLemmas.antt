@@ -1,5 +1,5 @@
 -- An answer is a legal entry of the list, whether its request was run, queued, answered or refused.
-use Rattle.std.proofs.Common.{◌≡◌, ◌≢◌, ℕ, ◌+◌, ◌⊎◌, inl, inr, Bool, true, false, cond, if◌then◌else◌, nat_eq, not, is_some, map, List, [], ◌∷◌, ◌++◌, length, codes, Option, Some, None, refl, sym, ap, subst, subst₂, ◌∙◌, arith, eq-eqb, ne_eqb, append-nil}
+use Rattle.std.proofs.Common.{rules, ◌≡◌, ◌≢◌, ℕ, ◌+◌, ◌⊎◌, inl, inr, Bool, true, false, cond, if◌then◌else◌, nat_eq, not, is_some, map, List, [], ◌∷◌, ◌++◌, length, codes, Option, Some, None, refl, sym, ap, subst, subst₂, ◌∙◌, arith, eq-eqb, ne_eqb}
 use Rattle.std.proofs.lemmas.Bool.{cases_eq}
 use Rattle.std.specs.Option.{option_map}
 use Rattle.kv_types.specs.declared.change.Change.{Change}
@@ -16,12 +16,11 @@ use Rattle.multi_watch.specs.Modified.{modifies}
 use Rattle.multi_watch.specs.Sessions.{Sessions, Moves as MovesSession, slot, session_of, session_at}
 use Rattle.model.specs.declared.group.Part.{Part}
 use Rattle.model.specs.declared.group.PlacedChange.{PlacedChange}
-use Rattle.model.specs.Call.{admission_at, MayAnswer, all_made, made, changes_for, changes_of, full_reply, memory_reply, replies_in, is_memory, is_nonempty, session_after_item}
+use Rattle.model.specs.Call.{admission_at, MayAnswer, all_made, changes_for, changes_of, full_reply, memory_reply, replies_in, is_memory, is_nonempty, session_after_item}
 use Rattle.model.specs.Command.{closes, outcome_of}
 use Rattle.model.specs.Group.{change_of, changes_of_part}
 use Rattle.model.proofs.CallsLemmas.{changes_for-error}
 use Rattle.model.proofs.SessionLemmas.{item-closed, replies_in-Array}
-use Rattle.extent_heap.specs.Room.{Room}
 use Rattle.mv_keyspace.specs.Table.{place_all, puts_of, records}
 use Rattle.mv_keyspace.proofs.TableLemmas.{records-place_all}
 use Rattle.placing.specs.Performs.{Performs}
@@ -32,15 +31,11 @@ use Rattle.redis_core.specs.Sequencing.{Sequencing, MovesSeat, is_closed, state_
 use Rattle.redis_core.specs.Serving.{Runs, Acts, AnswersRequest, Finishes, RefusesMemory}
 use Rattle.redis_core.specs.Stored.{Stored, AreUnderWay}
 use Rattle.redis_core.specs.Turn.{AddsPart, Answers, AreFullOnly, MayTell, Moves, call_of}
+use Rattle.redis_core.proofs.AdmissionLemmas.{answers-known, run-unmoved}
 use Rattle.redis_core.proofs.RefusalLemmas.{memory_not_full}
-use Rattle.redis_core.proofs.AdmissionLemmas.{answers-known, run-unmoved, run-words, run_all-requests}
 use Rattle.redis_core.proofs.RunningLemmas.{marks-none, ran-full, ran-stand, ran-made}
 
 -- ---- what moves
-
-pub moves_none : (changes : List Change) (old : Sequencing) → length changes ≡ 0 → Moves changes old old
-moves_none [] old none = record { table = refl; room = refl; position = refl; waiting = refl }
-moves_none (change ∷ changes) old none = absurd (omega arith)
 
 pub moves_part : (changes : List Change) (old : Sequencing) (part : _) (new : Sequencing) → length changes ≢ 0 → AddsPart old part changes new → Moves changes old new
 moves_part [] old part new some adds = absurd (some refl)
@@ -97,92 +92,42 @@ module _ (old mid new : Sequencing) (requests : List (List (List ℕ))) (replies
   pub runs-finished : Runs old requests replies new
   runs-finished =
       let same = ran-made (stored old) (old.position + 1) requests replies running (stored mid) under in
-      record {
-        full = subst (λ (room : Room). AreFullOnly (records old.table) old.room requests replies room) (sym over.room)
-            (ran-full (stored old) (old.position + 1) requests replies running (stored mid) under);
-        stand = ran-stand (stored old) (old.position + 1) requests replies running (stored mid) under;
-        moves = subst (λ (cs : List Change). Moves cs old new) (sym same) (moved_by running.part.changes.items refl);
-        marks = subst₂ (λ (cs : List Change) (sessions : Sessions). Marks (records old.table) cs old.sessions sessions) (sym same) (sym over.sessions) under.marks;
-        epoch = over.epoch ∙ epoch;
-        before = over.before ∙ before;
-        ended = over.ended ∙ ended;
-        newest = over.newest ∙ newest;
-      }
+      search (
+        rules,
+        subst (AreFullOnly (records old.table) old.room requests replies) (sym over.room) (ran-full (stored old) (old.position + 1) requests replies running (stored mid) under),
+        ran-stand (stored old) (old.position + 1) requests replies running (stored mid) under,
+        subst (λ (cs : List Change). Moves cs old new) (sym same) (moved_by running.part.changes.items refl),
+        subst₂ (λ (cs : List Change) (sessions : Sessions). Marks (records old.table) cs old.sessions sessions) (sym same) (sym over.sessions) under.marks,
+      )
 
 -- ---- what was to be done was done
 
 pub acts-answer : (old : Sequencing) (reply : Reply) → Acts old (Answer reply) reply old
-acts-answer old reply = record {
-  legal = inr refl;
-  full_only = λ words e. cc;
-  each_full_only = λ requests replies e. cc;
-  moves = record { table = refl; room = refl; position = refl; waiting = refl };
-  marks = marks-none (records old.table) old.sessions;
-  epoch = refl;
-  before = refl;
-  ended = refl;
-  newest = refl;
-}
+acts-answer old reply = search (rules, marks-none (records old.table) old.sessions)
 
-pub acts-run : (old : Sequencing) (words : List (List ℕ)) (reply : Reply) (new : Sequencing) → Runs old (words ∷ []) (reply ∷ []) new
-    → (reply ≡ full_reply → ¬ HasRoomFor old.room (outcome_of (records old.table) words).changes) → Acts old (Run words) reply new
-acts-run old words reply new runs full_only =
-    let same : all_made (records old.table) (words ∷ []) (reply ∷ []) ≡ made (records old.table) words reply = append-nil (made (records old.table) words reply) in
-    record {
-      legal = runs.stand.0;
-      full_only = λ other e full. subst (λ w. ¬ HasRoomFor old.room (outcome_of (records old.table) w).changes) (run-words words other e) (full_only full);
-      each_full_only = λ requests replies e. cc;
-      moves = subst (λ (cs : List Change). Moves cs old new) same runs.moves;
-      marks = subst (λ (cs : List Change). Marks (records old.table) cs old.sessions new.sessions) same runs.marks;
-      epoch = runs.epoch;
-      before = runs.before;
-      ended = runs.ended;
-      newest = runs.newest;
-    }
+run_all-requests : (requests other : List (List (List ℕ))) → RunAll requests ≡ RunAll other → requests ≡ other
+run_all-requests requests other e = cc
 
 pub acts-run_all : (old : Sequencing) (requests : List (List (List ℕ))) (replies : List Reply) (reply : Reply) (new : Sequencing) → reply ≡ Array replies → Runs old requests replies new
     → Acts old (RunAll requests) reply new
 acts-run_all old requests replies reply new is runs =
     let same : all_made (records old.table) requests replies ≡ all_made (records old.table) requests (replies_in reply) =
     ap (all_made (records old.table) requests) (sym (ap replies_in is ∙ replies_in-Array replies)) in
-    record {
-      legal = inr (replies, is, runs.stand);
-      full_only = λ words e. cc;
-      each_full_only = λ others texts e is_array.
-          subst₂ (λ (now : List (List (List ℕ))) (rs : List Reply). AreFullOnly (records old.table) old.room now rs new.room) (run_all-requests requests others e)
-          (sym (replies_in-Array replies) ∙ ap replies_in (sym is ∙ is_array) ∙ replies_in-Array texts) runs.full;
-      moves = subst (λ (cs : List Change). Moves cs old new) same runs.moves;
-      marks = subst (λ (cs : List Change). Marks (records old.table) cs old.sessions new.sessions) same runs.marks;
-      epoch = runs.epoch;
-      before = runs.before;
-      ended = runs.ended;
-      newest = runs.newest;
-    }
-
-pub array-known : (admission : Admission) (replies : List Reply) (reply : Reply) → reply ≡ Array replies → RefusesMemory admission reply
-array-known admission replies reply is e = absurd (no_array (sym (ap is_memory is) ∙ e))
-  where
-    no_array : is_memory (Array replies) ≡ true → ⊥
-    no_array h = cc
+    let full : (others : List (List (List ℕ))) (texts : List Reply) → RunAll requests ≡ RunAll others → reply ≡ Array texts → AreFullOnly (records old.table) old.room others texts new.room =
+    λ others texts e is_array. subst₂ (λ now rs. AreFullOnly (records old.table) old.room now rs new.room) (run_all-requests requests others e)
+    (sym (replies_in-Array replies) ∙ ap replies_in (sym is ∙ is_array) ∙ replies_in-Array texts) runs.full in
+    search (
+      rules,
+      full,
+      subst (λ (cs : List Change). Moves cs old new) same runs.moves,
+      subst (λ (cs : List Change). Marks (records old.table) cs old.sessions new.sessions) same runs.marks,
+      runs.stand,
+    )
 
 -- ---- a request was answered
 
 abbrev left_by : Session → List (List ℕ) → Reply → Session
 left_by session words reply = if is_memory reply then session_after_refusal session words else session_after_request session words
-
--- the session that is left, where the reply says that memory was refused or does not
-pub session_left : (session : Session) (words : List (List ℕ)) (reply : Reply) → RefusesMemory (admit session words) reply → session_after_request session words ≡ left_by session words reply
-session_left session words reply known = by (is_memory reply) refl
-  where
-    both : (b : Bool) → b ≡ true → b ≡ false → ⊥
-    both b one other = cc
-
-    by : (b : Bool) → is_memory reply ≡ b → session_after_request session words ≡ cond b (session_after_refusal session words) (session_after_request session words)
-    by false e = refl
-    by true e = elim (known e) [
-      | inl answered ↦ absurd (both (is_memory reply) e (answers-known session words reply answered))
-      | inr ran ↦ sym (run-unmoved session words ran.0 ran.1)
-    ]
 
 -- memory was refused for the session's step
 may_refuse : (s : Keyspace) (admission : Admission) → MayAnswer s admission memory_reply
@@ -190,23 +135,41 @@ may_refuse s (Answer proper) = inl refl
 may_refuse s (Run words) = inl refl
 may_refuse s (RunAll requests) = inl refl
 
-memory_no_array : (replies : List Reply) → memory_reply ≡ Array replies → ⊥
-memory_no_array replies e = cc
-
 pub acts-refused : (old : Sequencing) (admission : Admission) → Acts old admission memory_reply old
 acts-refused old admission =
     let none = changes_for-error (records old.table) admission (codes "ERR out of memory") in
+    search (
+      rules,
+      may_refuse (records old.table) admission,
+      memory_not_full,
+      subst (λ (cs : List Change). Moves cs old old) (sym none) (record { table = refl; room = refl; position = refl; waiting = refl }),
+      subst (λ (cs : List Change). Marks (records old.table) cs old.sessions old.sessions) (sym none) (marks-none (records old.table) old.sessions),
+    )
+
+pub request-refused : (old : Sequencing) (seat : ℕ) (words : List (List ℕ)) (new : Sequencing) → MovesSeat old seat (Some (session_after_refusal (session_at old.sessions seat) words)) new
+    → AnswersRequest old seat words memory_reply new
+request-refused old seat words new moves = record { between = new; session = moves; acts = acts-refused new (admit (session_at old.sessions seat) words) }
+
+-- the session is what the request leaves, which is what its refusal leaves where memory was refused to what it had done
+pub request-acted : (old : Sequencing) (seat : ℕ) (words : List (List ℕ)) (act : Admission) (reply : Reply) (mid new : Sequencing) → act ≡ admit (session_at old.sessions seat) words
+    → MovesSeat old seat (Some (session_after_request (session_at old.sessions seat) words)) mid → Acts mid act reply new → RefusesMemory act reply → AnswersRequest old seat words reply new
+request-acted old seat words act reply mid new is moves acts memory =
     record {
-      legal = may_refuse (records old.table) admission;
-      full_only = λ words e full. absurd (memory_not_full full);
-      each_full_only = λ requests replies e is_array. absurd (memory_no_array replies is_array);
-      moves = subst (λ (cs : List Change). Moves cs old old) (sym none) (record { table = refl; room = refl; position = refl; waiting = refl });
-      marks = subst (λ (cs : List Change). Marks (records old.table) cs old.sessions old.sessions) (sym none) (marks-none (records old.table) old.sessions);
-      epoch = refl;
-      before = refl;
-      ended = refl;
-      newest = refl;
+      between = mid;
+      session = subst (λ (left : Session). MovesSeat old seat (Some left) mid) (by_test (is_memory reply) refl) moves;
+      acts = subst (λ (admission : Admission). Acts mid admission reply new) is acts;
     }
+  where
+    session : Session
+    session = session_at old.sessions seat
+
+    by_test : (b : Bool) → is_memory reply ≡ b → session_after_request session words ≡ (if b then session_after_refusal session words else session_after_request session words)
+    by_test false e = refl
+    by_test true e =
+        elim (memory e) [
+          | inl answer ↦ absurd (cc (e, answers-known session words reply (sym is ∙ answer)))
+          | inr run ↦ sym (run-unmoved session words run.0 (sym is ∙ run.1))
+        ]
 
 -- ---- an item was answered
 
@@ -233,18 +196,13 @@ record LikeParts (a b : Sequencing) : Type 0 where
   waiting : a.waiting ≡ b.waiting
 
 like : (a : Sequencing) → LikeParts a a
-like a = record { table = refl; room = refl; position = refl; waiting = refl }
+like a = search rules
 
 seat-like : (old : Sequencing) (seat : ℕ) (now : Option Session) (new : Sequencing) → MovesSeat old seat now new → LikeParts new old
-seat-like old seat now new moves = record { table = moves.table; room = moves.room; position = moves.position; waiting = moves.waiting }
+seat-like old seat now new moves = search rules
 
 moves_like : (changes : List Change) (old old' new new' : Sequencing) → LikeParts old' old → LikeParts new' new → Moves changes old' new → Moves changes old new'
-moves_like [] old old' new new' from to moves = record {
-  table = to.table ∙ moves.table ∙ from.table;
-  room = to.room ∙ moves.room ∙ from.room;
-  position = to.position ∙ moves.position ∙ from.position;
-  waiting = to.waiting ∙ moves.waiting ∙ from.waiting;
-}
+moves_like [] old old' new new' from to moves = search rules
 moves_like (change ∷ changes) old old' new new' from to moves =
     let part = moves.0 in
     let cs = change ∷ changes in (
@@ -272,6 +230,23 @@ cond_of : {A B : Type 0} (f : A → B) (b : Bool) (x y : A) → f (cond b x y) �
 cond_of f true x y = refl
 cond_of f false x y = refl
 
+abbrev is_none : Option Session → Bool
+is_none o = not (is_some o)
+
+closed_session : (p : List ℕ → Bool) (b : Bool) (left own : Session) → cond b idle_session (modified_where p (cond b left own)) ≡ modified_where p (cond b idle_session own)
+closed_session p true left own = refl
+closed_session p false left own = refl
+
+closed_again : (b closed : Bool) → cond b true (cond b false closed) ≡ cond b true closed
+closed_again true closed = refl
+closed_again false closed = refl
+
+slot_moved : (old new : Sessions) (seat other : ℕ) (now : Option Session) → MovesSession old seat now new → slot new other ≡ cond (nat_eq seat other) now (slot old other)
+slot_moved old new seat other now moves = elim (cases_eq other seat) [
+  | inl same ↦ rw (eq-eqb seat other (sym same)) (ap (slot new) same ∙ moves.moved)
+  | inr differ ↦ rw (ne_eqb seat other (λ e. differ (sym e))) (moves.others other differ)
+]
+
 module _ (old : Sequencing) (seat : ℕ) (item : Item) (reply : Reply) (left : Session) (mid : Sequencing) (answered : Answered old seat item reply left mid) (new : Sequencing) where
   abbrev changes : List Change
   changes = changes_of (state_of old) (call_of seat item reply)
@@ -289,26 +264,15 @@ module _ (old : Sequencing) (seat : ℕ) (item : Item) (reply : Reply) (left : S
 
   closed_mid : (other : ℕ) → is_closed mid other ≡ cond (nat_eq seat other) false (is_closed old other)
   closed_mid other =
-      ap (λ o. not (is_some o)) (answered.slots other) ∙ marked_there marks (cond (nat_eq seat other) (Some left) (slot old.sessions other))
-      ∙ cond_of (λ (o : Option Session). not (is_some o)) (nat_eq seat other) (Some left) (slot old.sessions other)
+      ap is_none (answered.slots other) ∙ marked_there marks (cond (nat_eq seat other) (Some left) (slot old.sessions other))
+      ∙ cond_of is_none (nat_eq seat other) (Some left) (slot old.sessions other)
 
   -- the item does not close its connection
   pub answers-open : closes item ≡ false → item_left ≡ left → new ≡ mid → Answers old seat item reply new
-  answers-open stays same is = subst (Answers old seat item reply) (sym is) (record {
-    legal = answered.legal;
-    told = answered.told;
-    full_only = answered.full_only;
-    each_full_only = answered.each_full_only;
-    keyspace = keyspace_moved changes old mid answered.moves;
-    position = position_moved changes old mid answered.moves;
-    moves = answered.moves;
-    epoch = answered.epoch;
-    before = answered.before;
-    ended = answered.ended;
-    newest = answered.newest;
-    sessions = λ other. session_mid other ∙ ap (λ own. modified_where marks (cond (nat_eq seat other) own (session_at old.sessions other))) (sym same);
-    closed = λ other. closed_mid other ∙ ap (λ b. cond (nat_eq seat other) b (is_closed old other)) (sym stays);
-  })
+  answers-open stays same is =
+      let sessions : (other : ℕ) → session_at mid.sessions other ≡ modified_where marks (cond (nat_eq seat other) item_left (session_at old.sessions other)) = λ other. rw same (session_mid other) in
+      let closed : (other : ℕ) → is_closed mid other ≡ cond (nat_eq seat other) (closes item) (is_closed old other) = λ other. rw stays (closed_mid other) in
+      subst (Answers old seat item reply) (sym is) (search (rules, answered, keyspace_moved changes old mid answered.moves, position_moved changes old mid answered.moves, sessions, closed))
 
   own_closed : closes item ≡ true → item_left ≡ idle_session
   own_closed shut = item-closed (session_at old.sessions seat) item reply shut
@@ -317,12 +281,12 @@ module _ (old : Sequencing) (seat : ℕ) (item : Item) (reply : Reply) (left : S
   pub answers-closed : closes item ≡ true → MovesSeat mid seat None new → Answers old seat item reply new
   answers-closed shut over =
       let moves = moves_like changes old old mid new (like old) (seat-like mid seat None new over) answered.moves in
+      let moved = λ (other : ℕ). slot_moved mid.sessions new.sessions seat other None over.sessions in
       record {
         legal = answered.legal;
         told = answered.told;
         full_only = answered.full_only;
-        each_full_only = λ requests replies e is.
-            subst (λ (room : Room). AreFullOnly (records old.table) old.room requests replies room) (sym over.room) (answered.each_full_only requests replies e is);
+        each_full_only = λ requests replies e is. rw over.room (answered.each_full_only requests replies e is);
         keyspace = keyspace_moved changes old new moves;
         position = position_moved changes old new moves;
         moves = moves;
@@ -330,34 +294,15 @@ module _ (old : Sequencing) (seat : ℕ) (item : Item) (reply : Reply) (left : S
         before = over.before ∙ answered.before;
         ended = over.ended ∙ answered.ended;
         newest = over.newest ∙ answered.newest;
-        sessions = λ other. elim (cases_eq other seat) [
-          | inl same ↦
-              let here : nat_eq seat other ≡ true = eq-eqb seat other (sym same) in
-              ap session_of (ap (slot new.sessions) same ∙ over.sessions.moved)
-              ∙ sym (ap (λ b. modified_where marks (cond b item_left (session_at old.sessions other))) here ∙ ap (modified_where marks) (own_closed shut))
-          | inr differ ↦
-              let there : nat_eq seat other ≡ false = ne_eqb seat other (λ e. differ (sym e)) in
-              ap session_of (over.sessions.others other differ) ∙ session_mid other ∙ ap (λ b. modified_where marks (cond b left (session_at old.sessions other))) there
-              ∙ sym (ap (λ b. modified_where marks (cond b item_left (session_at old.sessions other))) there)
-        ];
-        closed = λ other. elim (cases_eq other seat) [
-          | inl same ↦
-              ap (λ o. not (is_some o)) (ap (slot new.sessions) same ∙ over.sessions.moved)
-              ∙ sym (ap (λ b. cond b (closes item) (is_closed old other)) (eq-eqb seat other (sym same)) ∙ shut)
-          | inr differ ↦
-              let there : nat_eq seat other ≡ false = ne_eqb seat other (λ e. differ (sym e)) in
-              ap (λ o. not (is_some o)) (over.sessions.others other differ) ∙ closed_mid other ∙ ap (λ b. cond b false (is_closed old other)) there
-              ∙ sym (ap (λ b. cond b (closes item) (is_closed old other)) there)
-        ];
+        sessions = λ other.
+            ap session_of (moved other) ∙ cond_of session_of (nat_eq seat other) None (slot mid.sessions other) ∙ ap (cond (nat_eq seat other) idle_session) (session_mid other)
+            ∙ closed_session marks (nat_eq seat other) left (session_at old.sessions other) ∙ ap (λ own. modified_where marks (cond (nat_eq seat other) own (session_at old.sessions other))) (sym (own_closed shut));
+        closed = λ other.
+            ap is_none (moved other) ∙ cond_of is_none (nat_eq seat other) None (slot mid.sessions other) ∙ ap (cond (nat_eq seat other) true) (closed_mid other)
+            ∙ closed_again (nat_eq seat other) (is_closed old other) ∙ ap (λ b. cond (nat_eq seat other) b (is_closed old other)) (sym shut);
       }
 
 -- ---- requests and faults
-
-slot_moved : (old new : Sessions) (seat other : ℕ) (now : Option Session) → MovesSession old seat now new → slot new other ≡ cond (nat_eq seat other) now (slot old other)
-slot_moved old new seat other now moves = elim (cases_eq other seat) [
-  | inl same ↦ ap (slot new) same ∙ moves.moved ∙ sym (ap (λ b. cond b now (slot old other)) (eq-eqb seat other (sym same)))
-  | inr differ ↦ moves.others other differ ∙ sym (ap (λ b. cond b now (slot old other)) (ne_eqb seat other (λ e. differ (sym e))))
-]
 
 pub answered-request : (old : Sequencing) (seat : ℕ) (words : List (List ℕ)) (reply : Reply) (mid : Sequencing) → AnswersRequest old seat words reply mid
     → Answered old seat (Request words) reply (left_by (session_at old.sessions seat) words reply) mid
@@ -367,7 +312,7 @@ answered-request old seat words reply mid answers =
     let admission = admit (session_at old.sessions seat) words in
     let keyspace = ap records seated.table in
     record {
-      legal = subst (λ (s : Keyspace). MayAnswer s admission reply) keyspace answers.acts.legal;
+      legal = rw (sym keyspace) answers.acts.legal;
       told = λ fault e. cc;
       full_only = λ run e full. subst₂ (λ (s : Keyspace) room. ¬ HasRoomFor room (outcome_of s run).changes) keyspace seated.room (answers.acts.full_only run e full);
       each_full_only = λ requests replies e is.
@@ -422,8 +367,8 @@ answered-fault old seat fault reply seated may = record {
   newest = refl;
   slots = λ other.
       marks-none (records old.table) old.sessions other ∙ ap (option_map (modified_where (modifies (records old.table) []))) (elim (cases_eq other seat) [
-        | inl same ↦ ap (slot old.sessions) same ∙ there (slot old.sessions seat) seated ∙ sym (ap (λ b. cond b (Some (session_at old.sessions seat)) (slot old.sessions other)) (eq-eqb seat other (sym same)))
-        | inr differ ↦ sym (ap (λ b. cond b (Some (session_at old.sessions seat)) (slot old.sessions other)) (ne_eqb seat other (λ e. differ (sym e))))
+        | inl same ↦ rw (eq-eqb seat other (sym same)) (ap (slot old.sessions) same ∙ there (slot old.sessions seat) seated)
+        | inr differ ↦ rw (ne_eqb seat other (λ e. differ (sym e))) refl
       ]);
 }
 

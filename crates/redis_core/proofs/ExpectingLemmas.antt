@@ -1,5 +1,5 @@
 -- What a sequencer expects to come back to its heap stays so, whatever calls do.
-use Rattle.std.proofs.Common.{ℕ, Bool, IsTrue, List, [], ◌∷◌, ◌++◌, nat_eq, refl, sym, subst₂}
+use Rattle.std.proofs.Common.{rules, ℕ, Bool, IsTrue, List, [], ◌∷◌, ◌++◌, nat_eq, refl, sym, subst₂}
 use Rattle.kv_types.specs.declared.change.Change.{Change}
 use Rattle.kv_types.specs.declared.place.EntryNo.{EntryNo}
 use Rattle.kv_types.specs.declared.place.Extent.{Extent}
@@ -24,32 +24,14 @@ pub comes_back-like : (lines : ℕ) (versions : Versions) (current current' : Re
     → (room : Room) (entries : List EntryNo) (extents : List Extent)
     → ComesBack (record { current = current; lines = lines; versions = versions; is_free = is_free }) room entries extents
     → ComesBack (record { current = current'; lines = lines; versions = versions; is_free = is_free' }) room entries extents
-comes_back-like lines versions current current' is_free is_free' more room entries extents back = record {
-  once = back.once;
-  entries_back = λ i listed.
-      let was = back.entries_back i listed in
-      record { within = was.within; is_free = more i was.is_free; none = was.none; out = was.out };
-  apart = back.apart;
-  some = back.some;
-  lines_back = λ line has.
-      let was = back.lines_back line has in
-      record { above = was.above; within = was.within; none = was.none; out = was.out };
-  out = record { end_line = back.out.end_line; end_entry = back.out.end_entry; held = back.out.held };
-}
+comes_back-like lines versions current current' is_free is_free' more room entries extents back = search (rules, more)
 
 -- ---- a new sequencer
 
 -- it expects nothing
 pub Expects-starts : (table : Table) (room : Room) (ended : List EntryNo) (position epoch : ℕ) (sessions : Sessions) (contents : Contents) → HasOut contents room 0
     → Expects (starts table room ended position epoch sessions) contents [] []
-Expects-starts table room ended position epoch sessions contents out = record {
-  once = distinct_none nat_eq;
-  entries_back = λ i listed. cc;
-  apart = tt;
-  some = tt;
-  lines_back = λ line has. cc;
-  out = record { end_line = out.end_line; end_entry = out.end_entry; held = out.held };
-}
+Expects-starts table room ended position epoch sessions contents out = search (rules, distinct_none nat_eq)
 
 -- ---- one more part waits
 

@@ -1,8 +1,8 @@
+pub mod AdmissionLemmas
 pub mod StandingLemmas
 pub mod RefusalLemmas
 pub mod RunningLemmas
 pub mod StoreLemmas
-mod AdmissionLemmas
 pub mod AnswersLemmas
 mod SeatsLemmas
 mod MarkingLemmas

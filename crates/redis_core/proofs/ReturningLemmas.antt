@@ -1,5 +1,5 @@
 -- Where places come back to the heap, the sequencer stays ahead of the contents.
-use Rattle.std.proofs.Common.{◌≡◌, ℕ, ◌+◌, ◌<◌, ◌≤◌, Bool, true, false, not, ◌&&◌, ◌||◌, IsTrue, List, ◌++◌, Option, None, Some, refl, sym, ap₂, subst, ◌∙◌}
+use Rattle.std.proofs.Common.{rules, ◌≡◌, ℕ, ◌+◌, ◌<◌, ◌≤◌, Bool, true, false, not, ◌&&◌, ◌||◌, IsTrue, List, ◌++◌, Option, None, Some, refl, sym, ap₂, subst, ◌∙◌}
 use Rattle.std.proofs.lemmas.Bool.{false_from_ne_true, or_left}
 use Rattle.kv_types.specs.declared.place.EntryNo.{EntryNo}
 use Rattle.kv_types.specs.declared.place.Extent.{Extent}
@@ -116,22 +116,13 @@ module _ (old : Sequencing) (contents : Contents) (entries rest : List EntryNo) 
     }
 
     back_in_room : IsAheadOf (record old { room = room }) contents
-    back_in_room = record {
-      epoch = stands.epoch;
-      before = stands.before;
-      last = stands.last;
-      parts = stands.parts;
-      once = stands.once;
-      placed = stands.placed;
-      fitting = stands.fitting;
-      unused = stands.unused;
-      empty = stands.empty;
-      apart = stands.apart;
-      taken = All-both (IsTaken old.room) (IsBegunIn (parts_versions contents.versions old.waiting)) (IsTaken room) still_taken (puts_of_parts old.waiting) stands.taken
-          (begun-parts contents.versions old.waiting stands.apart);
-      left = left_back;
-      table = stands.table;
-    }
+    back_in_room =
+        search (
+          rules,
+          left_back,
+          All-both (IsTaken old.room) (IsBegunIn (parts_versions contents.versions old.waiting)) (IsTaken room) still_taken (puts_of_parts old.waiting) stands.taken
+              (begun-parts contents.versions old.waiting stands.apart),
+        )
 
     expects_rest : Expects (record old { room = room }) contents rest others
     expects_rest = rest-comes-back ahead old.room entries rest extents others expects room gives

@@ -2,7 +2,7 @@
 use Rattle.std.proofs.Common.{◌≡◌, subst, subst₂, get_or, ◌≢◌, ℕ, zero, suc, ◌<◌, Bool, true, false, List, ◌∷◌, length, replicate, set, nat_eq, Option, Some, None, is_some, IsSome, refl, sym, ap, ◌∙◌, length-set, get_or-set_same, get_or-set_other, eqb-true, eq-eqb}
 use Rattle.std.specs.Option.{option_map}
 use Rattle.std.proofs.Math.ListN.{get_or-map}
-use Rattle.std.proofs.lemmas.List.{length-replicate, get_or_read}
+use Rattle.std.proofs.lemmas.List.{get_or_read}
 use Rattle.pipes.specs.declared.limits.TheConstants.{MAX_SEATS}
 use Rattle.multi_watch.specs.declared.sessions.SessionNo.{SessionNo}
 use Rattle.multi_watch.specs.declared.act.Act.{Act}
@@ -35,28 +35,12 @@ same_numbers a b e = ap number_or_0 e
 
 -- ---- no seat is open
 
-none_at : (n seat : ℕ) → number_at (replicate n None) seat ≡ None
-none_at zero seat = refl
-none_at (suc n) zero = refl
-none_at (suc n) (suc seat) = none_at n seat
-
 map-none : (sessions : Sessions) (n : ℕ) → by_seat sessions (replicate n None) ≡ replicate n None
 map-none sessions zero = refl
 map-none sessions (suc n) = ap (λ rest. None ∷ rest) (map-none sessions n)
 
 pub all_closed : (sessions : Sessions) (numbers : Numbers) → numbers ≡ replicate MAX_SEATS None → by_seat sessions numbers ≡ replicate MAX_SEATS None
 all_closed sessions numbers is = ap (by_seat sessions) is ∙ map-none sessions MAX_SEATS
-
-pub closed_are_seats : (sessions : Sessions) (numbers : Numbers) → numbers ≡ replicate MAX_SEATS None → ((n : ℕ) → slot sessions n ≡ None) → AreSeats sessions numbers
-closed_are_seats sessions numbers is none_open = record {
-  complete = ap length is ∙ length-replicate {A = Option SessionNo} MAX_SEATS None;
-  are_open = λ seat number at. absurd (not_some number (none seat ∙ at));
-  are_apart = λ a b x y at_a at_b same. absurd (not_some x (none a ∙ at_a));
-  are_held = λ n lives. absurd (some_is_not_none (slot sessions n) lives (none_open n));
-}
-  where
-    none : (seat : ℕ) → None ≡ number_at numbers seat
-    none seat = sym (none_at MAX_SEATS seat) ∙ ap (λ ns. number_at ns seat) (sym is)
 
 -- ---- one seat moves
 
@@ -127,18 +111,6 @@ module _ (old : Sessions) (numbers : Numbers) (are : AreSeats old numbers) (seat
     pub moved_seat : (now : Option Session) → Moves old number.0 now new → Moves (by_seat old numbers) seat now (by_seat new numbers)
     moved_seat now moves = seat_moves old new numbers numbers seat (keeps-moved now moves) now (ap (session_numbered new) at ∙ moves.moved)
 
-    pub moved_seats : (now : Session) → Moves old number.0 (Some now) new → AreSeats new numbers
-    moved_seats now moves = still_seats old new numbers numbers seat (keeps-moved (Some now) moves) are refl own (λ n lives. held n lives (nat_eq n number.0) refl) where
-      same_number : (other : SessionNo) → number_at numbers seat ≡ Some other → slot new other.0 ≡ slot new number.0
-      same_number other is = ap (session_numbered new) (sym is ∙ at)
-
-      own : (other : SessionNo) → number_at numbers seat ≡ Some other → IsOwn old new numbers numbers seat (keeps-moved (Some now) moves) other
-      own other is = (ap is_some (same_number other is ∙ moves.moved), λ place theirs apart is_theirs same. apart (are.are_apart place seat theirs other is_theirs is (sym same)))
-
-      held : (n : ℕ) → IsSome (slot new n) → (b : Bool) → nat_eq n number.0 ≡ b → IsHeld numbers n
-      held n lives true is = (seat, number, at, sym (eqb-true n number.0 is))
-      held n lives false is = are.are_held n (ap is_some (sym (moves.others n (apart_from n number.0 is))) ∙ lives)
-
     session_of_seat : session_at (by_seat old numbers) seat ≡ session_at old number.0
     session_of_seat = ap session_of (of_seat old numbers seat ∙ ap (session_numbered old) at)
 
@@ -182,21 +154,6 @@ module _ (old : Sessions) (numbers : Numbers) (are : AreSeats old numbers) (seat
             let apart : n ≢ number.0 = apart_from n number.0 is in
             held_elsewhere old new numbers (set numbers seat after) seat keeps-closed n (are.are_held n (ap is_some (sym (moves.others n apart)) ∙ lives))
             (λ theirs is_theirs same. apart (sym same ∙ same_numbers theirs number (sym is_theirs ∙ at)))
-
-  -- the seat was closed already
-  pub closed_seats_still : number_at numbers seat ≡ None → (after : Option SessionNo) → after ≡ None → seat < MAX_SEATS → AreSeats old (set numbers seat after)
-  closed_seats_still before after empty inside =
-      still_seats old old numbers (set numbers seat after) seat keeps are (length-set numbers seat after) (λ other is. absurd (not_some other (sym none_there ∙ is)))
-      (λ n lives. held_elsewhere old old numbers (set numbers seat after) seat keeps n (are.are_held n lives) (λ theirs is_theirs same. not_some theirs (sym before ∙ is_theirs)))
-    where
-      keeps : Keeps old old numbers (set numbers seat after) seat
-      keeps = record {
-        numbers_stay = λ other apart. get_or-set_other numbers seat other after None apart;
-        sessions_stay = λ other theirs apart is. refl;
-      }
-
-      none_there : number_at (set numbers seat after) seat ≡ None
-      none_there = get_or-set_same numbers seat after None (subst (λ n. seat < n) (sym are.complete) inside) ∙ empty
 
   -- a session is opened under a number of its own, and the one that was there before is closed
   module _ (opened : Sessions) (number : SessionNo) (fresh : slot old number.0 ≡ None) (opens : Moves old number.0 (Some idle_session) opened) (after : Option SessionNo) (there : after ≡ Some number) (inside : seat < MAX_SEATS) where

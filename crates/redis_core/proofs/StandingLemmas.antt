@@ -1,5 +1,5 @@
 -- A sequencer stays ahead of the contents of an engine: where a part begins to wait, and where all leave as a group.
-use Rattle.std.proofs.Common.{◌≡◌, ℕ, ◌+◌, ◌<◌, ◌≤◌, List, [], ◌∷◌, ◌++◌, length, Option, None, inl, refl, sym, ap, subst, ◌∙◌, arith}
+use Rattle.std.proofs.Common.{rules, ◌≡◌, ℕ, ◌+◌, ◌<◌, ◌≤◌, List, [], ◌∷◌, ◌++◌, length, None, inl, sym, subst, ◌∙◌, arith}
 use Rattle.std.specs.List.{AllByRecursion}
 use Rattle.kv_types.specs.declared.change.Change.{Change}
 use Rattle.kv_types.specs.declared.place.EntryNo.{EntryNo}
@@ -7,10 +7,10 @@ use Rattle.model.specs.declared.group.Group.{Group}
 use Rattle.model.specs.declared.group.Part.{Part}
 use Rattle.model.specs.declared.group.Put.{Put}
 use Rattle.model.specs.declared.group.TheConstants.{MAX_PARTS}
-use Rattle.model.specs.Group.{Contents, IsGroup, after_group, last_position, puts_of_part, parts_versions, AreParts, IsPlaced, IsUnused, AreAllApart, HasItsLines}
+use Rattle.model.specs.Group.{Contents, IsGroup, after_group, puts_of_part, parts_versions, AreParts, IsPlaced, IsUnused, AreAllApart, HasItsLines}
 use Rattle.model.proofs.GroupsLemmas.{parts_versions-none}
 use Rattle.extent_heap.specs.Room.{Room}
-use Rattle.mv_keyspace.specs.Table.{Table, IsTable, AreEnded, place_all}
+use Rattle.mv_keyspace.specs.Table.{IsTable, AreEnded, place_all}
 use Rattle.mv_keyspace.proofs.VersionTables.{AreEmpty}
 use Rattle.mv_keyspace.proofs.PartTables.{AreDistinct, IsTable-changes, names-ended}
 use Rattle.placing.specs.Left.{IsTaken, IsLeftOf}
@@ -18,9 +18,8 @@ use Rattle.placing.specs.Place.{TakesPlaces}
 use Rattle.placing.proofs.TakenLemmas.{All-map, All-append, IsFree, taken_within, places_within, places_free, places_taken, places_fitting, places_apart, AreAllApart-append, not_put_at, AreDistinct-from_apart}
 use Rattle.placing.proofs.LeftLemmas.{placed_of_free, unused_of_free, left_within, after_parts, left-after_parts}
 use Rattle.placing.proofs.PartsLemmas.{parts_versions-append, last_position-append, AreParts-append, puts_of_parts-append}
-use Rattle.multi_watch.specs.Session.{Session}
 use Rattle.multi_watch.specs.Sessions.{Sessions}
-use Rattle.redis_core.specs.Sequencing.{Sequencing, puts_of_parts, ended_by_parts, newest_end, NamesOnce, IsAheadOf, MovesSeat, Underlies, HandsOut, starts}
+use Rattle.redis_core.specs.Sequencing.{Sequencing, puts_of_parts, ended_by_parts, newest_end, NamesOnce, IsAheadOf, HandsOut}
 use Rattle.redis_core.specs.Turn.{Moves}
 
 -- the entries of new puts hold nothing, also after the parts that wait
@@ -72,47 +71,7 @@ module _ (s : Sequencing) (contents : Contents) (stands : IsAheadOf s contents) 
 -- what sessions there are does not matter, nor what is listed
 pub IsAheadOf-others : (s : Sequencing) (listed : List EntryNo) (newest : ℕ) (sessions : Sessions) (contents : Contents) → IsAheadOf s contents
     → IsAheadOf (record s { ended = listed; newest = newest; sessions = sessions }) contents
-IsAheadOf-others s listed newest sessions contents stands = record {
-  epoch = stands.epoch;
-  before = stands.before;
-  last = stands.last;
-  parts = stands.parts;
-  once = stands.once;
-  placed = stands.placed;
-  fitting = stands.fitting;
-  unused = stands.unused;
-  empty = stands.empty;
-  apart = stands.apart;
-  taken = stands.taken;
-  left = stands.left;
-  table = stands.table;
-}
-
--- nor does it matter to whom a seat belongs
-pub IsAheadOf-seat : (old : Sequencing) (seat : ℕ) (now : Option Session) (new : Sequencing) → MovesSeat old seat now new → (contents : Contents) → IsAheadOf old contents → IsAheadOf new contents
-IsAheadOf-seat old seat now new moves contents stands =
-    subst (λ s. IsAheadOf s contents)
-    (λ i. record { table = sym moves.table i; room = sym moves.room i; position = sym moves.position i; epoch = sym moves.epoch i; before = sym moves.before i; waiting = sym moves.waiting i; ended = new.ended; newest = new.newest; sessions = new.sessions })
-    (IsAheadOf-others old new.ended new.newest new.sessions contents stands)
-
--- a new sequencer is ahead of the contents that its tables are of
-pub IsAheadOf-starts : (table : Table) (room : Room) (ended : List EntryNo) (position epoch : ℕ) (sessions : Sessions) (contents : Contents) → Underlies contents table room position epoch
-    → IsAheadOf (starts table room ended position epoch sessions) contents
-IsAheadOf-starts table room ended position epoch sessions contents under = record {
-  epoch = under.epoch_is;
-  before = under.position_is;
-  last = refl;
-  parts = tt;
-  once = tt;
-  placed = tt;
-  fitting = tt;
-  unused = tt;
-  empty = tt;
-  apart = tt;
-  taken = tt;
-  left = under.left;
-  table = under.table_is;
-}
+IsAheadOf-others s listed newest sessions contents stands = search rules
 
 -- ---- all parts leave
 
@@ -134,21 +93,8 @@ IsAheadOf-group old group new hands contents stands =
       unused = is (λ items. AllByRecursion (IsUnused contents.versions contents.is_free) (puts_of_parts items)) stands.unused;
       apart = is (λ items. AreAllApart (puts_of_parts items)) stands.apart;
     } in
-    let later : IsAheadOf (record old { before = old.position; waiting = []; ended = listed; newest = newest }) (after_parts group.epoch contents parts) = record {
-      epoch = sym hands.epoch;
-      before = sym stands.last ∙ ap (λ first. last_position first parts) stands.before;
-      last = refl;
-      parts = tt;
-      once = tt;
-      placed = tt;
-      fitting = tt;
-      unused = tt;
-      empty = tt;
-      apart = tt;
-      taken = tt;
-      left = left-after_parts group.epoch contents old.room parts stands.left stands.taken;
-      table = stands.table;
-    } in
+    let later : IsAheadOf (record old { before = old.position; waiting = []; ended = listed; newest = newest }) (after_parts group.epoch contents parts) =
+    search (rules, left-after_parts group.epoch contents old.room parts stands.left stands.taken) in
     (group_is, subst (λ s. IsAheadOf s (after_group contents group)) (sym hands.after) (is (λ items. IsAheadOf (record old { before = old.position; waiting = []; ended = listed; newest = newest }) (after_parts group.epoch contents items)) later))
 
 -- whatever a call moved, the sequencer stays ahead of the contents

@@ -16,7 +16,7 @@ use crate::running::{Running, left_after};
 use crate::seats::Seats;
 use extent_heap::ExtentHeap;
 use kv_types::{Change, EntryNo, Extent, Refusal, Reply, Request};
-use model::{COUNTER_LIMIT, MAX_CHANGE_TEXT_BYTES, Outcome, outcome_of};
+use model::{COUNTER_LIMIT, Effect, MAX_CHANGE_TEXT_BYTES, outcome_of};
 use multi_watch::Act;
 use mv_keyspace::Keyspace;
 use pipes::Seat;
@@ -175,7 +175,7 @@ impl<K: Keyspace> Store<K> {
         ensures running { OnErr result (IsSame running.old running.new) }
         ensures full_only { IsErrOf result Refusal.Full → IsTooFull self.old request.now running.old.left }
     {
-        let Outcome { reply, changes } = outcome_of(alloc, &self.keyspace, request)?;
+        let Effect { reply, changes } = outcome_of(alloc, &self.keyspace, request)?;
         let Some(left) = left_after(running.left, &changes) else {
             return Ok(error(b"ERR change is too large"));
         };

@@ -1,5 +1,4 @@
 pub mod Pieces
-pub mod ReplyAgain
 pub mod ReplyBegins
 pub mod ReplyGrows
 pub mod ReplyHolds
@@ -8,5 +7,4 @@ pub mod ReplyParts
 pub mod ReplyPieces
 pub mod ReplyTakes
 pub mod ReplyTexts
-pub mod Standing
 pub mod UnreadReads

@@ -8,7 +8,7 @@ use Rattle.kv_types.specs.Request.{AsksFor}
 use Rattle.kv_types.specs.Reading.{items_at}
 use Rattle.kv_types.proofs.GrammarAsks.{AsksFor-items_at}
 use Rattle.resp_codec.specs.Parsing.{fed, ahead, Reaches, begun, took, gave}
-use Rattle.resp_codec.proofs.Standing.{served_numbers}
+use Rattle.resp_codec.proofs.UnreadReads.{served_numbers}
 
 pub fed-fed : (held : Option (List ℕ)) (piece more : List ℕ) → fed (fed held piece) more ≡ fed held (piece ++ more)
 fed-fed None piece more = refl

@@ -68,6 +68,11 @@ after_null-short bytes e =
       ]
     ]
 
+-- what is made of a value that was read is too short only where the reading is
+bind_short : {A B : Type 0} (f : A → B) (read : Result A Stop) → (read >>= λ x. Ok (f x)) ≡ Err Short → read ≡ Err Short
+bind_short f (Ok x) e = absurd (cc)
+bind_short f (Err stop) e = let same : stop ≡ Short = cc in ap Err same
+
 -- ---- numbers
 
 negative_at-short : (bytes : List ℕ) → negative_at bytes ≡ Err Short → (n : ℕ) × (n < 2 ^ 63) × IsStartOf (decimal (suc n) ++ line_end) bytes
@@ -75,16 +80,14 @@ negative_at-short [] e = (0, lit< tt, IsStartOf-none (decimal 1 ++ line_end))
 negative_at-short (byte ∷ bytes) e =
     elim (chosen (byte == 48) (Err (Broken ExpectedLineEnd)) _ (Err Short) e) [
       | inl h ↦ absurd (cc)
-      | inr h ↦ elim (bind_err (λ n. Ok (negsuc (n.0 - 1), n.1)) (number_at (2 ^ 63) ExpectedLineEnd (byte ∷ bytes)) Short h.1) [
-        | inl k ↦
-            let found = number_at-short (2 ^ 63) ExpectedLineEnd (byte ∷ bytes) (lit< tt) k in
-            let n = found.0 in
-            let prefix = found.2 in
-            let some : 0 < n = positive n byte (bytes ++ prefix.byte ∷ prefix.rest) [] h.0 (prefix.joined ∙ sym (append-nil (number_line n))) in
-            let same : n ≡ suc (n - 1) = omega arith in
-            (n - 1, omega (arith, found.1), IsStartOf-same (ap (λ k. decimal k ++ line_end) same) refl (IsStartOf-prefix prefix))
-        | inr k ↦ absurd (cc)
-      ]
+      | inr h ↦
+          let k = bind_short (λ n. (negsuc (n.0 - 1), n.1)) (number_at (2 ^ 63) ExpectedLineEnd (byte ∷ bytes)) h.1 in
+          let found = number_at-short (2 ^ 63) ExpectedLineEnd (byte ∷ bytes) (lit< tt) k in
+          let n = found.0 in
+          let prefix = found.2 in
+          let some : 0 < n = positive n byte (bytes ++ prefix.byte ∷ prefix.rest) [] h.0 (prefix.joined ∙ sym (append-nil (number_line n))) in
+          let same : n ≡ suc (n - 1) = omega arith in
+          (n - 1, omega (arith, found.1), IsStartOf-same (ap (λ k. decimal k ++ line_end) same) refl (IsStartOf-prefix prefix))
     ]
 
 integer_at-short : (bytes : List ℕ) → integer_at bytes ≡ Err Short → (z : ℤ) × FitsSigned w64 z × IsStartOf (signed_decimal z ++ line_end) bytes
@@ -94,13 +97,11 @@ integer_at-short (byte ∷ bytes) e =
       | inl h ↦
           let found = negative_at-short bytes h.1 in
           (negsuc found.0, record { sfits = found.1 }, IsStartOf-same refl (ap (λ b. b ∷ bytes) (eqb-true byte 45 h.0)) (IsStartOf-behind (45 ∷ []) found.2))
-      | inr h ↦ elim (bind_err (λ n. Ok (pos n.0, n.1)) (number_at (2 ^ 63 - 1) ExpectedLineEnd (byte ∷ bytes)) Short h.1) [
-        | inl k ↦
-            let found = number_at-short (2 ^ 63 - 1) ExpectedLineEnd (byte ∷ bytes) (lit< tt) k in
-            let fits : found.0 < 2 ^ 63 = omega (arith, found.1) in
-            (pos found.0, record { sfits = fits }, IsStartOf-prefix found.2)
-        | inr k ↦ absurd (cc)
-      ]
+      | inr h ↦
+          let k = bind_short (λ n. (pos n.0, n.1)) (number_at (2 ^ 63 - 1) ExpectedLineEnd (byte ∷ bytes)) h.1 in
+          let found = number_at-short (2 ^ 63 - 1) ExpectedLineEnd (byte ∷ bytes) (lit< tt) k in
+          let fits : found.0 < 2 ^ 63 = omega (arith, found.1) in
+          (pos found.0, record { sfits = fits }, IsStartOf-prefix found.2)
     ]
 
 -- ---- heads
@@ -110,19 +111,11 @@ abbrev BeginsHead : ReplyLimits → ℕ → List ℕ → Type 0
 BeginsHead limits most bytes = (head : Head) × IsReadableHead limits most head × IsStartOf (head_text head) bytes
 
 null_head-short : (reply : Reply) (bytes : List ℕ) → (after_null bytes >>= λ rest. whole reply rest) ≡ Err Short → IsStartOf (49 ∷ line_end) bytes
-null_head-short reply bytes e =
-    elim (bind_err (λ rest. whole reply rest) (after_null bytes) Short e) [
-      | inl h ↦ after_null-short bytes h
-      | inr h ↦ absurd (cc)
-    ]
+null_head-short reply bytes e = after_null-short bytes (bind_short (λ rest. (Whole reply, rest)) (after_null bytes) e)
 
 word_short : (read : Result (Read ℕ) Stop) → (read >>= λ len. payload_at len.0 len.1 >>= λ word. whole (Bulk word.0) word.1) ≡ Err Short → (read >>= λ len. payload_at len.0 len.1) ≡ Err Short
 word_short (Err stop) e = let same : stop ≡ Short = cc in ap Err same
-word_short (Ok len) e =
-    elim (bind_err (λ word. whole (Bulk word.0) word.1) (payload_at len.0 len.1) Short e) [
-      | inl h ↦ h
-      | inr h ↦ absurd (cc)
-    ]
+word_short (Ok len) e = bind_short (λ word. (Whole (Bulk word.0), word.1)) (payload_at len.0 len.1) e
 
 bulk_at-short : (limits : ReplyLimits) (most : ℕ) (bytes : List ℕ) → limits.bulk_bytes < 2 ^ 64 → bulk_at limits.bulk_bytes bytes ≡ Err Short → BeginsHead limits most (36 ∷ bytes)
 bulk_at-short limits most [] small e = (Whole NullBulk, tt, record { more = 45 ∷ 49 ∷ line_end; joined = refl })
@@ -142,26 +135,10 @@ count_at-short limits most (byte ∷ bytes) small e =
     elim (chosen (byte == 45) (after_null bytes >>= λ rest. whole NullArray rest) _ (Err Short) e) [
       | inl h ↦
           (Whole NullArray, tt, IsStartOf-same refl (ap (λ b. 42 ∷ (b ∷ bytes)) (eqb-true byte 45 h.0)) (IsStartOf-behind (42 ∷ 45 ∷ []) (null_head-short NullArray bytes h.1)))
-      | inr h ↦ elim (bind_err (λ count. Ok (Opens count.0, count.1)) (number_at most InvalidMultibulkLength (byte ∷ bytes)) Short h.1) [
-        | inl k ↦
-            let found = number_at-short most InvalidMultibulkLength (byte ∷ bytes) small k in
-            (Opens found.0, found.1, IsStartOf-behind (42 ∷ []) (IsStartOf-prefix found.2))
-        | inr k ↦ absurd (cc)
-      ]
-    ]
-
-line_head-short : (former : List ℕ → Reply) (bytes : List ℕ) → (line_at bytes >>= λ line. whole (former line.0) line.1) ≡ Err Short → line_at bytes ≡ Err Short
-line_head-short former bytes e =
-    elim (bind_err (λ line. whole (former line.0) line.1) (line_at bytes) Short e) [
-      | inl h ↦ h
-      | inr h ↦ absurd (cc)
-    ]
-
-integer_head-short : (bytes : List ℕ) → (integer_at bytes >>= λ n. whole (Int n.0) n.1) ≡ Err Short → integer_at bytes ≡ Err Short
-integer_head-short bytes e =
-    elim (bind_err (λ n. whole (Int n.0) n.1) (integer_at bytes) Short e) [
-      | inl h ↦ h
-      | inr h ↦ absurd (cc)
+      | inr h ↦
+          let k = bind_short (λ count. (Opens count.0, count.1)) (number_at most InvalidMultibulkLength (byte ∷ bytes)) h.1 in
+          let found = number_at-short most InvalidMultibulkLength (byte ∷ bytes) small k in
+          (Opens found.0, found.1, IsStartOf-behind (42 ∷ []) (IsStartOf-prefix found.2))
     ]
 
 begins_as : (limits : ReplyLimits) (most first byte : ℕ) (bytes : List ℕ) → (byte == first) ≡ true → BeginsHead limits most (first ∷ bytes) → BeginsHead limits most (byte ∷ bytes)
@@ -171,11 +148,14 @@ head_at-short : (limits : ReplyLimits) (most : ℕ) (bytes : List ℕ) → limit
 head_at-short limits most [] small few e = (Whole NullBulk, tt, IsStartOf-none (text_of NullBulk))
 head_at-short limits most (byte ∷ bytes) small few e =
     elim (chosen (byte == 43) _ _ (Err Short) e) [
-      | inl h ↦ let found = line_at-short bytes (line_head-short Simple bytes h.1) in begins_as limits most 43 byte bytes h.0 (Whole (Simple found.0), found.1, IsStartOf-behind (43 ∷ []) found.2)
+      | inl h ↦ let found = line_at-short bytes (bind_short (λ line. (Whole (Simple line.0), line.1)) (line_at bytes) h.1) in
+          begins_as limits most 43 byte bytes h.0 (Whole (Simple found.0), found.1, IsStartOf-behind (43 ∷ []) found.2)
       | inr simple ↦ elim (chosen (byte == 45) _ _ (Err Short) simple.1) [
-        | inl h ↦ let found = line_at-short bytes (line_head-short Error bytes h.1) in begins_as limits most 45 byte bytes h.0 (Whole (Error found.0), found.1, IsStartOf-behind (45 ∷ []) found.2)
+        | inl h ↦ let found = line_at-short bytes (bind_short (λ line. (Whole (Error line.0), line.1)) (line_at bytes) h.1) in
+            begins_as limits most 45 byte bytes h.0 (Whole (Error found.0), found.1, IsStartOf-behind (45 ∷ []) found.2)
         | inr error ↦ elim (chosen (byte == 58) _ _ (Err Short) error.1) [
-          | inl h ↦ let found = integer_at-short bytes (integer_head-short bytes h.1) in begins_as limits most 58 byte bytes h.0 (Whole (Int found.0), found.1, IsStartOf-behind (58 ∷ []) found.2)
+          | inl h ↦ let found = integer_at-short bytes (bind_short (λ n. (Whole (Int n.0), n.1)) (integer_at bytes) h.1) in
+              begins_as limits most 58 byte bytes h.0 (Whole (Int found.0), found.1, IsStartOf-behind (58 ∷ []) found.2)
           | inr integer ↦ elim (chosen (byte == 36) _ _ (Err Short) integer.1) [
             | inl h ↦ begins_as limits most 36 byte bytes h.0 (bulk_at-short limits most bytes small h.1)
             | inr sized ↦ elim (chosen (byte == 42) _ _ (Err Short) sized.1) [
@@ -270,12 +250,9 @@ head_filled limits depth bytes (Opens count) fits start =
 elements_filled : (limits : ReplyLimits) (depth : ℕ) → HasReplyNumbers limits → Begins (IsReadableTo limits depth) (reply_at limits depth) → (head : Head) (bytes inside : List ℕ) → IsReadableHead limits limits.elements head → bytes ≡ head_text head ++ inside → reply_from (reply_at limits depth) head inside ≡ Err Short → (reply : Reply) × IsReadableTo limits (suc depth) reply × IsStartOf (text_of reply) bytes
 elements_filled limits depth numbers begins (Whole reply) bytes inside readable split e = absurd (cc)
 elements_filled limits depth numbers begins (Opens count) bytes inside fits split e =
-    elim (bind_err (λ replies. Ok (Array replies.0, replies.1)) (elements_at (reply_at limits depth) count inside) Short e) [
-      | inl h ↦
-          let found = elements_at-short (IsReadableTo limits depth) (reply_at limits depth) (null_readable limits depth) (reply_at-takes limits numbers depth) begins count inside h in
-          (Array found.replies, inr (record { replies = found.replies; is = refl; count = omega (arith, found.counted, fits); each = found.each }), array_start bytes inside found.replies count found.counted split found.start)
-      | inr h ↦ absurd (cc)
-    ]
+    let h = bind_short (λ replies. (Array replies.0, replies.1)) (elements_at (reply_at limits depth) count inside) e in
+    let found = elements_at-short (IsReadableTo limits depth) (reply_at limits depth) (null_readable limits depth) (reply_at-takes limits numbers depth) begins count inside h in
+    (Array found.replies, inr (record { replies = found.replies; is = refl; count = omega (arith, found.counted, fits); each = found.each }), array_start bytes inside found.replies count found.counted split found.start)
 
 pub reply_at-short : (limits : ReplyLimits) → HasReplyNumbers limits → (depth : ℕ) → Begins (IsReadableTo limits depth) (reply_at limits depth)
 reply_at-short limits numbers zero bytes e =

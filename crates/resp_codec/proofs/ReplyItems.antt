@@ -3,7 +3,7 @@ use Rattle.std.proofs.Common.{◌≡◌, ℕ, zero, suc, ◌<◌, ◌≤◌, Lis
 use Rattle.std.proofs.lemmas.List.{length-append}
 use Rattle.std.specs.List.{AllByRecursion}
 use Rattle.kv_types.specs.declared.item.ProtocolFault.{ProtocolFault}
-use Rattle.kv_types.specs.declared.reply.Reply.{Reply, Simple, Error, Int, Bulk, NullBulk, Array', NullArray}
+use Rattle.kv_types.specs.declared.reply.Reply.{Reply, NullBulk}
 use Rattle.kv_types.specs.Reply.{text_of}
 use Rattle.kv_types.specs.Reading.{Stop, Short, Broken, Read}
 use Rattle.resp_codec.specs.declared.reply_item.ReplyItem.{ReplyItem}
@@ -14,17 +14,11 @@ use Rattle.resp_codec.specs.GivesReplies.{IsFirstReply}
 use Rattle.resp_codec.specs.ReplyGrammar.{IsReadable}
 use Rattle.resp_codec.specs.ReplyReading.{reply_at, reply_items_from, reply_items_within, replies_at}
 use Rattle.resp_codec.proofs.ReplyGrows.{reply_at-more}
-use Rattle.resp_codec.proofs.ReplyTakes.{HasReplyNumbers, reply_at-takes}
-use Rattle.resp_codec.proofs.ReplyAgain.{reply_at-again}
+use Rattle.resp_codec.proofs.ReplyTakes.{HasReplyNumbers, reply_at-takes, reply_at-again}
 
 text_of-some : (reply : Reply) → 0 < length (text_of reply)
-text_of-some (Simple text) = omega arith
-text_of-some (Error text) = omega arith
-text_of-some (Int n) = omega arith
-text_of-some (Bulk bytes) = omega arith
 text_of-some NullBulk = omega arith
-text_of-some (Array' shape replies) = omega arith
-text_of-some NullArray = omega arith
+text_of-some reply = omega arith
 
 -- what follows a reply is shorter than the bytes that it begins
 pub shorter : (limits : ReplyLimits) → HasReplyNumbers limits → (bytes : List ℕ) (read : Read Reply) → reply_at limits limits.depth bytes ≡ Ok read → length read.1 < length bytes

@@ -12,9 +12,9 @@ use Rattle.stream_codec.specs.declared.reading.Stop.{Stop}
 use Rattle.stream_codec.specs.Message.{IsChange}
 use Rattle.stream_codec.specs.Bytes.{Read, ◌>>=◌}
 use Rattle.stream_codec.specs.Reading.{change_at, changes_within, changes_at}
-use Rattle.stream_codec.proofs.Readers.{Reads, Reads-as, Reads-done, Reads-then, Reads-same, Then, same_readers}
+use Rattle.stream_codec.proofs.Readers.{Gives, Reads, Reads-as, Reads-done, Reads-then, Reads-same, Then, same_readers}
 use Rattle.stream_codec.proofs.Numbers.{true_or_false, cond_true, cond_false}
-use Rattle.stream_codec.proofs.Changes.{Gives, IsChangeWithin, change_reads}
+use Rattle.stream_codec.proofs.Changes.{IsChangeWithin, change_reads}
 
 nonzero : (n : ℕ) → n == 0 ≡ false → 0 < n
 nonzero n f = grind (arith, nat_tests)

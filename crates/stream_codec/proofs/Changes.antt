@@ -1,6 +1,7 @@
 -- A change as a text that is read.
-use Rattle.std.proofs.Common.{◌≡◌, ℕ, ◌+◌, ◌-◌, ◌≤◌, List, [], ◌∷◌, ◌++◌, length, Ok, refl, sym, ap, subst, ◌∙◌, arith}
+use Rattle.std.proofs.Common.{◌≡◌, ℕ, ◌+◌, ◌-◌, ◌≤◌, List, [], ◌∷◌, ◌++◌, length, Ok, refl, sym, ap, ◌∙◌, arith}
 use Rattle.std.proofs.lemmas.List.{append_assoc, append-nil, length-append}
+use Rattle.kv_types.specs.declared.limits.TheConstants.{MAX_KEY_BYTES, MAX_VALUE_BYTES}
 use Rattle.kv_types.specs.declared.record_id.RecordId.TheVariants.{Str, Field}
 use Rattle.kv_types.specs.declared.change.Change.{Change}
 use Rattle.kv_types.specs.declared.change.Change.TheVariants.{Put, Drop, DropKey, Clear}
@@ -10,12 +11,8 @@ use Rattle.stream_codec.specs.declared.change.Kind.TheVariants as kind
 use Rattle.stream_codec.specs.Message.{IsChange}
 use Rattle.stream_codec.specs.Bytes.{◌>>=◌}
 use Rattle.stream_codec.specs.Reading.{least_size, kind_at, name_at, value_at, change_of, change_at}
-use Rattle.stream_codec.proofs.Readers.{Reads, Reads-as, Reads-done, Reads-then, Then}
+use Rattle.stream_codec.proofs.Readers.{Gives, Reads, Reads-as, Reads-done, Reads-last, Reads-then, Last, Then, last, pair}
 use Rattle.stream_codec.proofs.Names.{IsName, name_reads, IsValue, value_reads, byte_of, IsKind, kind_reads}
-
--- nothing more is read, and the value is this
-abbrev pub Gives : {A : Type 0} → A → A → List ℕ → Type 0
-Gives x y text = (text ≡ []) × (y ≡ x)
 
 -- ---- behind the first byte
 
@@ -67,205 +64,70 @@ pub record IsBehind (k : Kind) (spare : ℕ) (c : Change) (text : List ℕ) : Ty
   pub fits : own_bytes c ≤ spare
   pub text_is : text ≡ text_behind c
 
--- ---- one name
+-- the texts that make it up
+abbrev Shape : Kind → ℕ → Change → List ℕ → Type 0
+Shape kind.PutString spare = Then (IsName spare) (λ key. Last (IsValue (spare - length key)) (λ value. Put (Str key) value))
+Shape kind.PutField spare =
+    Then (IsName spare) (λ key. Then (IsName (spare - length key)) (λ field. Last (IsValue (spare - length key - length field)) (λ value. Put (Field key field) value)))
+Shape kind.DropString spare = Last (IsName spare) (λ key. Drop (Str key))
+Shape kind.DropField spare = Then (IsName spare) (λ key. Last (IsName (spare - length key)) (λ field. Drop (Field key field)))
+Shape kind.DropKey spare = Last (IsName spare) (λ key. DropKey key)
+Shape kind.Clear spare = Gives Clear
 
-abbrev OneName : (List ℕ → Change) → ℕ → Change → List ℕ → Type 0
-OneName made spare = Then (IsName spare) (λ key. Gives (made key))
+shape_reads : (k : Kind) (spare : ℕ) → Reads (change_of k spare) (Shape k spare)
+shape_reads kind.PutString spare =
+    Reads-then (name_at spare) (λ key rest. value_at (spare - length key) rest >>= λ value. Ok (Put (Str key) value.0, value.1)) (IsName spare) (λ key. Last (IsValue (spare - length key)) (λ value. Put (Str key) value)) (name_reads spare)
+    (λ key text i. Reads-last (value_at (spare - length key)) (IsValue (spare - length key)) (λ value. Put (Str key) value) (value_reads (spare - length key)))
+shape_reads kind.PutField spare =
+    Reads-then (name_at spare) (λ key rest. name_at (spare - length key) rest >>= λ field. value_at (spare - length key - length field.0) field.1 >>= λ value. Ok (Put (Field key field.0) value.0, value.1)) (IsName spare)
+    (λ key. Then (IsName (spare - length key)) (λ field. Last (IsValue (spare - length key - length field)) (λ value. Put (Field key field) value))) (name_reads spare)
+    (λ key text i. Reads-then (name_at (spare - length key)) (λ field rest. value_at (spare - length key - length field) rest >>= λ value. Ok (Put (Field key field) value.0, value.1)) (IsName (spare - length key))
+    (λ field. Last (IsValue (spare - length key - length field)) (λ value. Put (Field key field) value)) (name_reads (spare - length key))
+    (λ field text2 j. Reads-last (value_at (spare - length key - length field)) (IsValue (spare - length key - length field)) (λ value. Put (Field key field) value) (value_reads (spare - length key - length field))))
+shape_reads kind.DropString spare = Reads-last (name_at spare) (IsName spare) (λ key. Drop (Str key)) (name_reads spare)
+shape_reads kind.DropField spare =
+    Reads-then (name_at spare) (λ key rest. name_at (spare - length key) rest >>= λ field. Ok (Drop (Field key field.0), field.1)) (IsName spare) (λ key. Last (IsName (spare - length key)) (λ field. Drop (Field key field))) (name_reads spare)
+    (λ key text i. Reads-last (name_at (spare - length key)) (IsName (spare - length key)) (λ field. Drop (Field key field)) (name_reads (spare - length key)))
+shape_reads kind.DropKey spare = Reads-last (name_at spare) (IsName spare) (λ key. DropKey key) (name_reads spare)
+shape_reads kind.Clear spare = Reads-done Clear
 
-one_name_reads : (made : List ℕ → Change) (spare : ℕ) → Reads (λ bytes. name_at spare bytes >>= λ key. Ok (made key.0, key.1)) (OneName made spare)
-one_name_reads made spare = Reads-then (name_at spare) (λ key rest. Ok (made key, rest)) (IsName spare) (λ key. Gives (made key)) (name_reads spare) (λ key text i. Reads-done (made key))
-
-one_name_text : (first second : List ℕ) (key text : List ℕ) → text ≡ first ++ second → first ≡ short_bytes key → second ≡ [] → text ≡ short_bytes key
-one_name_text first second key text e f g = e ∙ ap (λ s. first ++ s) g ∙ append-nil first ∙ f
-
-one_name_of : (made : List ℕ → Change) (spare : ℕ) (key : List ℕ) → IsName spare key (short_bytes key) → OneName made spare (made key) (short_bytes key)
-one_name_of made spare key i = record { x = key; first = short_bytes key; second = []; before = i; after = (refl, refl); joined = sym (append-nil (short_bytes key)) }
-
-other : (k : Kind) (spare : ℕ) (c : Change) (text : List ℕ) → IsBehind k spare c text → (kind_of_change c ≡ k → ⊥) → ⊥
-other k spare c text i h = h i.kind_is
-
-drop_string_from : (spare : ℕ) (c : Change) (text : List ℕ) → IsBehind kind.DropString spare c text → OneName (λ key. Drop (Str key)) spare c text
-drop_string_from spare (Drop (Str key)) text i =
-    subst (OneName (λ name. Drop (Str name)) spare (Drop (Str key))) (sym i.text_is) (one_name_of (λ name. Drop (Str name)) spare key (record { short = i.within; fits = i.fits; text_is = refl }))
-drop_string_from spare (Put (Str key) value) text i = absurd (other _ spare _ text i (λ e. absurd cc))
-drop_string_from spare (Put (Field key field) value) text i = absurd (other _ spare _ text i (λ e. absurd cc))
-drop_string_from spare (Drop (Field key field)) text i = absurd (other _ spare _ text i (λ e. absurd cc))
-drop_string_from spare (DropKey key) text i = absurd (other _ spare _ text i (λ e. absurd cc))
-drop_string_from spare Clear text i = absurd (other _ spare _ text i (λ e. absurd cc))
-
-drop_string_reads : (spare : ℕ) → Reads (change_of kind.DropString spare) (IsBehind kind.DropString spare)
-drop_string_reads spare =
-    Reads-as (change_of kind.DropString spare) (OneName (λ key. Drop (Str key)) spare) (IsBehind kind.DropString spare) (one_name_reads (λ key. Drop (Str key)) spare)
-    (λ c text t. subst (λ d. IsBehind kind.DropString spare d text) (sym t.after.1) (record { kind_is = refl; within = t.before.short; fits = t.before.fits; text_is = one_name_text t.first t.second t.x text t.joined t.before.text_is t.after.0 }))
-    (λ c text i. drop_string_from spare c text i)
-
-drop_key_from : (spare : ℕ) (c : Change) (text : List ℕ) → IsBehind kind.DropKey spare c text → OneName (λ key. DropKey key) spare c text
-drop_key_from spare (DropKey key) text i =
-    subst (OneName (λ name. DropKey name) spare (DropKey key)) (sym i.text_is) (one_name_of (λ name. DropKey name) spare key (record { short = i.within; fits = i.fits; text_is = refl }))
-drop_key_from spare (Put (Str key) value) text i = absurd (other _ spare _ text i (λ e. absurd cc))
-drop_key_from spare (Put (Field key field) value) text i = absurd (other _ spare _ text i (λ e. absurd cc))
-drop_key_from spare (Drop (Str key)) text i = absurd (other _ spare _ text i (λ e. absurd cc))
-drop_key_from spare (Drop (Field key field)) text i = absurd (other _ spare _ text i (λ e. absurd cc))
-drop_key_from spare Clear text i = absurd (other _ spare _ text i (λ e. absurd cc))
-
-drop_key_reads : (spare : ℕ) → Reads (change_of kind.DropKey spare) (IsBehind kind.DropKey spare)
-drop_key_reads spare =
-    Reads-as (change_of kind.DropKey spare) (OneName (λ key. DropKey key) spare) (IsBehind kind.DropKey spare) (one_name_reads (λ key. DropKey key) spare)
-    (λ c text t. subst (λ d. IsBehind kind.DropKey spare d text) (sym t.after.1) (record { kind_is = refl; within = t.before.short; fits = t.before.fits; text_is = one_name_text t.first t.second t.x text t.joined t.before.text_is t.after.0 }))
-    (λ c text i. drop_key_from spare c text i)
-
--- ---- two names
-
-abbrev TwoNames : (List ℕ → List ℕ → Change) → ℕ → Change → List ℕ → Type 0
-TwoNames made spare = Then (IsName spare) (λ key. OneName (made key) (spare - length key))
-
-drop_field_from : (spare : ℕ) (c : Change) (text : List ℕ) → IsBehind kind.DropField spare c text → TwoNames (λ key field. Drop (Field key field)) spare c text
-drop_field_from spare (Drop (Field key field)) text i =
-    record {
-      x = key;
-      first = short_bytes key;
-      second = short_bytes field;
-      before = record { short = i.within.0; fits = omega (arith, i.fits); text_is = refl };
-      after = one_name_of (λ name. Drop (Field key name)) (spare - length key) field (record { short = i.within.1; fits = omega (arith, i.fits); text_is = refl });
-      joined = i.text_is;
-    }
-drop_field_from spare (Put (Str key) value) text i = absurd (other _ spare _ text i (λ e. absurd cc))
-drop_field_from spare (Put (Field key field) value) text i = absurd (other _ spare _ text i (λ e. absurd cc))
-drop_field_from spare (Drop (Str key)) text i = absurd (other _ spare _ text i (λ e. absurd cc))
-drop_field_from spare (DropKey key) text i = absurd (other _ spare _ text i (λ e. absurd cc))
-drop_field_from spare Clear text i = absurd (other _ spare _ text i (λ e. absurd cc))
-
-drop_field_to : (spare : ℕ) (c : Change) (text : List ℕ) → TwoNames (λ key field. Drop (Field key field)) spare c text → IsBehind kind.DropField spare c text
-drop_field_to spare c text t =
+behind_to : (k : Kind) (spare : ℕ) (c : Change) (text : List ℕ) → Shape k spare c text → IsBehind k spare c text
+behind_to kind.PutString spare c text t =
     let u = t.after in
-    let second : t.second ≡ short_bytes u.x = one_name_text u.first u.second u.x t.second u.joined u.before.text_is u.after.0 in
-    subst (λ d. IsBehind kind.DropField spare d text) (sym u.after.1)
-    (record { kind_is = refl; within = (t.before.short, u.before.short); fits = omega (arith, t.before.fits, u.before.fits); text_is = t.joined ∙ ap (λ s. s ++ t.second) t.before.text_is ∙ ap (λ s. short_bytes t.x ++ s) second })
-
-drop_field_reads : (spare : ℕ) → Reads (change_of kind.DropField spare) (IsBehind kind.DropField spare)
-drop_field_reads spare =
-    Reads-as (change_of kind.DropField spare) (TwoNames (λ key field. Drop (Field key field)) spare) (IsBehind kind.DropField spare)
-    (Reads-then (name_at spare) (λ key rest. name_at (spare - length key) rest >>= λ field. Ok (Drop (Field key field.0), field.1)) (IsName spare) (λ key. OneName (λ field. Drop (Field key field)) (spare - length key)) (name_reads spare) (λ key text i. one_name_reads (λ field. Drop (Field key field)) (spare - length key)))
-    (λ c text t. drop_field_to spare c text t)
-    (λ c text i. drop_field_from spare c text i)
-
--- ---- a value at the end
-
-abbrev OneValue : (List ℕ → Change) → ℕ → Change → List ℕ → Type 0
-OneValue made spare = Then (IsValue spare) (λ value. Gives (made value))
-
-one_value_reads : (made : List ℕ → Change) (spare : ℕ) → Reads (λ bytes. value_at spare bytes >>= λ value. Ok (made value.0, value.1)) (OneValue made spare)
-one_value_reads made spare = Reads-then (value_at spare) (λ value rest. Ok (made value, rest)) (IsValue spare) (λ value. Gives (made value)) (value_reads spare) (λ value text i. Reads-done (made value))
-
-one_value_text : (first second : List ℕ) (value text : List ℕ) → text ≡ first ++ second → first ≡ long_bytes value → second ≡ [] → text ≡ long_bytes value
-one_value_text first second value text e f g = e ∙ ap (λ s. first ++ s) g ∙ append-nil first ∙ f
-
-one_value_of : (made : List ℕ → Change) (spare : ℕ) (value : List ℕ) → IsValue spare value (long_bytes value) → OneValue made spare (made value) (long_bytes value)
-one_value_of made spare value i = record { x = value; first = long_bytes value; second = []; before = i; after = (refl, refl); joined = sym (append-nil (long_bytes value)) }
-
-abbrev NameAndValue : (List ℕ → List ℕ → Change) → ℕ → Change → List ℕ → Type 0
-NameAndValue made spare = Then (IsName spare) (λ key. OneValue (made key) (spare - length key))
-
-put_string_from : (spare : ℕ) (c : Change) (text : List ℕ) → IsBehind kind.PutString spare c text → NameAndValue (λ key value. Put (Str key) value) spare c text
-put_string_from spare (Put (Str key) value) text i =
-    record {
-      x = key;
-      first = short_bytes key;
-      second = long_bytes value;
-      before = record { short = i.within.0; fits = omega (arith, i.fits); text_is = refl };
-      after = one_value_of (λ v. Put (Str key) v) (spare - length key) value (record { short = i.within.1; fits = omega (arith, i.fits); text_is = refl });
-      joined = i.text_is;
-    }
-put_string_from spare (Put (Field key field) value) text i = absurd (other _ spare _ text i (λ e. absurd cc))
-put_string_from spare (Drop (Str key)) text i = absurd (other _ spare _ text i (λ e. absurd cc))
-put_string_from spare (Drop (Field key field)) text i = absurd (other _ spare _ text i (λ e. absurd cc))
-put_string_from spare (DropKey key) text i = absurd (other _ spare _ text i (λ e. absurd cc))
-put_string_from spare Clear text i = absurd (other _ spare _ text i (λ e. absurd cc))
-
-put_string_to : (spare : ℕ) (c : Change) (text : List ℕ) → NameAndValue (λ key value. Put (Str key) value) spare c text → IsBehind kind.PutString spare c text
-put_string_to spare c text t =
-    let u = t.after in
-    let second : t.second ≡ long_bytes u.x = one_value_text u.first u.second u.x t.second u.joined u.before.text_is u.after.0 in
-    subst (λ d. IsBehind kind.PutString spare d text) (sym u.after.1)
-    (record { kind_is = refl; within = (t.before.short, u.before.short); fits = omega (arith, t.before.fits, u.before.fits); text_is = t.joined ∙ ap (λ s. s ++ t.second) t.before.text_is ∙ ap (λ s. short_bytes t.x ++ s) second })
-
-put_string_reads : (spare : ℕ) → Reads (change_of kind.PutString spare) (IsBehind kind.PutString spare)
-put_string_reads spare =
-    Reads-as (change_of kind.PutString spare) (NameAndValue (λ key value. Put (Str key) value) spare) (IsBehind kind.PutString spare)
-    (Reads-then (name_at spare) (λ key rest. value_at (spare - length key) rest >>= λ value. Ok (Put (Str key) value.0, value.1)) (IsName spare) (λ key. OneValue (λ value. Put (Str key) value) (spare - length key)) (name_reads spare) (λ key text i. one_value_reads (λ value. Put (Str key) value) (spare - length key)))
-    (λ c text t. put_string_to spare c text t)
-    (λ c text i. put_string_from spare c text i)
-
-abbrev NamesAndValue : (List ℕ → List ℕ → List ℕ → Change) → ℕ → Change → List ℕ → Type 0
-NamesAndValue made spare = Then (IsName spare) (λ key. Then (IsName (spare - length key)) (λ field. OneValue (made key field) (spare - length key - length field)))
-
-put_field_from : (spare : ℕ) (c : Change) (text : List ℕ) → IsBehind kind.PutField spare c text → NamesAndValue (λ key field value. Put (Field key field) value) spare c text
-put_field_from spare (Put (Field key field) value) text i =
-    record {
-      x = key;
-      first = short_bytes key;
-      second = short_bytes field ++ long_bytes value;
-      before = record { short = i.within.0.0; fits = omega (arith, i.fits); text_is = refl };
-      after = record {
-        x = field;
-        first = short_bytes field;
-        second = long_bytes value;
-        before = record { short = i.within.0.1; fits = omega (arith, i.fits); text_is = refl };
-        after = one_value_of (λ v. Put (Field key field) v) (spare - length key - length field) value (record { short = i.within.1; fits = omega (arith, i.fits); text_is = refl });
-        joined = refl;
-      };
-      joined = i.text_is;
-    }
-put_field_from spare (Put (Str key) value) text i = absurd (other _ spare _ text i (λ e. absurd cc))
-put_field_from spare (Drop (Str key)) text i = absurd (other _ spare _ text i (λ e. absurd cc))
-put_field_from spare (Drop (Field key field)) text i = absurd (other _ spare _ text i (λ e. absurd cc))
-put_field_from spare (DropKey key) text i = absurd (other _ spare _ text i (λ e. absurd cc))
-put_field_from spare Clear text i = absurd (other _ spare _ text i (λ e. absurd cc))
-
-put_field_to : (spare : ℕ) (c : Change) (text : List ℕ) → NamesAndValue (λ key field value. Put (Field key field) value) spare c text → IsBehind kind.PutField spare c text
-put_field_to spare c text t =
+    rw u.after.1 (record { kind_is = refl; within = (t.before.short, u.before.short); fits = omega (arith, t.before.fits, u.before.fits); text_is = cc (append-nil u.first) })
+behind_to kind.PutField spare c text t =
     let u = t.after in
     let w = u.after in
-    let third : u.second ≡ long_bytes w.x = one_value_text w.first w.second w.x u.second w.joined w.before.text_is w.after.0 in
-    let second : t.second ≡ short_bytes u.x ++ long_bytes w.x = u.joined ∙ ap (λ s. s ++ u.second) u.before.text_is ∙ ap (λ s. short_bytes u.x ++ s) third in
-    subst (λ d. IsBehind kind.PutField spare d text) (sym w.after.1)
-    (record { kind_is = refl; within = ((t.before.short, u.before.short), w.before.short); fits = omega (arith, t.before.fits, u.before.fits, w.before.fits); text_is = t.joined ∙ ap (λ s. s ++ t.second) t.before.text_is ∙ ap (λ s. short_bytes t.x ++ s) second })
+    rw w.after.1 (record { kind_is = refl; within = ((t.before.short, u.before.short), w.before.short); fits = omega (arith, t.before.fits, u.before.fits, w.before.fits); text_is = cc (append-nil w.first) })
+behind_to kind.DropString spare c text t = rw t.after.1 (record { kind_is = refl; within = t.before.short; fits = t.before.fits; text_is = cc (append-nil t.first) })
+behind_to kind.DropField spare c text t =
+    let u = t.after in
+    rw u.after.1 (record { kind_is = refl; within = (t.before.short, u.before.short); fits = omega (arith, t.before.fits, u.before.fits); text_is = cc (append-nil u.first) })
+behind_to kind.DropKey spare c text t = rw t.after.1 (record { kind_is = refl; within = t.before.short; fits = t.before.fits; text_is = cc (append-nil t.first) })
+behind_to kind.Clear spare c text t = rw t.1 (record { kind_is = refl; within = tt; fits = omega arith; text_is = t.0 })
 
-put_field_reads : (spare : ℕ) → Reads (change_of kind.PutField spare) (IsBehind kind.PutField spare)
-put_field_reads spare =
-    Reads-as (change_of kind.PutField spare) (NamesAndValue (λ key field value. Put (Field key field) value) spare) (IsBehind kind.PutField spare)
-    (Reads-then (name_at spare) (λ key rest. name_at (spare - length key) rest >>= λ field. value_at (spare - length key - length field.0) field.1 >>= λ value. Ok (Put (Field key field.0) value.0, value.1)) (IsName spare)
-    (λ key. Then (IsName (spare - length key)) (λ field. OneValue (λ value. Put (Field key field) value) (spare - length key - length field)))
-    (name_reads spare)
-    (λ key text i. Reads-then (name_at (spare - length key)) (λ field rest. value_at (spare - length key - length field) rest >>= λ value. Ok (Put (Field key field) value.0, value.1)) (IsName (spare - length key)) (λ field. OneValue (λ value. Put (Field key field) value) (spare - length key - length field))
-    (name_reads (spare - length key))
-    (λ field text2 j. one_value_reads (λ value. Put (Field key field) value) (spare - length key - length field))))
-    (λ c text t. put_field_to spare c text t)
-    (λ c text i. put_field_from spare c text i)
+-- a name and a value are their bytes
+name : (spare : ℕ) (key : List ℕ) → length key ≤ MAX_KEY_BYTES → length key ≤ spare → IsName spare key (short_bytes key)
+name spare key short fits = record { short = short; fits = fits; text_is = refl }
 
--- ---- any kind
+value : (spare : ℕ) (bytes : List ℕ) → length bytes ≤ MAX_VALUE_BYTES → length bytes ≤ spare → IsValue spare bytes (long_bytes bytes)
+value spare bytes short fits = record { short = short; fits = fits; text_is = refl }
 
-clear_from : (spare : ℕ) (c : Change) (text : List ℕ) → IsBehind kind.Clear spare c text → Gives Clear c text
-clear_from spare Clear text i = (i.text_is, refl)
-clear_from spare (Put (Str key) value) text i = absurd (other _ spare _ text i (λ e. absurd cc))
-clear_from spare (Put (Field key field) value) text i = absurd (other _ spare _ text i (λ e. absurd cc))
-clear_from spare (Drop (Str key)) text i = absurd (other _ spare _ text i (λ e. absurd cc))
-clear_from spare (Drop (Field key field)) text i = absurd (other _ spare _ text i (λ e. absurd cc))
-clear_from spare (DropKey key) text i = absurd (other _ spare _ text i (λ e. absurd cc))
+shape_of : (spare : ℕ) (c : Change) → IsChange c → own_bytes c ≤ spare → Shape (kind_of_change c) spare c (text_behind c)
+shape_of spare (Put (Str key) bytes) is fits = pair _ _ _ (name spare key is.0 (omega (arith, fits))) (last (λ v. Put (Str key) v) (value (spare - length key) bytes is.1 (omega (arith, fits))))
+shape_of spare (Put (Field key field) bytes) is fits =
+    pair _ _ _ (name spare key is.0.0 (omega (arith, fits)))
+    (pair _ _ _ (name (spare - length key) field is.0.1 (omega (arith, fits))) (last (λ v. Put (Field key field) v) (value (spare - length key - length field) bytes is.1 (omega (arith, fits)))))
+shape_of spare (Drop (Str key)) is fits = last (λ k. Drop (Str k)) (name spare key is fits)
+shape_of spare (Drop (Field key field)) is fits = pair _ _ _ (name spare key is.0 (omega (arith, fits))) (last (λ f. Drop (Field key f)) (name (spare - length key) field is.1 (omega (arith, fits))))
+shape_of spare (DropKey key) is fits = last (λ k. DropKey k) (name spare key is fits)
+shape_of spare Clear is fits = (refl, refl)
 
-clear_reads : (spare : ℕ) → Reads (change_of kind.Clear spare) (IsBehind kind.Clear spare)
-clear_reads spare =
-    Reads-as (change_of kind.Clear spare) (Gives Clear) (IsBehind kind.Clear spare) (Reads-done Clear)
-    (λ c text t. subst (λ d. IsBehind kind.Clear spare d text) (sym t.1) (record { kind_is = refl; within = tt; fits = omega arith; text_is = t.0 }))
-    (λ c text i. clear_from spare c text i)
+behind_from : (k : Kind) (spare : ℕ) (c : Change) (text : List ℕ) → IsBehind k spare c text → Shape k spare c text
+behind_from k spare c text i = rw (← i.kind_is, i.text_is) (shape_of spare c i.within i.fits)
 
 behind_reads : (k : Kind) (spare : ℕ) → Reads (change_of k spare) (IsBehind k spare)
-behind_reads kind.PutString spare = put_string_reads spare
-behind_reads kind.PutField spare = put_field_reads spare
-behind_reads kind.DropString spare = drop_string_reads spare
-behind_reads kind.DropField spare = drop_field_reads spare
-behind_reads kind.DropKey spare = drop_key_reads spare
-behind_reads kind.Clear spare = clear_reads spare
+behind_reads k spare = Reads-as (change_of k spare) (Shape k spare) (IsBehind k spare) (shape_reads k spare) (behind_to k spare) (behind_from k spare)
 
 -- a change of at most so many bytes
 pub record IsChangeWithin (left : ℕ) (c : Change) (text : List ℕ) : Type 0 where

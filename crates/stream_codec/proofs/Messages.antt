@@ -1,5 +1,5 @@
 -- Messages as texts that are read.
-use Rattle.std.proofs.Common.{◌≡◌, ℕ, ◌<◌, List, [], ◌∷◌, ◌++◌, length, Ok, Err, refl, sym, ap, subst, ◌∙◌, arith}
+use Rattle.std.proofs.Common.{◌≡◌, ℕ, ◌<◌, List, [], ◌∷◌, ◌++◌, length, Ok, Err, refl, sym, ap, ◌∙◌, arith}
 use Rattle.std.proofs.lemmas.List.{append-nil, length-append}
 use Rattle.kv_types.specs.declared.change.Change.{Change}
 use Rattle.kv_types.specs.Change.{changes_text, changes_size}
@@ -8,7 +8,7 @@ use Rattle.stream_codec.specs.declared.head.Head.{Head}
 use Rattle.stream_codec.specs.declared.head.Head.TheVariants as head
 use Rattle.stream_codec.specs.Message.{Sent, Changes, Acknowledged, IsSent, sent_text}
 use Rattle.stream_codec.specs.Reading.{changes_at, head_at, body_at, message_at}
-use Rattle.stream_codec.proofs.Readers.{Reads, Reads-as, Reads-done, Reads-then, Then}
+use Rattle.stream_codec.proofs.Readers.{Reads, Reads-as, Reads-done, Reads-last, Reads-then, Last, Then, last, pair}
 use Rattle.stream_codec.proofs.Bodies.{IsBody, changes_read}
 use Rattle.stream_codec.proofs.Heads.{IsHeadText, numbers_text, head_reads}
 
@@ -17,15 +17,12 @@ abbrev pub IsBodyOf : Head → Sent → List ℕ → Type 0
 IsBodyOf (head.Group epoch before after size) m text = (changes : List Change) × IsBody size changes text × (m ≡ Changes epoch before after changes)
 IsBodyOf (head.Ack ack) m text = (text ≡ []) × (m ≡ Acknowledged ack.epoch ack.position)
 
-abbrev Made : (List Change → Sent) → List Change → Sent → List ℕ → Type 0
-Made made changes m text = (text ≡ []) × (m ≡ made changes)
-
 body_reads : (h : Head) → Reads (body_at h) (IsBodyOf h)
 body_reads (head.Group epoch before after size) =
-    Reads-as (body_at (head.Group epoch before after size)) (Then (IsBody size) (Made (λ changes. Changes epoch before after changes))) (IsBodyOf (head.Group epoch before after size))
-    (Reads-then (changes_at size) (λ changes rest. Ok (Changes epoch before after changes, rest)) (IsBody size) (Made (λ changes. Changes epoch before after changes)) (changes_read size) (λ changes text i. Reads-done (Changes epoch before after changes)))
-    (λ m text t. (t.x, record { each = t.before.each; size = t.before.size; text_is = t.joined ∙ ap (λ s. t.first ++ s) t.after.0 ∙ append-nil t.first ∙ t.before.text_is }, t.after.1))
-    (λ m text i. record { x = i.0; first = text; second = []; before = i.1; after = (refl, i.2); joined = sym (append-nil text) })
+    Reads-as (body_at (head.Group epoch before after size)) (Last (IsBody size) (λ changes. Changes epoch before after changes)) (IsBodyOf (head.Group epoch before after size))
+    (Reads-last (changes_at size) (IsBody size) (λ changes. Changes epoch before after changes) (changes_read size))
+    (λ m text t. (t.x, record { each = t.before.each; size = t.before.size; text_is = cc (append-nil t.first) }, t.after.1))
+    (λ m text i. rw i.2 (last (λ changes. Changes epoch before after changes) i.1))
 body_reads (head.Ack ack) = Reads-done (Acknowledged ack.epoch ack.position)
 
 -- the text is that of a message
@@ -37,39 +34,22 @@ message_to : (m : Sent) (text first second : List ℕ) (h : Head) → IsHeadText
 message_to m text first second (head.Group epoch before after size) i b e =
     let w = i.within in
     let body = b.1 in
-    subst (λ x. IsMessage x text) (sym b.2) (record {
-      sent = record { epoch_fits = w.epoch_fits; rises = w.rises; after_fits = w.after_fits; each = body.each; body = omega (arith, body.size, w.body) };
-      text_is = e ∙ ap (λ s. s ++ second) i.text_is ∙ ap (λ s. (1 ∷ numbers_text (head.Group epoch before after size)) ++ s) body.text_is
-          ∙ ap (λ n. (1 ∷ numbers_text (head.Group epoch before after n)) ++ changes_text b.0) (sym body.size);
-    })
-message_to m text first second (head.Ack ack) i b e =
-    subst (λ x. IsMessage x text) (sym b.1) (record {
-      sent = i.within;
-      text_is = e ∙ ap (λ s. first ++ s) b.0 ∙ append-nil first ∙ i.text_is;
-    })
+    let sent : IsSent (Changes epoch before after b.0) = record { epoch_fits = w.epoch_fits; rises = w.rises; after_fits = w.after_fits; each = body.each; body = omega (arith, body.size, w.body) } in
+    let text_is = e ∙ ap (λ s. s ++ second) i.text_is ∙ ap (λ s. (1 ∷ numbers_text (head.Group epoch before after size)) ++ s) body.text_is
+    ∙ ap (λ n. (1 ∷ numbers_text (head.Group epoch before after n)) ++ changes_text b.0) (sym body.size) in
+    rw b.2 (record { sent = sent; text_is = text_is })
+message_to m text first second (head.Ack ack) i b e = rw b.1 (record { sent = i.within; text_is = e ∙ ap (λ s. first ++ s) b.0 ∙ append-nil first ∙ i.text_is })
 
 message_from : (m : Sent) (text : List ℕ) → IsMessage m text → Then IsHeadText IsBodyOf m text
 message_from (Changes epoch before after changes) text i =
     let g = i.sent in
     let h : Head = head.Group epoch before after (changes_size changes) in
-    record {
-      x = h;
-      first = 1 ∷ numbers_text h;
-      second = changes_text changes;
-      before = record { within = record { epoch_fits = g.epoch_fits; rises = g.rises; after_fits = g.after_fits; body = g.body }; text_is = refl };
-      after = (changes, record { each = g.each; size = refl; text_is = refl }, refl);
-      joined = i.text_is;
-    }
+    let first : IsHeadText h (1 ∷ numbers_text h) = record { within = record { epoch_fits = g.epoch_fits; rises = g.rises; after_fits = g.after_fits; body = g.body }; text_is = refl } in
+    rw i.text_is (pair {T = IsBodyOf} _ _ _ first (changes, record { each = g.each; size = refl; text_is = refl }, refl))
 message_from (Acknowledged epoch position) text i =
     let h : Head = head.Ack (record { epoch = epoch; position = position }) in
-    record {
-      x = h;
-      first = 2 ∷ numbers_text h;
-      second = [];
-      before = record { within = i.sent; text_is = refl };
-      after = (refl, refl);
-      joined = i.text_is ∙ sym (append-nil (sent_text (Acknowledged epoch position)));
-    }
+    let first : IsHeadText h (2 ∷ numbers_text h) = record { within = i.sent; text_is = refl } in
+    rw (i.text_is, ← append-nil (sent_text (Acknowledged epoch position))) (pair {T = IsBodyOf} _ _ [] first (refl, refl))
 
 pub message_reads : Reads message_at IsMessage
 unfolding message_at

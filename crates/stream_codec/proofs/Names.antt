@@ -1,8 +1,7 @@
 -- Names, values and first bytes of changes, as texts that are read.
-use Rattle.std.proofs.Common.{◌≡◌, ℕ, ◌≤◌, min, cond, List, [], ◌∷◌, ◌++◌, length, Option, None, Some, Ok, Err, ◌⊎◌, inl, inr, refl, sym, ap, subst, ◌∙◌, arith}
-use Rattle.std.specs.Prelude.{◌==◌, nat_le}
+use Rattle.std.proofs.Common.{◌≡◌, ℕ, ◌≤◌, min, List, [], ◌∷◌, ◌++◌, length, Option, None, Some, Ok, Err, inl, inr, refl, sym, ap, subst, ◌∙◌, arith}
+use Rattle.std.specs.Prelude.{nat_le}
 use Rattle.std.specs.Int.{w16, w32, to_be_bytes}
-use Rattle.std.proofs.lemmas.Bool.{eqb-true}
 use Rattle.std.proofs.lemmas.Bool.Decides.{nat_tests}
 use Rattle.kv_types.specs.declared.limits.TheConstants.{MAX_KEY_BYTES, MAX_VALUE_BYTES}
 use Rattle.kv_types.specs.Change.{short_bytes, long_bytes}
@@ -77,44 +76,8 @@ kind_of-byte kind.DropField = refl
 kind_of-byte kind.DropKey = refl
 kind_of-byte kind.Clear = refl
 
-abbrev some : {A : Type 0} → A → Option A
-some x = Some x
-
-some_is : {A : Type 0} (x y : A) → some x ≡ some y → x ≡ y
-some_is x y e = cc
-
--- the first test that holds gives the kind
-pub chosen : {A : Type 0} (byte n : ℕ) (x k : A) (others : Option A) → cond (byte == n) (Some x) others ≡ Some k → ((byte ≡ n) × (x ≡ k)) ⊎ (others ≡ Some k)
-chosen byte n x k others e =
-    elim (true_or_false (byte == n)) [
-      | inl t ↦ let is = sym (cond_true (byte == n) (Some x) others t) ∙ e in inl (eqb-true byte n t, some_is x k is)
-      | inr f ↦ inr (sym (cond_false (byte == n) (Some x) others f) ∙ e)
-    ]
-
-byte_is : (byte : ℕ) (k x : Kind) → (byte ≡ byte_of x) × (x ≡ k) → byte ≡ byte_of k
-byte_is byte k x h = h.0 ∙ ap byte_of h.1
-
 byte-kind_of : (byte : ℕ) (k : Kind) → kind_of byte ≡ Some k → byte ≡ byte_of k
-byte-kind_of byte k e =
-    elim (chosen byte 1 kind.PutString k _ e) [
-      | inl h ↦ byte_is byte k kind.PutString h
-      | inr e2 ↦ elim (chosen byte 2 kind.PutField k _ e2) [
-        | inl h ↦ byte_is byte k kind.PutField h
-        | inr e3 ↦ elim (chosen byte 3 kind.DropString k _ e3) [
-          | inl h ↦ byte_is byte k kind.DropString h
-          | inr e4 ↦ elim (chosen byte 4 kind.DropField k _ e4) [
-            | inl h ↦ byte_is byte k kind.DropField h
-            | inr e5 ↦ elim (chosen byte 5 kind.DropKey k _ e5) [
-              | inl h ↦ byte_is byte k kind.DropKey h
-              | inr e6 ↦ elim (chosen byte 6 kind.Clear k None e6) [
-                | inl h ↦ byte_is byte k kind.Clear h
-                | inr none ↦ absurd cc
-              ]
-            ]
-          ]
-        ]
-      ]
-    ]
+byte-kind_of byte k e = grind (arith, nat_tests)
 
 -- the first byte of a change of this kind, which may have so many bytes
 pub record IsKind (left : ℕ) (k : Kind) (text : List ℕ) : Type 0 where

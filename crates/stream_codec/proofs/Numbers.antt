@@ -245,31 +245,19 @@ are_bytes (place ∷ places) n [] d i = absurd d
 are_bytes (place ∷ places) n (byte ∷ text) d i = bytes_more byte text d.0 (are_bytes places d.1 text d.3) i
 
 pub digits_two : (n : ℕ) (text : List ℕ) → AreDigits two_places n text → text ≡ to_be_bytes w16 n
-digits_two n [] d = absurd d
-digits_two n (a ∷ []) d = absurd d.3
 digits_two n (a ∷ b ∷ text) d =
     let whole = rw d.3.3.1 at (are_bytes two_places n (a ∷ b ∷ text) d) in
     ap (λ t. a ∷ b ∷ t) d.3.3.1 ∙ sym (be_bytes_2 (a ∷ b ∷ []) n refl whole (omega (arith, d.2, d.3.2, d.3.3.0)))
+digits_two n text d = search d
 
 pub digits_four : (n : ℕ) (text : List ℕ) → AreDigits four_places n text → text ≡ to_be_bytes w32 n
-digits_four n [] d = absurd d
-digits_four n (a ∷ []) d = absurd d.3
-digits_four n (a ∷ b ∷ []) d = absurd d.3.3
-digits_four n (a ∷ b ∷ c ∷ []) d = absurd d.3.3.3
 digits_four n (a ∷ b ∷ c ∷ e ∷ text) d =
     let last = d.3.3.3 in
     let whole = rw last.3.1 at (are_bytes four_places n (a ∷ b ∷ c ∷ e ∷ text) d) in
     ap (λ t. a ∷ b ∷ c ∷ e ∷ t) last.3.1 ∙ sym (be_bytes_4 (a ∷ b ∷ c ∷ e ∷ []) n refl whole (omega (arith, d.2, d.3.2, d.3.3.2, last.2, last.3.0)))
+digits_four n text d = search d
 
 pub digits_eight : (n : ℕ) (text : List ℕ) → AreDigits eight_places n text → text ≡ to_be_bytes w64 n
-digits_eight n [] d = absurd d
-digits_eight n (a0 ∷ []) d = absurd d.3
-digits_eight n (a0 ∷ a1 ∷ []) d = absurd d.3.3
-digits_eight n (a0 ∷ a1 ∷ a2 ∷ []) d = absurd d.3.3.3
-digits_eight n (a0 ∷ a1 ∷ a2 ∷ a3 ∷ []) d = absurd d.3.3.3.3
-digits_eight n (a0 ∷ a1 ∷ a2 ∷ a3 ∷ a4 ∷ []) d = absurd d.3.3.3.3.3
-digits_eight n (a0 ∷ a1 ∷ a2 ∷ a3 ∷ a4 ∷ a5 ∷ []) d = absurd d.3.3.3.3.3.3
-digits_eight n (a0 ∷ a1 ∷ a2 ∷ a3 ∷ a4 ∷ a5 ∷ a6 ∷ []) d = absurd d.3.3.3.3.3.3.3
 digits_eight n (a0 ∷ a1 ∷ a2 ∷ a3 ∷ a4 ∷ a5 ∷ a6 ∷ a7 ∷ text) d =
     let d1 = d.3 in
     let d2 = d1.3 in
@@ -281,6 +269,7 @@ digits_eight n (a0 ∷ a1 ∷ a2 ∷ a3 ∷ a4 ∷ a5 ∷ a6 ∷ a7 ∷ text) d 
     let whole = rw d7.3.1 at (are_bytes eight_places n (a0 ∷ a1 ∷ a2 ∷ a3 ∷ a4 ∷ a5 ∷ a6 ∷ a7 ∷ text) d) in
     ap (λ t. a0 ∷ a1 ∷ a2 ∷ a3 ∷ a4 ∷ a5 ∷ a6 ∷ a7 ∷ t) d7.3.1
     ∙ sym (be_bytes_8 (a0 ∷ a1 ∷ a2 ∷ a3 ∷ a4 ∷ a5 ∷ a6 ∷ a7 ∷ []) n refl whole (omega (arith, d.2, d1.2, d2.2, d3.2, d4.2, d5.2, d6.2, d7.2, d7.3.0)))
+digits_eight n text d = search d
 
 -- a number's bytes are its digits
 pub two_digits : (n : ℕ) → n < 2 ^ 16 → AreDigits two_places n (to_be_bytes w16 n)

@@ -81,8 +81,11 @@ Reads-same r s S p same =
       stays = λ bytes more e. same (bytes ++ more) ∙ p.stays bytes more (sym (same bytes) ∙ e);
     }
 
--- nothing more is read
-pub Reads-done : {A : Type 0} (x : A) → Reads (λ bytes. Ok (x, bytes)) (λ y text. (text ≡ []) × (y ≡ x))
+-- nothing more is read, and the value is this
+abbrev pub Gives : {A : Type 0} → A → A → List ℕ → Type 0
+Gives x y text = (text ≡ []) × (y ≡ x)
+
+pub Reads-done : {A : Type 0} (x : A) → Reads (λ bytes. Ok (x, bytes)) (Gives x)
 Reads-done {A} x =
     let read : A → List ℕ → Read A = λ y bytes. Ok (y, bytes) in
     record {
@@ -102,63 +105,65 @@ pub record Then {A B : Type 0} (S : A → List ℕ → Type 0) (T : A → B → 
   pub after : T x y second
   pub joined : text ≡ first ++ second
 
-begins-then : {A B : Type 0} (r : List ℕ → Read A) (f : A → List ℕ → Read B) (S : A → List ℕ → Type 0) (T : A → B → List ℕ → Type 0) → Reads r S → ((x : A) (text : List ℕ) → S x text → Reads (f x) (T x)) → (r [] >>= λ x. f x.0 x.1) ≡ Err Broken → ⊥
-begins-then r f S T p q e =
-    elim (bind_err (r []) (λ x. f x.0 x.1) Broken e) [
-      | inl h ↦ p.begins h
-      | inr k ↦ let t = p.takes [] k.0.0 k.0.1 k.1 in
-          (q k.0.0 t.0 t.1).begins (ap (f k.0.0) (sym (rest_of_nothing t.0 k.0.1 t.2)) ∙ k.2)
-    ]
+pub pair : {A B : Type 0} {S : A → List ℕ → Type 0} {T : A → B → List ℕ → Type 0} {y : B} (x : A) (first second : List ℕ) → S x first → T x y second → Then S T y (first ++ second)
+pair x first second before after = record { x = x; first = first; second = second; before = before; after = after; joined = refl }
 
-again-then : {A B : Type 0} (r : List ℕ → Read A) (f : A → List ℕ → Read B) (S : A → List ℕ → Type 0) (T : A → B → List ℕ → Type 0) → Reads r S → ((x : A) (text : List ℕ) → S x text → Reads (f x) (T x)) → (y : B) (text more : List ℕ) → Then S T y text → (r (text ++ more) >>= λ x. f x.0 x.1) ≡ Ok (y, more)
-again-then r f S T p q y text more t =
-    ap (λ b. r (b ++ more) >>= λ x. f x.0 x.1) t.joined
-    ∙ ap (λ b. r b >>= λ x. f x.0 x.1) (append_assoc t.first t.second more)
-    ∙ bind_as (r (t.first ++ (t.second ++ more))) (Ok (t.x, t.second ++ more)) (λ x. f x.0 x.1) (p.again t.x t.first (t.second ++ more) t.before)
-    ∙ (q t.x t.first t.before).again y t.second more t.after
-
-takes-then : {A B : Type 0} (r : List ℕ → Read A) (f : A → List ℕ → Read B) (S : A → List ℕ → Type 0) (T : A → B → List ℕ → Type 0) → Reads r S → ((x : A) (text : List ℕ) → S x text → Reads (f x) (T x)) → (bytes : List ℕ) (y : B) (rest : List ℕ) → (r bytes >>= λ x. f x.0 x.1) ≡ Ok (y, rest) → (text : List ℕ) × Then S T y text × (bytes ≡ text ++ rest)
-takes-then r f S T p q bytes y rest e =
-    let k = bind_ok (r bytes) (λ x. f x.0 x.1) (y, rest) e in
-    let t = p.takes bytes k.0.0 k.0.1 k.1 in
-    let u = (q k.0.0 t.0 t.1).takes k.0.1 y rest k.2 in (
-      t.0 ++ u.0,
-      record { x = k.0.0; first = t.0; second = u.0; before = t.1; after = u.1; joined = refl },
-      t.2 ∙ ap (λ b. t.0 ++ b) u.2 ∙ sym (append_assoc t.0 u.0 rest),
-    )
-
-short-then : {A B : Type 0} (r : List ℕ → Read A) (f : A → List ℕ → Read B) (S : A → List ℕ → Type 0) (T : A → B → List ℕ → Type 0) → Reads r S → ((x : A) (text : List ℕ) → S x text → Reads (f x) (T x)) → (bytes : List ℕ) → (r bytes >>= λ x. f x.0 x.1) ≡ Err Short → (y : B) × (more : List ℕ) × Then S T y (bytes ++ more)
-short-then r f S T p q bytes e =
-    elim (bind_err (r bytes) (λ x. f x.0 x.1) Short e) [
-      | inl h ↦ let t = p.short bytes h in
-          let u = some_text (f t.0) (T t.0) (q t.0 (bytes ++ t.1) t.2) in
-          (u.0, t.1 ++ u.1, record { x = t.0; first = bytes ++ t.1; second = u.1; before = t.2; after = u.2; joined = sym (append_assoc bytes t.1 u.1) })
-      | inr k ↦ let t = p.takes bytes k.0.0 k.0.1 k.1 in
-          let u = (q k.0.0 t.0 t.1).short k.0.1 k.2 in
-          (u.0, u.1, record { x = k.0.0; first = t.0; second = k.0.1 ++ u.1; before = t.1; after = u.2; joined = ap (λ b. b ++ u.1) t.2 ∙ append_assoc t.0 k.0.1 u.1 })
-    ]
-
-stays-then : {A B : Type 0} (r : List ℕ → Read A) (f : A → List ℕ → Read B) (S : A → List ℕ → Type 0) (T : A → B → List ℕ → Type 0) → Reads r S → ((x : A) (text : List ℕ) → S x text → Reads (f x) (T x)) → (bytes more : List ℕ) → (r bytes >>= λ x. f x.0 x.1) ≡ Err Broken → (r (bytes ++ more) >>= λ x. f x.0 x.1) ≡ Err Broken
-stays-then r f S T p q bytes more e =
-    elim (bind_err (r bytes) (λ x. f x.0 x.1) Broken e) [
-      | inl h ↦ bind_as (r (bytes ++ more)) (Err Broken) (λ x. f x.0 x.1) (p.stays bytes more h)
-      | inr k ↦ let t = p.takes bytes k.0.0 k.0.1 k.1 in
-          bind_as (r (bytes ++ more)) (Ok (k.0.0, k.0.1 ++ more)) (λ x. f x.0 x.1) (grows r S p bytes more k.0.0 k.0.1 k.1)
-          ∙ (q k.0.0 t.0 t.1).stays k.0.1 more k.2
-    ]
+pub last : {A B : Type 0} {S : A → List ℕ → Type 0} (made : A → B) {x : A} {text : List ℕ} → S x text → Then S (λ x. Gives (made x)) (made x) text
+last made {x} {text} before = record { x = x; first = text; second = []; before = before; after = (refl, refl); joined = sym (append-nil text) }
 
 -- two readers, one after the other
 pub Reads-then : {A B : Type 0} (r : List ℕ → Read A) (f : A → List ℕ → Read B) (S : A → List ℕ → Type 0) (T : A → B → List ℕ → Type 0) → Reads r S → ((x : A) (text : List ℕ) → S x text → Reads (f x) (T x)) → Reads (λ bytes. r bytes >>= λ x. f x.0 x.1) (Then S T)
 Reads-then r f S T p q =
     record {
-      begins = λ e. begins-then r f S T p q e;
-      again = λ y text more t. again-then r f S T p q y text more t;
-      takes = λ bytes y rest e. takes-then r f S T p q bytes y rest e;
-      short = λ bytes e. short-then r f S T p q bytes e;
-      stays = λ bytes more e. stays-then r f S T p q bytes more e;
+      begins = λ e.
+          elim (bind_err (r []) (λ x. f x.0 x.1) Broken e) [
+            | inl h ↦ p.begins h
+            | inr k ↦ let t = p.takes [] k.0.0 k.0.1 k.1 in (q k.0.0 t.0 t.1).begins (ap (f k.0.0) (sym (rest_of_nothing t.0 k.0.1 t.2)) ∙ k.2)
+          ];
+      again = λ y text more t.
+          ap (λ b. r (b ++ more) >>= λ x. f x.0 x.1) t.joined
+          ∙ ap (λ b. r b >>= λ x. f x.0 x.1) (append_assoc t.first t.second more)
+          ∙ bind_as (r (t.first ++ (t.second ++ more))) (Ok (t.x, t.second ++ more)) (λ x. f x.0 x.1) (p.again t.x t.first (t.second ++ more) t.before)
+          ∙ (q t.x t.first t.before).again y t.second more t.after;
+      takes = λ bytes y rest e.
+          let k = bind_ok (r bytes) (λ x. f x.0 x.1) (y, rest) e in
+          let t = p.takes bytes k.0.0 k.0.1 k.1 in
+          let u = (q k.0.0 t.0 t.1).takes k.0.1 y rest k.2 in
+          (t.0 ++ u.0, pair k.0.0 t.0 u.0 t.1 u.1, t.2 ∙ ap (λ b. t.0 ++ b) u.2 ∙ sym (append_assoc t.0 u.0 rest));
+      short = λ bytes e.
+          elim (bind_err (r bytes) (λ x. f x.0 x.1) Short e) [
+            | inl h ↦ let t = p.short bytes h in
+                let u = some_text (f t.0) (T t.0) (q t.0 (bytes ++ t.1) t.2) in
+                (u.0, t.1 ++ u.1, rw (← append_assoc bytes t.1 u.1) (pair t.0 (bytes ++ t.1) u.1 t.2 u.2))
+            | inr k ↦ let t = p.takes bytes k.0.0 k.0.1 k.1 in
+                let u = (q k.0.0 t.0 t.1).short k.0.1 k.2 in
+                (u.0, u.1, record { x = k.0.0; first = t.0; second = k.0.1 ++ u.1; before = t.1; after = u.2; joined = ap (λ b. b ++ u.1) t.2 ∙ append_assoc t.0 k.0.1 u.1 })
+          ];
+      stays = λ bytes more e.
+          elim (bind_err (r bytes) (λ x. f x.0 x.1) Broken e) [
+            | inl h ↦ bind_as (r (bytes ++ more)) (Err Broken) (λ x. f x.0 x.1) (p.stays bytes more h)
+            | inr k ↦ let t = p.takes bytes k.0.0 k.0.1 k.1 in
+                bind_as (r (bytes ++ more)) (Ok (k.0.0, k.0.1 ++ more)) (λ x. f x.0 x.1) (grows r S p bytes more k.0.0 k.0.1 k.1)
+                ∙ (q k.0.0 t.0 t.1).stays k.0.1 more k.2
+          ];
     }
 
+-- a text, of which a value is made, and nothing more
+abbrev pub Last : {A B : Type 0} → (A → List ℕ → Type 0) → (A → B) → B → List ℕ → Type 0
+Last S made = Then S (λ x. Gives (made x))
+
+pub Reads-last : {A B : Type 0} (r : List ℕ → Read A) (S : A → List ℕ → Type 0) (made : A → B) → Reads r S → Reads (λ bytes. r bytes >>= λ x. Ok (made x.0, x.1)) (Last S made)
+Reads-last r S made p = Reads-then r (λ x rest. Ok (made x, rest)) S (λ x. Gives (made x)) p (λ x text i. Reads-done (made x))
+
 -- ---- two readers of the same texts are one
+
+-- what the one waits for is no fault for the other
+apart : {A : Type 0} (r s : List ℕ → Read A) (S : A → List ℕ → Type 0) → Reads r S → Reads s S → (bytes : List ℕ) → r bytes ≡ Err Short → s bytes ≡ Err Broken → ⊥
+apart r s S p q bytes e f =
+    let t = p.short bytes e in
+    let good : s (bytes ++ t.1) ≡ Ok (t.0, []) = ap s (sym (append-nil (bytes ++ t.1))) ∙ q.again t.0 (bytes ++ t.1) [] t.2 in
+    let bad = q.stays bytes t.1 f in
+    absurd cc
 
 same_at : {A : Type 0} (r s : List ℕ → Read A) (S : A → List ℕ → Type 0) → Reads r S → Reads s S → (bytes : List ℕ) (x y : Read A) → r bytes ≡ x → s bytes ≡ y → r bytes ≡ s bytes
 same_at r s S p q bytes (Ok x) y e f =
@@ -167,16 +172,8 @@ same_at r s S p q bytes (Err stop) (Ok y) e f =
     let t = q.takes bytes y.0 y.1 f in ap r t.2 ∙ p.again y.0 t.0 y.1 t.1 ∙ sym f
 same_at r s S p q bytes (Err Short) (Err Short) e f = e ∙ sym f
 same_at r s S p q bytes (Err Broken) (Err Broken) e f = e ∙ sym f
-same_at r s S p q bytes (Err Short) (Err Broken) e f =
-    let t = p.short bytes e in
-    let good : s (bytes ++ t.1) ≡ Ok (t.0, []) = ap s (sym (append-nil (bytes ++ t.1))) ∙ q.again t.0 (bytes ++ t.1) [] t.2 in
-    let bad = q.stays bytes t.1 f in
-    absurd cc
-same_at r s S p q bytes (Err Broken) (Err Short) e f =
-    let t = q.short bytes f in
-    let good : r (bytes ++ t.1) ≡ Ok (t.0, []) = ap r (sym (append-nil (bytes ++ t.1))) ∙ p.again t.0 (bytes ++ t.1) [] t.2 in
-    let bad = p.stays bytes t.1 e in
-    absurd cc
+same_at r s S p q bytes (Err Short) (Err Broken) e f = absurd (apart r s S p q bytes e f)
+same_at r s S p q bytes (Err Broken) (Err Short) e f = absurd (apart s r S q p bytes f e)
 
 pub same_readers : {A : Type 0} (r s : List ℕ → Read A) (S : A → List ℕ → Type 0) → Reads r S → Reads s S → (bytes : List ℕ) → r bytes ≡ s bytes
 same_readers r s S p q bytes = same_at r s S p q bytes (r bytes) (s bytes) refl refl

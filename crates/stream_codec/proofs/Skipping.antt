@@ -41,9 +41,6 @@ pub skipped_ok : {A : Type 0} (r : Read A) (rest : List ℕ) → skipped r ≡ O
 skipped_ok (Ok x) rest e = let same : x.1 ≡ rest = cc in (x.0, ap (λ s. Ok (x.0, s)) same)
 skipped_ok (Err stop) rest e = absurd cc
 
-pub IsEnd-self : (bytes : List ℕ) → IsEnd bytes bytes
-IsEnd-self bytes = ([], refl)
-
 pub IsEnd-then : (a b c : List ℕ) → IsEnd a b → IsEnd b c → IsEnd a c
 IsEnd-then a b c p q = (p.0 ++ q.0, p.1 ∙ ap (λ s. p.0 ++ s) q.1 ∙ sym (append_assoc p.0 q.0 c))
 
@@ -109,15 +106,9 @@ pub stopped_after : (a : Next) (x : List ℕ) (b : Next) (y : List ℕ) (stop : 
 stopped_after a x b y stop p e = EndsAlike-now a x b y p ∙ e
 
 ended : (next : Next) (bytes : List ℕ) → is_more next ≡ false → end_from next bytes ≡ Ok bytes
-ended next.Kind bytes e = absurd cc
-ended next.Epoch bytes e = absurd cc
-ended next.Before bytes e = absurd cc
-ended (next.After least) bytes e = absurd cc
-ended next.Size bytes e = absurd cc
-ended next.AckEpoch bytes e = absurd cc
-ended next.AckPosition bytes e = absurd cc
 ended (next.Changes zero) bytes e = ap skipped (changes_at-none bytes)
 ended (next.Changes (suc left)) bytes e = let more : is_more (next.Changes (suc left)) ≡ true = grind (arith, nat_tests) in absurd cc
+ended _ bytes e = absurd cc
 
 pub whole_after : (a : Next) (x : List ℕ) (b : Next) (y : List ℕ) → EndsAlike a x b y → is_more b ≡ false → end_from a x ≡ Ok y
 whole_after a x b y p e = EndsAlike-now a x b y p ∙ ended b y e

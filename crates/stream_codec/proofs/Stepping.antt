@@ -71,14 +71,8 @@ kind_stops bytes stop e = ap (λ r. skipped ((r >>= λ k. head_of k.0 k.1) >>= �
 -- ---- steps
 
 pub more_is : (next : Next) → is_more next ≡ true → IsMore next
-more_is next.Kind e = tt
-more_is next.Epoch e = tt
-more_is next.Before e = tt
-more_is (next.After least) e = tt
-more_is next.Size e = tt
-more_is next.AckEpoch e = tt
-more_is next.AckPosition e = tt
 more_is (next.Changes left) e = grind (arith, nat_tests)
+more_is _ e = tt
 
 -- a step leads on: whatever comes, the frame ends where it does behind the step, and the step takes a byte at least
 pub record Leads (first : Next) (bytes : List ℕ) (later : Next) (rest : List ℕ) : Type 0 where

@@ -1,6 +1,5 @@
 -- Bytes of which so many are missing that nothing is whole, whatever bytes they are.
-use Rattle.std.proofs.Common.{◌≡◌, ℕ, zero, suc, ◌+◌, ◌-◌, ◌*◌, ◌^◌, ◌<◌, ◌≤◌, true, nat_eq, ltb, List, [], ◌∷◌, ◌++◌, length, take, drop, Result, Ok, Err, refl, sym, ap, subst, ◌∙◌, arith}
-use Rattle.std.proofs.lemmas.Bool.{lt-ltb}
+use Rattle.std.proofs.Common.{◌≡◌, ℕ, zero, suc, ◌+◌, ◌-◌, ◌*◌, ◌^◌, ◌<◌, ◌≤◌, true, nat_eq, List, [], ◌∷◌, ◌++◌, length, Result, Ok, Err, refl, sym, ap, subst, ◌∙◌, arith}
 use Rattle.std.proofs.lemmas.Bool.Decides.{nat_tests}
 use Rattle.std.proofs.lemmas.List.{length-append}
 use Rattle.std.proofs.lemmas.Nat.{mul-le, pow-add, leading_length}
@@ -20,18 +19,15 @@ use Rattle.stream_codec.specs.declared.head.Head.TheVariants as head
 use Rattle.stream_codec.specs.declared.head.HeadKind.TheVariants as head_kind
 use Rattle.stream_codec.specs.declared.step.Next.{Next}
 use Rattle.stream_codec.specs.declared.step.Next.TheVariants as next
-use Rattle.stream_codec.specs.Bytes.{Read, IsBytes, ◌>>=◌, eight_places, ArePlaces, number_at, bytes_at, counted_at}
+use Rattle.stream_codec.specs.Bytes.{Read, IsBytes, ◌>>=◌, eight_places, ArePlaces}
 use Rattle.stream_codec.specs.Reading.{least_size, kind_at, name_at, value_at, change_of, change_at, changes_at, long_at, head_of}
 use Rattle.stream_codec.specs.declared.message.TheConstants.{MAX_BODY_BYTES}
 use Rattle.stream_codec.specs.Stepping.{IsMore, skipped, size_end, after_end, before_end, position_end, end_from}
 use Rattle.stream_codec.specs.Scanning.{Waits, field_and_value_at}
 use Rattle.stream_codec.proofs.Readers.{Reads, grows}
-use Rattle.stream_codec.proofs.Numbers.{cond_true, number_grows, IsBytes-end, IsBytes-append, number_waits, number_waits_above, number_unbroken}
+use Rattle.stream_codec.proofs.Numbers.{number_grows, IsBytes-end, IsBytes-append, number_waits, number_waits_above, number_unbroken}
 use Rattle.stream_codec.proofs.Names.{IsName, name_reads, IsKind, kind_reads}
 use Rattle.stream_codec.proofs.Bodies.{changes_at-stop}
-
-pub waits_none : {A : Type 0} (read : List ℕ → Result A Stop) (bytes : List ℕ) → Waits read bytes 0
-waits_none read bytes more are h = absurd (omega (arith, h))
 
 -- what waits in the first of two readers
 pub waits_first : {A B : Type 0} (r : List ℕ → Read A) (f : A × List ℕ → Result B Stop) (bytes : List ℕ) (missing : ℕ) → Waits r bytes missing → Waits (λ b. r b >>= f) bytes missing
@@ -40,14 +36,6 @@ waits_first r f bytes missing w more are h = ap (λ z. z >>= f) (w more are h)
 -- and in the second
 pub waits_second : {A B : Type 0} (r : List ℕ → Read A) (S : A → List ℕ → Type 0) (f : A × List ℕ → Result B Stop) → Reads r S → (bytes : List ℕ) (x : A) (rest : List ℕ) (missing : ℕ) → r bytes ≡ Ok (x, rest) → Waits (λ b. f (x, b)) rest missing → Waits (λ b. r b >>= f) bytes missing
 waits_second r S f p bytes x rest missing e w more are h = ap (λ z. z >>= f) (grows r S p bytes more x rest e) ∙ w more are h
-
-pub waits_run : (count : ℕ) (bytes : List ℕ) → Waits (bytes_at count) bytes (count - length bytes)
-waits_run count bytes more are h =
-    cond_true (ltb (length (bytes ++ more)) count) (Err Short) (Ok (take count (bytes ++ more), drop count (bytes ++ more))) (lt-ltb _ _ (omega (arith, h, length-append bytes more)))
-
-pub waits_counted : (places : List ℕ) (most : ℕ) (bytes : List ℕ) (len : ℕ) (rest : List ℕ) → number_at places 0 most bytes ≡ Ok (len, rest) → Waits (counted_at places most) bytes (len - length rest)
-waits_counted places most bytes len rest e more are h =
-    ap (λ z. z >>= λ count. bytes_at count.0 count.1) (number_grows places 0 most 0 bytes more len rest e).0 ∙ waits_run len rest more are h
 
 -- behind a key or a field
 waits_behind : {B : Type 0} (spare : ℕ) (f : List ℕ × List ℕ → Result B Stop) (bytes name rest : List ℕ) (missing : ℕ) → name_at spare bytes ≡ Ok (name, rest) → Waits (λ b. f (name, b)) rest missing → Waits (λ b. name_at spare b >>= f) bytes missing

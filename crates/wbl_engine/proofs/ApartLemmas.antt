@@ -8,9 +8,10 @@ use Rattle.model.specs.declared.group.Put.{Put}
 use Rattle.model.specs.Image.{Version}
 use Rattle.model.specs.Group.{Versions, Contents, IsGroup, IsUnused, AreApart, IsApartFrom, AreAllApart, is_put_at, puts_of_part, part_versions, parts_versions, version_of_put, after_group}
 use Rattle.wbl_engine.specs.Stage.{puts_of_parts}
-use Rattle.wbl_engine.proofs.GroupSteps.{all-prefix, all-back, all-from, apart-prefix, apart-back, apart-across, flip_apart}
+use Rattle.wbl_engine.proofs.GroupSteps.{all-from, apart-prefix, apart-back, apart-across, flip_apart}
 use Rattle.wbl_engine.proofs.PartEffects.{IsAmong, end_if, end_if_begun, changes_kept, changes_made, is_put_at-among}
 use Rattle.wbl_engine.proofs.PutPairs.{among-all}
+use Rattle.wbl_engine.proofs.StagingLemmas.{all-prefix, all-back}
 
 -- two runs of lines, of which each has a first line and a length
 abbrev pub LieApart : Version → Version → Type 0
@@ -56,9 +57,9 @@ comes_from versions part apart i version is =
     ]
 
 -- lines that are apart, under other names
-apart_as : (a b c d a' b' c' d' : ℕ) → a' ≡ a → b' ≡ b → c' ≡ c → d' ≡ d → AreApart a b c d → AreApart a' b' c' d'
-apart_as a b c d a' b' c' d' ea eb ec ed (inl before) = inl (omega (arith, ea, eb, ec, before))
-apart_as a b c d a' b' c' d' ea eb ec ed (inr after) = inr (omega (arith, ea, ec, ed, after))
+apart_as : {a b c d a' b' c' d' : ℕ} → a' ≡ a → b' ≡ b → c' ≡ c → d' ≡ d → AreApart a b c d → AreApart a' b' c' d'
+apart_as ea eb ec ed (inl before) = inl (omega (arith, ea, eb, ec, before))
+apart_as ea eb ec ed (inr after) = inr (omega (arith, ea, ec, ed, after))
 
 -- two puts of different entries
 puts_apart : (puts : List Put) (put other : Put) → AreAllApart puts → IsAmong put puts → IsAmong other puts → put.entry.0 ≢ other.entry.0
@@ -84,24 +85,20 @@ part_apart versions part apart fresh puts_are i j v w differ is_v is_w =
       | inl (put, among, at, first, count) ↦
           elim ((comes_from versions part puts_are j w is_w).source) [
             | inl (other, there, at', first', count') ↦
-                apart_as put.extent.first_line put.extent.lines other.extent.first_line other.extent.lines
-                v.first_line v.lines w.first_line w.lines first count first' count'
+                apart_as first count first' count'
                 (puts_apart puts put other puts_are among there (λ e. differ (at ∙ e ∙ sym at')))
             | inr (old, was, first', count') ↦
-                apart_as put.extent.first_line put.extent.lines old.first_line old.lines
-                v.first_line v.lines w.first_line w.lines first count first' count'
+                apart_as first count first' count'
                 (among-all (IsFresh versions) puts put among fresh j old was)
           ]
       | inr (old, was, first, count) ↦
           elim ((comes_from versions part puts_are j w is_w).source) [
             | inl (put, among, at, first', count') ↦
-                apart_as old.first_line old.lines put.extent.first_line put.extent.lines
-                v.first_line v.lines w.first_line w.lines first count first' count'
+                apart_as first count first' count'
                 (flip_apart put.extent.first_line put.extent.lines old.first_line old.lines
                 (among-all (IsFresh versions) puts put among fresh i old was))
             | inr (old', was', first', count') ↦
-                apart_as old.first_line old.lines old'.first_line old'.lines
-                v.first_line v.lines w.first_line w.lines first count first' count'
+                apart_as first count first' count'
                 (apart i j old old' differ was was')
           ]
     ]
@@ -113,13 +110,11 @@ still_fresh versions part later fresh puts_are put among i version is =
     let puts : List Put = puts_of_part part in
     elim ((comes_from versions part (apart-prefix puts later puts_are) i version is).source) [
       | inl (other, there, at, first, count) ↦
-          apart_as put.extent.first_line put.extent.lines other.extent.first_line other.extent.lines
-          put.extent.first_line put.extent.lines version.first_line version.lines refl refl first count
+          apart_as {a' = put.extent.first_line} {b' = put.extent.lines} refl refl first count
           (flip_apart other.extent.first_line other.extent.lines put.extent.first_line put.extent.lines
           (apart-across puts later puts_are other put there among).lines)
       | inr (old, was, first, count) ↦
-          apart_as put.extent.first_line put.extent.lines old.first_line old.lines
-          put.extent.first_line put.extent.lines version.first_line version.lines refl refl first count
+          apart_as {a' = put.extent.first_line} {b' = put.extent.lines} refl refl first count
           (among-all (IsFresh versions) later put among (all-back (IsFresh versions) puts later fresh) i old was)
     ]
 

@@ -1,6 +1,7 @@
 -- No two live versions clash, whatever a group changes, and so they make up a keyspace.
 use Rattle.std.proofs.Common.{◌≡◌, ◌≢◌, ℕ, ◌<◌, Bool, true, false, cond, ◌||◌, ◌⊎◌, List, [], ◌∷◌, Option, None, Some, IsSome, is_some, nat_eq, inl, inr, refl, sym, ap, subst, ◌∙◌}
-use Rattle.std.proofs.lemmas.Bool.{cases_Bool, cases_eq, and_parts, and_from, both_ways, or_left, or_right, eqb-true}
+use Rattle.std.proofs.Math.Bool.{or-false}
+use Rattle.std.proofs.lemmas.Bool.{or_parts, cases_Bool, cases_eq, and_parts, and_from, both_ways, or_left, or_right, eqb-true}
 use Rattle.kv_types.specs.declared.change.Change.{Change}
 use Rattle.kv_types.specs.declared.change.Change.TheVariants as change
 use Rattle.kv_types.specs.declared.record_id.RecordId.{RecordId}
@@ -25,16 +26,12 @@ AreDistinct versions entries =
 
 -- ---- records that clash
 
-or_false : (b : Bool) → (b || false) ≡ b
-or_false true = refl
-or_false false = refl
-
 -- fields that clash are the same
 same_field : (a f b g : List ℕ) → is_clash (Field a f) (Field b g) ≡ true → Field a f ≡ Field b g
 same_field a f b g clash =
     let test = (and_parts (is_same_key a b) _ clash).1 in
     same_record (Field a f) (Field b g)
-    (sym (or_false (is_same (Field a f) (Field b g))) ∙ sym (or_false (is_same (Field a f) (Field b g) || false)) ∙ test)
+    (sym (or-false (is_same (Field a f) (Field b g))) ∙ sym (or-false (is_same (Field a f) (Field b g) || false)) ∙ test)
 
 clash_itself : (id : RecordId) → is_clash id id ≡ true
 clash_itself (Str key) =
@@ -42,7 +39,7 @@ clash_itself (Str key) =
     (or_right (is_same (Str key) (Str key) || true) true refl)
 clash_itself (Field key field) =
     and_from (is_same_key key key) (is_same (Field key field) (Field key field) || false || false) (key_itself key)
-    (or_false (is_same (Field key field) (Field key field) || false) ∙ or_false (is_same (Field key field) (Field key field))
+    (or-false (is_same (Field key field) (Field key field) || false) ∙ or-false (is_same (Field key field) (Field key field))
     ∙ record_itself (Field key field))
 
 clash_string_field : (key field : List ℕ) → is_clash (Str key) (Field key field) ≡ true
@@ -100,16 +97,12 @@ record WasLive (done : Change) (old : Option Version) (version : Version) : Type
   id_is : was.id ≡ version.id
   left : ends_record done version.id ≡ false
 
-neither : (a b : Bool) → (a || b) ≡ false → (a ≡ false) × (b ≡ false)
-neither true b e = absurd (cc)
-neither false b e = (refl, e)
-
 was_live : (done : Change) (old : Option Version) (version : Version) → ended_where_begun done old ≡ Some version → version.is_ended ≡ false
     → WasLive done old version
 was_live done None version is live = absurd (cc)
 was_live done (Some was) version is live =
     let same : ended_by done was ≡ version = cc in
-    let both = neither was.is_ended (ends_record done was.id) (ap (λ (v : Version). v.is_ended) same ∙ live) in
+    let both = or_parts was.is_ended (ends_record done was.id) (ap (λ (v : Version). v.is_ended) same ∙ live) in
     let id : was.id ≡ version.id = ap (λ (v : Version). v.id) same in
     record { was = was; is = refl; not_ended = both.0; id_is = id; left = sym (ap (ends_record done) id) ∙ both.1 }
 

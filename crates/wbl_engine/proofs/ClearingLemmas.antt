@@ -1,295 +1,246 @@
 -- The oldest gap is cleared, at every crash.
-use Rattle.std.proofs.Common.{◌≡◌, ℕ, ◌+◌, ◌<◌, Bool, false, cond, ◌&&◌, ◌||◌, ◌==◌, IsTrue, List, [], ◌∷◌, ◌⊎◌, inl, inr, Option, None, Some, length, map, refl, sym, ap, subst, ◌∙◌, arith}
+use Rattle.std.proofs.Common.{◌≡◌, ℕ, zero, suc, ◌+◌, ◌<◌, ◌≤◌, Bool, false, cond, ◌&&◌, ◌⊎◌, IsTrue, inl, inr, List, map, None, Some, length, refl, sym, ap, subst, ◌∙◌, arith}
 use Rattle.std.specs.List.{IsDistinct}
 use Rattle.std.specs.Prelude.{nat_eq, nat_lt}
-use Rattle.std.proofs.lemmas.Bool.{cond-true, cond-false, cases_Bool, and_right, or_left, or_right, eq-eqb, lt-ltb, le-ltb, cases_lt, both_ways}
+use Rattle.std.proofs.lemmas.Bool.{and_parts, and_right, both_ways, cases_Bool, cond-true, cond-false, lt-ltb, ltb-true, or_left}
 use Rattle.kv_types.specs.declared.place.EntryNo.{EntryNo}
-use Rattle.pmem.specs.Device.{State, MayBe}
+use Rattle.pmem.specs.Device.{State, Only}
 use Rattle.pmem.specs.Crash.{IsImage, image_of}
-use Rattle.pmem.specs.Runs.{LeavesOnly, Staged, IsPartlyStored}
+use Rattle.pmem.specs.Runs.{LeavesOnly, Staged, IsPartlyStored, written}
 use Rattle.pmem.proofs.Leaving.{LeavesOnly-then, LeavesOnly-weaken, none_leaves}
-use Rattle.model.specs.declared.record.Gap.{Gap}
+use Rattle.model.specs.declared.image.TheConstants.{MIN_LINES}
 use Rattle.model.specs.declared.record.Record.{Record}
-use Rattle.model.specs.Image.{Image, Version, counts, entry_line, entry_word, entries_of_lines, is_in_gap, version_at, version_in}
+use Rattle.model.specs.Image.{Image, counts, entry_word, entries_of_lines, is_in_gap, version_in}
 use Rattle.model.proofs.RecordLemmas.{HasRecord-lines}
-use Rattle.model.specs.Group.{Contents}
 use Rattle.wbl_record.specs.Current.{IsLawful}
 use Rattle.wbl_record.specs.Record.{IsRecorded, IsRecordWord, IsSucceeded, IsEitherRecord}
-use Rattle.wbl_engine.specs.AtRest.{IsAtRest, contents_of}
+use Rattle.wbl_engine.specs.AtRest.{IsAtRest, Matters, contents_of}
 use Rattle.wbl_engine.specs.Contents.{Keeps}
 use Rattle.wbl_engine.specs.Erasing.{erase_pairs, erase_lines, oldest_gap, stamped_below}
-use Rattle.wbl_engine.specs.Freeing.{Clears, KeepsVersions, cleared_contents, is_listed, record_after_clearing, without}
+use Rattle.wbl_engine.specs.Freeing.{Clears, KeepsVersions, cleared_contents, is_listed, record_after_clearing}
 use Rattle.wbl_engine.specs.Stage.{AreWithin}
-use Rattle.wbl_engine.proofs.Erased.{IsErased, erased_keeps, erased_rest, erased_version, no_record_word, version_within}
-use Rattle.wbl_engine.proofs.ErasedStamps.{AreErased, AreGone, IsErasing, erased_over, listed_begin, listed_end, made_free, made_over, partly_keeps, staged_certain, staged_recorded, unlisted_begin, unlisted_end}
-use Rattle.wbl_engine.proofs.GapLemmas.{IsOldest, in_oldest, inside_not_free, not_in_oldest, oldest, stamped_listed, stamped_where, zero_outside}
-use Rattle.wbl_engine.proofs.OnceLemmas.{stamped_once}
+use Rattle.wbl_engine.proofs.Erased.{AreBelow, CountAlike, IsErased, directory_matters, erased_keeps, erased_rest, erased_under, erased_versions, matters_beside, nothing, rest_below, versions-beyond, versions-within, whole_below, whole_sound}
+use Rattle.wbl_engine.proofs.ErasedStamps.{AreGone, IsErasing, erase_behind, erase_line, erased_below, erased_over, is_erased_at, made_free, within_from, written_stamp}
+use Rattle.wbl_engine.proofs.GapLemmas.{IsOldest, in_oldest, inside_not_free, not_in_oldest, oldest, zero_outside}
+use Rattle.wbl_engine.proofs.ListedEntries.{listed_stamped, stamped_once}
+use Rattle.wbl_engine.proofs.Storing.{AgreesOn, beside_record, partly_over, partly_recorded, recorded_only, staged_only, staged_recorded, written_over}
 
--- no version is gone
-abbrev pub nothing : ℕ → Bool
-nothing i = false
+-- ---- the stamps of the gap
 
--- an engine at rest whose oldest gap is being cleared
-pub record IsClearing (r : Record) (d : State) (gap : Gap) (begins ends : List EntryNo) : Type 0 where
+-- the entries with a begin, or an end, in the oldest gap
+pub record AreStamped (r : Record) (d : State) (begins ends : List EntryNo) : Type 0 where
+  pub lawful : IsLawful r
+  pub some : 0 < length r.gaps.items
+  pub begins_are : begins ≡ stamped_below (oldest_gap r) (image_of d.words) 0 (entries_of_lines d.lines)
+  pub ends_are : ends ≡ stamped_below (oldest_gap r) (image_of d.words) 1 (entries_of_lines d.lines)
+
+module _ {r : Record} {d : State} {begins ends : List EntryNo} (are : AreStamped r d begins ends) where
+  first_gap : IsOldest r (oldest_gap r)
+  first_gap = oldest r are.lawful are.some
+
+  stamped_is : (i k : ℕ) → k < 2
+      → is_erased_at begins ends i k ≡ (nat_lt i (entries_of_lines d.lines) && is_in_gap (image_of d.words (entry_word i k)) (oldest_gap r))
+  stamped_is i zero low = ap (is_listed i) are.begins_are ∙ listed_stamped (oldest_gap r) (image_of d.words) 0 (entries_of_lines d.lines) i
+  stamped_is i (suc zero) low = ap (is_listed i) are.ends_are ∙ listed_stamped (oldest_gap r) (image_of d.words) 1 (entries_of_lines d.lines) i
+  stamped_is i (suc (suc k)) low = absurd (omega (arith, low))
+
+  stamped_where : (i k : ℕ) → k < 2 → IsTrue (is_erased_at begins ends i k)
+      → (i < entries_of_lines d.lines) × IsTrue (is_in_gap (image_of d.words (entry_word i k)) (oldest_gap r))
+  stamped_where i k low listed =
+      let parts = and_parts (nat_lt i (entries_of_lines d.lines)) (is_in_gap (image_of d.words (entry_word i k)) (oldest_gap r)) (sym (stamped_is i k low) ∙ listed) in
+      (ltb-true i (entries_of_lines d.lines) parts.0, parts.1)
+
+  pub gap_erasing : IsErasing r d.lines (image_of d.words) begins ends
+  gap_erasing =
+      record {
+        within = λ i k low listed. (stamped_where i k low listed).0;
+        uncounted = λ i listed.
+            in_oldest r (oldest_gap r) (image_of d.words (entry_word i 1)) first_gap (stamped_where i 1 (omega arith) listed).1;
+      }
+
+  pub nothing_gone : (image : Image) → AreGone r d.lines (image_of d.words) begins nothing image
+  nothing_gone image =
+      record {
+        zero_is = λ i within is. absurd (both_ways false refl is);
+        erased = λ i listed zeroed left.
+            in_oldest r (oldest_gap r) (image_of d.words (entry_word i 0)) first_gap (stamped_where i 0 (omega arith) listed).1;
+      }
+
+  pub stamped_lines : MIN_LINES ≤ d.lines → AreWithin d.lines begins × AreWithin d.lines ends
+  stamped_lines many = (
+    within_from d begins (λ i listed. omega (arith, (stamped_where i 0 (omega arith) listed).0, many)),
+    within_from d ends (λ i listed. omega (arith, (stamped_where i 1 (omega arith) listed).0, many)),
+  )
+
+  -- each stamp of the gap is 0, once it is erased
+  pub gap_stamp : (i k : ℕ) → i < entries_of_lines d.lines → k < 2
+      → written (erase_pairs begins ends) (image_of d.words) (entry_word i k)
+      ≡ cond (is_in_gap (image_of d.words (entry_word i k)) (oldest_gap r)) 0 (image_of d.words (entry_word i k))
+  gap_stamp i k within low =
+      written_stamp begins ends (image_of d.words) i k low
+      ∙ ap (λ (b : Bool). cond b 0 (image_of d.words (entry_word i k)))
+      (stamped_is i k low
+      ∙ ap (λ (b : Bool). b && is_in_gap (image_of d.words (entry_word i k)) (oldest_gap r)) (lt-ltb i (entries_of_lines d.lines) within))
+
+-- where no stamp of the gap is left, the others count alike without it
+pub without_alike : (r : Record) (lines : ℕ) (base image : Image) → IsLawful r → 0 < length r.gaps.items
+    → ((i k : ℕ) → i < entries_of_lines lines → k < 2
+    → image (entry_word i k) ≡ cond (is_in_gap (base (entry_word i k)) (oldest_gap r)) 0 (base (entry_word i k)))
+    → CountAlike lines image r (record_after_clearing r)
+without_alike r lines base image lawful some erased i k within low =
+    not_in_oldest r (oldest_gap r) (image (entry_word i k)) first
+    (ap (λ (x : ℕ). is_in_gap x (oldest_gap r)) (erased i k within low) ∙ outside (base (entry_word i k)))
+  where
+    first : IsOldest r (oldest_gap r)
+    first = oldest r lawful some
+
+    outside : (stamp : ℕ) → is_in_gap (cond (is_in_gap stamp (oldest_gap r)) 0 stamp) (oldest_gap r) ≡ false
+    outside stamp =
+        elim (cases_Bool (is_in_gap stamp (oldest_gap r))) [
+          | inl is ↦ ap (λ (x : ℕ). is_in_gap x (oldest_gap r)) (cond-true (is_in_gap stamp (oldest_gap r)) 0 stamp is) ∙ zero_outside r (oldest_gap r) first
+          | inr out ↦ ap (λ (x : ℕ). is_in_gap x (oldest_gap r)) (cond-false (is_in_gap stamp (oldest_gap r)) 0 stamp out) ∙ out
+        ]
+
+-- ---- an engine at rest whose oldest gap is being cleared
+
+pub record IsClearing (r : Record) (d : State) (begins ends : List EntryNo) : Type 0 where
   pub rest : IsAtRest r d
-  pub first : IsOldest r gap
-  pub begins_are : begins ≡ stamped_below gap (image_of d.words) 0 (entries_of_lines d.lines)
-  pub ends_are : ends ≡ stamped_below gap (image_of d.words) 1 (entries_of_lines d.lines)
+  pub stamped : AreStamped r d begins ends
 
-begins_where : {r : Record} {d : State} {gap : Gap} {begins ends : List EntryNo} → IsClearing r d gap begins ends → (i : ℕ) → IsTrue (is_listed i begins)
-    → (i < entries_of_lines d.lines) × IsTrue (is_in_gap (image_of d.words (entry_word i 0)) gap)
-begins_where {r} {d} {gap} {begins} {ends} clearing i listed =
-    stamped_where gap (image_of d.words) 0 (entries_of_lines d.lines) i (subst (λ (l : List EntryNo). IsTrue (is_listed i l)) clearing.begins_are listed)
-
-ends_where : {r : Record} {d : State} {gap : Gap} {begins ends : List EntryNo} → IsClearing r d gap begins ends → (i : ℕ) → IsTrue (is_listed i ends)
-    → (i < entries_of_lines d.lines) × IsTrue (is_in_gap (image_of d.words (entry_word i 1)) gap)
-ends_where {r} {d} {gap} {begins} {ends} clearing i listed =
-    stamped_where gap (image_of d.words) 1 (entries_of_lines d.lines) i (subst (λ (l : List EntryNo). IsTrue (is_listed i l)) clearing.ends_are listed)
-
-pub clear_erasing : {r : Record} {d : State} {gap : Gap} {begins ends : List EntryNo} → IsClearing r d gap begins ends
-    → IsErasing r d.lines (image_of d.words) begins ends
-clear_erasing {r} {d} {gap} {begins} {ends} clearing =
+pub clearing : {r : Record} {d : State} {begins ends listed_begins listed_ends : List EntryNo} → IsAtRest r d → 0 < length r.gaps.items
+    → begins ≡ listed_begins → ends ≡ listed_ends
+    → listed_begins ≡ stamped_below (oldest_gap r) (image_of d.words) 0 (entries_of_lines d.lines)
+    → listed_ends ≡ stamped_below (oldest_gap r) (image_of d.words) 1 (entries_of_lines d.lines) → IsClearing r d begins ends
+clearing rest some is_begins is_ends begins_are ends_are =
     record {
-      begins_within = λ i listed. (begins_where clearing i listed).0;
-      ends_within = λ i listed. (ends_where clearing i listed).0;
-      uncounted = λ i listed. in_oldest r gap (image_of d.words (entry_word i 1)) clearing.first (ends_where clearing i listed).1;
+      rest = rest;
+      stamped = record { lawful = rest.lawful; some = some; begins_are = is_begins ∙ begins_are; ends_are = is_ends ∙ ends_are };
     }
-
-nothing_gone : {r : Record} {d : State} {gap : Gap} {begins ends : List EntryNo} → IsClearing r d gap begins ends → (image : Image)
-    → AreGone r d.lines (image_of d.words) begins nothing image
-nothing_gone {r} {d} {gap} {begins} {ends} clearing image =
-    record {
-      zero_is = λ i within is. absurd (both_ways false refl is);
-      erased = λ i listed zeroed not. in_oldest r gap (image_of d.words (entry_word i 0)) clearing.first (begins_where clearing i listed).1;
-    }
-
--- the lines of the entries are on the device
-pub within_from : (d : State) (entries : List EntryNo) → ((i : ℕ) → IsTrue (is_listed i entries) → entry_line i < d.lines) → AreWithin d.lines entries
-within_from d [] each = tt
-within_from d (entry ∷ entries) each = (
-  each entry.0 (or_left (nat_eq entry.0 entry.0) (is_listed entry.0 entries) (eq-eqb entry.0 entry.0 refl)),
-  within_from d entries (λ i listed. each i (or_right (nat_eq i entry.0) (is_listed i entries) listed)),
-)
-
-pub begins_lines : {r : Record} {d : State} {gap : Gap} {begins ends : List EntryNo} → IsClearing r d gap begins ends → AreWithin d.lines begins
-begins_lines {r} {d} {gap} {begins} {ends} clearing =
-    within_from d begins (λ i listed. omega (arith, (begins_where clearing i listed).0, clearing.rest.many))
-
-pub ends_lines : {r : Record} {d : State} {gap : Gap} {begins ends : List EntryNo} → IsClearing r d gap begins ends → AreWithin d.lines ends
-ends_lines {r} {d} {gap} {begins} {ends} clearing =
-    within_from d ends (λ i listed. omega (arith, (ends_where clearing i listed).0, clearing.rest.many))
-
--- ---- once the stamps are erased
-
--- no begin and no end is left in the gap
-begin_outside : {r : Record} {d : State} {gap : Gap} {begins ends : List EntryNo} {image : Image} → IsClearing r d gap begins ends
-    → AreErased r d begins ends image → (i : ℕ) → i < entries_of_lines d.lines → is_in_gap (image (entry_word i 0)) gap ≡ false
-begin_outside {r} {d} {gap} {begins} {ends} {image} clearing made i within =
-    elim (cases_Bool (is_listed i begins)) [
-      | inl listed ↦
-          ap (λ (x : ℕ). is_in_gap x gap) (listed_begin r d begins ends made i within listed) ∙ zero_outside r gap clearing.first
-      | inr unlisted ↦
-          ap (λ (x : ℕ). is_in_gap x gap) (unlisted_begin r d begins ends made i within unlisted)
-          ∙ elim (cases_Bool (is_in_gap (image_of d.words (entry_word i 0)) gap)) [
-            | inl inside ↦
-                absurd (both_ways (is_listed i begins) unlisted
-                (subst (λ (l : List EntryNo). IsTrue (is_listed i l)) (sym clearing.begins_are)
-                (stamped_listed gap (image_of d.words) 0 (entries_of_lines d.lines) i within inside)))
-            | inr outside ↦ outside
-          ]
-    ]
-
-end_outside : {r : Record} {d : State} {gap : Gap} {begins ends : List EntryNo} {image : Image} → IsClearing r d gap begins ends
-    → AreErased r d begins ends image → (i : ℕ) → i < entries_of_lines d.lines → is_in_gap (image (entry_word i 1)) gap ≡ false
-end_outside {r} {d} {gap} {begins} {ends} {image} clearing made i within =
-    elim (cases_Bool (is_listed i ends)) [
-      | inl listed ↦
-          ap (λ (x : ℕ). is_in_gap x gap) (listed_end r d begins ends made i within listed) ∙ zero_outside r gap clearing.first
-      | inr unlisted ↦
-          ap (λ (x : ℕ). is_in_gap x gap) (unlisted_end r d begins ends made i within unlisted)
-          ∙ elim (cases_Bool (is_in_gap (image_of d.words (entry_word i 1)) gap)) [
-            | inl inside ↦
-                absurd (both_ways (is_listed i ends) unlisted
-                (subst (λ (l : List EntryNo). IsTrue (is_listed i l)) (sym clearing.ends_are)
-                (stamped_listed gap (image_of d.words) 1 (entries_of_lines d.lines) i within inside)))
-            | inr outside ↦ outside
-          ]
-    ]
-
--- Nothing is lost, under the old record
-pub cleared_old : {r : Record} {d : State} {gap : Gap} {begins ends : List EntryNo} {image : Image} → IsClearing r d gap begins ends
-    → AreErased r d begins ends image → IsErased r r d.lines nothing (image_of d.words) image
-cleared_old {r} {d} {gap} {begins} {ends} {image} clearing made =
-    erased_over nothing image clearing.rest.whole (clear_erasing clearing) (made_over r d begins ends made) (nothing_gone clearing image)
-
--- and under the one without the gap.
-pub cleared_new : {r : Record} {d : State} {gap : Gap} {begins ends : List EntryNo} {image : Image} → IsClearing r d gap begins ends
-    → AreErased r d begins ends image → IsErased r (record_after_clearing r) d.lines nothing (image_of d.words) image
-cleared_new {r} {d} {gap} {begins} {ends} {image} clearing made =
-    let old = cleared_old clearing made in
-    record {
-      before = old.before;
-      words = old.words;
-      begin = old.begin;
-      end = old.end;
-      begun = λ i within not.
-          not_in_oldest r gap (image (entry_word i 0)) clearing.first (begin_outside clearing made i within) ∙ old.begun i within not;
-      lost = λ i within is. absurd (both_ways false refl is);
-      ended = λ i within.
-          not_in_oldest r gap (image (entry_word i 1)) clearing.first (end_outside clearing made i within) ∙ old.ended i within;
-      extents = old.extents;
-    }
-
--- ---- the contents afterwards
-
--- the same versions
-pub same_versions : {r q : Record} {d : State} (c : State) → IsAtRest r d → c.lines ≡ d.lines → IsErased r q d.lines nothing (image_of d.words) (image_of c.words)
-    → (i : ℕ) → (contents_of q c).versions i ≡ (contents_of r d).versions i
-same_versions {r} {q} {d} c rest lines erased i =
-    let at : ℕ → Option Version = λ (n : ℕ). cond (nat_lt i (entries_of_lines n)) (version_at q (image_of c.words) i) None in
-    let inside : Bool = nat_lt i (entries_of_lines d.lines) in
-    ap at lines
-    ∙ elim (cases_lt i (entries_of_lines d.lines)) [
-      | inl within ↦
-          cond-true inside (version_at q (image_of c.words) i) None (lt-ltb i (entries_of_lines d.lines) within)
-          ∙ erased_version rest.whole erased i within ∙ sym (version_within r d i within)
-      | inr beyond ↦
-          cond-false inside (version_at q (image_of c.words) i) None (le-ltb i (entries_of_lines d.lines) beyond)
-          ∙ sym (cond-false inside (version_at r (image_of d.words) i) None (le-ltb i (entries_of_lines d.lines) beyond))
-    ]
-
-cleared_free : {r : Record} {d : State} {gap : Gap} {begins ends : List EntryNo} (c : State) → IsClearing r d gap begins ends → c.lines ≡ d.lines
-    → AreErased r d begins ends (image_of c.words) → (i : ℕ)
-    → (contents_of r c).is_free i ≡ ((contents_of r d).is_free i || is_listed i begins)
-cleared_free {r} {d} {gap} {begins} {ends} c clearing lines made i =
-    ap (λ (n : ℕ). nat_lt i (entries_of_lines n)
-    && (image_of c.words (entry_word i 0) == 0 || nat_lt r.cp (image_of c.words (entry_word i 0)))) lines
-    ∙ made_free r d begins ends (clear_erasing clearing) made i
-
--- an entry that was begun in the gap was not free, and held no version
-begun_in_gap : {r : Record} {d : State} {gap : Gap} {begins ends : List EntryNo} → IsClearing r d gap begins ends → (i : ℕ) → IsTrue (is_listed i begins)
-    → ((contents_of r d).is_free i ≡ false) × ((contents_of r d).versions i ≡ None)
-begun_in_gap {r} {d} {gap} {begins} {ends} clearing i listed =
-    let begin : ℕ = image_of d.words (entry_word i 0) in
-    let at = begins_where clearing i listed in (
-      and_right (nat_lt i (entries_of_lines d.lines)) (begin == 0 || nat_lt r.cp begin) (inside_not_free r gap begin clearing.first at.1),
-      version_within r d i at.0
-          ∙ cond-false (counts r begin) (Some (version_in r (image_of d.words) i)) None (in_oldest r gap begin clearing.first at.1),
-    )
-
-pub clears : {r : Record} {d : State} {gap : Gap} {begins ends : List EntryNo} (c : State) → IsClearing r d gap begins ends → c.lines ≡ d.lines
-    → AreErased r d begins ends (image_of c.words) → Clears (contents_of r d) begins (contents_of (record_after_clearing r) c)
-clears {r} {d} {gap} {begins} {ends} c clearing lines made =
-    record {
-      current = refl;
-      lines_are = lines;
-      versions = same_versions c clearing.rest lines (cleared_new clearing made);
-      is_free = cleared_free c clearing lines made;
-      within = λ i listed. (begins_where clearing i listed).0;
-      were_not_free = λ i listed. (begun_in_gap clearing i listed).0;
-      held_none = λ i listed. (begun_in_gap clearing i listed).1;
-      once = subst (λ (l : List EntryNo). IsDistinct nat_eq (map (λ (entry : EntryNo). entry.0) l)) (sym clearing.begins_are)
-          (stamped_once gap (image_of d.words) 0 (entries_of_lines d.lines));
-    }
-
-pub keeps_versions : {r : Record} {d : State} {gap : Gap} {begins ends : List EntryNo} (c : State) → IsClearing r d gap begins ends → c.lines ≡ d.lines
-    → AreErased r d begins ends (image_of c.words) → KeepsVersions (contents_of r d) (contents_of r c)
-keeps_versions {r} {d} {gap} {begins} {ends} c clearing lines made =
-    record {
-      current = refl;
-      lines_are = lines;
-      versions = same_versions c clearing.rest lines (cleared_old clearing made);
-      is_free = λ i free.
-          cleared_free c clearing lines made i ∙ or_left ((contents_of r d).is_free i) (is_listed i begins) free;
-    }
-
--- ---- the record is written
-
--- words that matter are in no record
-pub recorded_erased : {r : Record} {d b : State} {gap : Gap} {begins ends : List EntryNo} (c : State) (n : ℕ) → IsClearing r d gap begins ends
-    → Staged d b (erase_pairs begins ends) (erase_lines begins ends)
-    → ((word : ℕ) → (IsRecordWord b.lines n word → ⊥) → image_of c.words word ≡ image_of b.words word) → AreErased r d begins ends (image_of c.words)
-recorded_erased {r} {d} {b} {gap} {begins} {ends} c n clearing staged newest word matters =
-    newest word (no_record_word n word clearing.rest.whole matters) ∙ staged.newest word
-
-either_erased : {r : Record} {d b : State} {gap : Gap} {begins ends : List EntryNo} {image : Image} (n : ℕ) → IsClearing r d gap begins ends
-    → Staged d b (erase_pairs begins ends) (erase_lines begins ends)
-    → ((word : ℕ) → (IsRecordWord b.lines n word → ⊥) → MayBe (b.words word) (image word)) → AreErased r d begins ends image
-either_erased {r} {d} {b} {gap} {begins} {ends} {image} n clearing staged elsewhere word matters =
-    (staged_certain begins ends clearing.rest staged word matters).only (image word)
-    (elsewhere word (no_record_word n word clearing.rest.whole matters))
-    ∙ staged.newest word
-
-pub cleared_rest : {r : Record} {d b c : State} {gap : Gap} {begins ends : List EntryNo} → IsClearing r d gap begins ends
-    → IsLawful (record_after_clearing r) → Staged d b (erase_pairs begins ends) (erase_lines begins ends)
-    → IsRecorded b c (record_after_clearing r) → IsAtRest (record_after_clearing r) c
-cleared_rest {r} {d} {b} {c} {gap} {begins} {ends} clearing lawful staged recorded =
-    let n : ℕ = r.number + 1 in
-    erased_rest clearing.rest (cleared_new clearing (recorded_erased c n clearing staged recorded.newest)) lawful (omega arith) (omega arith)
-    (recorded.stays.lines ∙ staged.stays.lines) recorded.durable
-    (λ word matters.
-    let out : IsRecordWord d.lines n word → ⊥ = no_record_word n word clearing.rest.whole matters in
-    record {
-      only = λ y may.
-          (staged_certain begins ends clearing.rest staged word matters).only y (recorded.elsewhere word y out may)
-          ∙ sym (recorded.newest word out);
-    })
-
--- ---- at each crash
 
 abbrev pub IsClearedOrNot : Record → State → Image → Type 0
 IsClearedOrNot r d image = Keeps (contents_of r d) image ⊎ Keeps (cleared_contents (contents_of r d)) image
 
--- what is left without nothing is all
-pub all_left : {q : Record} {image : Image} (contents : Contents) → Keeps (record (without nothing contents) { current = q }) image
-    → Keeps (record contents { current = q }) image
-all_left {q} {image} contents keeps =
-    record { superblock = keeps.superblock; has_record = keeps.has_record; versions = keeps.versions; entries = keeps.entries }
+-- wherever the map depends, the image has what was stored
+abbrev pub AreErased : Record → State → List EntryNo → List EntryNo → Image → Type 0
+AreErased r d begins ends image = AgreesOn (Matters r d.lines (image_of d.words)) (written (erase_pairs begins ends) (image_of d.words)) image
 
-pub erase_moments : {r : Record} {d b : State} {gap : Gap} {begins ends : List EntryNo} → IsClearing r d gap begins ends
-    → LeavesOnly d b (IsPartlyStored (erase_pairs begins ends) d.words) → LeavesOnly d b (IsClearedOrNot r d)
-erase_moments {r} {d} {b} {gap} {begins} {ends} clearing moments =
-    LeavesOnly-weaken (IsClearedOrNot r d)
-    (λ image partly.
-    inl (all_left (contents_of r d) (partly_keeps begins ends nothing image clearing.rest (clear_erasing clearing) partly (nothing_gone clearing image))))
-    moments
+module _ {r : Record} {d : State} {begins ends : List EntryNo} (begun : IsClearing r d begins ends) where
+  -- Nothing is lost, under the old record
+  cleared_old : (image : Image) → AreErased r d begins ends image → IsErased r r d.lines nothing (image_of d.words) image
+  cleared_old image made =
+      erased_over (whole_sound begun.rest.whole) (gap_erasing begun.stamped) nothing image
+      (written_over (Matters r d.lines (image_of d.words)) (image_of d.words) image (erase_pairs begins ends) made) (nothing_gone begun.stamped image)
 
-clear_either : {r : Record} {d b : State} {gap : Gap} {begins ends : List EntryNo} {image : Image} → IsClearing r d gap begins ends
-    → IsLawful (record_after_clearing r) → Staged d b (erase_pairs begins ends) (erase_lines begins ends)
-    → IsEitherRecord b r (record_after_clearing r) image → IsClearedOrNot r d image
-clear_either {r} {d} {b} {gap} {begins} {ends} {image} clearing lawful staged recorded =
-    let made : AreErased r d begins ends image = either_erased (r.number + 1) clearing staged recorded.elsewhere in
-    elim recorded.either [
-      | inl old ↦ inl (all_left (contents_of r d) (erased_keeps clearing.rest (cleared_old clearing made) clearing.rest.lawful (omega arith) (omega arith) (HasRecord-lines staged.stays.lines old)))
-      | inr new ↦ inr (all_left (contents_of r d) (erased_keeps clearing.rest (cleared_new clearing made) lawful (omega arith) (omega arith) (HasRecord-lines staged.stays.lines new)))
-    ]
+  -- and under the one without the gap.
+  cleared_new : (image : Image) → AreErased r d begins ends image → IsErased r (record_after_clearing r) d.lines nothing (image_of d.words) image
+  cleared_new image made =
+      erased_under (record_after_clearing r) (cleared_old image made)
+      (without_alike r d.lines (image_of d.words) image begun.rest.lawful begun.stamped.some
+      (λ i k within low.
+      made (entry_word i k) (directory_matters r d.lines (image_of d.words) i k within (omega (arith, low))) ∙ gap_stamp begun.stamped i k within low))
 
-pub clear_moments : {r : Record} {d b c : State} {gap : Gap} {begins ends : List EntryNo} → IsClearing r d gap begins ends
-    → IsLawful (record_after_clearing r) → Staged d b (erase_pairs begins ends) (erase_lines begins ends)
-    → ((current : Record) → IsSucceeded b current (record_after_clearing r)
-    → LeavesOnly b c (IsEitherRecord b current (record_after_clearing r)))
-    → LeavesOnly d c (IsClearedOrNot r d)
-clear_moments {r} {d} {b} {c} {gap} {begins} {ends} clearing lawful staged moments =
-    LeavesOnly-then (erase_moments clearing staged.moments)
-    (LeavesOnly-weaken (IsClearedOrNot r d) (λ image recorded. clear_either clearing lawful staged recorded)
-    (moments r (record { number = refl; durable = staged_recorded begins ends clearing.rest (clear_erasing clearing) staged })))
+  cleared_below : {top : ℕ} (image : Image) → AreErased r d begins ends image → AreBelow d.lines (image_of d.words) top → AreBelow d.lines image top
+  cleared_below image made below =
+      erased_below (whole_sound begun.rest.whole) (gap_erasing begun.stamped) image
+      (written_over (Matters r d.lines (image_of d.words)) (image_of d.words) image (erase_pairs begins ends) made) below
+
+  -- ---- the contents afterwards
+
+  -- an entry that was begun in the gap was not free, and held no version
+  begun_in_gap : (i : ℕ) → IsTrue (is_listed i begins) → ((contents_of r d).is_free i ≡ false) × ((contents_of r d).versions i ≡ None)
+  begun_in_gap i listed =
+      let begin : ℕ = image_of d.words (entry_word i 0) in
+      let at = stamped_where begun.stamped i 0 (omega arith) listed in
+      let first = first_gap begun.stamped in (
+        and_right (nat_lt i (entries_of_lines d.lines)) _ (inside_not_free r (oldest_gap r) begin first at.1),
+        versions-within r d i at.0 ∙ cond-false (counts r begin) (Some (version_in r (image_of d.words) i)) None (in_oldest r (oldest_gap r) begin first at.1),
+      )
+
+  pub clears : (c : State) → c.lines ≡ d.lines → AreErased r d begins ends (image_of c.words)
+      → Clears (contents_of r d) begins (contents_of (record_after_clearing r) c)
+  clears c lines made =
+      record {
+        current = refl;
+        lines_are = lines;
+        versions = erased_versions c (contents_of r d).versions (whole_sound begun.rest.whole) (cleared_new (image_of c.words) made) lines
+            (λ i within. sym (versions-within r d i within)) (versions-beyond r d);
+        is_free = made_free d c (gap_erasing begun.stamped) made lines;
+        within = λ i listed. (stamped_where begun.stamped i 0 (omega arith) listed).0;
+        were_not_free = λ i listed. (begun_in_gap i listed).0;
+        held_none = λ i listed. (begun_in_gap i listed).1;
+        once = subst (λ (l : List EntryNo). IsDistinct nat_eq (map (λ (entry : EntryNo). entry.0) l)) (sym begun.stamped.begins_are)
+            (stamped_once (oldest_gap r) (image_of d.words) 0 (entries_of_lines d.lines));
+      }
+
+  pub keeps_versions : (c : State) → c.lines ≡ d.lines → AreErased r d begins ends (image_of c.words) → KeepsVersions (contents_of r d) (contents_of r c)
+  keeps_versions c lines made =
+      record {
+        current = refl;
+        lines_are = lines;
+        versions = erased_versions c (contents_of r d).versions (whole_sound begun.rest.whole) (cleared_old (image_of c.words) made) lines
+            (λ i within. sym (versions-within r d i within)) (versions-beyond r d);
+        is_free = λ i free.
+            made_free d c (gap_erasing begun.stamped) made lines i ∙ or_left ((contents_of r d).is_free i) (is_listed i begins) free;
+      }
+
+  -- ---- at each crash
+
+  pub erase_moments : {b : State} → LeavesOnly d b (IsPartlyStored (erase_pairs begins ends) d.words) → LeavesOnly d b (IsClearedOrNot r d)
+  erase_moments moments =
+      LeavesOnly-weaken (IsClearedOrNot r d)
+      (λ image partly.
+      let over = partly_over (Matters r d.lines (image_of d.words)) d image (erase_pairs begins ends) begun.rest.certain partly in
+      let sound = whole_sound begun.rest.whole in
+      inl (erased_keeps (contents_of r d) sound (erased_over sound (gap_erasing begun.stamped) nothing image over (nothing_gone begun.stamped image))
+      (omega arith) (erased_below sound (gap_erasing begun.stamped) image over (rest_below begun.rest)) (λ i within. sym (versions-within r d i within))
+      (partly_recorded d image (erase_pairs begins ends) (erase_behind begins ends) begun.rest.recorded partly)))
+      moments
+
+-- what is written beside the words on which the map depends leaves it
+pub recorded_erased : {r : Record} {d b : State} {begins ends : List EntryNo} (c : State) (n : ℕ) → IsClearing r d begins ends
+    → Staged d b (erase_pairs begins ends) (erase_lines begins ends)
+    → ((word : ℕ) → (IsRecordWord b.lines n word → ⊥) → image_of c.words word ≡ image_of b.words word) → AreErased r d begins ends (image_of c.words)
+recorded_erased {r} {d} c n begun staged newest word matters =
+    newest word (beside_record d.lines n word (matters_beside (whole_sound begun.rest.whole) word matters)) ∙ staged.newest word
+
+module _ {r : Record} {d b : State} {begins ends : List EntryNo} (begun : IsClearing r d begins ends) (lawful : IsLawful (record_after_clearing r))
+    (staged : Staged d b (erase_pairs begins ends) (erase_lines begins ends)) where
+  matters_out : (word : ℕ) → Matters r d.lines (image_of d.words) word → IsRecordWord d.lines (r.number + 1) word → ⊥
+  matters_out word matters = beside_record d.lines (r.number + 1) word (matters_beside (whole_sound begun.rest.whole) word matters)
+
+  staged_certain : (word : ℕ) → Matters r d.lines (image_of d.words) word → Only (b.words word) (image_of b.words word)
+  staged_certain word matters = staged_only (erase_line begins ends) staged word (λ out. begun.rest.certain word matters)
+
+  pub cleared_rest : {c : State} → IsRecorded b c (record_after_clearing r) → IsAtRest (record_after_clearing r) c
+  cleared_rest {c} recorded =
+      let made = recorded_erased c (r.number + 1) begun staged recorded.newest in
+      erased_rest begun.rest.many begun.rest.few (whole_sound begun.rest.whole) (cleared_new begun (image_of c.words) made) lawful (omega arith)
+      (cleared_below begun (image_of c.words) made (whole_below begun.rest.whole)) (recorded.stays.lines ∙ staged.stays.lines) recorded.durable
+      (λ word matters. recorded_only recorded word (matters_out word matters) (staged_certain word matters))
+
+  clear_either : (image : Image) → IsEitherRecord b r (record_after_clearing r) image → IsClearedOrNot r d image
+  clear_either image recorded =
+      let made : AreErased r d begins ends image =
+      λ word matters. (staged_certain word matters).only (image word) (recorded.elsewhere word (matters_out word matters)) ∙ staged.newest word in
+      let sound = whole_sound begun.rest.whole in
+      let below = cleared_below begun image made (rest_below begun.rest) in
+      elim recorded.either [
+        | inl old ↦
+            inl (erased_keeps (contents_of r d) sound (cleared_old begun image made) (omega arith) below (λ i within. sym (versions-within r d i within))
+            (HasRecord-lines staged.stays.lines old))
+        | inr new ↦
+            inr (erased_keeps (cleared_contents (contents_of r d)) sound (cleared_new begun image made) (omega arith) below
+            (λ i within. sym (versions-within r d i within)) (HasRecord-lines staged.stays.lines new))
+      ]
+
+  pub clear_moments : {c : State} → ((current : Record) → IsSucceeded b current (record_after_clearing r)
+      → LeavesOnly b c (IsEitherRecord b current (record_after_clearing r))) → LeavesOnly d c (IsClearedOrNot r d)
+  clear_moments moments =
+      LeavesOnly-then (erase_moments begun staged.moments)
+      (LeavesOnly-weaken (IsClearedOrNot r d) clear_either
+      (moments r (record { number = refl; durable = staged_recorded (erase_behind begins ends) staged begun.rest.recorded })))
 
 -- where nothing was stored
 pub clear_none : {r : Record} {d : State} → IsAtRest r d → ((image : Image) → IsImage d.words image → Keeps (contents_of r d) image)
     → LeavesOnly d d (IsClearedOrNot r d)
 clear_none {r} {d} rest keeps = none_leaves d (IsClearedOrNot r d) (λ image is. inl (keeps image is))
-
--- ---- the call
-
--- what is listed of the oldest gap
-pub clearing : (r : Record) (d : State) (begins ends listed_begins listed_ends : List EntryNo) → IsAtRest r d → 0 < length r.gaps.items
-    → begins ≡ listed_begins → ends ≡ listed_ends
-    → listed_begins ≡ stamped_below (oldest_gap r) (image_of d.words) 0 (entries_of_lines d.lines)
-    → listed_ends ≡ stamped_below (oldest_gap r) (image_of d.words) 1 (entries_of_lines d.lines) → IsClearing r d (oldest_gap r) begins ends
-clearing r d begins ends listed_begins listed_ends rest some is_begins is_ends begins_are ends_are =
-    record {
-      rest = rest;
-      first = oldest r rest.lawful some;
-      begins_are = is_begins ∙ begins_are;
-      ends_are = is_ends ∙ ends_are;
-    }

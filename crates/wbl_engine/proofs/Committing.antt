@@ -1,172 +1,216 @@
 -- The two halves of a commit make one step, at every crash.
-use Rattle.std.proofs.Common.{◌≡◌, ℕ, ◌+◌, ◌<◌, List, [], ◌⊎◌, inl, inr, length, refl, sym, subst, ◌∙◌, arith}
+use Rattle.std.proofs.Common.{◌≡◌, ℕ, ◌+◌, ◌<◌, ◌≤◌, Bool, true, not, ◌&&◌, ◌||◌, ◌==◌, ◌⊎◌, inl, inr, List, length, get_or, refl, sym, ap, subst, ◌∙◌, arith}
+use Rattle.std.specs.Prelude.{nat_lt}
 use Rattle.std.specs.List.{AllByRecursion}
-use Rattle.pmem.specs.Device.{State, MayBe}
-use Rattle.pmem.specs.Crash.{IsImage, image_of}
-use Rattle.pmem.specs.Runs.{LeavesOnly, Staged, IsPartlyStored, IsStored, written}
+use Rattle.std.proofs.Math.Bool.{and-true, and_assoc}
+use Rattle.std.proofs.lemmas.Bool.{and_right, cases_Bool, eq-eqb, le-ltb, lt-ltb, ne_eqb, or_from, or_left, or_right}
+use Rattle.pmem.specs.Device.{State}
+use Rattle.pmem.specs.Crash.{image_of}
+use Rattle.pmem.specs.Runs.{LeavesOnly, Staged, StageFailed, IsPartlyStored, IsStored}
 use Rattle.pmem.proofs.Leaving.{LeavesOnly-then, LeavesOnly-weaken}
-use Rattle.pmem.proofs.Staging.{written-cases, written-outside, stored_or_outside}
+use Rattle.pmem.proofs.Staging.{written-cases}
 use Rattle.model.specs.declared.record.Record.{Record}
 use Rattle.model.specs.declared.group.Group.{Group}
-use Rattle.model.specs.Image.{Image, HasRecord, root_word}
+use Rattle.model.specs.declared.group.Part.{Part}
+use Rattle.model.specs.Image.{Image, HasRecord, entry_word, entries_of_lines}
+use Rattle.model.specs.Group.{IsGroup, is_put_at, next_record, after_group, parts_versions}
 use Rattle.model.proofs.RecordLemmas.{HasRecord-lines}
-use Rattle.model.specs.Group.{Versions, IsGroup, next_record, after_group, parts_versions}
+use Rattle.heap_layout.specs.Put.{entry_words}
+use Rattle.wbl_record.specs.Current.{IsLawful}
+use Rattle.wbl_record.specs.Record.{IsRecorded, IsRecordFault, IsRecordWord, IsSucceeded, IsEitherRecord}
 use Rattle.wbl_engine.specs.AtRest.{contents_of, IsAtRest, Matters}
-use Rattle.wbl_engine.specs.Contents.{Keeps}
+use Rattle.wbl_engine.specs.Contents.{Keeps, Same}
+use Rattle.wbl_engine.specs.Reopening.{IsBesideRecords}
 use Rattle.wbl_engine.specs.Stage.{IsWritable, puts_of_parts, parts_pairs, parts_lines}
-use Rattle.wbl_record.specs.Record.{IsRecordWord, IsSucceeded, IsEitherRecord}
-use Rattle.wbl_engine.proofs.AfterStage.{after_fits, after_made, stage_certain}
-use Rattle.wbl_engine.proofs.Beginning.{rest_fits, group_staging}
-use Rattle.wbl_record.proofs.Mixing.{IsMixed, mixed}
-use Rattle.wbl_engine.proofs.PartSteps.{Fits}
-use Rattle.wbl_record.proofs.RecordWords.{HasRecord-same}
-use Rattle.wbl_engine.proofs.StageImages.{HasSuperblock-same, keeps_old, stage_keeps}
-use Rattle.wbl_engine.proofs.Staged.{IsStaging, IsStagedOver, staging_before, staged_same, staged_under}
+use Rattle.wbl_engine.proofs.AfterStage.{after_below, after_fits, after_sound, kept_word, made_image, stage_certain}
+use Rattle.wbl_engine.proofs.Covering.{IsStoredPut, parts_stored_put, entry_stored}
+use Rattle.wbl_engine.proofs.Erased.{agrees_below, agrees_erased, erased_free, erased_keeps, erased_rest, erased_versions, matters_beside, versions-beyond, versions-within, whole_sound}
+use Rattle.wbl_engine.proofs.PartEffects.{is_put_at-among}
+use Rattle.wbl_engine.proofs.Staged.{IsCommitting, group_begin, group_behind, group_below, group_erased, group_pairs, stored_at}
+use Rattle.wbl_engine.proofs.Storing.{AgreesOn, IsStoredOver, beside_record, partly_over, partly_recorded, recorded_only, staged_recorded, written_over}
 
--- nothing is being stored
-pub at_rest_staging : {r : Record} {lines : ℕ} {image : Image} {versions : Versions} → Fits r lines image versions → IsStaging r lines 0 image versions [] []
-at_rest_staging {r} {lines} {image} {versions} fits =
-    record {
-      fits = fits;
-      stored = record { placed = tt; fitting = tt; writable = tt; ready = tt; apart = tt };
-      by = λ word x stored. absurd stored;
-    }
+-- ---- from the contracts of what is called
 
--- a word that matters belongs to no record
-pub no_record_word : (r : Record) (lines n : ℕ) (image : Image) (versions : Versions) → Fits r lines image versions → (word : ℕ)
-    → Matters r lines image word → IsRecordWord lines n word → ⊥
-no_record_word r lines n image versions fits word (inl before) (inl root) = omega (arith, before, root)
-no_record_word r lines n image versions fits word (inl before) (inr slot) = omega (arith, before, slot.0)
-no_record_word r lines n image versions fits word (inr (inl directory)) (inl root) = omega (arith, directory.0, root)
-no_record_word r lines n image versions fits word (inr (inl directory)) (inr slot) = omega (arith, directory.0, slot.1)
-no_record_word r lines n image versions fits word (inr (inr (i, within, begun, at))) (inl root) =
-    omega (arith, at.low, (fits.entries i within begun).above, root)
-no_record_word r lines n image versions fits word (inr (inr (i, within, begun, at))) (inr slot) =
-    omega (arith, at.low, (fits.entries i within begun).above, slot.1)
+pub committing : {r : Record} {d : State} {group : Group} {parts : List Part} → IsAtRest r d → IsGroup (contents_of r d) group
+    → parts ≡ group.parts.items → AllByRecursion IsWritable (puts_of_parts parts) → IsCommitting r d group
+committing rest asked is writable =
+    record { rest = rest; asked = asked; writable = subst (λ (ps : List Part). AllByRecursion IsWritable (puts_of_parts ps)) is writable }
 
--- once the group is stored, an image that agrees outside of the next record's words and has the old record keeps the old contents
-late_keeps : (r : Record) (d b : State) (group : Group) (image : Image) → IsAtRest r d → IsGroup (contents_of r d) group
-    → AllByRecursion IsWritable (puts_of_parts group.parts.items)
-    → Staged d b (parts_pairs (r.cp + 1) group.parts.items) (parts_lines group.parts.items)
-    → ((word : ℕ) → (IsRecordWord d.lines (r.number + 1) word → ⊥) → MayBe (b.words word) (image word)) → HasRecord d.lines r image
-    → Keeps (contents_of r d) image
-late_keeps r d b group image rest asked writable staged elsewhere recorded =
-    let parts = group.parts.items in
-    let pairs : List (ℕ × ℕ) = parts_pairs (r.cp + 1) parts in
-    let over : IsStagedOver r d.lines (image_of d.words) pairs image =
-    λ word matters.
-    let is : image word ≡ written pairs (image_of d.words) word =
-    (stage_certain r d b group rest asked writable staged word (inl matters)).only (image word)
-    (elsewhere word
-    (no_record_word r d.lines (r.number + 1) (image_of d.words) (contents_of r d).versions (rest_fits r d rest) word matters)) in
-    elim (written-cases pairs (image_of d.words) word) [
-      | inl out ↦ inl (is ∙ out.1)
-      | inr stored ↦ inr (subst (λ (x : ℕ). IsStored pairs word x) (sym is) stored)
-    ] in
-    keeps_old r d (length parts) (puts_of_parts parts) pairs image rest (group_staging r d group rest asked writable) asked.few over recorded
+-- what was stored is the group
+pub group_staged : {d b : State} {parts : List Part} (stamp : ℕ) (group : Group) → parts ≡ group.parts.items
+    → Staged d b (parts_pairs stamp parts) (parts_lines parts) → Staged d b (parts_pairs stamp group.parts.items) (parts_lines group.parts.items)
+group_staged {d} {b} stamp group is = subst (λ (ps : List Part). Staged d b (parts_pairs stamp ps) (parts_lines ps)) is
 
--- and one that has the next record keeps the contents after the group
-new_keeps : (r : Record) (d b : State) (group : Group) (image : Image) → IsAtRest r d → IsGroup (contents_of r d) group
-    → AllByRecursion IsWritable (puts_of_parts group.parts.items)
-    → Staged d b (parts_pairs (r.cp + 1) group.parts.items) (parts_lines group.parts.items)
-    → ((word : ℕ) → (IsRecordWord d.lines (r.number + 1) word → ⊥) → MayBe (b.words word) (image word)) → HasRecord d.lines (next_record r group) image
-    → Keeps (after_group (contents_of r d) group) image
-new_keeps r d b group image rest asked writable staged elsewhere recorded =
-    let parts = group.parts.items in
-    let pairs : List (ℕ × ℕ) = parts_pairs (r.cp + 1) parts in
-    let new : Image = written pairs (image_of d.words) in
-    let next : Record = next_record r group in
-    let versions : Versions = parts_versions (contents_of r d).versions parts in
-    let fits : Fits next d.lines new versions = after_fits r d group rest asked writable in
-    let staging : IsStaging next d.lines 0 new versions [] [] = at_rest_staging fits in
-    let over : IsStagedOver next d.lines new [] image =
-    λ word matters.
-    inl ((stage_certain r d b group rest asked writable staged word (inr matters)).only (image word)
-    (elsewhere word (no_record_word next d.lines (r.number + 1) new versions fits word matters))) in
-    record {
-      superblock = HasSuperblock-same d.lines (image_of d.words) image
-          (λ word before.
-          (stage_certain r d b group rest asked writable staged word (inl (inl before))).only (image word)
-          (elsewhere word (no_record_word r d.lines (r.number + 1) (image_of d.words) (contents_of r d).versions (rest_fits r d rest) word (inl before)))
-          ∙ before_new r d group rest asked writable word (omega (arith, before)))
-          rest.whole.superblock;
-      has_record = recorded;
-      versions = λ i within. staged_same staging over i within ∙ fits.same i within;
-      entries = staged_under refl (omega arith) (after_made r d group rest asked) staging over;
-    }
-  where
-    before_new : (r : Record) (d : State) (group : Group) → IsAtRest r d → IsGroup (contents_of r d) group
-        → AllByRecursion IsWritable (puts_of_parts group.parts.items) → (word : ℕ) → word < 64
-        → written (parts_pairs (r.cp + 1) group.parts.items) (image_of d.words) word ≡ image_of d.words word
-    before_new r d group rest asked writable word before =
-        written-outside (parts_pairs (r.cp + 1) group.parts.items) (image_of d.words) word
-        (λ x stored. staging_before (group_staging r d group rest asked writable) word x before stored)
-
--- While the record is written, each crash leaves the old contents or the new ones.
-pub record_keeps : (r : Record) (d b : State) (group : Group) (image : Image) → IsAtRest r d → IsGroup (contents_of r d) group
-    → AllByRecursion IsWritable (puts_of_parts group.parts.items)
-    → Staged d b (parts_pairs (r.cp + 1) group.parts.items) (parts_lines group.parts.items)
-    → IsEitherRecord b r (next_record r group) image → Keeps (contents_of r d) image ⊎ Keeps (after_group (contents_of r d) group) image
-record_keeps r d b group image rest asked writable staged recorded =
-    elim recorded.either [
-      | inl old ↦ inl (late_keeps r d b group image rest asked writable staged recorded.elsewhere (HasRecord-lines staged.stays.lines old))
-      | inr new ↦ inr (new_keeps r d b group image rest asked writable staged recorded.elsewhere (HasRecord-lines staged.stays.lines new))
-    ]
-
--- the record is still there when the group is stored
-pub stage_succeeded : (r : Record) (d b : State) (group : Group) → IsAtRest r d → IsGroup (contents_of r d) group
-    → AllByRecursion IsWritable (puts_of_parts group.parts.items)
-    → Staged d b (parts_pairs (r.cp + 1) group.parts.items) (parts_lines group.parts.items) → IsSucceeded b r (next_record r group)
-stage_succeeded r d b group rest asked writable staged =
-    let pairs : List (ℕ × ℕ) = parts_pairs (r.cp + 1) group.parts.items in
-    let staging = group_staging r d group rest asked writable in
-    let Q : ℕ → Type 0 = λ word. (x : ℕ) × IsStored pairs word x in
-    record {
-      number = refl;
-      durable = λ image is.
-          let mix : IsMixed d.words Q image =
-          mixed d.words Q image
-          (λ word.
-          elim (stored_or_outside pairs word) [
-            | inl stored ↦ inr stored
-            | inr out ↦ inl (staged.elsewhere word (image word) out (is word))
-          ]) in
-          let same : (word : ℕ) → word < 64 → image word ≡ mix.base word =
-          λ word before.
-          elim (mix.same word) [ inl e ↦ e | inr stored ↦ absurd (staging_before staging word stored.0 before stored.1) ] in
-          HasRecord-lines (sym staged.stays.lines)
-          (HasRecord-same d.lines r mix.base image (same root_word (omega arith)) (λ word low high. same word (omega (arith, high)))
-          (rest.recorded mix.base mix.is));
-    }
-
--- ---- the moments of a commit
+pub group_failed : {d b : State} {parts : List Part} (stamp : ℕ) (group : Group) → parts ≡ group.parts.items
+    → StageFailed d b (parts_pairs stamp parts) → StageFailed d b (parts_pairs stamp group.parts.items)
+group_failed {d} {b} stamp group is = subst (λ (ps : List Part). StageFailed d b (parts_pairs stamp ps)) is
 
 -- what a crash may leave at any moment of a commit
 abbrev pub IsBeforeOrAfter : Record → State → Group → Image → Type 0
 IsBeforeOrAfter r d group image = Keeps (contents_of r d) image ⊎ Keeps (after_group (contents_of r d) group) image
 
--- until the first fence
-pub stage_moments : (r : Record) (d b : State) (group : Group) → IsAtRest r d → IsGroup (contents_of r d) group
-    → AllByRecursion IsWritable (puts_of_parts group.parts.items)
-    → LeavesOnly d b (IsPartlyStored (parts_pairs (r.cp + 1) group.parts.items) d.words) → LeavesOnly d b (IsBeforeOrAfter r d group)
-stage_moments r d b group rest asked writable moments =
-    LeavesOnly-weaken (IsBeforeOrAfter r d group)
-    (λ image partly.
-    inl (stage_keeps r d (length group.parts.items) (puts_of_parts group.parts.items) (parts_pairs (r.cp + 1) group.parts.items) image rest
-    (group_staging r d group rest asked writable) asked.few partly))
-    moments
+-- ---- which entries are free
 
--- from then on
-pub commit_moments : (r : Record) (d b c : State) (group : Group) → IsAtRest r d → IsGroup (contents_of r d) group
-    → AllByRecursion IsWritable (puts_of_parts group.parts.items)
-    → Staged d b (parts_pairs (r.cp + 1) group.parts.items) (parts_lines group.parts.items)
-    → LeavesOnly b c (IsEitherRecord b r (next_record r group)) → LeavesOnly d c (IsBeforeOrAfter r d group)
-commit_moments r d b c group rest asked writable staged moments =
-    LeavesOnly-then (stage_moments r d b group rest asked writable staged.moments)
-    (LeavesOnly-weaken (IsBeforeOrAfter r d group) (λ image recorded. record_keeps r d b group image rest asked writable staged recorded) moments)
+free_stays : (cp old new top : ℕ) → (new ≡ old) ⊎ ((old ≡ 0) × (cp < new) × (new ≤ top)) → (new == 0 || nat_lt cp new) ≡ (old == 0 || nat_lt cp old)
+free_stays cp old new top (inl same) = ap (λ (b : ℕ). b == 0 || nat_lt cp b) same
+free_stays cp old new top (inr put) =
+    or_right (new == 0) (nat_lt cp new) (lt-ltb cp new put.1) ∙ sym (or_left (old == 0) (nat_lt cp old) (eq-eqb old 0 put.0))
 
--- At rest each crash leaves the contents.
-pub rest_keeps : (r : Record) (d : State) → IsAtRest r d → (image : Image) → IsImage d.words image → Keeps (contents_of r d) image
-rest_keeps r d rest image is =
-    keeps_old r d 0 [] [] image rest (at_rest_staging (rest_fits r d rest)) (omega arith)
-    (λ word matters. inl ((rest.certain word matters).only (image word) (is word))) (rest.recorded image is)
+module _ {r : Record} {d : State} {group : Group} (begun : IsCommitting r d group) where
+  -- the begin of a put counts under the next record alone
+  put_begin : (i : ℕ) → i < entries_of_lines d.lines → is_put_at i (puts_of_parts group.parts.items) ≡ true → r.cp < made_image r d group (entry_word i 0)
+  put_begin i within put =
+      let at = is_put_at-among i (puts_of_parts group.parts.items) put in
+      let place : IsStoredPut (group_pairs r group) at.0 = parts_stored_put (r.cp + 1) group.parts.items at.0 at.1 in
+      elim (written-cases (group_pairs r group) (image_of d.words) (entry_word i 0)) [
+        | inl out ↦
+            absurd (out.0 (get_or (entry_words place.stamp place.position at.0) 0 0)
+            (subst (λ (n : ℕ). IsStored (group_pairs r group) (entry_word n 0) (get_or (entry_words place.stamp place.position at.0) 0 0)) (sym at.2)
+            (entry_stored (group_pairs r group) at.0 place 0 (omega arith))))
+        | inr stored ↦
+            elim (stored_at begun i 0 (made_image r d group (entry_word i 0)) within (omega arith) stored) [
+              | inl there ↦ (there.begin refl).0
+              | inr end ↦ absurd (omega (arith, end.only_end))
+            ]
+      ]
+
+  free_after : (i now : ℕ) → i < entries_of_lines d.lines → now ≡ made_image r d group (entry_word i 0)
+      → (now == 0 || nat_lt (next_record r group).cp now)
+      ≡ ((image_of d.words (entry_word i 0) == 0 || nat_lt r.cp (image_of d.words (entry_word i 0))) && not (is_put_at i (puts_of_parts group.parts.items)))
+  free_after i now within is =
+      let was : ℕ = image_of d.words (entry_word i 0) in
+      let put : Bool = is_put_at i (puts_of_parts group.parts.items) in
+      elim (cases_Bool put) [
+        | inl there ↦
+            or_from (now == 0) (nat_lt (next_record r group).cp now) (ne_eqb now 0 (λ e. omega (arith, e, is, put_begin i within there)))
+            (le-ltb (next_record r group).cp now (omega (arith, is, (after_fits begun).begins i within)))
+            ∙ sym (and_right (was == 0 || nat_lt r.cp was) (not put) (ap not there))
+        | inr none ↦
+            ap (λ (b : ℕ). b == 0 || nat_lt (next_record r group).cp b) (is ∙ kept_word begun i 0 within (omega arith) (omega arith) none)
+            ∙ ap (λ (t : Bool). was == 0 || t)
+            (le-ltb (next_record r group).cp was (omega (arith, begun.rest.whole.begins i within)) ∙ sym (le-ltb r.cp was (begun.rest.whole.begins i within)))
+            ∙ sym (and-true (was == 0 || nat_lt r.cp was)) ∙ ap (λ (b : Bool). (was == 0 || nat_lt r.cp was) && not b) (sym none)
+      ]
+
+  -- ---- the contents, of an image that agrees with what the group made, but for the record
+
+  commit_same : (c : State) → c.lines ≡ d.lines → AgreesOn (IsBesideRecords d.lines) (made_image r d group) (image_of c.words)
+      → Same (after_group (contents_of r d) group) (contents_of (next_record r group) c)
+  commit_same c lines agrees =
+      record {
+        current = refl;
+        lines = lines;
+        versions = erased_versions c (parts_versions (contents_of r d).versions group.parts.items) (after_sound begun)
+            (agrees_erased (after_sound begun) (λ word matters. agrees word (matters_beside (after_sound begun) word matters))) lines (after_fits begun).same
+            (after_fits begun).beyond;
+        is_free = λ i.
+            let was : ℕ = image_of d.words (entry_word i 0) in
+            let put : Bool = is_put_at i (puts_of_parts group.parts.items) in
+            erased_free (next_record r group) c i ((was == 0 || nat_lt r.cp was) && not put) lines
+            (λ within.
+            free_after i (image_of c.words (entry_word i 0)) within (agrees (entry_word i 0) (inr (inl (omega arith, omega (arith, within))))))
+            ∙ sym (and_assoc (nat_lt i (entries_of_lines d.lines)) (was == 0 || nat_lt r.cp was) (not put));
+      }
+
+  fault_same : (c : State) → c.lines ≡ d.lines → AgreesOn (IsBesideRecords d.lines) (made_image r d group) (image_of c.words)
+      → Same (contents_of r d) (contents_of r c)
+  fault_same c lines agrees =
+      let over : IsStoredOver (Matters r d.lines (image_of d.words)) (image_of d.words) (group_pairs r group) (image_of c.words) =
+      written_over (Matters r d.lines (image_of d.words)) (image_of d.words) (image_of c.words) (group_pairs r group)
+      (λ word matters. agrees word (matters_beside (whole_sound begun.rest.whole) word matters)) in
+      record {
+        current = refl;
+        lines = lines;
+        versions = erased_versions c (contents_of r d).versions (whole_sound begun.rest.whole) (group_erased begun (image_of c.words) over) lines
+            (λ i within. sym (versions-within r d i within)) (versions-beyond r d);
+        is_free = λ i.
+            erased_free r c i (image_of d.words (entry_word i 0) == 0 || nat_lt r.cp (image_of d.words (entry_word i 0))) lines
+            (λ within. free_stays r.cp (image_of d.words (entry_word i 0)) (image_of c.words (entry_word i 0)) (r.cp + length group.parts.items)
+            (group_begin begun (image_of c.words) over i within));
+      }
+
+  -- where the first fence failed
+  pub first_fault : {b : State} → StageFailed d b (group_pairs r group) → Same (contents_of r d) (contents_of r b)
+  first_fault {b} failed = fault_same b failed.stays.lines (λ word beside. failed.newest word)
+
+  -- ---- at each crash
+
+  old_keeps : (image : Image) → IsStoredOver (Matters r d.lines (image_of d.words)) (image_of d.words) (group_pairs r group) image
+      → HasRecord d.lines r image → Keeps (contents_of r d) image
+  old_keeps image over recorded =
+      erased_keeps (contents_of r d) (whole_sound begun.rest.whole) (group_erased begun image over) (omega arith)
+      (λ i k within low.
+      let at = group_below begun image over i k within low in omega (arith, at, begun.rest.lawful.limit, begun.asked.few))
+      (λ i within. sym (versions-within r d i within)) recorded
+
+  -- until the first fence
+  pub stage_moments : {b : State} → LeavesOnly d b (IsPartlyStored (group_pairs r group) d.words) → LeavesOnly d b (IsBeforeOrAfter r d group)
+  stage_moments moments =
+      LeavesOnly-weaken (IsBeforeOrAfter r d group)
+      (λ image partly.
+      inl (old_keeps image (partly_over (Matters r d.lines (image_of d.words)) d image (group_pairs r group) begun.rest.certain partly)
+      (partly_recorded d image (group_pairs r group) (group_behind begun) begun.rest.recorded partly)))
+      moments
+
+module _ {r : Record} {d b : State} {group : Group} {next : Record} (begun : IsCommitting r d group) (is : next ≡ next_record r group)
+    (staged : Staged d b (group_pairs r group) (parts_lines group.parts.items)) where
+  -- while the record is written, each crash leaves the old contents or the new ones
+  either_keeps : (image : Image) → IsEitherRecord b r (next_record r group) image → IsBeforeOrAfter r d group image
+  either_keeps image recorded =
+      elim recorded.either [
+        | inl old ↦
+            inl (old_keeps begun image
+            (written_over (Matters r d.lines (image_of d.words)) (image_of d.words) image (group_pairs r group)
+            (λ word matters.
+            (stage_certain begun staged word (inl matters)).only (image word)
+            (recorded.elsewhere word (beside_record d.lines (r.number + 1) word (matters_beside (whole_sound begun.rest.whole) word matters)))
+            ∙ staged.newest word))
+            (HasRecord-lines staged.stays.lines old))
+        | inr new ↦
+            let sound = after_sound begun in
+            let agrees : AgreesOn (Matters (next_record r group) d.lines (made_image r d group)) (made_image r d group) image =
+            λ word matters.
+            (stage_certain begun staged word (inr matters)).only (image word)
+            (recorded.elsewhere word (beside_record d.lines (r.number + 1) word (matters_beside sound word matters)))
+            ∙ staged.newest word in
+            inr (erased_keeps (after_group (contents_of r d) group) sound (agrees_erased sound agrees) (omega arith)
+            (λ i k within low. let at = agrees_below (next_record r group) d.lines agrees (after_below begun) i k within low in omega (arith, at)) (after_fits begun).same
+            (HasRecord-lines staged.stays.lines new))
+      ]
+
+  pub done_moments : {c : State} → ((current : Record) → IsSucceeded b current next → LeavesOnly b c (IsEitherRecord b current next))
+      → LeavesOnly d c (IsBeforeOrAfter r d group)
+  done_moments {c} moments =
+      LeavesOnly-then (stage_moments begun staged.moments)
+      (LeavesOnly-weaken (IsBeforeOrAfter r d group) either_keeps
+      (subst (λ (q : Record). LeavesOnly b c (IsEitherRecord b r q)) is
+      (moments r
+      (subst (λ (q : Record). IsSucceeded b r q) (sym is)
+      (record { number = refl; durable = staged_recorded (group_behind begun) staged begun.rest.recorded })))))
+
+  -- what loads return beside the records
+  recorded_made : (c : State) → ((word : ℕ) → (IsRecordWord b.lines next.number word → ⊥) → image_of c.words word ≡ image_of b.words word)
+      → AgreesOn (IsBesideRecords d.lines) (made_image r d group) (image_of c.words)
+  recorded_made c newest word beside = newest word (beside_record d.lines next.number word beside) ∙ staged.newest word
+
+  -- where a later fence failed
+  pub later_fault : {c : State} → IsRecordFault b c next → Same (contents_of r d) (contents_of r c)
+  later_fault {c} fault = fault_same begun c (fault.stays.lines ∙ staged.stays.lines) (recorded_made c fault.newest)
+
+  -- once all is done
+  pub done_rest : {c : State} → IsLawful next → IsRecorded b c next → IsAtRest next c
+  done_rest {c} lawful recorded =
+      let sound = after_sound begun in
+      let agrees : AgreesOn (Matters (next_record r group) d.lines (made_image r d group)) (made_image r d group) (image_of c.words) =
+      λ word matters. recorded_made c recorded.newest word (matters_beside sound word matters) in
+      let now : IsRecorded b c (next_record r group) = subst (λ (q : Record). IsRecorded b c q) is recorded in
+      subst (λ (q : Record). IsAtRest q c) (sym is)
+      (erased_rest begun.rest.many begun.rest.few sound (agrees_erased sound agrees) (subst IsLawful is lawful) (omega arith)
+      (agrees_below (next_record r group) d.lines agrees (after_below begun)) (recorded.stays.lines ∙ staged.stays.lines) now.durable
+      (λ word matters.
+      recorded_only now word (beside_record d.lines (r.number + 1) word (matters_beside sound word matters)) (stage_certain begun staged word (inr matters))))
+
+  pub done_same : {c : State} → IsRecorded b c next → Same (after_group (contents_of r d) group) (contents_of next c)
+  done_same {c} recorded =
+      subst (λ (q : Record). Same (after_group (contents_of r d) group) (contents_of q c)) (sym is)
+      (commit_same begun c (recorded.stays.lines ∙ staged.stays.lines) (recorded_made c recorded.newest))

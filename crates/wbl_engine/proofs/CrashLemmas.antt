@@ -19,6 +19,10 @@ pub record IsCrashed (old asked new : State) : Type 0 where
   pub restarts : Restarts asked new
   pub within : IsImage (words_to_crash asked asked.kept) (image_of new.words) ⊎ IsImage asked.words (image_of new.words)
 
+pub has_crashed : {old asked new : State} → Keeps old asked (moment old + 0) → Restarts asked new
+    → IsImage (words_to_crash asked asked.kept) (image_of new.words) ⊎ IsImage asked.words (image_of new.words) → IsCrashed old asked new
+has_crashed keeps restarts within = record { keeps = keeps; restarts = restarts; within = within }
+
 picks_from : {old asked new : State} → IsCrashed old asked new → words_to_crash asked asked.kept ≡ old.words
 picks_from {old} {asked} crashed =
     ap (words_to_crash asked) crashed.keeps.kept

@@ -1,20 +1,17 @@
 -- The entries that a group ends are in the directory.
-use Rattle.std.proofs.Common.{ℕ, ◌+◌, ◌<◌, ◌||◌, IsTrue, List, [], ◌∷◌, inl, inr, refl, ap, arith}
+use Rattle.std.proofs.Common.{ℕ, ◌+◌, ◌<◌, ◌||◌, IsTrue, List, [], ◌∷◌, inl, inr, refl, arith}
 use Rattle.std.specs.List.{AllByRecursion}
-use Rattle.std.proofs.lemmas.Bool.{cases_lt, or_cases, both_ways}
 use Rattle.kv_types.specs.declared.place.EntryNo.{EntryNo}
 use Rattle.pmem.specs.Device.{State}
 use Rattle.model.specs.declared.record.Record.{Record}
 use Rattle.model.specs.declared.group.Group.{Group}
 use Rattle.model.specs.declared.group.Part.{Part}
-use Rattle.model.specs.Image.{entries_of_lines}
-use Rattle.model.specs.Group.{Versions, IsGroup, IsPlaced, AreParts, is_put_at, is_live_version, part_versions}
+use Rattle.model.specs.Group.{Versions, IsGroup, AreParts, is_put_at, is_live_version, part_versions}
 use Rattle.wbl_engine.specs.AtRest.{contents_of, IsAtRest}
 use Rattle.wbl_engine.specs.Stage.{puts_of_parts, AreEndsWithin}
-use Rattle.wbl_engine.proofs.Beginning.{versions-beyond}
-use Rattle.wbl_engine.proofs.PartEffects.{is_put_at-among}
 use Rattle.wbl_engine.proofs.PartWords.{named-contains}
-use Rattle.wbl_engine.proofs.PutPairs.{IsNamed, among-all}
+use Rattle.wbl_engine.proofs.PutPairs.{IsNamed}
+use Rattle.wbl_engine.proofs.Staged.{live_within}
 use Rattle.wbl_engine.proofs.StoredBy.{live_then, live_prefix}
 
 each_named : (P : ℕ → Type 0) (ended : List EntryNo) → ((i : ℕ) → IsNamed i ended → P i) → AllByRecursion (λ (entry : EntryNo). P entry.0) ended
@@ -37,16 +34,4 @@ each_ended P (part ∷ parts) before versions each follow = (
 pub ends_within : (r : Record) (d : State) (group : Group) → IsAtRest r d → IsGroup (contents_of r d) group → AreEndsWithin d.lines group.parts.items
 ends_within r d group rest asked =
     each_ended (λ i. 8 + i < d.lines) group.parts.items group.before (contents_of r d).versions
-    (λ i live.
-    elim (or_cases (is_live_version ((contents_of r d).versions i)) (is_put_at i (puts_of_parts group.parts.items)) live) [
-      | inl now ↦
-          elim (cases_lt i (entries_of_lines d.lines)) [
-            | inl within ↦ omega (arith, within, rest.many)
-            | inr beyond ↦
-                absurd (both_ways (is_live_version ((contents_of r d).versions i)) (ap is_live_version (versions-beyond r d i beyond)) now)
-          ]
-      | inr put ↦
-          let at = is_put_at-among i (puts_of_parts group.parts.items) put in
-          omega (arith, at.2, (among-all (IsPlaced d.lines) (puts_of_parts group.parts.items) at.0 at.1 asked.placed).entry, rest.many)
-    ])
-    asked.parts
+    (λ i live. omega (arith, live_within r d group asked i live, rest.many)) asked.parts

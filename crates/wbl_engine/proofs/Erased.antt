@@ -1,36 +1,75 @@
--- What is left of an image where stamps were erased, or where another record counts them.
-use Rattle.std.proofs.Common.{◌≡◌, ℕ, ◌+◌, ◌*◌, ◌/◌, ◌<◌, ◌≤◌, Bool, true, false, cond, IsTrue, ◌⊎◌, inl, inr, Option, None, Some, sym, ap, subst, ◌∙◌, arith}
+-- Images that hold what a base held, but for versions that are gone: where stamps were erased or stored, or where another record counts them.
+use Rattle.std.proofs.Common.{◌≡◌, ℕ, zero, suc, ◌+◌, ◌<◌, ◌≤◌, Bool, true, false, not, cond, ◌&&◌, ◌||◌, ◌==◌, IsTrue, inl, inr, List, [], None, Some, refl, sym, ap, subst, ◌∙◌, arith}
 use Rattle.std.specs.Prelude.{nat_lt}
-use Rattle.std.proofs.lemmas.Bool.{cond-true, cond-false, cases_Bool, both_ways, lt-ltb}
+use Rattle.std.proofs.lemmas.Bool.{and_from, and_parts, cases_lt, cond-true, cond-false, le-ltb, lt-ltb, ltb-true}
 use Rattle.pmem.specs.Device.{State, Only}
 use Rattle.pmem.specs.Crash.{IsImage, image_of}
+use Rattle.pmem.specs.Runs.{IsStored}
+use Rattle.model.specs.declared.image.TheConstants.{MIN_LINES, MAX_LINES}
 use Rattle.model.specs.declared.record.Record.{Record}
-use Rattle.model.specs.Image.{Image, Version, HasSuperblock, HasRecord, root_word, entry_word, entry_bytes, field_bytes, entries_of_lines, lines_of_bytes, version_at, version_in, counts}
-use Rattle.heap_layout.specs.declared.entry.TheConstants.{STRING_KIND, FIELD_KIND}
+use Rattle.model.specs.Group.{Contents, Versions}
+use Rattle.model.specs.Image.{Image, Version, HasSuperblock, HasRecord, root_word, entry_word, entries_of_lines, version_at, version_in, counts}
 use Rattle.heap_layout.specs.Entry.{IsEntry}
 use Rattle.heap_layout.specs.Version.{IsUnder}
-use Rattle.heap_layout.proofs.ReadBack.{lines_enough}
-use Rattle.wbl_record.specs.Current.{IsLawful}
-use Rattle.wbl_record.specs.Record.{IsRecordWord}
+use Rattle.heap_layout.specs.Versions.{is_counted, is_live}
+use Rattle.model.specs.ReadImage.{is_clash, record_in}
+use Rattle.wbl_record.specs.Current.{IsCurrent, IsLawful}
 use Rattle.wbl_engine.specs.AtRest.{IsAtRest, IsInExtent, IsWhole, Matters, contents_of}
 use Rattle.wbl_engine.specs.Contents.{Keeps}
-use Rattle.wbl_engine.specs.Freeing.{without}
-use Rattle.wbl_engine.proofs.VersionLemmas.{SameEntry, version_in_entry, version_in_entry-same}
+use Rattle.wbl_engine.specs.Lawful.{IsUndamaged}
+use Rattle.wbl_engine.specs.Reopening.{IsBesideRecords}
+use Rattle.wbl_engine.proofs.Storing.{AgreesOn, IsStoredOver}
+use Rattle.wbl_engine.proofs.VersionLemmas.{SameEntry, entry-same, record_in-same, same_entry, version_in_entry, version_in_entry-same}
 
--- Under q the image is what is left of the base under r: it lacks the versions that are gone, and nothing else is lost.
-pub record IsErased (r q : Record) (lines : ℕ) (gone : ℕ → Bool) (base image : Image) : Type 0 where
-  pub before : (word : ℕ) → word < root_word → image word ≡ base word
-  pub words : (i k : ℕ) → i < entries_of_lines lines → 2 ≤ k → k < 8 → image (entry_word i k) ≡ base (entry_word i k)
-  pub begin : (i : ℕ) → i < entries_of_lines lines → image (entry_word i 0) ≤ base (entry_word i 0)
-  pub end : (i : ℕ) → i < entries_of_lines lines → image (entry_word i 1) ≤ base (entry_word i 1)
-  pub begun : (i : ℕ) → i < entries_of_lines lines → gone i ≡ false → counts q (image (entry_word i 0)) ≡ counts r (base (entry_word i 0))
-  pub lost : (i : ℕ) → i < entries_of_lines lines → gone i ≡ true → counts q (image (entry_word i 0)) ≡ false
-  pub ended : (i : ℕ) → i < entries_of_lines lines → counts q (image (entry_word i 1)) ≡ counts r (base (entry_word i 1))
-  pub extents : (i word : ℕ) → i < entries_of_lines lines → IsTrue (counts r (base (entry_word i 0))) → IsInExtent base i word → image word ≡ base word
+-- ---- a base
 
-superblock_kept : (lines : ℕ) (base image : Image) → ((word : ℕ) → word < root_word → image word ≡ base word) → HasSuperblock lines base
+-- what is known of a base: it has its superblock, and each entry whose begin counts obeys the rules
+pub record IsSound (r : Record) (lines : ℕ) (base : Image) : Type 0 where
+  pub superblock : HasSuperblock lines base
+  pub entries : (i : ℕ) → i < entries_of_lines lines → IsTrue (counts r (base (entry_word i 0))) → IsEntry lines base i
+  pub positions : (i : ℕ) → i < entries_of_lines lines → IsTrue (counts r (base (entry_word i 0))) → base (entry_word i 2) ≤ r.position
+
+pub whole_sound : {r : Record} {lines : ℕ} {base : Image} → IsWhole r lines base → IsSound r lines base
+whole_sound whole = record { superblock = whole.superblock; entries = whole.entries; positions = whole.positions }
+
+pub undamaged_sound : {r : Record} {lines : ℕ} {base : Image} → IsUndamaged lines r base → IsSound r lines base
+undamaged_sound whole =
+    record {
+      superblock = whole.superblock;
+      entries = λ i within. (whole.versions.entries i within).whole;
+      positions = λ i within. (whole.versions.entries i within).position;
+    }
+
+-- both stamps of each entry are below this one
+abbrev pub AreBelow : ℕ → Image → ℕ → Type 0
+AreBelow lines image top = (i k : ℕ) → i < entries_of_lines lines → k < 2 → image (entry_word i k) < top
+
+pub whole_below : {r : Record} {lines : ℕ} {base : Image} → IsWhole r lines base → AreBelow lines base (r.cp + 1)
+whole_below whole i zero within low = omega (arith, whole.begins i within)
+whole_below whole i (suc zero) within low = omega (arith, whole.ends i within)
+whole_below whole i (suc (suc k)) within low = absurd (omega (arith, low))
+
+pub rest_below : {r : Record} {d : State} → IsAtRest r d → AreBelow d.lines (image_of d.words) r.cd
+rest_below rest i k within low = omega (arith, whole_below rest.whole i k within low, rest.lawful.limit)
+
+pub undamaged_below : {r : Record} {lines : ℕ} {base : Image} → IsUndamaged lines r base → AreBelow lines base r.cd
+undamaged_below whole i zero within low = (whole.versions.entries i within).begin
+undamaged_below whole i (suc zero) within low = (whole.versions.entries i within).end
+undamaged_below whole i (suc (suc k)) within low = absurd (omega (arith, low))
+
+pub sound_under : {r : Record} {lines : ℕ} {image : Image} → IsSound r lines image → AreBelow lines image r.cd → (i : ℕ) → i < entries_of_lines lines
+    → IsUnder r lines image i
+sound_under sound below i within =
+    record {
+      begin = below i 0 within (omega arith);
+      end = below i 1 within (omega arith);
+      whole = sound.entries i within;
+      position = sound.positions i within;
+    }
+
+pub HasSuperblock-same : (lines : ℕ) (base image : Image) → ((word : ℕ) → word < root_word → image word ≡ base word) → HasSuperblock lines base
     → HasSuperblock lines image
-superblock_kept lines base image same has =
+HasSuperblock-same lines base image same has =
     record {
       magic = same 0 (omega arith) ∙ has.magic;
       version = same 1 (omega arith) ∙ has.version;
@@ -38,168 +77,260 @@ superblock_kept lines base image same has =
       room = same 3 (omega arith) ∙ has.room;
     }
 
-kind_kept : (kind field kind' field' : ℕ) → kind' ≡ kind → field' ≡ field → ((kind ≡ STRING_KIND) × (field ≡ 0)) ⊎ (kind ≡ FIELD_KIND)
-    → ((kind' ≡ STRING_KIND) × (field' ≡ 0)) ⊎ (kind' ≡ FIELD_KIND)
-kind_kept kind field kind' field' k f (inl is) = inl (k ∙ is.0, f ∙ is.1)
-kind_kept kind field kind' field' k f (inr is) = inr (k ∙ is)
+-- ---- the words on which a map depends
 
--- the rules of an entry do not look at its stamps
-entry_kept : (lines : ℕ) (base image : Image) (i : ℕ) → ((k : ℕ) → 2 ≤ k → k < 8 → image (entry_word i k) ≡ base (entry_word i k))
-    → IsEntry lines base i → IsEntry lines image i
-entry_kept lines base image i same entry =
-    let at3 = same 3 (omega arith) (omega arith) in
-    let at4 = same 4 (omega arith) (omega arith) in
-    let at5 = same 5 (omega arith) (omega arith) in
-    let at6 = same 6 (omega arith) (omega arith) in
-    let at7 = same 7 (omega arith) (omega arith) in
-    let bytes : entry_bytes image i ≡ entry_bytes base i = cc in
-    let room : lines_of_bytes (entry_bytes image i) ≡ lines_of_bytes (entry_bytes base i) = ap lines_of_bytes bytes in
-    record {
-      in_format = record {
-        key = omega (arith, at6, entry.in_format.key);
-        field = omega (arith, at6, entry.in_format.field);
-        value = omega (arith, at7, entry.in_format.value);
-        extent = omega (arith, at3, room, entry.in_format.extent);
-      };
-      kind =
-          kind_kept (base (entry_word i 5)) (field_bytes base i) (image (entry_word i 5)) (field_bytes image i) at5 (ap (λ (n : ℕ). n / 65536) at6)
-          entry.kind;
-      above = omega (arith, at3, entry.above);
-      lines_are = at4 ∙ entry.lines_are ∙ sym room;
-    }
+pub directory_matters : (r : Record) (lines : ℕ) (base : Image) (i k : ℕ) → i < entries_of_lines lines → k < 8 → Matters r lines base (entry_word i k)
+directory_matters r lines base i k within below = inr (inl (omega arith, omega (arith, within)))
 
--- a begin that counts now counted before
-counted_before : {r q : Record} {lines : ℕ} {gone : ℕ → Bool} {base image : Image} → IsErased r q lines gone base image → (i : ℕ)
-    → i < entries_of_lines lines → IsTrue (counts q (image (entry_word i 0))) → IsTrue (counts r (base (entry_word i 0)))
-counted_before {r} {q} {lines} {gone} {base} {image} erased i within counted =
-    elim (cases_Bool (gone i)) [
-      | inl is ↦ absurd (both_ways (counts q (image (entry_word i 0))) (erased.lost i within is) counted)
-      | inr not ↦ sym (erased.begun i within not) ∙ counted
-    ]
+pub matters_beside : {r : Record} {lines : ℕ} {base : Image} → IsSound r lines base → (word : ℕ) → Matters r lines base word → IsBesideRecords lines word
+matters_beside sound word (inl before) = inl before
+matters_beside sound word (inr (inl directory)) = inr (inl directory)
+matters_beside sound word (inr (inr (i, within, begun, at))) = inr (inr (omega (arith, at.low, (sound.entries i within begun).above)))
 
--- a version that counts is read as before
-same_version : {r q : Record} {lines : ℕ} {gone : ℕ → Bool} {base image : Image} → IsWhole r lines base → IsErased r q lines gone base image
-    → (i : ℕ) → i < entries_of_lines lines → IsTrue (counts r (base (entry_word i 0))) → version_in q image i ≡ version_in r base i
-same_version {r} {q} {lines} {gone} {base} {image} whole erased i within counted =
-    let entry = whole.entries i within counted in
-    let same : SameEntry base image i =
-    record {
-      words = λ k low high. erased.words i k within low high;
-      extent = λ j below.
-          erased.extents i (8 * base (entry_word i 3) + j) within counted
-          (record {
-            low = omega arith;
-            high = omega (arith, below, lines_enough (entry_bytes base i), entry.lines_are);
-          });
-    } in
-    version_in_entry-same base image i (counts q (image (entry_word i 1))) same ∙ ap (version_in_entry base i) (erased.ended i within)
+-- ---- what is left of a base
 
--- What the image holds in an entry.
-pub erased_version : {r q : Record} {lines : ℕ} {gone : ℕ → Bool} {base image : Image} → IsWhole r lines base → IsErased r q lines gone base image
-    → (i : ℕ) → i < entries_of_lines lines → version_at q image i ≡ cond (gone i) None (version_at r base i)
-erased_version {r} {q} {lines} {gone} {base} {image} whole erased i within =
-    let now : Bool = counts q (image (entry_word i 0)) in
-    let was : Bool = counts r (base (entry_word i 0)) in
-    let new : Version = version_in q image i in
-    let old : Version = version_in r base i in
-    elim (cases_Bool (gone i)) [
-      | inl is ↦ cond-false now (Some new) None (erased.lost i within is) ∙ sym (cond-true (gone i) None (version_at r base i) is)
-      | inr not ↦
-          let kept : version_at q image i ≡ version_at r base i =
-          elim (cases_Bool was) [
-            | inl counted ↦
-                cond-true now (Some new) None (erased.begun i within not ∙ counted)
-                ∙ ap (λ (v : Version). Some v) (same_version whole erased i within counted) ∙ sym (cond-true was (Some old) None counted)
-            | inr none ↦ cond-false now (Some new) None (erased.begun i within not ∙ none) ∙ sym (cond-false was (Some old) None none)
-          ] in
-          kept ∙ sym (cond-false (gone i) None (version_at r base i) not)
-    ]
+-- no version is gone
+abbrev pub nothing : ℕ → Bool
+nothing i = false
 
--- It breaks no rule.
-pub erased_whole : {r q : Record} {lines : ℕ} {gone : ℕ → Bool} {base image : Image} → IsWhole r lines base → IsErased r q lines gone base image
-    → r.cp ≤ q.cp → r.position ≤ q.position → IsWhole q lines image
-erased_whole {r} {q} {lines} {gone} {base} {image} whole erased cp position =
-    record {
-      superblock = superblock_kept lines base image erased.before whole.superblock;
-      begins = λ i within. omega (arith, erased.begin i within, whole.begins i within, cp);
-      ends = λ i within. omega (arith, erased.end i within, whole.ends i within, cp);
-      entries = λ i within counted.
-          entry_kept lines base image i (λ k low high. erased.words i k within low high)
-          (whole.entries i within (counted_before erased i within counted));
-      positions = λ i within counted.
-          omega (arith, erased.words i 2 within (omega arith) (omega arith), whole.positions i within (counted_before erased i within counted), position);
-    }
+-- Under q the image is what is left of the base under r: it lacks the versions that are gone, and nothing else is lost.
+pub record IsErased (r q : Record) (lines : ℕ) (gone : ℕ → Bool) (base image : Image) : Type 0 where
+  pub before : (word : ℕ) → word < root_word → image word ≡ base word
+  pub begun : (i : ℕ) → i < entries_of_lines lines → counts q (image (entry_word i 0)) ≡ (not (gone i) && counts r (base (entry_word i 0)))
+  pub ended : (i : ℕ) → i < entries_of_lines lines → IsTrue (counts r (base (entry_word i 0)))
+      → counts q (image (entry_word i 1)) ≡ counts r (base (entry_word i 1))
+  pub entry : (i : ℕ) → i < entries_of_lines lines → IsTrue (counts r (base (entry_word i 0))) → SameEntry base image i
 
-pub whole_under : (r : Record) (lines : ℕ) (image : Image) → IsLawful r → IsWhole r lines image → (i : ℕ) → i < entries_of_lines lines
-    → IsUnder r lines image i
-whole_under r lines image lawful whole i within =
-    record {
-      begin = omega (arith, whole.begins i within, lawful.limit);
-      end = omega (arith, whole.ends i within, lawful.limit);
-      whole = whole.entries i within;
-      position = whole.positions i within;
-    }
+one_left : (now gone was : Bool) (new old : Version) → now ≡ (not gone && was) → (was ≡ true → new ≡ old)
+    → cond now (Some new) None ≡ cond gone None (cond was (Some old) None)
+one_left now true was new old counted same = cond-false now (Some new) None counted
+one_left now false true new old counted same = cond-true now (Some new) None counted ∙ ap (λ (v : Version). Some v) (same refl)
+one_left now false false new old counted same = cond-false now (Some new) None counted
 
--- what an engine at rest has in an entry of the directory
-pub version_within : (r : Record) (d : State) (i : ℕ) → i < entries_of_lines d.lines → (contents_of r d).versions i ≡ version_at r (image_of d.words) i
-version_within r d i within = cond-true (nat_lt i (entries_of_lines d.lines)) _ _ (lt-ltb i (entries_of_lines d.lines) within)
+module _ {r q : Record} {lines : ℕ} {gone : ℕ → Bool} {base image : Image} (sound : IsSound r lines base) (erased : IsErased r q lines gone base image) where
+  -- a begin that counts now counted before
+  pub counted_before : (i : ℕ) → i < entries_of_lines lines → IsTrue (counts q (image (entry_word i 0))) → IsTrue (counts r (base (entry_word i 0)))
+  counted_before i within counted = (and_parts (not (gone i)) (counts r (base (entry_word i 0))) (sym (erased.begun i within) ∙ counted)).1
 
--- If it has the record q, it keeps the contents without what is gone.
-pub erased_keeps : {r q : Record} {d : State} {gone : ℕ → Bool} {image : Image} → IsAtRest r d → IsErased r q d.lines gone (image_of d.words) image
-    → IsLawful q → r.cp ≤ q.cp → r.position ≤ q.position → HasRecord d.lines q image
-    → Keeps (record (without gone (contents_of r d)) { current = q }) image
-erased_keeps {r} {q} {d} {gone} {image} rest erased lawful cp position recorded =
-    let whole : IsWhole q d.lines image = erased_whole rest.whole erased cp position in
-    record {
-      superblock = whole.superblock;
-      has_record = recorded;
-      versions = λ i within.
-          erased_version rest.whole erased i within
-          ∙ ap (λ (v : Option Version). cond (gone i) None v) (sym (version_within r d i within));
-      entries = λ i within. whole_under q d.lines image lawful whole i within;
-    }
+  -- What the image holds in an entry.
+  pub erased_version : (i : ℕ) → i < entries_of_lines lines → version_at q image i ≡ cond (gone i) None (version_at r base i)
+  erased_version i within =
+      one_left (counts q (image (entry_word i 0))) (gone i) (counts r (base (entry_word i 0))) (version_in q image i) (version_in r base i)
+      (erased.begun i within)
+      (λ counted.
+      version_in_entry-same base image i (counts q (image (entry_word i 1))) (erased.entry i within counted)
+      ∙ ap (version_in_entry base i) (erased.ended i within counted))
 
--- each word on which its map depends is one on which the base's did
-erased_matters : {r q : Record} {lines : ℕ} {gone : ℕ → Bool} {base image : Image} → IsErased r q lines gone base image → (word : ℕ)
-    → Matters q lines image word → Matters r lines base word
-erased_matters {r} {q} {lines} {gone} {base} {image} erased word (inl before) = inl before
-erased_matters {r} {q} {lines} {gone} {base} {image} erased word (inr (inl directory)) = inr (inl directory)
-erased_matters {r} {q} {lines} {gone} {base} {image} erased word (inr (inr (i, within, counted, at))) =
-    let first = erased.words i 3 within (omega arith) (omega arith) in
-    let count = erased.words i 4 within (omega arith) (omega arith) in
-    inr (inr (
-      i,
-      within,
-      counted_before erased i within counted,
+  -- It breaks no rule.
+  pub erased_sound : r.position ≤ q.position → IsSound q lines image
+  erased_sound up =
       record {
-        low = omega (arith, at.low, first);
-        high = omega (arith, at.high, first, count);
-      },
-    ))
+        superblock = HasSuperblock-same lines base image erased.before sound.superblock;
+        entries = λ i within counted.
+            let was = counted_before i within counted in
+            entry-same lines base image i (erased.entry i within was) (sound.entries i within was);
+        positions = λ i within counted.
+            let was = counted_before i within counted in
+            omega (arith, (erased.entry i within was).words 2 (omega arith) (omega arith), sound.positions i within was, up);
+      }
 
--- no such word belongs to a record
-pub no_record_word : {r : Record} {lines : ℕ} {base : Image} (n word : ℕ) → IsWhole r lines base → Matters r lines base word → IsRecordWord lines n word → ⊥
-no_record_word {r} {lines} {base} n word whole (inl before) (inl root) = omega (arith, before, root)
-no_record_word {r} {lines} {base} n word whole (inl before) (inr slot) = omega (arith, before, slot.0)
-no_record_word {r} {lines} {base} n word whole (inr (inl directory)) (inl root) = omega (arith, directory.0, root)
-no_record_word {r} {lines} {base} n word whole (inr (inl directory)) (inr slot) = omega (arith, directory.0, slot.1)
-no_record_word {r} {lines} {base} n word whole (inr (inr (i, within, counted, at))) (inl root) =
-    omega (arith, at.low, (whole.entries i within counted).above, root)
-no_record_word {r} {lines} {base} n word whole (inr (inr (i, within, counted, at))) (inr slot) =
-    omega (arith, at.low, (whole.entries i within counted).above, slot.1)
+  -- Each word on which its map depends is one on which the base's did.
+  erased_matters : (word : ℕ) → Matters q lines image word → Matters r lines base word
+  erased_matters word (inl before) = inl before
+  erased_matters word (inr (inl directory)) = inr (inl directory)
+  erased_matters word (inr (inr (i, within, counted, at))) =
+      let was = counted_before i within counted in
+      let first = (erased.entry i within was).words 3 (omega arith) (omega arith) in
+      let count = (erased.entry i within was).words 4 (omega arith) (omega arith) in
+      inr (inr (i, within, was, record { low = omega (arith, at.low, first); high = omega (arith, at.high, first, count) }))
 
--- A device that lost nothing else is at rest, if each crash leaves the record q, and what loads return wherever the map depended.
-pub erased_rest : {r q : Record} {d b : State} {gone : ℕ → Bool} → IsAtRest r d → IsErased r q d.lines gone (image_of d.words) (image_of b.words)
-    → IsLawful q → r.cp ≤ q.cp → r.position ≤ q.position → b.lines ≡ d.lines
-    → ((image : Image) → IsImage b.words image → HasRecord b.lines q image)
-    → ((word : ℕ) → Matters r d.lines (image_of d.words) word → Only (b.words word) (image_of b.words word)) → IsAtRest q b
-erased_rest {r} {q} {d} {b} {gone} rest erased lawful cp position lines recorded certain =
+-- where q and s count the stamps of the image alike
+abbrev pub CountAlike : ℕ → Image → Record → Record → Type 0
+CountAlike lines image r s = (i k : ℕ) → i < entries_of_lines lines → k < 2 → counts s (image (entry_word i k)) ≡ counts r (image (entry_word i k))
+
+pub erased_under : {r q : Record} {lines : ℕ} {gone : ℕ → Bool} {base image : Image} (s : Record) → IsErased r q lines gone base image
+    → CountAlike lines image q s → IsErased r s lines gone base image
+erased_under s erased alike =
     record {
-      many = omega (arith, lines, rest.many);
-      few = omega (arith, lines, rest.few);
+      before = erased.before;
+      begun = λ i within. alike i 0 within (omega arith) ∙ erased.begun i within;
+      ended = λ i within counted. alike i 1 within (omega arith) ∙ erased.ended i within counted;
+      entry = erased.entry;
+    }
+
+-- ---- stores over a base
+
+-- what these pairs store hurts no version of the base, but perhaps a begin
+pub record IsHarmless (r : Record) (lines : ℕ) (base : Image) (pairs : List (ℕ × ℕ)) : Type 0 where
+  pub behind : (word x : ℕ) → IsStored pairs word x → 64 ≤ word
+  pub end : (i x : ℕ) → i < entries_of_lines lines → IsTrue (counts r (base (entry_word i 0))) → IsStored pairs (entry_word i 1) x
+      → counts r x ≡ counts r (base (entry_word i 1))
+  pub words : (i k x : ℕ) → i < entries_of_lines lines → IsTrue (counts r (base (entry_word i 0))) → 2 ≤ k → k < 8
+      → IsStored pairs (entry_word i k) x → ⊥
+  pub extents : (i word x : ℕ) → i < entries_of_lines lines → IsTrue (counts r (base (entry_word i 0))) → IsInExtent base i word
+      → IsStored pairs word x → ⊥
+
+pub stored_erased : {r : Record} {lines : ℕ} {base image : Image} {pairs : List (ℕ × ℕ)} (gone : ℕ → Bool) → IsSound r lines base
+    → IsHarmless r lines base pairs → IsStoredOver (Matters r lines base) base pairs image
+    → ((i : ℕ) → i < entries_of_lines lines → counts r (image (entry_word i 0)) ≡ (not (gone i) && counts r (base (entry_word i 0))))
+    → IsErased r r lines gone base image
+stored_erased {r} {lines} {base} {image} gone sound harmless over begun =
+    record {
+      before = λ word low.
+          elim (over word (inl low)) [ inl same ↦ same | inr stored ↦ absurd (omega (arith, low, harmless.behind word (image word) stored)) ];
+      begun = begun;
+      ended = λ i within counted.
+          elim (over (entry_word i 1) (directory_matters r lines base i 1 within (omega arith))) [
+            | inl same ↦ ap (counts r) same
+            | inr stored ↦ harmless.end i (image (entry_word i 1)) within counted stored
+          ];
+      entry = λ i within counted.
+          same_entry (sound.entries i within counted)
+          (λ k low below.
+          elim (over (entry_word i k) (directory_matters r lines base i k within below)) [
+            | inl same ↦ same
+            | inr stored ↦ absurd (harmless.words i k (image (entry_word i k)) within counted low below stored)
+          ])
+          (λ word at.
+          elim (over word (inr (inr (i, within, counted, at)))) [
+            | inl same ↦ same
+            | inr stored ↦ absurd (harmless.extents i word (image word) within counted at stored)
+          ]);
+    }
+
+-- an image that agrees wherever the map depends has lost nothing
+pub agrees_erased : {r : Record} {lines : ℕ} {base image : Image} → IsSound r lines base → AgreesOn (Matters r lines base) base image
+    → IsErased r r lines nothing base image
+agrees_erased {r} {lines} {base} {image} sound agrees =
+    stored_erased {pairs = []} nothing sound
+    (record {
+      behind = λ word x stored. absurd stored;
+      end = λ i x within counted stored. absurd stored;
+      words = λ i k x within counted low below stored. stored;
+      extents = λ i word x within counted at stored. stored;
+    })
+    (λ word matters. inl (agrees word matters))
+    (λ i within. ap (counts r) (agrees (entry_word i 0) (directory_matters r lines base i 0 within (omega arith))))
+
+pub agrees_below : {top : ℕ} {base image : Image} (r : Record) (lines : ℕ) → AgreesOn (Matters r lines base) base image → AreBelow lines base top
+    → AreBelow lines image top
+agrees_below {base = base} r lines agrees below i k within low =
+    let was = below i k within low in omega (arith, agrees (entry_word i k) (directory_matters r lines base i k within (omega (arith, low))), was)
+
+-- ---- the contents
+
+pub versions-within : (r : Record) (d : State) (i : ℕ) → i < entries_of_lines d.lines → (contents_of r d).versions i ≡ version_at r (image_of d.words) i
+versions-within r d i within = cond-true (nat_lt i (entries_of_lines d.lines)) _ _ (lt-ltb i (entries_of_lines d.lines) within)
+
+pub versions-beyond : (r : Record) (d : State) (i : ℕ) → entries_of_lines d.lines ≤ i → (contents_of r d).versions i ≡ None
+versions-beyond r d i beyond = cond-false (nat_lt i (entries_of_lines d.lines)) _ _ (le-ltb i (entries_of_lines d.lines) beyond)
+
+-- An image that has the record keeps the contents.
+pub erased_keeps : {r : Record} {gone : ℕ → Bool} {base image : Image} (contents : Contents) → IsSound r contents.lines base
+    → IsErased r contents.current contents.lines gone base image → r.position ≤ contents.current.position
+    → AreBelow contents.lines image contents.current.cd
+    → ((i : ℕ) → i < entries_of_lines contents.lines → cond (gone i) None (version_at r base i) ≡ contents.versions i)
+    → HasRecord contents.lines contents.current image → Keeps contents image
+erased_keeps contents sound erased up below versions recorded =
+    let now = erased_sound sound erased up in
+    record {
+      superblock = now.superblock;
+      has_record = recorded;
+      versions = λ i within. erased_version sound erased i within ∙ versions i within;
+      entries = sound_under now below;
+    }
+
+-- At rest each crash leaves the contents.
+pub rest_keeps : (r : Record) (d : State) → IsAtRest r d → (image : Image) → IsImage d.words image → Keeps (contents_of r d) image
+rest_keeps r d rest image is =
+    let agrees : AgreesOn (Matters r d.lines (image_of d.words)) (image_of d.words) image = λ word matters. (rest.certain word matters).only (image word) (is word) in
+    erased_keeps (contents_of r d) (whole_sound rest.whole) (agrees_erased (whole_sound rest.whole) agrees) (omega arith)
+    (agrees_below r d.lines agrees (rest_below rest)) (λ i within. sym (versions-within r d i within)) (rest.recorded image is)
+
+-- the versions of a device's contents
+pub erased_versions : {r q : Record} {lines : ℕ} {gone : ℕ → Bool} {base : Image} (c : State) (versions : Versions) → IsSound r lines base
+    → IsErased r q lines gone base (image_of c.words) → c.lines ≡ lines
+    → ((i : ℕ) → i < entries_of_lines lines → cond (gone i) None (version_at r base i) ≡ versions i)
+    → ((i : ℕ) → entries_of_lines lines ≤ i → versions i ≡ None) → (i : ℕ) → (contents_of q c).versions i ≡ versions i
+erased_versions {r} {q} {lines} c versions sound erased same within beyond i =
+    elim (cases_lt i (entries_of_lines lines)) [
+      | inl low ↦ versions-within q c i (omega (arith, low, same)) ∙ erased_version sound erased i low ∙ within i low
+      | inr high ↦ versions-beyond q c i (omega (arith, high, same)) ∙ sym (beyond i high)
+    ]
+
+where_true : (a b c : Bool) → (a ≡ true → b ≡ c) → (a && b) ≡ (a && c)
+where_true true b c same = same refl
+where_true false b c same = refl
+
+-- which entries are free, from their begins
+pub erased_free : {lines : ℕ} (q : Record) (c : State) (i : ℕ) (free : Bool) → c.lines ≡ lines
+    → (i < entries_of_lines lines → (image_of c.words (entry_word i 0) == 0 || nat_lt q.cp (image_of c.words (entry_word i 0))) ≡ free)
+    → (contents_of q c).is_free i ≡ (nat_lt i (entries_of_lines lines) && free)
+erased_free {lines} q c i free same at =
+    let now : Bool = image_of c.words (entry_word i 0) == 0 || nat_lt q.cp (image_of c.words (entry_word i 0)) in
+    ap (λ (n : ℕ). nat_lt i (entries_of_lines n) && now) same
+    ∙ where_true (nat_lt i (entries_of_lines lines)) now free (λ is. at (ltb-true i (entries_of_lines lines) is))
+
+-- A device is at rest, if each crash leaves the record q, and what loads return wherever the map depended.
+pub erased_rest : {r q : Record} {lines : ℕ} {gone : ℕ → Bool} {base : Image} {b : State} → MIN_LINES ≤ lines → lines ≤ MAX_LINES → IsSound r lines base
+    → IsErased r q lines gone base (image_of b.words) → IsLawful q → r.position ≤ q.position → AreBelow lines (image_of b.words) (q.cp + 1)
+    → b.lines ≡ lines → ((image : Image) → IsImage b.words image → HasRecord b.lines q image)
+    → ((word : ℕ) → Matters r lines base word → Only (b.words word) (image_of b.words word)) → IsAtRest q b
+erased_rest {r} {q} {lines} {gone} {base} {b} many few sound erased lawful up below same recorded certain =
+    let now = erased_sound sound erased up in
+    let whole : IsWhole q lines (image_of b.words) =
+    record {
+      superblock = now.superblock;
+      begins = λ i within. omega (arith, below i 0 within (omega arith));
+      ends = λ i within. omega (arith, below i 1 within (omega arith));
+      entries = now.entries;
+      positions = now.positions;
+    } in
+    record {
+      many = omega (arith, same, many);
+      few = omega (arith, same, few);
       lawful = lawful;
-      whole = subst (λ (n : ℕ). IsWhole q n (image_of b.words)) (sym lines) (erased_whole rest.whole erased cp position);
+      whole = subst (λ (n : ℕ). IsWhole q n (image_of b.words)) (sym same) whole;
       recorded = recorded;
       certain = λ word matters.
-          certain word (erased_matters erased word (subst (λ (n : ℕ). Matters q n (image_of b.words) word) lines matters));
+          certain word (erased_matters sound erased word (subst (λ (n : ℕ). Matters q n (image_of b.words) word) same matters));
     }
+
+-- ---- undamaged images
+
+-- An image that has lost nothing of an undamaged one is undamaged.
+pub erased_undamaged : {r s : Record} {lines : ℕ} {base image : Image} → IsUndamaged lines r base → IsErased r s lines nothing base image
+    → r.position ≤ s.position → AreBelow lines image s.cd → IsCurrent lines image s → IsUndamaged lines s image
+erased_undamaged {r} {s} {lines} {base} {image} whole erased up below current =
+    let sound = undamaged_sound whole in
+    let now = erased_sound sound erased up in
+    record {
+      superblock = now.superblock;
+      current = current;
+      versions = record {
+        entries = sound_under now below;
+        apart = λ i j in_i in_j other begun_i begun_j.
+            let was_i = counted_before sound erased i in_i begun_i in
+            let was_j = counted_before sound erased j in_j begun_j in
+            let at_i = (erased.entry i in_i was_i).words in
+            let at_j = (erased.entry j in_j was_j).words in
+            elim (whole.versions.apart i j in_i in_j other was_i was_j) [
+              | inl before ↦
+                  inl (omega (arith, before, at_i 3 (omega arith) (omega arith), at_i 4 (omega arith) (omega arith), at_j 3 (omega arith) (omega arith)))
+              | inr behind ↦
+                  inr (omega (arith, behind, at_j 3 (omega arith) (omega arith), at_j 4 (omega arith) (omega arith), at_i 3 (omega arith) (omega arith)))
+            ];
+        distinct = λ i j in_i in_j other live_i live_j.
+            let was_i = was_live i in_i live_i in
+            let was_j = was_live j in_j live_j in
+            ap (λ (p : _). is_clash p.0 (record_in image j).0) (record_in-same base image i (erased.entry i in_i (and_parts (is_counted r base i) _ was_i).0))
+            ∙ ap (λ (p : _). is_clash (record_in base i).0 p.0) (record_in-same base image j (erased.entry j in_j (and_parts (is_counted r base j) _ was_j).0))
+            ∙ whole.versions.distinct i j in_i in_j other was_i was_j;
+      };
+    }
+  where
+    was_live : (i : ℕ) → i < entries_of_lines lines → IsTrue (is_live s image i) → IsTrue (is_live r base i)
+    was_live i within live =
+        let parts = and_parts (is_counted s image i) (not (counts s (image (entry_word i 1)))) live in
+        let was = counted_before (undamaged_sound whole) erased i within parts.0 in
+        and_from (is_counted r base i) (not (counts r (base (entry_word i 1)))) was (sym (ap not (erased.ended i within was)) ∙ parts.1)

@@ -1,24 +1,12 @@
 -- The loops that erase stamps, one step at a time.
-use Rattle.std.proofs.Common.{ℕ, ◌+◌, ◌<◌, List, [], ◌∷◌, length, take, get_or, ap, ◌∙◌}
-use Rattle.std.proofs.lemmas.List.{take_more, map-append}
+use Rattle.std.proofs.Common.{List}
 use Rattle.kv_types.specs.declared.place.EntryNo.{EntryNo}
 use Rattle.pmem.specs.Device.{State}
 use Rattle.pmem.specs.Runs.{Runs, stores, flushes}
 use Rattle.pmem.proofs.Chaining.{Runs-flushes}
-use Rattle.model.specs.Image.{entry_word}
 use Rattle.heap_layout.proofs.LayoutRuns.{Runs-more_stores, Runs-more_flushes}
 use Rattle.wbl_engine.specs.Erasing.{zero_pairs, erase_pairs, erase_lines}
 use Rattle.wbl_engine.specs.Stage.{end_lines}
-use Rattle.wbl_engine.proofs.StagingLemmas.{stores_more}
-
-pub zeros_stored : {a b c : State} (k : ℕ) (entries : List EntryNo) (i : ℕ) (d : EntryNo) → i < length entries
-    → Runs a b (stores (zero_pairs k (take i entries)) a.words) → Runs b c (stores ((entry_word (get_or entries i d).0 k, 0) ∷ []) b.words)
-    → Runs a c (stores (zero_pairs k (take (i + 1) entries)) a.words)
-zeros_stored {a} {b} {c} k entries i d below run more =
-    stores_more (zero_pairs k (take (i + 1) entries)) (zero_pairs k (take i entries)) ((entry_word (get_or entries i d).0 k, 0) ∷ [])
-    (ap (zero_pairs k) (take_more entries i d below)
-    ∙ map-append (λ (e : EntryNo). (entry_word e.0 k, 0)) (take i entries) (get_or entries i d ∷ []))
-    run more
 
 -- begins and ends, and then the lines of both
 pub erase_runs : {a b c d e : State} (begins ends : List EntryNo) → Runs a b (stores (zero_pairs 0 begins) a.words)

@@ -1,7 +1,6 @@
 -- The three steps of formatting leave an image from before, the new one, or one without the magic.
-use Rattle.std.proofs.Common.{◌≡◌, ◌≢◌, ℕ, ◌+◌, ◌*◌, ◌/◌, ◌<◌, ◌≤◌, Bool, ◌&&◌, ◌||◌, ◌==◌, IsTrue, List, [], ◌∷◌, inl, inr, None, get_or, refl, sym, ap, subst, ◌∙◌, arith}
-use Rattle.std.specs.Prelude.{nat_lt}
-use Rattle.std.proofs.lemmas.Bool.{cond-false, cases_lt, lt-ltb, both_ways}
+use Rattle.std.proofs.Common.{◌≡◌, ◌≢◌, ℕ, ◌+◌, ◌*◌, ◌/◌, ◌<◌, ◌≤◌, IsTrue, List, [], ◌∷◌, inl, inr, None, get_or, refl, sym, ap, subst, ◌∙◌, arith}
+use Rattle.std.proofs.lemmas.Bool.{cond-false, both_ways}
 use Rattle.pmem.specs.Device.{Word, State, MayBe, Only}
 use Rattle.pmem.specs.Crash.{image_of}
 use Rattle.pmem.specs.Runs.{LeavesOnly, Staged, StageFailed, IsPartlyStored, IsStored, IsOutside, written, lines_from}
@@ -11,10 +10,9 @@ use Rattle.model.specs.declared.image.TheConstants.{MIN_LINES, MAX_LINES}
 use Rattle.model.specs.declared.record.Role.{Role}
 use Rattle.model.specs.Image.{Image, HasSuperblock, HasRecord, magic_number, entry_word, entries_of_lines, first_extent_line, record_words, version_at, counts}
 use Rattle.model.proofs.RecordLemmas.{HasRecord-lines}
-use Rattle.wbl_engine.specs.AtRest.{contents_of, IsWhole, IsAtRest, Matters}
-use Rattle.wbl_engine.specs.Contents.{Keeps, IsNew}
+use Rattle.wbl_engine.specs.AtRest.{IsWhole, IsAtRest, Matters}
+use Rattle.wbl_engine.specs.Contents.{Keeps}
 use Rattle.wbl_engine.specs.Formatting.{first_record, superblock_words, new_contents, new_pairs, IsFormatting}
-use Rattle.wbl_engine.proofs.Beginning.{versions-within, versions-beyond}
 use Rattle.wbl_engine.proofs.CountLemmas.{counts-zero}
 use Rattle.wbl_record.proofs.Mixing.{image_of-is}
 use Rattle.wbl_engine.proofs.NewImage.{magic_outside, new_super, new_first, new_entry}
@@ -238,33 +236,6 @@ format_rest {a} {b} {c} {d} role many few first second third =
           certain_below a.lines role second third word
           (matters_below a.lines role (image_of d.words) now.1 word
           (subst (λ (n : ℕ). Matters (first_record role) n (image_of d.words) word) lines matters));
-    }
-
--- Its contents are new.
-pub rest_new : (role : Role) (d : State) → IsAtRest (first_record role) d → IsNew d.lines role (contents_of (first_record role) d)
-rest_new role d rest =
-    let none : (i : ℕ) → i < entries_of_lines d.lines → image_of d.words (entry_word i 0) ≡ 0 =
-    λ i within. omega (arith, rest.whole.begins i within) in
-    record {
-      number = refl;
-      position = refl;
-      cp = refl;
-      cd = refl;
-      epoch = refl;
-      role_is = refl;
-      gaps = refl;
-      line_count = refl;
-      versions = λ i.
-          elim (cases_lt i (entries_of_lines d.lines)) [
-            | inl within ↦
-                versions-within (first_record role) d i within
-                ∙ cond-false _ _ _ (ap (counts (first_record role)) (none i within) ∙ counts-zero (first_record role))
-            | inr beyond ↦ versions-beyond (first_record role) d i beyond
-          ];
-      is_free = λ i within.
-          ap (λ (t : Bool). t && (image_of d.words (entry_word i 0) == 0 || nat_lt 0 (image_of d.words (entry_word i 0))))
-          (lt-ltb i (entries_of_lines d.lines) within)
-          ∙ ap (λ (b : ℕ). b == 0 || nat_lt 0 b) (none i within);
     }
 
 -- the device has as many lines as before

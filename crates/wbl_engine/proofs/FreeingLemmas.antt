@@ -1,7 +1,7 @@
 -- Versions that have ended are freed.
-use Rattle.std.proofs.Common.{◌≡◌, ℕ, ◌<◌, Bool, true, false, cond, ◌&&◌, ◌||◌, ◌==◌, IsTrue, List, [], ◌∷◌, ◌++◌, inl, inr, Option, None, Some, map, refl, sym, ap, subst, ◌∙◌, arith}
-use Rattle.std.specs.Prelude.{nat_eq, nat_lt}
-use Rattle.std.proofs.lemmas.Bool.{cond-true, cond-false, or_cases, and_parts, and_from, eqb-true, eq-eqb, lt-ltb, le-ltb, cases_lt, both_ways}
+use Rattle.std.proofs.Common.{◌≡◌, ℕ, zero, suc, ◌<◌, Bool, true, false, cond, ◌&&◌, ◌==◌, IsTrue, List, [], ◌∷◌, ◌++◌, inl, inr, Option, None, Some, map, refl, sym, ap, subst, ◌∙◌, arith}
+use Rattle.std.specs.Prelude.{nat_eq}
+use Rattle.std.proofs.lemmas.Bool.{cond-true, or_cases, and_parts, and_from, eqb-true, eq-eqb, both_ways}
 use Rattle.kv_types.specs.declared.place.EntryNo.{EntryNo}
 use Rattle.kv_types.specs.declared.place.Extent.{Extent}
 use Rattle.pmem.specs.Device.{State}
@@ -12,13 +12,14 @@ use Rattle.model.specs.declared.record.Record.{Record}
 use Rattle.model.specs.Image.{Image, IsMapOf, Version, entry_word, entries_of_lines, counts, version_at, version_in}
 use Rattle.model.specs.Group.{Contents, Versions, is_ended_version}
 use Rattle.model.proofs.MapLemmas.{IsMapOf-same}
-use Rattle.wbl_engine.specs.AtRest.{IsAtRest, contents_of}
+use Rattle.wbl_engine.specs.AtRest.{IsAtRest, Matters, contents_of}
 use Rattle.wbl_engine.specs.Contents.{Same}
 use Rattle.wbl_engine.specs.Erasing.{erase_pairs, erase_lines, extent_in}
-use Rattle.wbl_engine.specs.Freeing.{AreEnded, KeepsMap, KeepsWithoutSome, after_free, extent_of, extents_of, is_listed}
+use Rattle.wbl_engine.specs.Freeing.{AreEnded, KeepsMap, KeepsWithoutSome, after_free, extent_of, extents_of, is_listed, without}
 use Rattle.wbl_engine.specs.Stage.{AreWithin}
-use Rattle.wbl_engine.proofs.Erased.{IsErased, erased_version, version_within}
-use Rattle.wbl_engine.proofs.ErasedStamps.{AreErased, AreGone, IsErasing, erased_over, listed_begin, made_free, made_over, partly_keeps, staged_rest}
+use Rattle.wbl_engine.proofs.Erased.{IsSound, directory_matters, erased_keeps, erased_rest, erased_versions, rest_below, versions-beyond, versions-within, whole_below, whole_sound}
+use Rattle.wbl_engine.proofs.ErasedStamps.{AreGone, IsErasing, erase_behind, erase_line, erased_below, erased_over, is_erased_at, made_free, written_stamp}
+use Rattle.wbl_engine.proofs.Storing.{AgreesOn, partly_over, partly_recorded, staged_only, staged_recorded, written_over}
 use Rattle.wbl_engine.proofs.WithoutLemmas.{IsMapOf-without}
 
 -- ---- what is asked of the entries
@@ -42,12 +43,11 @@ ended_lines r d (entry ∷ entries) rest ended = (omega (arith, ended.0, rest.ma
 -- only begins are erased
 pub ended_erasing : (r : Record) (d : State) (entries : List EntryNo) → AreEnded (contents_of r d) entries
     → IsErasing r d.lines (image_of d.words) entries []
-ended_erasing r d entries ended =
-    record {
-      begins_within = λ i listed. (ended_within (contents_of r d) entries i ended listed).0;
-      ends_within = λ i listed. absurd (both_ways false refl listed);
-      uncounted = λ i listed. absurd (both_ways false refl listed);
-    }
+ended_erasing r d entries ended = record { within = within; uncounted = λ i listed. absurd (both_ways false refl listed) }
+  where
+    within : (i k : ℕ) → k < 2 → IsTrue (is_erased_at entries [] i k) → i < entries_of_lines d.lines
+    within i zero low listed = (ended_within (contents_of r d) entries i ended listed).0
+    within i (suc k) low listed = absurd (both_ways false refl listed)
 
 -- the extents that the entries name are those of their versions
 version_extent : (r : Record) (image : Image) (begun : Bool) (i : ℕ) → IsTrue (is_ended_version (cond begun (Some (version_in r image i)) None))
@@ -59,7 +59,7 @@ pub ended_extents : (r : Record) (d : State) (entries : List EntryNo) → AreEnd
     → map (λ (entry : EntryNo). extent_in (image_of d.words) entry.0) entries ≡ extents_of (contents_of r d).versions entries
 ended_extents r d [] ended = refl
 ended_extents r d (entry ∷ entries) ended =
-    let at : (contents_of r d).versions entry.0 ≡ version_at r (image_of d.words) entry.0 = version_within r d entry.0 ended.0 in
+    let at : (contents_of r d).versions entry.0 ≡ version_at r (image_of d.words) entry.0 = versions-within r d entry.0 ended.0 in
     let one : extent_of ((contents_of r d).versions entry.0) ≡ extent_in (image_of d.words) entry.0 ∷ [] =
     ap extent_of at
     ∙ version_extent r (image_of d.words) (counts r (image_of d.words (entry_word entry.0 0))) entry.0
@@ -69,85 +69,81 @@ ended_extents r d (entry ∷ entries) ended =
 
 -- ---- once they are freed
 
-listed_gone : (r : Record) (d : State) (entries : List EntryNo) {image : Image} → AreErased r d entries [] image
+listed_gone : (r : Record) (d : State) (entries : List EntryNo) (image : Image)
+    → AgreesOn (Matters r d.lines (image_of d.words)) (written (erase_pairs entries []) (image_of d.words)) image
     → AreGone r d.lines (image_of d.words) entries (λ i. is_listed i entries) image
-listed_gone r d entries {image} made =
+listed_gone r d entries image made =
     record {
-      zero_is = λ i within listed. listed_begin r d entries [] made i within listed;
+      zero_is = λ i within listed.
+          made (entry_word i 0) (directory_matters r d.lines (image_of d.words) i 0 within (omega arith))
+          ∙ written_stamp entries [] (image_of d.words) i 0 (omega arith)
+          ∙ cond-true (is_listed i entries) 0 (image_of d.words (entry_word i 0)) listed;
       erased = λ i listed zeroed unlisted. absurd (both_ways (is_listed i entries) unlisted listed);
     }
 
--- The contents lack the versions of the entries.
-pub freed_same : (r : Record) (d b : State) (entries : List EntryNo) → IsAtRest r d → AreEnded (contents_of r d) entries
-    → ((word : ℕ) → image_of b.words word ≡ written (erase_pairs entries []) (image_of d.words) word) → b.lines ≡ d.lines
-    → Same (after_free entries (contents_of r d)) (contents_of r b)
-freed_same r d b entries rest ended newest lines =
-    let image : Image = image_of b.words in
-    let made : AreErased r d entries [] image = λ word matters. newest word in
-    let erasing = ended_erasing r d entries ended in
-    let gone : ℕ → Bool = λ i. is_listed i entries in
-    let erased : IsErased r r d.lines gone (image_of d.words) image =
-    erased_over gone image rest.whole erasing (made_over r d entries [] made) (listed_gone r d entries made) in
-    let at : ℕ → ℕ → Option Version = λ (n i : ℕ). cond (nat_lt i (entries_of_lines n)) (version_at r image i) None in
-    let free : ℕ → ℕ → Bool =
-    λ (n i : ℕ). nat_lt i (entries_of_lines n) && (image (entry_word i 0) == 0 || nat_lt r.cp (image (entry_word i 0))) in
-    record {
-      current = refl;
-      lines = lines;
-      versions = λ i.
-          ap (λ (n : ℕ). at n i) lines
-          ∙ elim (cases_lt i (entries_of_lines d.lines)) [
-            | inl within ↦
-                cond-true (nat_lt i (entries_of_lines d.lines)) (version_at r image i) None (lt-ltb i (entries_of_lines d.lines) within)
-                ∙ erased_version rest.whole erased i within
-                ∙ ap (λ (v : Option Version). cond (gone i) None v) (sym (version_within r d i within))
-            | inr beyond ↦
-                cond-false (nat_lt i (entries_of_lines d.lines)) (version_at r image i) None (le-ltb i (entries_of_lines d.lines) beyond)
-                ∙ sym (none_anyway (gone i)
-                (cond-false (nat_lt i (entries_of_lines d.lines)) (version_at r (image_of d.words) i) None (le-ltb i (entries_of_lines d.lines) beyond)))
-          ];
-      is_free = λ i. ap (λ (n : ℕ). free n i) lines ∙ made_free r d entries [] erasing made i;
-    }
-  where
-    none_anyway : {X : Type 0} {x : Option X} (b : Bool) → x ≡ None → cond b None x ≡ None
-    none_anyway true e = refl
-    none_anyway false e = e
+module _ (r : Record) (d : State) (entries : List EntryNo) (rest : IsAtRest r d) (ended : AreEnded (contents_of r d) entries) where
+  sound : IsSound r d.lines (image_of d.words)
+  sound = whole_sound rest.whole
 
-pub freed_rest : (r : Record) (d b : State) (entries : List EntryNo) → IsAtRest r d → AreEnded (contents_of r d) entries
-    → Staged d b (erase_pairs entries []) (erase_lines entries []) → IsAtRest r b
-freed_rest r d b entries rest ended staged =
-    staged_rest entries [] (λ i. is_listed i entries) rest (ended_erasing r d entries ended)
-    (listed_gone r d entries (λ word matters. staged.newest word)) staged
+  -- The contents lack the versions of the entries.
+  pub freed_same : (b : State) → ((word : ℕ) → image_of b.words word ≡ written (erase_pairs entries []) (image_of d.words) word) → b.lines ≡ d.lines
+      → Same (after_free entries (contents_of r d)) (contents_of r b)
+  freed_same b newest lines =
+      let over = written_over (Matters r d.lines (image_of d.words)) (image_of d.words) (image_of b.words) (erase_pairs entries []) (λ word matters. newest word) in
+      record {
+        current = refl;
+        lines = lines;
+        versions = erased_versions b (after_free entries (contents_of r d)).versions sound
+            (erased_over sound (ended_erasing r d entries ended) (λ i. is_listed i entries) (image_of b.words) over
+            (listed_gone r d entries (image_of b.words) (λ word matters. newest word))) lines
+            (λ i within. ap (λ (v : Option Version). cond (is_listed i entries) None v) (sym (versions-within r d i within)))
+            (λ i beyond. none_anyway (is_listed i entries) (versions-beyond r d i beyond));
+        is_free = made_free d b (ended_erasing r d entries ended) (λ word matters. newest word) lines;
+      }
+    where
+      none_anyway : {X : Type 0} {x : Option X} (b : Bool) → x ≡ None → cond b None x ≡ None
+      none_anyway true e = refl
+      none_anyway false e = e
 
--- ---- at each crash
+  pub freed_rest : (b : State) → Staged d b (erase_pairs entries []) (erase_lines entries []) → IsAtRest r b
+  freed_rest b staged =
+      let over =
+      written_over (Matters r d.lines (image_of d.words)) (image_of d.words) (image_of b.words) (erase_pairs entries []) (λ word matters. staged.newest word) in
+      erased_rest rest.many rest.few sound
+      (erased_over sound (ended_erasing r d entries ended) (λ i. is_listed i entries) (image_of b.words) over
+      (listed_gone r d entries (image_of b.words) (λ word matters. staged.newest word)))
+      rest.lawful (omega arith) (erased_below sound (ended_erasing r d entries ended) (image_of b.words) over (whole_below rest.whole)) staged.stays.lines
+      (staged_recorded (erase_behind entries []) staged rest.recorded)
+      (λ word matters. staged_only (erase_line entries []) staged word (λ out. rest.certain word matters))
 
--- some of the begins are erased
-pub freed_partly : (r : Record) (d : State) (entries : List EntryNo) (image : Image) → IsAtRest r d → AreEnded (contents_of r d) entries
-    → IsPartlyStored (erase_pairs entries []) d.words image → KeepsWithoutSome entries (contents_of r d) image
-freed_partly r d entries image rest ended partly =
-    let gone : ℕ → Bool = λ i. is_listed i entries && (image (entry_word i 0) == 0) in
-    let are : AreGone r d.lines (image_of d.words) entries gone image =
-    record {
-      zero_is = λ i within is. eqb-true (image (entry_word i 0)) 0 (and_parts (is_listed i entries) (image (entry_word i 0) == 0) is).1;
-      erased = λ i listed zeroed not.
-          absurd (both_ways (gone i) not
-          (and_from (is_listed i entries) (image (entry_word i 0) == 0) listed (eq-eqb (image (entry_word i 0)) 0 zeroed)));
-    } in (
-      gone,
-      λ i is. (and_parts (is_listed i entries) (image (entry_word i 0) == 0) is).0,
-      partly_keeps entries [] gone image rest (ended_erasing r d entries ended) partly are,
-    )
+  -- ---- at each crash
 
-pub freed_moments : (r : Record) (d b : State) (entries : List EntryNo) → IsAtRest r d → AreEnded (contents_of r d) entries
-    → LeavesOnly d b (IsPartlyStored (erase_pairs entries []) d.words) → LeavesOnly d b (KeepsWithoutSome entries (contents_of r d))
-freed_moments r d b entries rest ended moments =
-    LeavesOnly-weaken (KeepsWithoutSome entries (contents_of r d)) (λ image partly. freed_partly r d entries image rest ended partly) moments
+  -- some of the begins are erased
+  freed_partly : (image : Image) → IsPartlyStored (erase_pairs entries []) d.words image → KeepsWithoutSome entries (contents_of r d) image
+  freed_partly image partly =
+      let gone : ℕ → Bool = λ i. is_listed i entries && (image (entry_word i 0) == 0) in
+      let over = partly_over (Matters r d.lines (image_of d.words)) d image (erase_pairs entries []) rest.certain partly in
+      let are : AreGone r d.lines (image_of d.words) entries gone image =
+      record {
+        zero_is = λ i within is. eqb-true (image (entry_word i 0)) 0 (and_parts (is_listed i entries) (image (entry_word i 0) == 0) is).1;
+        erased = λ i listed zeroed left.
+            absurd (both_ways (gone i) left
+            (and_from (is_listed i entries) (image (entry_word i 0) == 0) listed (eq-eqb (image (entry_word i 0)) 0 zeroed)));
+      } in (
+        gone,
+        λ i is. (and_parts (is_listed i entries) (image (entry_word i 0) == 0) is).0,
+        erased_keeps (without gone (contents_of r d)) sound (erased_over sound (ended_erasing r d entries ended) gone image over are) (omega arith)
+            (erased_below sound (ended_erasing r d entries ended) image over (rest_below rest))
+            (λ i within. ap (λ (v : Option Version). cond (gone i) None v) (sym (versions-within r d i within)))
+            (partly_recorded d image (erase_pairs entries []) (erase_behind entries []) rest.recorded partly),
+      )
 
--- where nothing was stored
-pub freed_none : (r : Record) (d : State) (entries : List EntryNo) → IsAtRest r d → AreEnded (contents_of r d) entries
-    → LeavesOnly d d (KeepsWithoutSome entries (contents_of r d))
-freed_none r d entries rest ended =
-    none_leaves d (KeepsWithoutSome entries (contents_of r d)) (λ image is. freed_partly r d entries image rest ended (λ word. inl (is word)))
+  pub freed_moments : (b : State) → LeavesOnly d b (IsPartlyStored (erase_pairs entries []) d.words) → LeavesOnly d b (KeepsWithoutSome entries (contents_of r d))
+  freed_moments b moments = LeavesOnly-weaken (KeepsWithoutSome entries (contents_of r d)) freed_partly moments
+
+  -- where nothing was stored
+  pub freed_none : LeavesOnly d d (KeepsWithoutSome entries (contents_of r d))
+  freed_none = none_leaves d (KeepsWithoutSome entries (contents_of r d)) (λ image is. freed_partly image (λ word. inl (is word)))
 
 -- ---- the map
 

@@ -1,18 +1,17 @@
 -- The oldest gap of a record, the stamps in it, and the record without it.
-use Rattle.std.proofs.Common.{◌≡◌, ℕ, zero, suc, ◌+◌, ◌<◌, ◌≤◌, Bool, true, false, cond, not, ◌&&◌, ◌||◌, ◌==◌, IsTrue, List, [], ◌∷◌, inl, inr, length, drop, refl, sym, ap, subst, ◌∙◌, arith}
-use Rattle.std.specs.Prelude.{◌↔◌, nat_eq, nat_le, nat_lt, slice_index_or}
+use Rattle.std.proofs.Common.{◌≡◌, ℕ, zero, suc, ◌+◌, ◌<◌, ◌≤◌, Bool, true, false, not, ◌&&◌, ◌||◌, ◌==◌, IsTrue, List, [], ◌∷◌, length, drop, refl, sym, ap, subst, ◌∙◌, arith}
+use Rattle.std.specs.Prelude.{◌↔◌, nat_le, nat_lt, slice_index_or}
 use Rattle.std.specs.List.{list_any}
-use Rattle.std.proofs.lemmas.Bool.{cases_eq, or_cases, or_left, or_right, or_from, and_parts, and_right, and_left, leb-true, lt-leb, le-ltb, eqb-true, eq-eqb, both_ways}
-use Rattle.std.proofs.lemmas.List.Folds.{list_any-append}
-use Rattle.kv_types.specs.declared.place.EntryNo.{EntryNo}
+use Rattle.std.proofs.lemmas.Bool.{or_left, or_from, and_parts, and_right, and_left, leb-true, lt-leb, le-ltb, both_ways}
+use Rattle.std.proofs.lemmas.List.{length-drop}
 use Rattle.pmem.proofs.Staging.{unequal}
 use Rattle.model.specs.declared.image.TheConstants.{COUNTER_LIMIT}
 use Rattle.model.specs.declared.record.Gap.{Gap}
 use Rattle.model.specs.declared.record.Record.{Record}
-use Rattle.model.specs.Image.{Image, counts, entry_word, is_in_gap}
+use Rattle.model.specs.Image.{counts, is_in_gap}
 use Rattle.wbl_record.specs.Current.{AreGaps, IsLawful}
-use Rattle.wbl_engine.specs.Erasing.{oldest_gap, stamped_at, stamped_below}
-use Rattle.wbl_engine.specs.Freeing.{is_listed, record_after_clearing}
+use Rattle.wbl_engine.specs.Erasing.{oldest_gap}
+use Rattle.wbl_engine.specs.Freeing.{record_after_clearing}
 
 -- ---- the record without its oldest gap
 
@@ -23,10 +22,6 @@ gaps_from low lower (gap ∷ gaps) cp down are = (omega (arith, are.0, down), ar
 gaps_but_one : (gaps : List Gap) (cp : ℕ) → AreGaps 0 gaps cp → AreGaps 0 (drop 1 gaps) cp
 gaps_but_one [] cp are = tt
 gaps_but_one (gap ∷ gaps) cp are = gaps_from gap.last 0 gaps cp (omega arith) are.3
-
-fewer_gaps : (gaps : List Gap) (most : ℕ) → length gaps ≤ most → length (drop 1 gaps) ≤ most
-fewer_gaps [] most few = few
-fewer_gaps (gap ∷ gaps) most few = omega (arith, few)
 
 -- it obeys the rules of records
 pub lawful_but_one : (r : Record) → IsLawful r → r.number + 1 < COUNTER_LIMIT → IsLawful (record_after_clearing r)
@@ -39,7 +34,7 @@ lawful_but_one r lawful room =
       room = lawful.room;
       some_epoch = lawful.some_epoch;
       epoch = lawful.epoch;
-      few = fewer_gaps r.gaps.items 8 lawful.few;
+      few = simp length-drop (omega (arith, lawful.few));
       gaps = gaps_but_one r.gaps.items r.cp lawful.gaps;
     }
 
@@ -91,47 +86,3 @@ inside_not_free r gap stamp first inside =
     let to : stamp ≤ gap.last = leb-true stamp gap.last parts.1 in
     or_from (stamp == 0) (nat_lt r.cp stamp) (unequal stamp 0 (λ e. omega (arith, e, from, first.low)))
     (le-ltb r.cp stamp (omega (arith, to, first.high)))
-
--- ---- the entries with a stamp in a gap
-
-stamped_one : (gap : Gap) (image : Image) (k i n : ℕ) (inside : Bool) → IsTrue (is_listed i (cond inside (record { 0 = n } ∷ []) []))
-    → (i ≡ n) × IsTrue inside
-stamped_one gap image k i n true listed =
-    elim (or_cases (nat_eq i n) false listed) [
-      | inl same ↦ (eqb-true i n same, refl)
-      | inr none ↦ absurd (both_ways false refl none)
-    ]
-stamped_one gap image k i n false listed = absurd (both_ways false refl listed)
-
-pub stamped_where : (gap : Gap) (image : Image) (k n i : ℕ) → IsTrue (is_listed i (stamped_below gap image k n))
-    → (i < n) × IsTrue (is_in_gap (image (entry_word i k)) gap)
-stamped_where gap image k zero i listed = absurd (both_ways false refl listed)
-stamped_where gap image k (suc n) i listed =
-    let test : EntryNo → Bool = λ (entry : EntryNo). nat_eq i entry.0 in
-    elim (or_cases (is_listed i (stamped_below gap image k n)) (is_listed i (stamped_at gap image k n))
-    (sym (list_any-append test (stamped_below gap image k n) (stamped_at gap image k n)) ∙ listed)) [
-      | inl below ↦ let more = stamped_where gap image k n i below in (omega (arith, more.0), more.1)
-      | inr here ↦
-          let at = stamped_one gap image k i n (is_in_gap (image (entry_word n k)) gap) here in
-          (omega (arith, at.0), ap (λ (j : ℕ). is_in_gap (image (entry_word j k)) gap) at.0 ∙ at.1)
-    ]
-
-stamped_here : (i n : ℕ) (inside : Bool) → i ≡ n → IsTrue inside → IsTrue (is_listed i (cond inside (record { 0 = n } ∷ []) []))
-stamped_here i n true same is = or_left (nat_eq i n) false (eq-eqb i n same)
-stamped_here i n false same is = absurd (both_ways false refl is)
-
-pub stamped_listed : (gap : Gap) (image : Image) (k n i : ℕ) → i < n → IsTrue (is_in_gap (image (entry_word i k)) gap)
-    → IsTrue (is_listed i (stamped_below gap image k n))
-stamped_listed gap image k zero i below inside = absurd (omega (arith, below))
-stamped_listed gap image k (suc n) i below inside =
-    let test : EntryNo → Bool = λ (entry : EntryNo). nat_eq i entry.0 in
-    list_any-append test (stamped_below gap image k n) (stamped_at gap image k n)
-    ∙ elim (cases_eq i n) [
-      | inl same ↦
-          or_right (is_listed i (stamped_below gap image k n)) (is_listed i (stamped_at gap image k n))
-          (stamped_here i n (is_in_gap (image (entry_word n k)) gap) same
-          (ap (λ (j : ℕ). is_in_gap (image (entry_word j k)) gap) (sym same) ∙ inside))
-      | inr other ↦
-          or_left (is_listed i (stamped_below gap image k n)) (is_listed i (stamped_at gap image k n))
-          (stamped_listed gap image k n i (omega (arith, below, other)) inside)
-    ]

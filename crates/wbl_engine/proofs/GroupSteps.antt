@@ -15,16 +15,9 @@ use Rattle.wbl_engine.proofs.PartEffects.{IsAmong, end_if, end_if_begun, changes
 use Rattle.wbl_engine.proofs.PartWords.{part_word-kept}
 use Rattle.wbl_engine.proofs.PartSteps.{Fits, IsReady, AreStored, part_fits}
 use Rattle.wbl_engine.proofs.PutPairs.{among-all}
+use Rattle.wbl_engine.proofs.StagingLemmas.{all-prefix, all-back}
 
 -- concatenated lists
-
-pub all-prefix : (P : Put → Type 0) (a b : List Put) → AllByRecursion P (a ++ b) → AllByRecursion P a
-all-prefix P [] b all = tt
-all-prefix P (put ∷ a) b all = (all.0, all-prefix P a b all.1)
-
-pub all-back : (P : Put → Type 0) (a b : List Put) → AllByRecursion P (a ++ b) → AllByRecursion P b
-all-back P [] b all = all
-all-back P (put ∷ a) b all = all-back P a b all.1
 
 pub apart-prefix : (a b : List Put) → AreAllApart (a ++ b) → AreAllApart a
 apart-prefix [] b apart = tt
@@ -92,7 +85,7 @@ still_ready lines stamp versions image part parts stored put among =
     none-from put.entry.0 a (λ other there e. (apart-across a b stored.apart other put there among).entries (sym e)) in
     record {
       free =
-          part_word-kept lines stamp part image put.entry.0 0 placed.entry (omega arith) (omega arith) none (all-prefix (IsPlaced lines) a b stored.placed)
+          part_word-kept lines stamp part image (all-prefix (IsPlaced lines) a b stored.placed) put.entry.0 0 placed.entry (omega arith) (omega arith) none
           ∙ was.free;
       lines = λ i version is.
           elim (cases_Bool (is_put_at i a)) [

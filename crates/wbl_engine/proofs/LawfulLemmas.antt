@@ -93,20 +93,25 @@ group_lawful contents group are asked room =
       map = distinct_map versions entries distinct;
     }
 
--- ---- contents that say the same
+-- ---- contents with the same versions
 
-pub same_lawful : (old new : Contents) → Same old new → AreLawful old → AreLawful new
-same_lawful old new same are =
+-- they obey the rules, if their record does
+pub lawful_from : (old new : Contents) → IsLawful new.current → new.lines ≡ old.lines → ((i : ℕ) → new.versions i ≡ old.versions i)
+    → AreLawful old → AreLawful new
+lawful_from old new current lines versions are =
     record {
-      many = omega (arith, same.lines, are.many);
-      few = omega (arith, same.lines, are.few);
-      current = subst IsLawful (sym same.current) are.current;
-      apart = λ i j v w differ is_v is_w. are.apart i j v w differ (sym (same.versions i) ∙ is_v) (sym (same.versions j) ∙ is_w);
+      many = omega (arith, lines, are.many);
+      few = omega (arith, lines, are.few);
+      current = current;
+      apart = λ i j v w differ is_v is_w. are.apart i j v w differ (sym (versions i) ∙ is_v) (sym (versions j) ∙ is_w);
       keyspace = are.keyspace;
       lawful = are.lawful;
-      map = subst (λ (n : ℕ). IsMapOf new.versions (entries_of_lines n) are.keyspace) (sym same.lines)
-          (IsMapOf-same old.versions new.versions (entries_of_lines old.lines) are.keyspace (λ i within. sym (same.versions i)) are.map);
+      map = subst (λ (n : ℕ). IsMapOf new.versions (entries_of_lines n) are.keyspace) (sym lines)
+          (IsMapOf-same old.versions new.versions (entries_of_lines old.lines) are.keyspace (λ i within. sym (versions i)) are.map);
     }
+
+pub same_lawful : (old new : Contents) → Same old new → AreLawful old → AreLawful new
+same_lawful old new same are = lawful_from old new (subst IsLawful (sym same.current) are.current) same.lines same.versions are
 
 -- ---- an image
 

@@ -2,7 +2,8 @@
 use Rattle.std.proofs.Common.{◌≡◌, ℕ, Bool, true, false, ◌||◌, List, [], ◌∷◌, ◌++◌, ◌⊎◌, inl, inr, Option, None, Some, refl, sym, ap, subst, ◌∙◌}
 use Rattle.std.specs.Prelude.{nat_eq}
 use Rattle.std.specs.List.{flat_map, AllByRecursion}
-use Rattle.std.proofs.lemmas.Bool.{cond-true, cond-false, eq-eqb, eqb-true, ne_eqb, or_parts, or_cases, or_from}
+use Rattle.std.proofs.Math.Bool.{or-false, or_assoc}
+use Rattle.std.proofs.lemmas.Bool.{cond-true, cond-false, eq-eqb, eqb-true, ne_eqb, or_parts, or_cases, or_from, or_right}
 use Rattle.kv_types.specs.declared.change.Change.{Change}
 use Rattle.model.specs.declared.group.Put.{Put}
 use Rattle.model.specs.declared.group.PlacedChange.{PlacedChange}
@@ -12,15 +13,7 @@ use Rattle.model.specs.Group.{Versions, change_of, put_of, ends_record, ended_wh
 
 -- the version, ended where the test says so
 abbrev pub end_if : Bool → Version → Version
-end_if b v =
-    record {
-      id = v.id;
-      value = v.value;
-      position = v.position;
-      first_line = v.first_line;
-      lines = v.lines;
-      is_ended = v.is_ended || b;
-    }
+end_if b v = record v { is_ended = v.is_ended || b }
 
 abbrev pub end_if_begun : Bool → Option Version → Option Version
 end_if_begun b None = None
@@ -31,21 +24,13 @@ pub record IsKeptOrEnded (old new : Option Version) : Type 0 where
   pub test : Bool
   pub is : new ≡ end_if_begun test old
 
-or_assoc : (a b c : Bool) → ((a || b) || c) ≡ (a || (b || c))
-or_assoc true b c = refl
-or_assoc false b c = refl
-
 end_if_begun-twice : (b c : Bool) (o : Option Version) → end_if_begun c (end_if_begun b o) ≡ end_if_begun (b || c) o
 end_if_begun-twice b c None = refl
-end_if_begun-twice b c (Some v) = ap (λ (e : Bool). Some (record { id = v.id; value = v.value; position = v.position; first_line = v.first_line; lines = v.lines; is_ended = e })) (or_assoc v.is_ended b c)
-
-or_false : (b : Bool) → (b || false) ≡ b
-or_false true = refl
-or_false false = refl
+end_if_begun-twice b c (Some v) = ap (λ (e : Bool). Some (record v { is_ended = e })) (or_assoc v.is_ended b c)
 
 end_if_begun-false : (o : Option Version) → o ≡ end_if_begun false o
 end_if_begun-false None = refl
-end_if_begun-false (Some v) = ap (λ (e : Bool). Some (record { id = v.id; value = v.value; position = v.position; first_line = v.first_line; lines = v.lines; is_ended = e })) (sym (or_false v.is_ended))
+end_if_begun-false (Some v) = ap (λ (e : Bool). Some (record v { is_ended = e })) (sym (or-false v.is_ended))
 
 kept : (o : Option Version) → IsKeptOrEnded o o
 kept o = record { test = false; is = end_if_begun-false o }
@@ -61,14 +46,11 @@ ended_where_begun-kept : (change : Change) (o : Option Version) → IsKeptOrEnde
 ended_where_begun-kept change None = record { test = false; is = refl }
 ended_where_begun-kept change (Some v) = record { test = ends_record change v.id; is = refl }
 
-is_put_at-other : (i : ℕ) (put : Put) (puts : List Put) → is_put_at i (put ∷ puts) ≡ false → (nat_eq i put.entry.0 ≡ false) × (is_put_at i puts ≡ false)
-is_put_at-other i put puts e = or_parts (nat_eq i put.entry.0) (is_put_at i puts) e
-
 -- one change at an entry where it puts nothing
 change_kept : (position : ℕ) (versions : Versions) (change : PlacedChange) (i : ℕ) → is_put_at i (put_of change) ≡ false
     → IsKeptOrEnded (versions i) (change_versions position versions change i)
 change_kept position versions (placed.Put put) i none =
-    let other = (is_put_at-other i put [] none).0 in
+    let other = (or_parts (nat_eq i put.entry.0) false none).0 in
     let e : change_versions position versions (placed.Put put) i ≡ ended_where_begun (change_of (placed.Put put)) (versions i) =
     cond-false (nat_eq i put.entry.0) _ _ other in
     subst (λ (o : Option Version). IsKeptOrEnded (versions i) o) (sym e) (ended_where_begun-kept (change_of (placed.Put put)) (versions i))
@@ -111,12 +93,7 @@ among-is_put_at put [] among = absurd among
 among-is_put_at put (other ∷ puts) (inl here) =
     ap (λ (b : Bool). b || is_put_at put.entry.0 puts) (eq-eqb put.entry.0 other.entry.0 (ap (λ (p : Put). p.entry.0) here))
 among-is_put_at put (other ∷ puts) (inr later) =
-    let rest = among-is_put_at put puts later in
-    ap (λ (b : Bool). nat_eq put.entry.0 other.entry.0 || b) rest ∙ or_true (nat_eq put.entry.0 other.entry.0)
-  where
-    or_true : (b : Bool) → (b || true) ≡ true
-    or_true true = refl
-    or_true false = refl
+    or_right (nat_eq put.entry.0 other.entry.0) (is_put_at put.entry.0 puts) (among-is_put_at put puts later)
 
 -- a put is none of those that it is apart from
 pub apart-is_put_at : (put : Put) (puts : List Put) → AllByRecursion (IsApartFrom put) puts → is_put_at put.entry.0 puts ≡ false

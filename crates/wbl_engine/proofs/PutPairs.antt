@@ -28,60 +28,48 @@ puts_pairs-outside stamp position (put ∷ puts) word extents entries x stored =
           puts_pairs-outside stamp position puts word (λ q among. extents q (inr among)) (λ q among. entries q (inr among)) x later
     ]
 
-entries_apart : (lines : ℕ) (put other : Put) (k : ℕ) → k < 8 → IsApartFrom put other → IsOfEntry other (entry_word put.entry.0 k) → ⊥
-entries_apart lines put other k below apart of =
-    apart.entries (omega (arith, of.low, of.high))
-
-entry_below : (lines : ℕ) (put other : Put) (k : ℕ) → k < 8 → IsPlaced lines put → IsPlaced lines other → IsOfExtent other (entry_word put.entry.0 k) → ⊥
-entry_below lines put other k below at there of = omega (arith, of.low, at.entry, there.above)
+-- where no other put stores, the image has what one of them does
+puts_pairs-one : (stamp position : ℕ) (puts : List Put) (put : Put) (image : Image) (word x : ℕ)
+    → ((base : Image) → written (put_pairs stamp position put) base word ≡ x)
+    → ((other : Put) → IsAmong other puts → IsApartFrom put other → (IsOfExtent other word → ⊥) × (IsOfEntry other word → ⊥))
+    → IsAmong put puts → AreAllApart puts → written (puts_pairs stamp position puts) image word ≡ x
+puts_pairs-one stamp position [] put image word x value out among apart = absurd among
+puts_pairs-one stamp position (other ∷ puts) put image word x value out (inl here) apart =
+    let away : (q : Put) → IsAmong q puts → IsApartFrom put q =
+    λ q among. subst (λ (p : Put). IsApartFrom p q) (sym here) (among-all (IsApartFrom other) puts q among apart.0) in
+    ap (λ (f : ℕ → ℕ). f word) (written-append (put_pairs stamp position other) (puts_pairs stamp position puts) image)
+    ∙ written-outside (puts_pairs stamp position puts) (written (put_pairs stamp position other) image) word
+    (puts_pairs-outside stamp position puts word (λ q among. (out q (inr among) (away q among)).0) (λ q among. (out q (inr among) (away q among)).1))
+    ∙ subst (λ (p : Put). written (put_pairs stamp position p) image word ≡ x) here (value image)
+puts_pairs-one stamp position (other ∷ puts) put image word x value out (inr later) apart =
+    ap (λ (f : ℕ → ℕ). f word) (written-append (put_pairs stamp position other) (puts_pairs stamp position puts) image)
+    ∙ puts_pairs-one stamp position puts put (written (put_pairs stamp position other) image) word x value (λ q among. out q (inr among)) later apart.1
 
 -- the entry of one of several puts
 pub puts_pairs-entry : (lines stamp position : ℕ) (puts : List Put) (put : Put) (image : Image) (k : ℕ) → k < 8 → IsAmong put puts
     → AllByRecursion (IsPlaced lines) puts → AreAllApart puts
     → written (puts_pairs stamp position puts) image (entry_word put.entry.0 k) ≡ get_or (entry_words stamp position put) k 0
-puts_pairs-entry lines stamp position [] put image k below among placed apart = absurd among
-puts_pairs-entry lines stamp position (other ∷ puts) put image k below (inl here) placed apart =
-    let word : ℕ = entry_word other.entry.0 k in
-    let head : written (puts_pairs stamp position (other ∷ puts)) image word ≡ get_or (entry_words stamp position other) k 0 =
-    ap (λ (f : ℕ → ℕ). f word) (written-append (put_pairs stamp position other) (puts_pairs stamp position puts) image)
-    ∙ written-outside (puts_pairs stamp position puts) (written (put_pairs stamp position other) image) word
-    (puts_pairs-outside stamp position puts word
-    (λ q among. entry_below lines other q k below placed.0 (among-all (IsPlaced lines) puts q among placed.1))
-    (λ q among. entries_apart lines other q k below (among-all (IsApartFrom other) puts q among apart.0)))
-    ∙ put_pairs-entry lines stamp position other image k below in
-    subst (λ (p : Put). written (puts_pairs stamp position (other ∷ puts)) image (entry_word p.entry.0 k) ≡ get_or (entry_words stamp position p) k 0)
-    (sym here) head
-puts_pairs-entry lines stamp position (other ∷ puts) put image k below (inr later) placed apart =
-    ap (λ (f : ℕ → ℕ). f (entry_word put.entry.0 k)) (written-append (put_pairs stamp position other) (puts_pairs stamp position puts) image)
-    ∙ puts_pairs-entry lines stamp position puts put (written (put_pairs stamp position other) image) k below later placed.1 apart.1
-
-extents_apart : (put other : Put) (j : ℕ) → j < 8 * put.extent.lines → IsApartFrom put other → IsOfExtent other (8 * put.extent.first_line + j) → ⊥
-extents_apart put other j below apart of =
-    elim apart.lines [ inl before ↦ omega (arith, before, of.low) | inr after ↦ omega (arith, after, of.high) ]
-
-extent_above : (lines : ℕ) (put other : Put) (j : ℕ) → IsPlaced lines put → IsPlaced lines other → IsOfEntry other (8 * put.extent.first_line + j) → ⊥
-extent_above lines put other j at there of = omega (arith, at.above, there.entry, of.high)
+puts_pairs-entry lines stamp position puts put image k below among placed apart =
+    let at = among-all (IsPlaced lines) puts put among placed in
+    puts_pairs-one stamp position puts put image (entry_word put.entry.0 k) (get_or (entry_words stamp position put) k 0)
+    (λ base. put_pairs-entry lines stamp position put base k below)
+    (λ q there away.
+    (λ of. omega (arith, of.low, at.entry, (among-all (IsPlaced lines) puts q there placed).above), λ of. away.entries (omega (arith, of.low, of.high))))
+    among apart
 
 -- the extent of one of several puts
 pub puts_pairs-extent : (lines stamp position : ℕ) (puts : List Put) (put : Put) (image : Image) (j : ℕ) → j < 8 * put.extent.lines → IsAmong put puts
     → AllByRecursion (IsPlaced lines) puts → AreAllApart puts
     → written (puts_pairs stamp position puts) image (8 * put.extent.first_line + j) ≡ word_of_bytes (version_bytes put) (8 * j)
-puts_pairs-extent lines stamp position [] put image j below among placed apart = absurd among
-puts_pairs-extent lines stamp position (other ∷ puts) put image j below (inl here) placed apart =
-    let there : j < 8 * other.extent.lines = subst (λ (p : Put). j < 8 * p.extent.lines) here below in
-    let word : ℕ = 8 * other.extent.first_line + j in
-    let head : written (puts_pairs stamp position (other ∷ puts)) image word ≡ word_of_bytes (version_bytes other) (8 * j) =
-    ap (λ (f : ℕ → ℕ). f word) (written-append (put_pairs stamp position other) (puts_pairs stamp position puts) image)
-    ∙ written-outside (puts_pairs stamp position puts) (written (put_pairs stamp position other) image) word
-    (puts_pairs-outside stamp position puts word
-    (λ q among. extents_apart other q j there (among-all (IsApartFrom other) puts q among apart.0))
-    (λ q among. extent_above lines other q j placed.0 (among-all (IsPlaced lines) puts q among placed.1)))
-    ∙ put_pairs-extent lines stamp position other image j placed.0 there in
-    subst (λ (p : Put). written (puts_pairs stamp position (other ∷ puts)) image (8 * p.extent.first_line + j) ≡ word_of_bytes (version_bytes p) (8 * j))
-    (sym here) head
-puts_pairs-extent lines stamp position (other ∷ puts) put image j below (inr later) placed apart =
-    ap (λ (f : ℕ → ℕ). f (8 * put.extent.first_line + j)) (written-append (put_pairs stamp position other) (puts_pairs stamp position puts) image)
-    ∙ puts_pairs-extent lines stamp position puts put (written (put_pairs stamp position other) image) j below later placed.1 apart.1
+puts_pairs-extent lines stamp position puts put image j below among placed apart =
+    let at = among-all (IsPlaced lines) puts put among placed in
+    puts_pairs-one stamp position puts put image (8 * put.extent.first_line + j) (word_of_bytes (version_bytes put) (8 * j))
+    (λ base. put_pairs-extent lines stamp position put base j at below)
+    (λ q there away. (
+      λ of. elim away.lines [ inl before ↦ omega (arith, before, of.low) | inr after ↦ omega (arith, after, of.high) ],
+      λ of. omega (arith, at.above, (among-all (IsPlaced lines) puts q there placed).entry, of.high),
+    ))
+    among apart
 
 -- the entry is one of these
 abbrev pub IsNamed : ℕ → List EntryNo → Type 0

@@ -1,31 +1,23 @@
--- Images that stay readable while a record is written.
-use Rattle.std.proofs.Common.{◌≡◌, ℕ, zero, suc, ◌<◌, ◌≤◌, inl, inr, refl, sym, ap, subst, ◌∙◌, arith}
-use Rattle.std.specs.Prelude.{nat_lt}
-use Rattle.std.proofs.lemmas.Bool.{cond-true, lt-ltb}
+-- Images that stay readable while stamps are erased or a record is written.
+use Rattle.std.proofs.Common.{◌≡◌, ℕ, ◌+◌, ◌≤◌, inl, inr, refl, sym, ap, subst, ◌∙◌, arith}
 use Rattle.pmem.specs.Device.{State, MayBe, Only}
 use Rattle.pmem.specs.Crash.{IsImage, image_of}
 use Rattle.pmem.specs.Runs.{LeavesOnly}
-use Rattle.pmem.proofs.Leaving.{LeavesOnly-weaken, none_leaves}
+use Rattle.pmem.proofs.Leaving.{LeavesOnly-then, LeavesOnly-weaken, none_leaves}
 use Rattle.model.specs.declared.image.TheConstants.{MIN_LINES, MAX_LINES}
 use Rattle.model.specs.declared.record.Record.{Record}
-use Rattle.model.specs.Image.{Image, root_word, entry_word, entries_of_lines, counts}
+use Rattle.model.specs.Image.{Image, HasRecord, root_word, entry_word, counts}
 use Rattle.model.proofs.RecordLemmas.{HasRecord-lines}
 use Rattle.wbl_record.specs.Current.{IsCurrent, IsLawful}
-use Rattle.wbl_record.specs.Record.{IsRecordWord, IsRecorded, IsEitherRecord}
+use Rattle.wbl_record.specs.Record.{IsRecorded, IsEitherRecord}
 use Rattle.wbl_record.proofs.Mixing.{image_of-is}
 use Rattle.wbl_record.proofs.RecordWords.{HasRecord-same}
 use Rattle.wbl_engine.specs.AtRest.{IsAtRest, Matters, contents_of}
 use Rattle.wbl_engine.specs.Contents.{IsDurable}
 use Rattle.wbl_engine.specs.Lawful.{IsUndamaged}
 use Rattle.wbl_engine.specs.Reopening.{IsBesideRecords, IsReadable, StaysReadable}
-use Rattle.wbl_engine.proofs.ReadsAs.{ReadsAs, versions_as, undamaged_as}
-
--- both stamps of an entry were given out
-pub stamp_below : {lines : ℕ} {r : Record} {image : Image} → IsUndamaged lines r image → (i k : ℕ) → i < entries_of_lines lines → k < 2
-    → image (entry_word i k) < r.cd
-stamp_below whole i zero within low = (whole.versions.entries i within).begin
-stamp_below whole i (suc zero) within low = (whole.versions.entries i within).end
-stamp_below whole i (suc (suc k)) within low = absurd (omega (arith, low))
+use Rattle.wbl_engine.proofs.Erased.{AreBelow, CountAlike, IsErased, IsSound, agrees_below, agrees_erased, directory_matters, erased_keeps, erased_undamaged, erased_under, erased_version, matters_beside, nothing, undamaged_below, undamaged_sound, versions-within}
+use Rattle.wbl_engine.proofs.Storing.{AgreesOn, AreCertain, beside_record, recorded_only}
 
 -- the second record is of the same history: the same position, epoch and role, and no stamp is taken back
 pub record IsLater (r s : Record) : Type 0 where
@@ -37,67 +29,152 @@ pub record IsLater (r s : Record) : Type 0 where
 pub IsLater-same : (r : Record) → IsLater r r
 IsLater-same r = record { position = refl; epoch = refl; role = refl; limit = omega arith }
 
--- both records count the stamps of the directory alike
-abbrev pub CountAlike : ℕ → Image → Record → Record → Type 0
-CountAlike lines image r s = (i k : ℕ) → i < entries_of_lines lines → k < 2 → counts s (image (entry_word i k)) ≡ counts r (image (entry_word i k))
-
--- the second image has the words of the first beside the records
-abbrev pub IsSameBeside : ℕ → Image → Image → Type 0
-IsSameBeside lines image image' = (word : ℕ) → IsBesideRecords lines word → image' word ≡ image word
-
--- a word of an entry is beside the records
-pub in_directory : (lines i k : ℕ) → i < entries_of_lines lines → k < 8 → IsBesideRecords lines (entry_word i k)
-in_directory lines i k within below = inr (inl (omega arith, omega (arith, within, below)))
-
-pub reads_over : {lines : ℕ} {r s : Record} {image image' : Image} → IsUndamaged lines r image → IsLater r s → CountAlike lines image r s
-    → IsSameBeside lines image image' → ReadsAs lines r image s image'
-reads_over {lines} {r} {s} {image} {image'} whole later alike same =
+-- an image that has lost nothing of an undamaged one stays readable
+pub erased_stays : {r s : Record} {lines : ℕ} {base image : Image} → IsUndamaged lines r base → IsErased r s lines nothing base image → IsLater r s
+    → AreBelow lines image s.cd → IsCurrent lines image s → StaysReadable lines r base image
+erased_stays {r} {s} whole erased later below current =
     record {
-      superblock = λ word low. same word (inl low);
+      current = s;
+      undamaged = erased_undamaged whole erased (omega (arith, later.position)) below current;
       position = later.position;
       epoch = later.epoch;
       role = later.role;
-      below = λ i k within low.
-          let is = same (entry_word i k) (in_directory lines i k within (omega (arith, low))) in
-          let was = stamp_below whole i k within low in
-          omega (arith, is, was, later.limit);
-      stamps = λ i k within low. ap (counts s) (same (entry_word i k) (in_directory lines i k within (omega (arith, low)))) ∙ alike i k within low;
-      words = λ i k within low high. same (entry_word i k) (in_directory lines i k within high);
-      extents = λ word low. same word (inr (inr low));
+      versions = erased_version (undamaged_sound whole) erased;
     }
 
--- an image that reads as an undamaged one stays readable
-pub stays_as : {lines : ℕ} {r s : Record} {image image' : Image} → IsUndamaged lines r image → ReadsAs lines r image s image' → IsCurrent lines image' s
-    → StaysReadable lines r image image'
-stays_as {lines} {r} {s} {image} {image'} whole reads current =
+-- one step after another
+pub moments_then : {r s : Record} {d b c : State} → IsUndamaged d.lines r (image_of d.words)
+    → IsErased r s d.lines nothing (image_of d.words) (image_of b.words) → IsLater r s → b.lines ≡ d.lines
+    → LeavesOnly d b (StaysReadable d.lines r (image_of d.words)) → LeavesOnly b c (StaysReadable b.lines s (image_of b.words))
+    → LeavesOnly d c (StaysReadable d.lines r (image_of d.words))
+moments_then {r} {s} {d} {b} {c} whole erased later same first second =
+    LeavesOnly-then first (LeavesOnly-weaken (StaysReadable d.lines r (image_of d.words)) leaves second)
+  where
+    leaves : (image : Image) → StaysReadable b.lines s (image_of b.words) image → StaysReadable d.lines r (image_of d.words) image
+    leaves image there =
+        let stays : StaysReadable d.lines s (image_of b.words) image = subst (λ (lines : ℕ). StaysReadable lines s (image_of b.words) image) same there in
+        record {
+          current = stays.current;
+          undamaged = stays.undamaged;
+          position = stays.position ∙ later.position;
+          epoch = stays.epoch ∙ later.epoch;
+          role = stays.role ∙ later.role;
+          versions = λ i within. stays.versions i within ∙ erased_version (undamaged_sound whole) erased i within;
+        }
+
+-- a device that lost nothing is readable, if each crash leaves the record s, and what loads return beside the records
+pub erased_readable : {r s : Record} {d c : State} → IsReadable r d → IsErased r s d.lines nothing (image_of d.words) (image_of c.words)
+    → r.position ≤ s.position → AreBelow d.lines (image_of c.words) s.cd → IsLawful s → c.lines ≡ d.lines
+    → ((image : Image) → IsImage c.words image → HasRecord c.lines s image) → AreCertain (IsBesideRecords d.lines) c → IsReadable s c
+erased_readable {r} {s} {d} {c} readable erased up below lawful same recorded certain =
+    let current : IsCurrent d.lines (image_of c.words) s =
+    record { has_record = HasRecord-lines same (recorded (image_of c.words) (image_of-is c.words)); lawful = lawful } in
     record {
-      current = s;
-      undamaged = undamaged_as whole reads current;
-      position = reads.position;
-      epoch = reads.epoch;
-      role = reads.role;
-      versions = λ i within. versions_as whole reads i within;
+      many = omega (arith, readable.many, same);
+      few = omega (arith, readable.few, same);
+      undamaged = subst (λ (lines : ℕ). IsUndamaged lines s (image_of c.words)) (sym same)
+          (erased_undamaged readable.undamaged erased up below current);
+      recorded = recorded;
+      certain = λ word beside. certain word (subst (λ (lines : ℕ). IsBesideRecords lines word) same beside);
     }
 
--- ---- devices
+-- ---- an image that agrees wherever the map depends, under a record that counts alike
 
--- a crash leaves the words beside the records
-same_beside : {r : Record} {d : State} → IsReadable r d → (image : Image)
-    → ((word : ℕ) → IsBesideRecords d.lines word → MayBe (d.words word) (image word)) → IsSameBeside d.lines (image_of d.words) image
-same_beside readable image may word beside = (readable.certain word beside).only (image word) (may word beside)
+pub agrees_under : {r : Record} {lines : ℕ} {base image : Image} (s : Record) → IsSound r lines base → AgreesOn (Matters r lines base) base image
+    → CountAlike lines base r s → IsErased r s lines nothing base image
+agrees_under {r} {lines} {base} {image} s sound agrees alike =
+    erased_under s (agrees_erased sound agrees)
+    (λ i k within low.
+    let same = agrees (entry_word i k) (directory_matters r lines base i k within (omega (arith, low))) in
+    ap (counts s) same ∙ alike i k within low ∙ sym (ap (counts r) same))
 
--- so it leaves a readable image
-pub readable_stays : {r : Record} {d : State} → IsReadable r d → (image : Image) → IsImage d.words image → StaysReadable d.lines r (image_of d.words) image
-readable_stays {r} {d} readable image is =
-    stays_as readable.undamaged
-    (reads_over readable.undamaged (IsLater-same r) (λ i k within low. refl) (same_beside readable image (λ word beside. is word)))
-    (record { has_record = readable.recorded image is; lawful = readable.undamaged.current.lawful })
+module _ {r : Record} {d : State} (readable : IsReadable r d) where
+  pub readable_certain : (word : ℕ) → Matters r d.lines (image_of d.words) word → Only (d.words word) (image_of d.words word)
+  readable_certain word matters = readable.certain word (matters_beside (undamaged_sound readable.undamaged) word matters)
 
--- where nothing was stored
-pub unchanged_stays : {r : Record} {d : State} → IsReadable r d → LeavesOnly d d (StaysReadable d.lines r (image_of d.words))
-unchanged_stays {r} {d} readable = none_leaves d (StaysReadable d.lines r (image_of d.words)) (readable_stays readable)
+  agrees_stays : (s : Record) (image : Image) → IsLater r s → CountAlike d.lines (image_of d.words) r s
+      → ((word : ℕ) → IsBesideRecords d.lines word → MayBe (d.words word) (image word)) → IsCurrent d.lines image s
+      → StaysReadable d.lines r (image_of d.words) image
+  agrees_stays s image later alike may current =
+      let agrees : AgreesOn (Matters r d.lines (image_of d.words)) (image_of d.words) image =
+      λ word matters. (readable_certain word matters).only (image word) (may word (matters_beside (undamaged_sound readable.undamaged) word matters)) in
+      erased_stays readable.undamaged (agrees_under s (undamaged_sound readable.undamaged) agrees alike) later
+      (agrees_below r d.lines agrees
+      (λ i k within low. let was = undamaged_below readable.undamaged i k within low in omega (arith, was, later.limit))) current
 
--- a device with one candidate for each word
+  -- so a crash leaves a readable image
+  pub readable_stays : (image : Image) → IsImage d.words image → StaysReadable d.lines r (image_of d.words) image
+  readable_stays image is =
+      agrees_stays r image (IsLater-same r) (λ i k within low. refl) (λ word beside. is word)
+      (record { has_record = readable.recorded image is; lawful = readable.undamaged.current.lawful })
+
+  -- where nothing was stored
+  pub unchanged_stays : LeavesOnly d d (StaysReadable d.lines r (image_of d.words))
+  unchanged_stays = none_leaves d (StaysReadable d.lines r (image_of d.words)) readable_stays
+
+  -- it is durable
+  pub readable_durable : IsDurable d (contents_of r d)
+  readable_durable image is =
+      let agrees : AgreesOn (Matters r d.lines (image_of d.words)) (image_of d.words) image =
+      λ word matters. (readable_certain word matters).only (image word) (is word) in
+      erased_keeps (contents_of r d) (undamaged_sound readable.undamaged) (agrees_erased (undamaged_sound readable.undamaged) agrees) (omega arith)
+      (agrees_below r d.lines agrees (undamaged_below readable.undamaged)) (λ i within. sym (versions-within r d i within)) (readable.recorded image is)
+
+  -- and at rest, where all stamps are at most the record's last one
+  pub readable_rest : AreBelow d.lines (image_of d.words) (r.cp + 1) → IsAtRest r d
+  readable_rest below =
+      let sound = undamaged_sound readable.undamaged in
+      record {
+        many = readable.many;
+        few = readable.few;
+        lawful = readable.undamaged.current.lawful;
+        whole = record {
+          superblock = sound.superblock;
+          begins = λ i within. let at = below i 0 within (omega arith) in omega (arith, at);
+          ends = λ i within. let at = below i 1 within (omega arith) in omega (arith, at);
+          entries = sound.entries;
+          positions = sound.positions;
+        };
+        recorded = readable.recorded;
+        certain = readable_certain;
+      }
+
+-- ---- the next record
+
+module _ {r s : Record} {d : State} (readable : IsReadable r d) (later : IsLater r s) (lawful : IsLawful s) (alike : CountAlike d.lines (image_of d.words) r s) where
+  pub recorded_readable : {c : State} → IsRecorded d c s → IsReadable s c
+  recorded_readable {c} recorded =
+      let sound = undamaged_sound readable.undamaged in
+      let agrees : AgreesOn (Matters r d.lines (image_of d.words)) (image_of d.words) (image_of c.words) =
+      λ word matters. recorded.newest word (beside_record d.lines s.number word (matters_beside sound word matters)) in
+      erased_readable readable (agrees_under s sound agrees alike) (omega (arith, later.position))
+      (agrees_below r d.lines agrees
+      (λ i k within low. let was = undamaged_below readable.undamaged i k within low in omega (arith, was, later.limit)))
+      lawful recorded.stays.lines recorded.durable
+      (λ word beside. recorded_only recorded word (beside_record d.lines s.number word beside) (readable.certain word beside))
+
+  -- at any moment until then
+  pub either_stays : {c : State} → LeavesOnly d c (IsEitherRecord d r s) → LeavesOnly d c (StaysReadable d.lines r (image_of d.words))
+  either_stays moments = LeavesOnly-weaken (StaysReadable d.lines r (image_of d.words)) leaves moments
+    where
+      leaves : (image : Image) → IsEitherRecord d r s image → StaysReadable d.lines r (image_of d.words) image
+      leaves image either =
+          let may = λ (word : ℕ) (beside : IsBesideRecords d.lines word). either.elsewhere word (beside_record d.lines s.number word beside) in
+          elim either.either [
+            | inl old ↦
+                agrees_stays readable r image (IsLater-same r) (λ i k within low. refl) may
+                (record { has_record = old; lawful = readable.undamaged.current.lawful })
+            | inr new ↦ agrees_stays readable s image later alike may (record { has_record = new; lawful = lawful })
+          ]
+
+-- ---- a device with one candidate for each word
+
+settled_record : (r : Record) (d : State) → ((word : ℕ) → Only (d.words word) (image_of d.words word)) → IsUndamaged d.lines r (image_of d.words)
+    → (image : Image) → IsImage d.words image → HasRecord d.lines r image
+settled_record r d settled whole image is =
+    HasRecord-same d.lines r (image_of d.words) image ((settled root_word).only (image root_word) (is root_word))
+    (λ word low high. (settled word).only (image word) (is word)) whole.current.has_record
+
 pub settled_readable : (r : Record) (d : State) → MIN_LINES ≤ d.lines → d.lines ≤ MAX_LINES
     → ((word : ℕ) → Only (d.words word) (image_of d.words word)) → IsUndamaged d.lines r (image_of d.words) → IsReadable r d
 settled_readable r d many few settled whole =
@@ -105,9 +182,7 @@ settled_readable r d many few settled whole =
       many = many;
       few = few;
       undamaged = whole;
-      recorded = λ image is.
-          HasRecord-same d.lines r (image_of d.words) image ((settled root_word).only (image root_word) (is root_word))
-          (λ word low high. (settled word).only (image word) (is word)) whole.current.has_record;
+      recorded = settled_record r d settled whole;
       certain = λ word beside. settled word;
     }
 
@@ -117,108 +192,6 @@ pub settled_stays : (r : Record) (d : State) → ((word : ℕ) → Only (d.words
 settled_stays r d settled whole =
     none_leaves d (StaysReadable d.lines r (image_of d.words))
     (λ image is.
-    stays_as whole
-    (reads_over whole (IsLater-same r) (λ i k within low. refl) (λ word beside. (settled word).only (image word) (is word)))
-    (record {
-      has_record = HasRecord-same d.lines r (image_of d.words) image ((settled root_word).only (image root_word) (is root_word))
-          (λ word low high. (settled word).only (image word) (is word)) whole.current.has_record;
-      lawful = whole.current.lawful;
-    }))
-
--- ---- the next record
-
-pub beside_record : (lines n word : ℕ) → IsBesideRecords lines word → IsRecordWord lines n word → ⊥
-beside_record lines n word (inl before) (inl root) = omega (arith, before, root)
-beside_record lines n word (inl before) (inr slot) = omega (arith, before, slot.0)
-beside_record lines n word (inr (inl directory)) (inl root) = omega (arith, directory.0, root)
-beside_record lines n word (inr (inl directory)) (inr slot) = omega (arith, directory.0, slot.1)
-beside_record lines n word (inr (inr extents)) (inl root) = omega (arith, extents, root)
-beside_record lines n word (inr (inr extents)) (inr slot) = omega (arith, extents, slot.1)
-
--- what is read once it is written
-pub recorded_as : {r s : Record} {d c : State} → IsReadable r d → IsLater r s → CountAlike d.lines (image_of d.words) r s → IsRecorded d c s
-    → ReadsAs d.lines r (image_of d.words) s (image_of c.words)
-recorded_as {r} {s} {d} {c} readable later alike recorded =
-    reads_over readable.undamaged later alike (λ word beside. recorded.newest word (beside_record d.lines s.number word beside))
-
-pub recorded_readable : {r s : Record} {d c : State} → IsReadable r d → IsLawful s → ReadsAs d.lines r (image_of d.words) s (image_of c.words)
-    → IsRecorded d c s → IsReadable s c
-recorded_readable {r} {s} {d} {c} readable lawful reads recorded =
-    record {
-      many = omega (arith, readable.many, recorded.stays.lines);
-      few = omega (arith, readable.few, recorded.stays.lines);
-      undamaged = subst (λ (lines : ℕ). IsUndamaged lines s (image_of c.words)) (sym recorded.stays.lines)
-          (undamaged_as readable.undamaged reads
-          (record {
-            has_record = HasRecord-lines recorded.stays.lines (recorded.durable (image_of c.words) (image_of-is c.words));
-            lawful = lawful;
-          }));
-      recorded = recorded.durable;
-      certain = λ word beside_now.
-          let beside : IsBesideRecords d.lines word = subst (λ (lines : ℕ). IsBesideRecords lines word) recorded.stays.lines beside_now in
-          let other = beside_record d.lines s.number word beside in
-          record {
-            only = λ y may.
-                (readable.certain word beside).only y (recorded.elsewhere word y other may) ∙ sym (recorded.newest word other);
-          };
-    }
-
--- at any moment until then
-pub either_stays : {r s : Record} {d c : State} → IsReadable r d → IsLater r s → IsLawful s → CountAlike d.lines (image_of d.words) r s
-    → LeavesOnly d c (IsEitherRecord d r s) → LeavesOnly d c (StaysReadable d.lines r (image_of d.words))
-either_stays {r} {s} {d} {c} readable later lawful alike moments =
-    LeavesOnly-weaken (StaysReadable d.lines r (image_of d.words)) leaves moments
-  where
-    leaves : (image : Image) → IsEitherRecord d r s image → StaysReadable d.lines r (image_of d.words) image
-    leaves image either =
-        let same : IsSameBeside d.lines (image_of d.words) image =
-        same_beside readable image (λ word beside. either.elsewhere word (beside_record d.lines s.number word beside)) in
-        elim either.either [
-          | inl old ↦
-              stays_as readable.undamaged (reads_over readable.undamaged (IsLater-same r) (λ i k within low. refl) same)
-              (record { has_record = old; lawful = readable.undamaged.current.lawful })
-          | inr new ↦
-              stays_as readable.undamaged (reads_over readable.undamaged later alike same) (record { has_record = new; lawful = lawful })
-        ]
-
--- ---- at rest
-
--- a readable image whose stamps are all at most the record's last one
-pub readable_rest : {r : Record} {d : State} → IsReadable r d
-    → ((i k : ℕ) → i < entries_of_lines d.lines → k < 2 → image_of d.words (entry_word i k) ≤ r.cp) → IsAtRest r d
-readable_rest {r} {d} readable low =
-    record {
-      many = readable.many;
-      few = readable.few;
-      lawful = readable.undamaged.current.lawful;
-      whole = record {
-        superblock = readable.undamaged.superblock;
-        begins = λ i within. low i 0 within (omega arith);
-        ends = λ i within. low i 1 within (omega arith);
-        entries = λ i within. (readable.undamaged.versions.entries i within).whole;
-        positions = λ i within. (readable.undamaged.versions.entries i within).position;
-      };
-      recorded = readable.recorded;
-      certain = λ word matters. readable.certain word (beside word matters);
-    }
-  where
-    beside : (word : ℕ) → Matters r d.lines (image_of d.words) word → IsBesideRecords d.lines word
-    beside word (inl before) = inl before
-    beside word (inr (inl directory)) = inr (inl directory)
-    beside word (inr (inr (i, within, begun, at))) =
-        inr (inr (omega (arith, at.low, ((readable.undamaged.versions.entries i within).whole begun).above)))
-
--- and it is durable
-pub readable_durable : {r : Record} {d : State} → IsReadable r d → IsDurable d (contents_of r d)
-readable_durable {r} {d} readable image is =
-    let same = same_beside readable image (λ word beside. is word) in
-    let reads = reads_over readable.undamaged (IsLater-same r) (λ i k within low. refl) same in
-    let current : IsCurrent d.lines image r = record { has_record = readable.recorded image is; lawful = readable.undamaged.current.lawful } in
-    let whole = undamaged_as readable.undamaged reads current in
-    record {
-      superblock = whole.superblock;
-      has_record = readable.recorded image is;
-      versions = λ i within.
-          versions_as readable.undamaged reads i within ∙ sym (cond-true (nat_lt i (entries_of_lines d.lines)) _ _ (lt-ltb i (entries_of_lines d.lines) within));
-      entries = λ i within. whole.versions.entries i within;
-    }
+    let agrees : AgreesOn (Matters r d.lines (image_of d.words)) (image_of d.words) image = λ word matters. (settled word).only (image word) (is word) in
+    erased_stays whole (agrees_erased (undamaged_sound whole) agrees) (IsLater-same r) (agrees_below r d.lines agrees (undamaged_below whole))
+    (record { has_record = settled_record r d settled whole image is; lawful = whole.current.lawful }))

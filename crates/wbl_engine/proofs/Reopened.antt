@@ -2,7 +2,8 @@
 use Rattle.std.proofs.Common.{◌≡◌, ℕ, ◌+◌, ◌-◌, ◌<◌, ◌≤◌, Bool, true, false, not, ◌&&◌, ◌||◌, inl, inr, List, [], ◌∷◌, ◌++◌, length, refl, sym, ap, ◌∙◌, arith}
 use Rattle.std.specs.Prelude.{nat_lt, nat_le}
 use Rattle.std.specs.List.{list_any}
-use Rattle.std.proofs.lemmas.Bool.{le-leb, lt-leb, cases_lt, and_left, and_right, and_from}
+use Rattle.std.proofs.Math.Bool.{or-false}
+use Rattle.std.proofs.lemmas.Bool.{le-leb, lt-leb, cases_lt, and_left, and_right, and_from, or_left, or_right}
 use Rattle.std.proofs.lemmas.List.{length-append}
 use Rattle.std.proofs.lemmas.List.Folds.{list_any-append}
 use Rattle.model.specs.declared.image.TheConstants.{COUNTER_LIMIT, STAMP_WINDOW}
@@ -50,7 +51,7 @@ counts-open r stamp below =
           and_from (nat_le (r.cp + 1) stamp) (nat_le stamp (r.cd - 1)) (le-leb (r.cp + 1) stamp (omega (arith, above))) (le-leb stamp (r.cd - 1) (omega (arith, below))) in
           let gap : list_any (is_in_gap stamp) (r.gaps.items ++ open_gap r ∷ []) ≡ true =
           list_any-append (is_in_gap stamp) r.gaps.items (open_gap r ∷ [])
-          ∙ or_last (list_any (is_in_gap stamp) r.gaps.items) (is_in_gap stamp (open_gap r)) within in
+          ∙ or_right (list_any (is_in_gap stamp) r.gaps.items) (is_in_gap stamp (open_gap r) || false) (or_left (is_in_gap stamp (open_gap r)) false within) in
           and_right (nat_lt 0 stamp && nat_le stamp r.cd) (not (list_any (is_in_gap stamp) (r.gaps.items ++ open_gap r ∷ []))) (ap not gap)
           ∙ sym (counts-above r stamp above)
       | inr low ↦
@@ -58,19 +59,9 @@ counts-open r stamp below =
           and_left (nat_le (r.cp + 1) stamp) (nat_le stamp (r.cd - 1)) (lt-leb (r.cp + 1) stamp (omega (arith, low))) in
           let gaps : list_any (is_in_gap stamp) (r.gaps.items ++ open_gap r ∷ []) ≡ list_any (is_in_gap stamp) r.gaps.items =
           list_any-append (is_in_gap stamp) r.gaps.items (open_gap r ∷ [])
-          ∙ or_none (list_any (is_in_gap stamp) r.gaps.items) (is_in_gap stamp (open_gap r)) without in
+          ∙ ap (λ (b : Bool). list_any (is_in_gap stamp) r.gaps.items || (b || false)) without ∙ or-false (list_any (is_in_gap stamp) r.gaps.items) in
           let new : nat_le stamp r.cd ≡ true = le-leb stamp r.cd (omega (arith, below)) in
           let old : nat_le stamp r.cp ≡ true = le-leb stamp r.cp low in
           ap (λ (b : Bool). nat_lt 0 stamp && b && not (list_any (is_in_gap stamp) (r.gaps.items ++ open_gap r ∷ []))) (new ∙ sym old)
           ∙ ap (λ (b : Bool). nat_lt 0 stamp && nat_le stamp r.cp && not b) gaps
     ]
-  where
-    or_last : (a b : Bool) → b ≡ true → (a || (b || false)) ≡ true
-    or_last true b e = refl
-    or_last false true e = refl
-    or_last false false e = e
-
-    or_none : (a b : Bool) → b ≡ false → (a || (b || false)) ≡ a
-    or_none true b e = refl
-    or_none false true e = e
-    or_none false false e = refl

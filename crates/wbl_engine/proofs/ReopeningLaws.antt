@@ -41,7 +41,7 @@ none_free {lines} {image} reopens i free =
     let uncounted : counts reopens.before (image (entry_word i 0)) ≡ false =
     elim (or_cases (image (entry_word i 0) == 0) (is_cleared reopens.before (image (entry_word i 0))) parts.1) [
       | inl zero ↦ ap (counts reopens.before) (eqb-true (image (entry_word i 0)) 0 zero)
-      | inr cleared ↦ cleared_uncounted reopens.before (image (entry_word i 0)) cleared
+      | inr cleared ↦ cleared_uncounted reopens.before reopens.undamaged.current.lawful (image (entry_word i 0)) cleared
     ] in
     reopens.versions i ∙ cond-true (nat_lt i (entries_of_lines lines)) _ _ parts.0
     ∙ cond-false (counts reopens.before (image (entry_word i 0))) _ _ uncounted

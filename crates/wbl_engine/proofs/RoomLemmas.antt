@@ -1,7 +1,10 @@
 -- A record with room for one more gap, and what is read under it.
-use Rattle.std.proofs.Common.{◌≡◌, ℕ, ◌+◌, ◌<◌, ◌≤◌, Bool, true, false, not, cond, ◌&&◌, ◌==◌, IsTrue, ◌⊎◌, inl, inr, length, drop, refl, sym, ap, subst, ◌∙◌, arith}
-use Rattle.std.proofs.lemmas.Bool.{cases_Bool, cases_lt, cond-true, cond-false, both_ways, eqb-true, eqb-false}
+use Rattle.std.proofs.Common.{◌≡◌, ℕ, ◌+◌, ◌<◌, ◌≤◌, Bool, true, false, not, cond, ◌&&◌, ◌==◌, IsTrue, ◌⊎◌, inl, inr, length, drop, sym, ap, subst, ◌∙◌, arith}
+use Rattle.std.proofs.lemmas.Bool.{and_parts, cases_Bool, cases_lt, cond-true, cond-false, eqb-true, eqb-false}
 use Rattle.std.proofs.lemmas.List.{length-drop}
+use Rattle.pmem.specs.Device.{State}
+use Rattle.pmem.specs.Crash.{image_of}
+use Rattle.pmem.specs.Runs.{LeavesOnly}
 use Rattle.model.specs.declared.image.TheConstants.{COUNTER_LIMIT, STAMP_WINDOW}
 use Rattle.model.specs.declared.record.Record.{Record}
 use Rattle.model.specs.declared.record.TheConstants.{MAX_GAPS}
@@ -10,10 +13,12 @@ use Rattle.wbl_record.specs.Current.{IsLawful}
 use Rattle.wbl_engine.specs.Freeing.{record_after_clearing}
 use Rattle.wbl_engine.specs.Lawful.{IsUndamaged}
 use Rattle.wbl_engine.specs.Erasing.{oldest_gap}
-use Rattle.wbl_engine.specs.Reopening.{AreCleared, ExhaustsReopening, is_cleared, is_full, with_room}
-use Rattle.wbl_engine.proofs.ClearedGap.{cleared_alike, oldest_uncounted}
-use Rattle.wbl_engine.proofs.ErasedGap.{cleared_reads}
-use Rattle.wbl_engine.proofs.ReadsAs.{ReadsAs}
+use Rattle.wbl_engine.specs.Reopening.{AreCleared, ExhaustsReopening, IsReadable, StaysReadable, is_cleared, is_full, with_room}
+use Rattle.wbl_engine.proofs.ClearingLemmas.{without_alike}
+use Rattle.wbl_engine.proofs.Erased.{IsErased, erased_under, nothing, undamaged_sound}
+use Rattle.wbl_engine.proofs.ErasedGap.{cleared_erased, cleared_later}
+use Rattle.wbl_engine.proofs.GapLemmas.{in_oldest, oldest}
+use Rattle.wbl_engine.proofs.Readable.{IsLater, IsLater-same, moments_then}
 
 -- the record is full and loses its oldest gap, or it stays
 pub room_cases : (r : Record) → ((is_full r ≡ true) × (with_room r ≡ record_after_clearing r)) ⊎ ((is_full r ≡ false) × (with_room r ≡ r))
@@ -62,38 +67,44 @@ has_limits r lawful limits =
     fewer : (n : ℕ) → n ≤ MAX_GAPS → (n == MAX_GAPS) ≡ false → n < MAX_GAPS
     fewer n le other = elim (cases_lt n MAX_GAPS) [ inl less ↦ less | inr reached ↦ absurd (eqb-false n MAX_GAPS other (omega (arith, le, reached))) ]
 
+pub room_limit : (r : Record) → (with_room r).cd ≡ r.cd
+room_limit r = elim (room_cases r) [ inl full ↦ ap (λ (q : Record). q.cd) full.1 | inr roomy ↦ ap (λ (q : Record). q.cd) roomy.1 ]
+
 -- ---- what is read once the stamps are cleared
 
 -- a stamp that is cleared did not count
-pub cleared_uncounted : (r : Record) (stamp : ℕ) → IsTrue (is_cleared r stamp) → counts r stamp ≡ false
-cleared_uncounted r stamp is =
+pub cleared_uncounted : (r : Record) → IsLawful r → (stamp : ℕ) → IsTrue (is_cleared r stamp) → counts r stamp ≡ false
+cleared_uncounted r lawful stamp is =
+    let parts = and_parts (is_full r) (is_in_gap stamp (oldest_gap r)) is in
+    in_oldest r (oldest_gap r) stamp (oldest r lawful (full_some r parts.0)) parts.1
+
+pub room_later : (r : Record) → IsLater r (with_room r)
+room_later r =
     elim (room_cases r) [
-      | inl full ↦ oldest_uncounted r (full_some r full.0) stamp (sym (ap (λ (b : Bool). b && is_in_gap stamp (oldest_gap r)) full.0) ∙ is)
-      | inr roomy ↦ absurd (both_ways false refl (sym (ap (λ (b : Bool). b && is_in_gap stamp (oldest_gap r)) roomy.0) ∙ is))
+      | inl full ↦ subst (IsLater r) (sym full.1) (cleared_later r)
+      | inr roomy ↦ subst (IsLater r) (sym roomy.1) (IsLater-same r)
     ]
 
-pub room_reads : {lines : ℕ} {r : Record} {image image' : Image} → IsUndamaged lines r image → AreCleared lines (is_cleared r) image image'
-    → ReadsAs lines r image (with_room r) image'
-room_reads {lines} {r} {image} {image'} whole cleared =
-    let reads : ReadsAs lines r image r image' = cleared_reads (is_cleared r) whole (cleared_uncounted r) cleared in
+pub room_erased : {lines : ℕ} {r : Record} {base image : Image} → IsUndamaged lines r base → AreCleared lines (is_cleared r) base image
+    → IsErased r (with_room r) lines nothing base image
+room_erased {lines} {r} {base} {image} whole cleared =
+    let erased : IsErased r r lines nothing base image =
+    cleared_erased (is_cleared r) cleared (undamaged_sound whole) (cleared_uncounted r whole.current.lawful) in
     elim (room_cases r) [
       | inl full ↦
-          subst (λ (q : Record). ReadsAs lines r image q image') (sym full.1)
-          (record {
-            superblock = reads.superblock;
-            position = refl;
-            epoch = refl;
-            role = refl;
-            below = reads.below;
-            stamps = λ i k within low.
-                cleared_alike r lines image image' whole.current.lawful (full_some r full.0)
-                (λ i k within low.
-                cleared.stamps i k within low
-                ∙ ap (λ (b : Bool). cond (b && is_in_gap (image (entry_word i k)) (oldest_gap r)) 0 (image (entry_word i k))) full.0)
-                i k within low
-                ∙ reads.stamps i k within low;
-            words = reads.words;
-            extents = reads.extents;
-          })
-      | inr roomy ↦ subst (λ (q : Record). ReadsAs lines r image q image') (sym roomy.1) reads
+          subst (λ (q : Record). IsErased r q lines nothing base image) (sym full.1)
+          (erased_under (record_after_clearing r) erased
+          (without_alike r lines base image whole.current.lawful (full_some r full.0)
+          (λ i k within low.
+          cleared.stamps i k within low
+          ∙ ap (λ (b : Bool). cond (b && is_in_gap (base (entry_word i k)) (oldest_gap r)) 0 (base (entry_word i k))) full.0)))
+      | inr roomy ↦ subst (λ (q : Record). IsErased r q lines nothing base image) (sym roomy.1) erased
     ]
+
+pub reopened_moments : {r : Record} {d b c : State} (roomy : Record) → roomy ≡ with_room r → IsReadable r d
+    → AreCleared d.lines (is_cleared r) (image_of d.words) (image_of b.words) → b.lines ≡ d.lines
+    → LeavesOnly d b (StaysReadable d.lines r (image_of d.words)) → LeavesOnly b c (StaysReadable b.lines roomy (image_of b.words))
+    → LeavesOnly d c (StaysReadable d.lines r (image_of d.words))
+reopened_moments {r} {d} {b} {c} roomy is readable cleared same first second =
+    moments_then readable.undamaged (room_erased readable.undamaged cleared) (room_later r) same first
+    (subst (λ (q : Record). LeavesOnly b c (StaysReadable b.lines q (image_of b.words))) is second)

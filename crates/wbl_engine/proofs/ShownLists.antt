@@ -1,9 +1,9 @@
 -- The lists of versions, as the reopened image has them.
-use Rattle.std.proofs.Common.{◌≡◌, ℕ, zero, suc, ◌<◌, ◌≤◌, Bool, true, false, not, cond, ◌&&◌, ◌||◌, ◌==◌, inl, inr, List, [], ◌∷◌, ◌++◌, refl, sym, ap, subst, ◌∙◌, arith}
+use Rattle.std.proofs.Common.{◌≡◌, ℕ, zero, suc, ◌<◌, ◌≤◌, Bool, true, false, not, cond, ◌&&◌, ◌||◌, ◌==◌, IsTrue, inl, inr, List, [], ◌∷◌, ◌++◌, refl, sym, ap, ◌∙◌, arith}
 use Rattle.std.specs.Prelude.{nat_lt}
-use Rattle.std.proofs.lemmas.Bool.{both_ways, cases_Bool, cond-true, cond-false, le-ltb, lt-ltb}
+use Rattle.std.proofs.Math.Bool.{and-true, or-false}
+use Rattle.std.proofs.lemmas.Bool.{and_right, both_ways, cases_Bool, cond-true, cond-false, le-ltb, lt-ltb}
 use Rattle.kv_types.specs.declared.place.EntryNo.{EntryNo}
-use Rattle.kv_types.specs.declared.record_id.RecordId.{RecordId}
 use Rattle.heap_layout.specs.declared.entry.Entry.{Entry}
 use Rattle.heap_layout.specs.Versions.{counted_at, counted_below, counted_entry, gapped_at, gapped_below, is_counted, is_gapped}
 use Rattle.pmem.specs.Device.{State}
@@ -12,9 +12,9 @@ use Rattle.model.specs.declared.record.Record.{Record}
 use Rattle.model.specs.Image.{counts, entries_of_lines, entry_word}
 use Rattle.wbl_engine.specs.AtRest.{contents_of}
 use Rattle.wbl_engine.specs.Reopening.{IsShown, is_cleared, is_left, left_at, left_below, reopened, with_room}
-use Rattle.wbl_engine.proofs.ReadsAs.{record_same, same_entry}
-use Rattle.wbl_engine.proofs.ReopenedContents.{IsReopenedOver, begin_is, reads_reopened, reads_room}
+use Rattle.wbl_engine.proofs.ReopenedContents.{IsReopenedOver, begin_is, over_erased, over_low}
 use Rattle.wbl_engine.proofs.RoomLemmas.{cleared_uncounted}
+use Rattle.wbl_engine.proofs.VersionLemmas.{record_in-same}
 
 -- ---- one entry
 
@@ -25,16 +25,17 @@ same_stamp {r} {d} {c} over i k within low counted =
     over.cleared.stamps i k within low
     ∙ elim (cases_Bool (is_cleared r (image_of d.words (entry_word i k)))) [
       | inl cleared ↦
-          absurd (both_ways (counts r (image_of d.words (entry_word i k))) (cleared_uncounted r (image_of d.words (entry_word i k)) cleared) counted)
+          absurd (both_ways (counts r (image_of d.words (entry_word i k))) (cleared_uncounted r over.undamaged.current.lawful (image_of d.words (entry_word i k)) cleared) counted)
       | inr kept ↦ cond-false (is_cleared r (image_of d.words (entry_word i k))) _ _ kept
     ]
 
 -- and the end of an entry is read as it was
 same_end : {r : Record} {d c : State} → IsReopenedOver r d c → (i : ℕ) → i < entries_of_lines d.lines
+    → IsTrue (counts r (image_of d.words (entry_word i 0)))
     → cond (counts (reopened r) (image_of c.words (entry_word i 1))) (image_of c.words (entry_word i 1)) 0
     ≡ cond (counts r (image_of d.words (entry_word i 1))) (image_of d.words (entry_word i 1)) 0
-same_end {r} {d} {c} over i within =
-    let alike = (reads_reopened over).stamps i 1 within (omega arith) in
+same_end {r} {d} {c} over i within begun =
+    let alike = (over_erased over).ended i within begun in
     elim (cases_Bool (counts r (image_of d.words (entry_word i 1)))) [
       | inl ended ↦
           cond-true (counts (reopened r) (image_of c.words (entry_word i 1))) _ _ (alike ∙ ended)
@@ -45,35 +46,22 @@ same_end {r} {d} {c} over i within =
           ∙ sym (cond-false (counts r (image_of d.words (entry_word i 1))) _ _ live)
     ]
 
--- an entry, from what is read of it
-abbrev entry_of : (begin end position first_line lines : ℕ) → RecordId × List ℕ → Entry
-entry_of begin end position first_line lines held =
-    record {
-      begin = begin;
-      end = end;
-      position = position;
-      extent = record { first_line = first_line; lines = lines };
-      id = held.0;
-      value = held.1;
-    }
-
-same_fields : (begin end position first_line lines begin' end' position' first_line' lines' : ℕ) (held held' : RecordId × List ℕ)
-    → begin' ≡ begin → end' ≡ end → position' ≡ position → first_line' ≡ first_line → lines' ≡ lines → held' ≡ held
-    → entry_of begin' end' position' first_line' lines' held' ≡ entry_of begin end position first_line lines held
-same_fields begin end position first_line lines begin' end' position' first_line' lines' held held' e0 e1 e2 e3 e4 e = cc
-
 same_counted : {r : Record} {d c : State} → IsReopenedOver r d c → (i : ℕ) → i < entries_of_lines d.lines
     → is_counted r (image_of d.words) i ≡ true → counted_entry (reopened r) (image_of c.words) i ≡ counted_entry r (image_of d.words) i
 same_counted {r} {d} {c} over i within begun =
-    let reads = reads_reopened over in
-    same_fields _ _ _ _ _ _ _ _ _ _ _ _ (same_stamp over i 0 within (omega arith) begun) (same_end over i within)
-    (reads.words i 2 within (omega arith) (omega arith)) (reads.words i 3 within (omega arith) (omega arith)) (reads.words i 4 within (omega arith) (omega arith))
-    (record_same (image_of d.words) (image_of c.words) i (same_entry reads i within ((over.undamaged.versions.entries i within).whole begun)))
+    let same = (over_erased over).entry i within begun in
+    let begin = same_stamp over i 0 within (omega arith) begun in
+    let end = same_end over i within begun in
+    let position = same.words 2 (omega arith) (omega arith) in
+    let first = same.words 3 (omega arith) (omega arith) in
+    let count = same.words 4 (omega arith) (omega arith) in
+    let held = record_in-same (image_of d.words) (image_of c.words) i same in
+    cc
 
 counted_same : {r : Record} {d c : State} → IsReopenedOver r d c → (i : ℕ) → i < entries_of_lines d.lines
     → counted_at (reopened r) (image_of c.words) i ≡ counted_at r (image_of d.words) i
 counted_same {r} {d} {c} over i within =
-    let alike = (reads_reopened over).stamps i 0 within (omega arith) in
+    let alike = (over_erased over).begun i within in
     elim (cases_Bool (is_counted r (image_of d.words) i)) [
       | inl begun ↦
           cond-true (is_counted (reopened r) (image_of c.words) i) _ _ (alike ∙ begun)
@@ -86,24 +74,14 @@ counted_same {r} {d} {c} over i within =
 
 gapped_bit : (begin : ℕ) (counted cleared : Bool)
     → (not (cond cleared 0 begin == 0) && not counted) ≡ (not (begin == 0) && (not counted && not cleared))
-gapped_bit begin counted true = none (not (begin == 0)) (not counted)
-  where
-    none : (a b : Bool) → false ≡ (a && (b && false))
-    none true true = refl
-    none true false = refl
-    none false b = refl
-gapped_bit begin counted false = both (not (begin == 0)) (not counted)
-  where
-    both : (a b : Bool) → (a && b) ≡ (a && (b && true))
-    both true true = refl
-    both true false = refl
-    both false b = refl
+gapped_bit begin counted true = sym (and_right (not (begin == 0)) (not counted && false) (and_right (not counted) false refl))
+gapped_bit begin counted false = ap (λ (b : Bool). not (begin == 0) && b) (sym (and-true (not counted)))
 
 gapped_same : {r : Record} {d c : State} → IsReopenedOver r d c → (i : ℕ) → i < entries_of_lines d.lines
     → gapped_at (reopened r) (image_of c.words) i ≡ left_at r (image_of d.words) i
 gapped_same {r} {d} {c} over i within =
     let same : is_gapped (reopened r) (image_of c.words) i ≡ is_left r (image_of d.words (entry_word i 0)) =
-    ap (λ (counted : Bool). not (image_of c.words (entry_word i 0) == 0) && not counted) ((reads_reopened over).stamps i 0 within (omega arith))
+    ap (λ (counted : Bool). not (image_of c.words (entry_word i 0) == 0) && not counted) ((over_erased over).begun i within)
     ∙ ap (λ (word : ℕ). not (word == 0) && not (counts r (image_of d.words (entry_word i 0)))) (begin_is over i within)
     ∙ gapped_bit (image_of d.words (entry_word i 0)) (counts r (image_of d.words (entry_word i 0))) (is_cleared r (image_of d.words (entry_word i 0))) in
     ap (λ (gapped : Bool). cond gapped (record { 0 = i } ∷ []) []) same
@@ -129,15 +107,10 @@ gapped_as {r} {d} {c} over (suc n) within =
 free_is : {r : Record} {d c : State} → IsReopenedOver r d c → (i : ℕ) → i < entries_of_lines c.lines
     → (contents_of (reopened r) c).is_free i ≡ (image_of c.words (entry_word i 0) == 0)
 free_is {r} {d} {c} over i within =
-    let inside : i < entries_of_lines d.lines = subst (λ (lines : ℕ). i < entries_of_lines lines) over.lines_are within in
-    let low = (reads_room over).below i 0 inside (omega arith) in
-    alone (nat_lt i (entries_of_lines c.lines)) (image_of c.words (entry_word i 0) == 0) (nat_lt (with_room r).cd (image_of c.words (entry_word i 0)))
-    (lt-ltb i (entries_of_lines c.lines) within) (le-ltb (with_room r).cd (image_of c.words (entry_word i 0)) (omega (arith, low)))
-  where
-    alone : (a b c : Bool) → a ≡ true → c ≡ false → (a && (b || c)) ≡ b
-    alone true true c ea ec = refl
-    alone true false c ea ec = ec
-    alone false b c ea ec = absurd cc
+    let begin : ℕ = image_of c.words (entry_word i 0) in
+    let low = over_low over i 0 within (omega arith) in
+    ap (λ (b : Bool). b && (begin == 0 || nat_lt (with_room r).cd begin)) (lt-ltb i (entries_of_lines c.lines) within)
+    ∙ ap (λ (b : Bool). begin == 0 || b) (le-ltb (with_room r).cd begin (omega (arith, low))) ∙ or-false (begin == 0)
 
 pub shows : {r : Record} {d c : State} (counted : List (EntryNo × Entry)) (gapped : List EntryNo) → IsReopenedOver r d c
     → counted ≡ counted_below r (image_of d.words) (entries_of_lines d.lines) → gapped ≡ left_below r (image_of d.words) (entries_of_lines d.lines)

@@ -1,302 +1,251 @@
 -- What a group stores before the record changes no version under the old record, whatever part of it a crash leaves.
-use Rattle.std.proofs.Common.{◌≡◌, ◌≢◌, ℕ, ◌+◌, ◌-◌, ◌*◌, ◌<◌, ◌≤◌, Bool, true, false, not, ◌||◌, IsTrue, List, ◌⊎◌, inl, inr, Some, get_or, refl, sym, ap, subst, ◌∙◌, arith}
-use Rattle.std.proofs.lemmas.Bool.{cond-true, cond-false, cases_Bool, cases_lt, or_cases, both_ways, not-true}
+use Rattle.std.proofs.Common.{◌≡◌, ℕ, zero, suc, ◌+◌, ◌-◌, ◌<◌, ◌≤◌, false, true, not, ◌||◌, ◌==◌, IsTrue, List, ◌⊎◌, inl, inr, Some, length, get_or, refl, sym, ap, subst, ◌∙◌, arith}
+use Rattle.std.specs.Prelude.{nat_lt}
+use Rattle.std.specs.List.{AllByRecursion}
+use Rattle.std.proofs.lemmas.Bool.{and_parts, both_ways, cases_Bool, cases_lt, cond-true, eqb-true, ltb-true, not-true, or_cases}
+use Rattle.pmem.specs.Device.{State}
+use Rattle.pmem.specs.Crash.{image_of}
 use Rattle.pmem.specs.Runs.{IsStored}
-use Rattle.model.specs.declared.image.TheConstants.{STAMP_WINDOW}
 use Rattle.model.specs.declared.record.Record.{Record}
+use Rattle.model.specs.declared.group.Group.{Group}
 use Rattle.model.specs.declared.group.Put.{Put}
-use Rattle.model.specs.Image.{Image, entry_word, entries_of_lines, version_at, version_in, counts}
-use Rattle.model.specs.Group.{Versions, IsPlaced, is_put_at, is_live_version}
-use Rattle.wbl_engine.specs.AtRest.{Matters, IsInExtent}
-use Rattle.heap_layout.specs.Entry.{IsEntry}
-use Rattle.heap_layout.specs.Version.{IsUnder}
+use Rattle.model.specs.Image.{Image, Version, entry_word, entries_of_lines, version_in, counts}
+use Rattle.model.specs.Group.{IsGroup, IsPlaced, IsUnused, is_put_at, is_live_version}
 use Rattle.heap_layout.specs.Put.{entry_words}
-use Rattle.wbl_engine.proofs.CountLemmas.{counts-above, counts-below}
-use Rattle.wbl_engine.proofs.PartEffects.{is_put_at-among}
-use Rattle.wbl_engine.proofs.PartSteps.{Fits, IsReady, AreStored, entry_enough, entry-same}
+use Rattle.wbl_engine.specs.AtRest.{contents_of, IsAtRest, Matters}
+use Rattle.wbl_engine.specs.Stage.{IsWritable, puts_of_parts, parts_pairs}
+use Rattle.wbl_engine.proofs.CountLemmas.{counts-above, counts-below, no_gap_above}
+use Rattle.wbl_engine.proofs.Erased.{AreBelow, IsErased, IsHarmless, directory_matters, nothing, stored_erased, versions-beyond, versions-within, whole_sound}
+use Rattle.wbl_engine.proofs.GroupSteps.{all-from}
+use Rattle.wbl_engine.proofs.PartEffects.{IsAmong, is_put_at-among}
+use Rattle.wbl_engine.proofs.PartSteps.{Fits, IsReady, AreStored, within_directory, begun_version}
 use Rattle.wbl_engine.proofs.PositionLemmas.{AreMadeUpTo}
 use Rattle.wbl_engine.proofs.PutPairs.{among-all}
-use Rattle.wbl_engine.proofs.StoredBy.{IsStoredBy}
-use Rattle.wbl_engine.proofs.VersionLemmas.{SameEntry, version_in_entry, version_in_entry-same}
+use Rattle.wbl_engine.proofs.StoredBy.{IsStoredBy, parts_by}
+use Rattle.wbl_engine.proofs.Storing.{AreBehind, IsStoredOver}
 
--- all that is known where a group is being stored over a base
-pub record IsStaging (r : Record) (lines count : ℕ) (base : Image) (versions : Versions) (puts : List Put) (pairs : List (ℕ × ℕ)) : Type 0 where
-  pub fits : Fits r lines base versions
-  pub stored : AreStored lines versions base puts
-  pub by : (word x : ℕ) → IsStored pairs word x → IsStoredBy versions (r.cp + 1) count puts word x
+-- ---- at rest
 
--- each word that matters is as before or one of the stores
-abbrev pub IsStagedOver : Record → ℕ → Image → List (ℕ × ℕ) → Image → Type 0
-IsStagedOver r lines base pairs image = (word : ℕ) → Matters r lines base word → (image word ≡ base word) ⊎ IsStored pairs word (image word)
-
--- no store is before the directory
-pub staging_before : {r : Record} {lines count : ℕ} {base : Image} {versions : Versions} {puts : List Put} {pairs : List (ℕ × ℕ)}
-    → IsStaging r lines count base versions puts pairs → (word x : ℕ) → word < 64 → IsStored pairs word x → ⊥
-staging_before {r} {lines} {count} {base} {versions} {puts} {pairs} staging word x before stored =
-    elim (staging.by word x stored) [
-      | inl extent ↦ omega (arith, extent.of.low, (among-all (IsPlaced lines) puts extent.put extent.among staging.stored.placed).above)
-      | inr (inl entry) ↦ omega (arith, entry.of.low)
-      | inr (inr end) ↦ omega (arith, end.word_is)
-    ]
-
--- what is stored at a word of entry i
-record IsStoredAt (r : Record) (count : ℕ) (base : Image) (versions : Versions) (puts : List Put) (i k x : ℕ) : Type 0 where
-  -- either a put does, and then the entry was free
-  of_put : Bool
-  free : of_put ≡ true → base (entry_word i 0) ≡ 0
-  begin : of_put ≡ true → k ≡ 0 → (r.cp < x) × (x ≤ r.cp + count)
-  end : of_put ≡ true → k ≡ 1 → x ≡ 0
-  -- or the end of what was live
-  only_end : of_put ≡ false → k ≡ 1
-  stamp : of_put ≡ false → (r.cp < x) × (x ≤ r.cp + count)
-  live : of_put ≡ false → IsTrue (is_live_version (versions i) || is_put_at i puts)
-
-stored_at : {r : Record} {lines count : ℕ} {base : Image} {versions : Versions} {puts : List Put} {pairs : List (ℕ × ℕ)}
-    → IsStaging r lines count base versions puts pairs → (i k x : ℕ) → i < entries_of_lines lines → k < 8 → IsStored pairs (entry_word i k) x
-    → IsStoredAt r count base versions puts i k x
-stored_at {r} {lines} {count} {base} {versions} {puts} {pairs} staging i k x within below stored =
-    elim (staging.by (entry_word i k) x stored) [
-      | inl extent ↦
-          absurd (omega (arith, extent.of.low, within, below, (among-all (IsPlaced lines) puts extent.put extent.among staging.stored.placed).above))
-      | inr (inl entry) ↦
-          let same : entry.put.entry.0 ≡ i = omega (arith, entry.of.low, entry.of.high, below) in
-          let place : entry_word i k - entry_word entry.put.entry.0 0 ≡ k = omega (arith, same) in
-          let value : get_or (entry_words entry.begin entry.position entry.put) k 0 ≡ x =
-          ap (λ (n : ℕ). get_or (entry_words entry.begin entry.position entry.put) n 0) (sym place) ∙ entry.value in
-          record {
-            of_put = true;
-            free = λ e. ap (λ (n : ℕ). base (entry_word n 0)) (sym same) ∙ (among-all (IsReady versions base) puts entry.put entry.among staging.stored.ready).free;
-            begin = λ e zeroth.
-                let is : entry.begin ≡ x = ap (λ (n : ℕ). get_or (entry_words entry.begin entry.position entry.put) n 0) (sym zeroth) ∙ value in
-                (omega (arith, is, entry.low), omega (arith, is, entry.high));
-            end = λ e first. sym (ap (λ (n : ℕ). get_or (entry_words entry.begin entry.position entry.put) n 0) (sym first) ∙ value);
-            only_end = λ e. absurd (cc);
-            stamp = λ e. absurd (cc);
-            live = λ e. absurd (cc);
-          }
-      | inr (inr end) ↦
-          let same : end.entry ≡ i = omega (arith, end.word_is, below) in
-          record {
-            of_put = false;
-            free = λ e. absurd (cc);
-            begin = λ e. absurd (cc);
-            end = λ e. absurd (cc);
-            only_end = λ e. omega (arith, end.word_is, below);
-            stamp = λ e. (omega (arith, end.low), omega (arith, end.high));
-            live = λ e. subst (λ (n : ℕ). IsTrue (is_live_version (versions n) || is_put_at n puts)) same end.live;
-          }
-    ]
-
-directory_matters : (r : Record) (lines : ℕ) (base : Image) (i k : ℕ) → i < entries_of_lines lines → k < 8 → Matters r lines base (entry_word i k)
-directory_matters r lines base i k within below = inr (inl (omega arith, omega (arith, within)))
-
--- the begin of an entry is as before, or that of a put at a free entry
-pub staged_begin : {r : Record} {lines count : ℕ} {base image : Image} {versions : Versions} {puts : List Put} {pairs : List (ℕ × ℕ)}
-    → IsStaging r lines count base versions puts pairs → IsStagedOver r lines base pairs image → (i : ℕ) → i < entries_of_lines lines
-    → (image (entry_word i 0) ≡ base (entry_word i 0))
-    ⊎ ((base (entry_word i 0) ≡ 0) × (r.cp < image (entry_word i 0)) × (image (entry_word i 0) ≤ r.cp + count))
-staged_begin {r} {lines} {count} {base} {image} {versions} {puts} {pairs} staging over i within =
-    elim (over (entry_word i 0) (directory_matters r lines base i 0 within (omega arith))) [
-      | inl same ↦ inl same
-      | inr stored ↦
-          let at = stored_at staging i 0 (image (entry_word i 0)) within (omega arith) stored in
-          elim (cases_Bool at.of_put) [
-            | inl put ↦ inr (at.free put, (at.begin put refl).0, (at.begin put refl).1)
-            | inr end ↦ absurd (omega (arith, at.only_end end))
-          ]
-    ]
-
--- a begun entry is not that of a put
-begun_no_put : {r : Record} {lines count : ℕ} {base : Image} {versions : Versions} {puts : List Put} {pairs : List (ℕ × ℕ)}
-    → IsStaging r lines count base versions puts pairs → (i : ℕ) → counts r (base (entry_word i 0)) ≡ true → is_put_at i puts ≡ false
-begun_no_put {r} {lines} {count} {base} {versions} {puts} {pairs} staging i begun =
-    elim (cases_Bool (is_put_at i puts)) [
-      | inl put ↦
-          let at = is_put_at-among i puts put in
-          let free : base (entry_word i 0) ≡ 0 =
-          ap (λ (n : ℕ). base (entry_word n 0)) at.2 ∙ (among-all (IsReady versions base) puts at.0 at.1 staging.stored.ready).free in
-          absurd (omega (arith, free, (counts-below r (base (entry_word i 0)) begun).0))
-      | inr none ↦ none
-    ]
-
--- what else a begun entry says stays, but for the end
-staged_word : {r : Record} {lines count : ℕ} {base image : Image} {versions : Versions} {puts : List Put} {pairs : List (ℕ × ℕ)}
-    → IsStaging r lines count base versions puts pairs → IsStagedOver r lines base pairs image → (i k : ℕ) → i < entries_of_lines lines
-    → k < 8 → k ≢ 1 → counts r (base (entry_word i 0)) ≡ true → image (entry_word i k) ≡ base (entry_word i k)
-staged_word {r} {lines} {count} {base} {image} {versions} {puts} {pairs} staging over i k within below other begun =
-    elim (over (entry_word i k) (directory_matters r lines base i k within below)) [
-      | inl same ↦ same
-      | inr stored ↦
-          let at = stored_at staging i k (image (entry_word i k)) within below stored in
-          elim (cases_Bool at.of_put) [
-            | inl put ↦ absurd (omega (arith, at.free put, (counts-below r (base (entry_word i 0)) begun).0))
-            | inr end ↦ absurd (other (at.only_end end))
-          ]
-    ]
-
-version_begun : {r : Record} {lines : ℕ} {base : Image} {versions : Versions} → Fits r lines base versions → (i : ℕ) → i < entries_of_lines lines
-    → counts r (base (entry_word i 0)) ≡ true → versions i ≡ Some (version_in r base i)
-version_begun {r} {lines} {base} {versions} fits i within begun =
-    sym (fits.same i within) ∙ cond-true (counts r (base (entry_word i 0))) _ _ begun
-
--- a new end does not count yet
-staged_end : {r : Record} {lines count : ℕ} {base image : Image} {versions : Versions} {puts : List Put} {pairs : List (ℕ × ℕ)}
-    → IsStaging r lines count base versions puts pairs → IsStagedOver r lines base pairs image → (i : ℕ) → i < entries_of_lines lines
-    → counts r (base (entry_word i 0)) ≡ true → counts r (image (entry_word i 1)) ≡ counts r (base (entry_word i 1))
-staged_end {r} {lines} {count} {base} {image} {versions} {puts} {pairs} staging over i within begun =
-    elim (over (entry_word i 1) (directory_matters r lines base i 1 within (omega arith))) [
-      | inl same ↦ ap (counts r) same
-      | inr stored ↦
-          let at = stored_at staging i 1 (image (entry_word i 1)) within (omega arith) stored in
-          elim (cases_Bool at.of_put) [
-            | inl put ↦ absurd (omega (arith, at.free put, (counts-below r (base (entry_word i 0)) begun).0))
-            | inr end ↦
-                let live : not (counts r (base (entry_word i 1))) ≡ true =
-                elim (or_cases (is_live_version (versions i)) (is_put_at i puts) (at.live end)) [
-                  | inl now ↦ sym (ap is_live_version (version_begun staging.fits i within begun)) ∙ now
-                  | inr put ↦ absurd (both_ways (is_put_at i puts) (begun_no_put staging i begun) put)
-                ] in
-                counts-above r (image (entry_word i 1)) (at.stamp end).0 ∙ sym (not-true (counts r (base (entry_word i 1))) live)
-          ]
-    ]
-
--- nor is the extent touched
-staged_extent : {r : Record} {lines count : ℕ} {base image : Image} {versions : Versions} {puts : List Put} {pairs : List (ℕ × ℕ)}
-    → IsStaging r lines count base versions puts pairs → IsStagedOver r lines base pairs image → (i : ℕ) → i < entries_of_lines lines
-    → counts r (base (entry_word i 0)) ≡ true → (word : ℕ) → IsInExtent base i word → image word ≡ base word
-staged_extent {r} {lines} {count} {base} {image} {versions} {puts} {pairs} staging over i within begun word at =
-    let place : IsEntry lines base i = staging.fits.entries i within begun in
-    elim (over word (inr (inr (i, within, begun, at)))) [
-      | inl same ↦ same
-      | inr stored ↦
-          elim (staging.by word (image word) stored) [
-            | inl extent ↦
-                elim ((among-all (IsReady versions base) puts extent.put extent.among staging.stored.ready).lines i (version_in r base i)
-                (version_begun staging.fits i within begun)) [
-                  | inl first ↦ absurd (omega (arith, first, extent.of.high, at.low))
-                  | inr second ↦ absurd (omega (arith, second, extent.of.low, at.high))
-                ]
-            | inr (inl entry) ↦
-                absurd (omega (arith, entry.of.high, at.low, place.above, (among-all (IsPlaced lines) puts entry.put entry.among staging.stored.placed).entry))
-            | inr (inr end) ↦
-                absurd (omega (arith, end.word_is, at.low, place.above, live_within staging end.entry end.live))
-          ]
-    ]
-  where
-    live_within : {r : Record} {lines count : ℕ} {base : Image} {versions : Versions} {puts : List Put} {pairs : List (ℕ × ℕ)}
-        → IsStaging r lines count base versions puts pairs → (i : ℕ) → IsTrue (is_live_version (versions i) || is_put_at i puts)
-        → i < entries_of_lines lines
-    live_within {r} {lines} {count} {base} {versions} {puts} {pairs} staging i live =
-        elim (or_cases (is_live_version (versions i)) (is_put_at i puts) live) [
-          | inl now ↦
-              elim (cases_lt i (entries_of_lines lines)) [
-                | inl below ↦ below
-                | inr beyond ↦
-                    let none : is_live_version (versions i) ≡ false = ap is_live_version (staging.fits.beyond i beyond) in
-                    absurd (both_ways (is_live_version (versions i)) none now)
-              ]
-          | inr put ↦
-              let at = is_put_at-among i puts put in
-              omega (arith, at.2, (among-all (IsPlaced lines) puts at.0 at.1 staging.stored.placed).entry)
-        ]
-
-staged_entry : {r : Record} {lines count : ℕ} {base image : Image} {versions : Versions} {puts : List Put} {pairs : List (ℕ × ℕ)}
-    → IsStaging r lines count base versions puts pairs → IsStagedOver r lines base pairs image → (i : ℕ) → i < entries_of_lines lines
-    → counts r (base (entry_word i 0)) ≡ true → SameEntry base image i
-staged_entry {r} {lines} {count} {base} {image} {versions} {puts} {pairs} staging over i within begun =
-    let place : IsEntry lines base i = staging.fits.entries i within begun in
+-- the image has exactly these versions
+pub rest_fits : (r : Record) (d : State) → IsAtRest r d → Fits r d.lines (image_of d.words) (contents_of r d).versions
+rest_fits r d rest =
     record {
-      words = λ k low high. staged_word staging over i k within high (omega (arith, low)) begun;
-      extent = λ j below.
-          staged_extent staging over i within begun (8 * base (entry_word i 3) + j)
-          (record { low = omega arith; high = omega (arith, below, entry_enough place) });
+      same = λ i within. sym (versions-within r d i within);
+      beyond = versions-beyond r d;
+      begins = rest.whole.begins;
+      ends = rest.whole.ends;
+      entries = rest.whole.entries;
+      no_gap = no_gap_above 0 r.gaps.items r.cp rest.lawful.gaps;
     }
 
--- Each version is as before.
-pub staged_same : {r : Record} {lines count : ℕ} {base image : Image} {versions : Versions} {puts : List Put} {pairs : List (ℕ × ℕ)}
-    → IsStaging r lines count base versions puts pairs → IsStagedOver r lines base pairs image → (i : ℕ) → i < entries_of_lines lines
-    → version_at r image i ≡ version_at r base i
-staged_same {r} {lines} {count} {base} {image} {versions} {puts} {pairs} staging over i within =
-    elim (cases_Bool (counts r (base (entry_word i 0)))) [
-      | inl begun ↦
-          let begin : counts r (image (entry_word i 0)) ≡ true =
-          ap (counts r) (staged_word staging over i 0 within (omega arith) (omega arith) begun) ∙ begun in
-          let now : version_in r image i ≡ version_in r base i =
-          version_in_entry-same base image i (counts r (image (entry_word i 1))) (staged_entry staging over i within begun)
-          ∙ ap (version_in_entry base i) (staged_end staging over i within begun) in
-          cond-true _ _ _ begin ∙ ap Some now ∙ sym (cond-true _ _ _ begun)
-      | inr none ↦
-          let begin : counts r (image (entry_word i 0)) ≡ false =
-          elim (staged_begin staging over i within) [
-            | inl same ↦ ap (counts r) same ∙ none
-            | inr put ↦ counts-above r (image (entry_word i 0)) put.1
-          ] in
-          cond-false _ _ _ begin ∙ sym (cond-false _ _ _ none)
+-- each was made at a position that the record has
+pub rest_made : (r : Record) (d : State) → IsAtRest r d → AreMadeUpTo r.position (contents_of r d).versions
+rest_made r d rest i version is =
+    let fits : Fits r d.lines (image_of d.words) (contents_of r d).versions = rest_fits r d rest in
+    let within : i < entries_of_lines d.lines = within_directory fits i version is in
+    let begun = begun_version fits i version within is in
+    omega (arith, ap (λ (v : Version). v.position) begun.1, rest.whole.positions i within begun.0)
+
+-- a free entry's begin is 0
+free_begin : (r : Record) (d : State) → IsAtRest r d → (i : ℕ) → IsTrue ((contents_of r d).is_free i) → image_of d.words (entry_word i 0) ≡ 0
+free_begin r d rest i free =
+    let begin : ℕ = image_of d.words (entry_word i 0) in
+    let parts = and_parts (nat_lt i (entries_of_lines d.lines)) (begin == 0 || nat_lt r.cp begin) free in
+    elim (or_cases (begin == 0) (nat_lt r.cp begin) parts.1) [
+      | inl none ↦ eqb-true begin 0 none
+      | inr above ↦
+          absurd (omega (arith, ltb-true r.cp begin above, rest.whole.begins i (ltb-true i (entries_of_lines d.lines) parts.0)))
     ]
 
--- The stamps that were stored are new ones.
-pub staged_begins : {r : Record} {lines count : ℕ} {base image : Image} {versions : Versions} {puts : List Put} {pairs : List (ℕ × ℕ)}
-    → IsStaging r lines count base versions puts pairs → IsStagedOver r lines base pairs image → (i : ℕ) → i < entries_of_lines lines
-    → image (entry_word i 0) ≤ r.cp + count
-staged_begins {r} {lines} {count} {base} {image} {versions} {puts} {pairs} staging over i within =
-    elim (staged_begin staging over i within) [
-      | inl same ↦ omega (arith, same, staging.fits.begins i within)
-      | inr put ↦ put.2
-    ]
-
-pub staged_ends : {r : Record} {lines count : ℕ} {base image : Image} {versions : Versions} {puts : List Put} {pairs : List (ℕ × ℕ)}
-    → IsStaging r lines count base versions puts pairs → IsStagedOver r lines base pairs image → (i : ℕ) → i < entries_of_lines lines
-    → image (entry_word i 1) ≤ r.cp + count
-staged_ends {r} {lines} {count} {base} {image} {versions} {puts} {pairs} staging over i within =
-    elim (over (entry_word i 1) (directory_matters r lines base i 1 within (omega arith))) [
-      | inl same ↦ omega (arith, same, staging.fits.ends i within)
-      | inr stored ↦
-          let at = stored_at staging i 1 (image (entry_word i 1)) within (omega arith) stored in
-          elim (cases_Bool at.of_put) [
-            | inl put ↦ omega (arith, at.end put refl)
-            | inr end ↦ (at.stamp end).1
+-- what is live, or is put, is of the directory
+pub live_within : (r : Record) (d : State) (group : Group) → IsGroup (contents_of r d) group → (i : ℕ)
+    → IsTrue (is_live_version ((contents_of r d).versions i) || is_put_at i (puts_of_parts group.parts.items)) → i < entries_of_lines d.lines
+live_within r d group asked i live =
+    elim (or_cases (is_live_version ((contents_of r d).versions i)) (is_put_at i (puts_of_parts group.parts.items)) live) [
+      | inl now ↦
+          elim (cases_lt i (entries_of_lines d.lines)) [
+            | inl below ↦ below
+            | inr beyond ↦
+                absurd (both_ways (is_live_version ((contents_of r d).versions i)) (ap is_live_version (versions-beyond r d i beyond)) now)
           ]
+      | inr put ↦
+          let at = is_put_at-among i (puts_of_parts group.parts.items) put in
+          omega (arith, at.2, (among-all (IsPlaced d.lines) (puts_of_parts group.parts.items) at.0 at.1 asked.placed).entry)
     ]
 
--- An entry whose begin counts was begun before.
-staged_begun : {r : Record} {lines count : ℕ} {base image : Image} {versions : Versions} {puts : List Put} {pairs : List (ℕ × ℕ)}
-    → IsStaging r lines count base versions puts pairs → IsStagedOver r lines base pairs image → (i : ℕ) → i < entries_of_lines lines
-    → counts r (image (entry_word i 0)) ≡ true → counts r (base (entry_word i 0)) ≡ true
-staged_begun {r} {lines} {count} {base} {image} {versions} {puts} {pairs} staging over i within begun =
-    elim (staged_begin staging over i within) [
-      | inl same ↦ sym (ap (counts r) same) ∙ begun
-      | inr put ↦ absurd (both_ways (counts r (image (entry_word i 0))) (counts-above r (image (entry_word i 0)) put.1) begun)
-    ]
+-- ---- a group that is being committed
 
--- It breaks no rule of entries.
-pub staged_whole : {r : Record} {lines count : ℕ} {base image : Image} {versions : Versions} {puts : List Put} {pairs : List (ℕ × ℕ)}
-    → IsStaging r lines count base versions puts pairs → IsStagedOver r lines base pairs image → (i : ℕ) → i < entries_of_lines lines
-    → counts r (image (entry_word i 0)) ≡ true → IsEntry lines image i
-staged_whole {r} {lines} {count} {base} {image} {versions} {puts} {pairs} staging over i within begun =
-    let was : counts r (base (entry_word i 0)) ≡ true = staged_begun staging over i within begun in
-    entry-same lines base image i (staged_entry staging over i within was) (staging.fits.entries i within was)
+pub record IsCommitting (r : Record) (d : State) (group : Group) : Type 0 where
+  pub rest : IsAtRest r d
+  pub asked : IsGroup (contents_of r d) group
+  pub writable : AllByRecursion IsWritable (puts_of_parts group.parts.items)
 
--- It was made at a position at which one of the versions was.
-pub staged_position : {r : Record} {lines count : ℕ} {base image : Image} {versions : Versions} {puts : List Put} {pairs : List (ℕ × ℕ)} (top : ℕ)
-    → IsStaging r lines count base versions puts pairs → IsStagedOver r lines base pairs image → AreMadeUpTo top versions
-    → (i : ℕ) → i < entries_of_lines lines → counts r (image (entry_word i 0)) ≡ true → image (entry_word i 2) ≤ top
-staged_position {r} {lines} {count} {base} {image} {versions} {puts} {pairs} top staging over made i within begun =
-    let was : counts r (base (entry_word i 0)) ≡ true = staged_begun staging over i within begun in
-    omega (
-      arith,
-      staged_word staging over i 2 within (omega arith) (omega arith) was,
-      made i (version_in r base i) (version_begun staging.fits i within was),
-    )
+-- what it stores
+abbrev pub group_pairs : Record → Group → List (ℕ × ℕ)
+group_pairs r group = parts_pairs (r.cp + 1) group.parts.items
 
--- Each entry breaks no rule under the record.
-pub staged_under : {r : Record} {lines count : ℕ} {base image : Image} {versions : Versions} {puts : List Put} {pairs : List (ℕ × ℕ)}
-    → r.cd ≡ r.cp + 1 + STAMP_WINDOW → count ≤ 64 → AreMadeUpTo r.position versions
-    → IsStaging r lines count base versions puts pairs → IsStagedOver r lines base pairs image → (i : ℕ) → i < entries_of_lines lines
-    → IsUnder r lines image i
-staged_under {r} {lines} {count} {base} {image} {versions} {puts} {pairs} limit few made staging over i within =
-    record {
-      begin = omega (arith, staged_begins staging over i within, limit, few);
-      end = omega (arith, staged_ends staging over i within, limit, few);
-      whole = staged_whole staging over i within;
-      position = staged_position r.position staging over made i within;
-    }
+-- a put stores this at word k of entry i, which was free
+pub record PutsAt (r : Record) (d : State) (group : Group) (i k x : ℕ) : Type 0 where
+  pub free : image_of d.words (entry_word i 0) ≡ 0
+  pub begin : k ≡ 0 → (r.cp < x) × (x ≤ r.cp + length group.parts.items)
+  pub end : k ≡ 1 → x ≡ 0
+
+-- or it is the end of what was live
+pub record EndsAt (r : Record) (d : State) (group : Group) (i k x : ℕ) : Type 0 where
+  pub only_end : k ≡ 1
+  pub low : r.cp < x
+  pub high : x ≤ r.cp + length group.parts.items
+  pub live : IsTrue (is_live_version ((contents_of r d).versions i) || is_put_at i (puts_of_parts group.parts.items))
+
+module _ {r : Record} {d : State} {group : Group} (begun : IsCommitting r d group) where
+  -- its puts may be stored
+  pub group_stored : AreStored d.lines (contents_of r d).versions (image_of d.words) (puts_of_parts group.parts.items)
+  group_stored =
+      record {
+        placed = begun.asked.placed;
+        fitting = begun.asked.fitting;
+        writable = begun.writable;
+        ready = all-from (IsReady (contents_of r d).versions (image_of d.words)) (puts_of_parts group.parts.items)
+            (λ put among.
+            let unused = among-all (IsUnused (contents_of r d).versions (contents_of r d).is_free) (puts_of_parts group.parts.items) put among begun.asked.unused in
+            record { free = free_begin r d begun.rest put.entry.0 unused.entry; lines = unused.lines });
+        apart = begun.asked.apart;
+      }
+
+  pub placed_at : (put : Put) → IsAmong put (puts_of_parts group.parts.items) → IsPlaced d.lines put
+  placed_at put among = among-all (IsPlaced d.lines) (puts_of_parts group.parts.items) put among begun.asked.placed
+
+  ready_at : (put : Put) → IsAmong put (puts_of_parts group.parts.items) → IsReady (contents_of r d).versions (image_of d.words) put
+  ready_at put among =
+      among-all (IsReady (contents_of r d).versions (image_of d.words)) (puts_of_parts group.parts.items) put among group_stored.ready
+
+  pub stored_by : (word x : ℕ) → IsStored (group_pairs r group) word x
+      → IsStoredBy (contents_of r d).versions (r.cp + 1) (length group.parts.items) (puts_of_parts group.parts.items) word x
+  stored_by word x stored = parts_by group.parts.items group.before (contents_of r d).versions (r.cp + 1) word x begun.asked.parts stored
+
+  pub group_behind : AreBehind (group_pairs r group)
+  group_behind word x stored =
+      elim (stored_by word x stored) [
+        | inl extent ↦ omega (arith, extent.of.low, (placed_at extent.put extent.among).above)
+        | inr (inl entry) ↦ omega (arith, entry.of.low)
+        | inr (inr end) ↦ omega (arith, end.word_is)
+      ]
+
+  pub stored_at : (i k x : ℕ) → i < entries_of_lines d.lines → k < 8 → IsStored (group_pairs r group) (entry_word i k) x
+      → PutsAt r d group i k x ⊎ EndsAt r d group i k x
+  stored_at i k x within below stored =
+      elim (stored_by (entry_word i k) x stored) [
+        | inl extent ↦ absurd (omega (arith, extent.of.low, within, below, (placed_at extent.put extent.among).above))
+        | inr (inl entry) ↦
+            let same : entry.put.entry.0 ≡ i = omega (arith, entry.of.low, entry.of.high, below) in
+            let place : entry_word i k - entry_word entry.put.entry.0 0 ≡ k = omega (arith, same) in
+            let value : get_or (entry_words entry.begin entry.position entry.put) k 0 ≡ x =
+            ap (λ (n : ℕ). get_or (entry_words entry.begin entry.position entry.put) n 0) (sym place) ∙ entry.value in
+            inl (record {
+              free = ap (λ (n : ℕ). image_of d.words (entry_word n 0)) (sym same) ∙ (ready_at entry.put entry.among).free;
+              begin = λ zeroth.
+                  let is : entry.begin ≡ x = ap (λ (n : ℕ). get_or (entry_words entry.begin entry.position entry.put) n 0) (sym zeroth) ∙ value in
+                  (omega (arith, is, entry.low), omega (arith, is, entry.high));
+              end = λ first. sym (ap (λ (n : ℕ). get_or (entry_words entry.begin entry.position entry.put) n 0) (sym first) ∙ value);
+            })
+        | inr (inr end) ↦
+            let same : end.entry ≡ i = omega (arith, end.word_is, below) in
+            inr (record {
+              only_end = omega (arith, end.word_is, below);
+              low = omega (arith, end.low);
+              high = omega (arith, end.high);
+              live = subst (λ (n : ℕ). IsTrue (is_live_version ((contents_of r d).versions n) || is_put_at n (puts_of_parts group.parts.items))) same end.live;
+            })
+      ]
+
+  -- a begun entry is not that of a put
+  begun_no_put : (i : ℕ) → IsTrue (counts r (image_of d.words (entry_word i 0))) → is_put_at i (puts_of_parts group.parts.items) ≡ false
+  begun_no_put i counted =
+      elim (cases_Bool (is_put_at i (puts_of_parts group.parts.items))) [
+        | inl put ↦
+            let at = is_put_at-among i (puts_of_parts group.parts.items) put in
+            let free : image_of d.words (entry_word i 0) ≡ 0 = ap (λ (n : ℕ). image_of d.words (entry_word n 0)) at.2 ∙ (ready_at at.0 at.1).free in
+            absurd (omega (arith, free, (counts-below r (image_of d.words (entry_word i 0)) counted).0))
+        | inr none ↦ none
+      ]
+
+  version_begun : (i : ℕ) → i < entries_of_lines d.lines → IsTrue (counts r (image_of d.words (entry_word i 0)))
+      → (contents_of r d).versions i ≡ Some (version_in r (image_of d.words) i)
+  version_begun i within counted = versions-within r d i within ∙ cond-true (counts r (image_of d.words (entry_word i 0))) _ _ counted
+
+  -- a new end does not count yet, and nothing else of a begun entry is touched
+  harmless : IsHarmless r d.lines (image_of d.words) (group_pairs r group)
+  harmless =
+      record {
+        behind = group_behind;
+        end = λ i x within counted stored.
+            elim (stored_at i 1 x within (omega arith) stored) [
+              | inl put ↦ absurd (omega (arith, put.free, (counts-below r (image_of d.words (entry_word i 0)) counted).0))
+              | inr end ↦
+                  let live : not (counts r (image_of d.words (entry_word i 1))) ≡ true =
+                  elim (or_cases (is_live_version ((contents_of r d).versions i)) (is_put_at i (puts_of_parts group.parts.items)) end.live) [
+                    | inl now ↦ sym (ap is_live_version (version_begun i within counted)) ∙ now
+                    | inr put ↦ absurd (both_ways (is_put_at i (puts_of_parts group.parts.items)) (begun_no_put i counted) put)
+                  ] in
+                  counts-above r x end.low ∙ sym (not-true (counts r (image_of d.words (entry_word i 1))) live)
+            ];
+        words = λ i k x within counted low below stored.
+            elim (stored_at i k x within below stored) [
+              | inl put ↦ omega (arith, put.free, (counts-below r (image_of d.words (entry_word i 0)) counted).0)
+              | inr end ↦ omega (arith, low, end.only_end)
+            ];
+        extents = λ i word x within counted at stored.
+            let place = begun.rest.whole.entries i within counted in
+            elim (stored_by word x stored) [
+              | inl extent ↦
+                  elim ((ready_at extent.put extent.among).lines i (version_in r (image_of d.words) i) (version_begun i within counted)) [
+                    | inl first ↦ omega (arith, first, extent.of.high, at.low)
+                    | inr second ↦ omega (arith, second, extent.of.low, at.high)
+                  ]
+              | inr (inl entry) ↦ omega (arith, entry.of.high, at.low, place.above, (placed_at entry.put entry.among).entry)
+              | inr (inr end) ↦ omega (arith, end.word_is, at.low, place.above, live_within r d group begun.asked end.entry end.live)
+            ];
+      }
+
+  -- ---- an image of which each word that matters is as before or as the group stores it
+
+  -- the begin of an entry is as before, or that of a put at a free entry
+  pub group_begin : (image : Image) → IsStoredOver (Matters r d.lines (image_of d.words)) (image_of d.words) (group_pairs r group) image
+      → (i : ℕ) → i < entries_of_lines d.lines → (image (entry_word i 0) ≡ image_of d.words (entry_word i 0))
+      ⊎ ((image_of d.words (entry_word i 0) ≡ 0) × (r.cp < image (entry_word i 0)) × (image (entry_word i 0) ≤ r.cp + length group.parts.items))
+  group_begin image over i within =
+      elim (over (entry_word i 0) (directory_matters r d.lines (image_of d.words) i 0 within (omega arith))) [
+        | inl same ↦ inl same
+        | inr stored ↦
+            elim (stored_at i 0 (image (entry_word i 0)) within (omega arith) stored) [
+              | inl put ↦ inr (put.free, (put.begin refl).0, (put.begin refl).1)
+              | inr end ↦ absurd (omega (arith, end.only_end))
+            ]
+      ]
+
+  -- nothing is lost
+  pub group_erased : (image : Image) → IsStoredOver (Matters r d.lines (image_of d.words)) (image_of d.words) (group_pairs r group) image
+      → IsErased r r d.lines nothing (image_of d.words) image
+  group_erased image over =
+      stored_erased nothing (whole_sound begun.rest.whole) harmless over
+      (λ i within.
+      elim (group_begin image over i within) [
+        | inl same ↦ ap (counts r) same
+        | inr put ↦ counts-above r (image (entry_word i 0)) put.1 ∙ sym (ap (counts r) put.0)
+      ])
+
+  -- and the stamps that were stored are new ones
+  pub group_below : (image : Image) → IsStoredOver (Matters r d.lines (image_of d.words)) (image_of d.words) (group_pairs r group) image
+      → AreBelow d.lines image (r.cp + length group.parts.items + 1)
+  group_below image over i zero within low =
+      elim (group_begin image over i within) [ inl same ↦ omega (arith, same, begun.rest.whole.begins i within) | inr put ↦ omega (arith, put.2) ]
+  group_below image over i (suc zero) within low =
+      elim (over (entry_word i 1) (directory_matters r d.lines (image_of d.words) i 1 within (omega arith))) [
+        | inl same ↦ omega (arith, same, begun.rest.whole.ends i within)
+        | inr stored ↦
+            elim (stored_at i 1 (image (entry_word i 1)) within (omega arith) stored) [
+              | inl put ↦ omega (arith, put.end refl)
+              | inr end ↦ omega (arith, end.high)
+            ]
+      ]
+  group_below image over i (suc (suc k)) within low = absurd (omega (arith, low))

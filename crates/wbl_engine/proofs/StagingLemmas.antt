@@ -1,5 +1,5 @@
 -- The loops over parts, changes and entries, one step at a time.
-use Rattle.std.proofs.Common.{◌≡◌, ℕ, zero, suc, ◌+◌, ◌<◌, List, [], ◌∷◌, ◌++◌, length, take, get_or, refl, sym, ap, subst, ◌∙◌, arith, append_assoc}
+use Rattle.std.proofs.Common.{◌≡◌, ℕ, zero, suc, ◌+◌, ◌<◌, List, [], ◌∷◌, ◌++◌, length, map, take, get_or, refl, sym, ap, subst, ◌∙◌, arith, append_assoc}
 use Rattle.std.specs.List.{flat_map, AllByRecursion}
 use Rattle.std.proofs.lemmas.Grind.{flat_map-append}
 use Rattle.std.proofs.lemmas.List.{take_more, map-append, append-nil}
@@ -10,10 +10,9 @@ use Rattle.model.specs.declared.group.Part.{Part}
 use Rattle.model.specs.declared.group.PlacedChange.{PlacedChange}
 use Rattle.model.specs.declared.group.PlacedChange.TheVariants as placed
 use Rattle.model.specs.declared.group.Put.{Put}
-use Rattle.model.specs.Image.{entry_word}
 use Rattle.model.specs.Group.{put_of}
 use Rattle.heap_layout.specs.Put.{put_pairs, put_lines}
-use Rattle.wbl_engine.specs.Stage.{puts_of_changes, puts_pairs, end_pairs, part_pairs, parts_pairs, puts_lines, end_lines, part_lines, parts_lines}
+use Rattle.wbl_engine.specs.Stage.{puts_of_changes, puts_pairs, part_pairs, parts_pairs, puts_lines, part_lines, parts_lines}
 use Rattle.heap_layout.proofs.LayoutRuns.{Runs-more_stores, Runs-more_flushes}
 
 -- a change that puts nothing
@@ -23,22 +22,16 @@ no_put (placed.Drop id) other = refl
 no_put (placed.DropKey key) other = refl
 no_put placed.Clear other = refl
 
--- what holds of all holds of one
-pub all_item : {X : Type 0} (P : X → Type 0) (xs : List X) (i : ℕ) (x : X) → i < length xs → x ≡ get_or xs i x → AllByRecursion P xs → P x
-all_item P [] i x below is all = absurd (omega arith)
-all_item P (y ∷ xs) zero x below is all = subst P (sym is) all.0
-all_item P (y ∷ xs) (suc i) x below is all = all_item P xs i x (omega arith) is all.1
-
 pub all_at : {X : Type 0} (P : X → Type 0) (xs : List X) (i : ℕ) (d : X) → i < length xs → AllByRecursion P xs → P (get_or xs i d)
 all_at P [] i d below all = absurd (omega arith)
 all_at P (y ∷ xs) zero d below all = all.0
 all_at P (y ∷ xs) (suc i) d below all = all_at P xs i d (omega arith) all.1
 
-all-prefix : {Y : Type 0} (P : Y → Type 0) (a b : List Y) → AllByRecursion P (a ++ b) → AllByRecursion P a
+pub all-prefix : {Y : Type 0} (P : Y → Type 0) (a b : List Y) → AllByRecursion P (a ++ b) → AllByRecursion P a
 all-prefix P [] b all = tt
 all-prefix P (y ∷ a) b all = (all.0, all-prefix P a b all.1)
 
-all-back : {Y : Type 0} (P : Y → Type 0) (a b : List Y) → AllByRecursion P (a ++ b) → AllByRecursion P b
+pub all-back : {Y : Type 0} (P : Y → Type 0) (a b : List Y) → AllByRecursion P (a ++ b) → AllByRecursion P b
 all-back P [] b all = all
 all-back P (y ∷ a) b all = all-back P a b all.1
 
@@ -99,23 +92,20 @@ changes_flushed {a} {b} {c} changes i change below is run more =
     (ap puts_lines (flat_map-item put_of changes i change below is) ∙ flat_map-append put_lines (puts_of_changes (take i changes)) (put_of change))
     run more
 
--- the loop over the entries that a part ended
-pub ends_stored : {a b c : State} (stamp : ℕ) (ended : List EntryNo) (i : ℕ) (d : EntryNo) → i < length ended
-    → Runs a b (stores (end_pairs stamp (take i ended)) a.words) → Runs b c (stores ((entry_word (get_or ended i d).0 1, stamp) ∷ []) b.words)
-    → Runs a c (stores (end_pairs stamp (take (i + 1) ended)) a.words)
-ends_stored {a} {b} {c} stamp ended i d below run more =
-    stores_more (end_pairs stamp (take (i + 1) ended)) (end_pairs stamp (take i ended)) ((entry_word (get_or ended i d).0 1, stamp) ∷ [])
-    (ap (end_pairs stamp) (take_more ended i d below)
-    ∙ map-append (λ (e : EntryNo). (entry_word e.0 1, stamp)) (take i ended) (get_or ended i d ∷ []))
-    run more
+-- a loop over entries, each of which stores a pair, or flushes a line
+pub entries_stored : {a b c : State} (f : EntryNo → ℕ × ℕ) (entries : List EntryNo) (i : ℕ) (d : EntryNo) → i < length entries
+    → Runs a b (stores (map f (take i entries)) a.words) → Runs b c (stores (f (get_or entries i d) ∷ []) b.words)
+    → Runs a c (stores (map f (take (i + 1) entries)) a.words)
+entries_stored f entries i d below run more =
+    stores_more (map f (take (i + 1) entries)) (map f (take i entries)) (f (get_or entries i d) ∷ [])
+    (ap (map f) (take_more entries i d below) ∙ map-append f (take i entries) (get_or entries i d ∷ [])) run more
 
-pub ends_flushed : {a b c : State} (ended : List EntryNo) (i : ℕ) (d : EntryNo) → i < length ended
-    → Runs a b (flushes (end_lines (take i ended)) a.words) → Runs b c (flushes ((8 + (get_or ended i d).0) ∷ []) b.words)
-    → Runs a c (flushes (end_lines (take (i + 1) ended)) a.words)
-ends_flushed {a} {b} {c} ended i d below run more =
-    flushes_more (end_lines (take (i + 1) ended)) (end_lines (take i ended)) ((8 + (get_or ended i d).0) ∷ [])
-    (ap end_lines (take_more ended i d below) ∙ map-append (λ (e : EntryNo). 8 + e.0) (take i ended) (get_or ended i d ∷ []))
-    run more
+pub entries_flushed : {a b c : State} (f : EntryNo → ℕ) (entries : List EntryNo) (i : ℕ) (d : EntryNo) → i < length entries
+    → Runs a b (flushes (map f (take i entries)) a.words) → Runs b c (flushes (f (get_or entries i d) ∷ []) b.words)
+    → Runs a c (flushes (map f (take (i + 1) entries)) a.words)
+entries_flushed f entries i d below run more =
+    flushes_more (map f (take (i + 1) entries)) (map f (take i entries)) (f (get_or entries i d) ∷ [])
+    (ap (map f) (take_more entries i d below) ∙ map-append f (take i entries) (get_or entries i d ∷ [])) run more
 
 parts_pairs-append : (stamp : ℕ) (a b : List Part) → parts_pairs stamp (a ++ b) ≡ parts_pairs stamp a ++ parts_pairs (stamp + length a) b
 parts_pairs-append stamp [] b = let e : stamp ≡ stamp + 0 = omega arith in ap (λ (n : ℕ). parts_pairs n b) e

@@ -41,42 +41,31 @@ abbrev pub IsStoredBy : Versions → ℕ → ℕ → List Put → ℕ → ℕ �
 IsStoredBy versions stamp count puts word x =
     ByExtent puts word ⊎ (ByEntry stamp count puts word x ⊎ ByEnd versions stamp count puts word x)
 
-puts_by : (versions : Versions) (stamp count position : ℕ) (puts : List Put) (word x : ℕ) → 0 < count → IsStored (puts_pairs stamp position puts) word x
-    → ByExtent puts word ⊎ ByEntry stamp count puts word x
-puts_by versions stamp count position [] word x some stored = absurd stored
-puts_by versions stamp count position (put ∷ puts) word x some stored =
-    elim (IsStored-append (put_pairs stamp position put) (puts_pairs stamp position puts) word x stored) [
-      | inl here ↦
-          elim (put_pairs-where stamp position put word x here) [
-            | inl extent ↦ inl (record { put = put; among = inl refl; of = extent })
-            | inr entry ↦
-                inr (record {
-                  put = put;
-                  among = inl refl;
-                  begin = stamp;
-                  position = position;
-                  of = entry.0;
-                  value = entry.1;
-                  low = omega arith;
-                  high = omega arith;
-                })
-          ]
-      | inr later ↦
-          elim (puts_by versions stamp count position puts word x some later) [
-            | inl extent ↦ inl (record { put = extent.put; among = inr extent.among; of = extent.of })
-            | inr entry ↦
-                inr (record {
-                  put = entry.put;
-                  among = inr entry.among;
-                  begin = entry.begin;
-                  position = entry.position;
-                  of = entry.of;
-                  value = entry.value;
-                  low = entry.low;
-                  high = entry.high;
-                })
-          ]
-    ]
+-- the same of more puts, over other versions
+widen : {versions versions' : Versions} {stamp stamp' count count' : ℕ} {puts puts' : List Put} {word x : ℕ}
+    → ((put : Put) → IsAmong put puts → IsAmong put puts') → stamp' ≤ stamp → stamp + count ≤ stamp' + count'
+    → ((i : ℕ) → IsTrue (is_live_version (versions i) || is_put_at i puts) → IsTrue (is_live_version (versions' i) || is_put_at i puts'))
+    → IsStoredBy versions stamp count puts word x → IsStoredBy versions' stamp' count' puts' word x
+widen among low high live (inl extent) = inl (record { put = extent.put; among = among extent.put extent.among; of = extent.of })
+widen among low high live (inr (inl entry)) =
+    inr (inl (record {
+      put = entry.put;
+      among = among entry.put entry.among;
+      begin = entry.begin;
+      position = entry.position;
+      of = entry.of;
+      value = entry.value;
+      low = omega (arith, low, entry.low);
+      high = omega (arith, high, entry.high);
+    }))
+widen among low high live (inr (inr end)) =
+    inr (inr (record {
+      entry = end.entry;
+      word_is = end.word_is;
+      low = omega (arith, low, end.low);
+      high = omega (arith, high, end.high);
+      live = live end.entry end.live;
+    }))
 
 is_put_at-prefix : (i : ℕ) (a b : List Put) → is_put_at i a ≡ true → is_put_at i (a ++ b) ≡ true
 is_put_at-prefix i a b put =
@@ -124,27 +113,37 @@ live_prefix versions part rest i live =
       | inr put ↦ or_right (is_live_version (versions i)) (is_put_at i (puts_of_part part ++ rest)) (is_put_at-prefix i (puts_of_part part) rest put)
     ]
 
+-- a store of a put
+puts_by : (versions : Versions) (stamp count position : ℕ) (puts all : List Put) (word x : ℕ) → 0 < count
+    → ((put : Put) → IsAmong put puts → IsAmong put all) → IsStored (puts_pairs stamp position puts) word x → IsStoredBy versions stamp count all word x
+puts_by versions stamp count position [] all word x some among stored = absurd stored
+puts_by versions stamp count position (put ∷ puts) all word x some among stored =
+    elim (IsStored-append (put_pairs stamp position put) (puts_pairs stamp position puts) word x stored) [
+      | inl here ↦
+          elim (put_pairs-where stamp position put word x here) [
+            | inl extent ↦ inl (record { put = put; among = among put (inl refl); of = extent })
+            | inr entry ↦
+                inr (inl (record {
+                  put = put;
+                  among = among put (inl refl);
+                  begin = stamp;
+                  position = position;
+                  of = entry.0;
+                  value = entry.1;
+                  low = omega arith;
+                  high = omega arith;
+                }))
+          ]
+      | inr later ↦ puts_by versions stamp count position puts all word x some (λ q there. among q (inr there)) later
+    ]
+
 -- a store of one part
 part_by : (versions : Versions) (stamp count : ℕ) (part : Part) (rest : List Put) (word x : ℕ) → 0 < count → NamesEnded versions part
     → IsStored (part_pairs stamp part) word x → IsStoredBy versions stamp count (puts_of_part part ++ rest) word x
 part_by versions stamp count part rest word x some names stored =
     let a : List Put = puts_of_part part in
     elim (IsStored-append (puts_pairs stamp part.position a) (end_pairs stamp part.ended.items) word x stored) [
-      | inl put ↦
-          elim (puts_by versions stamp count part.position a word x some put) [
-            | inl extent ↦ inl (record { put = extent.put; among = among-prefix a rest extent.put extent.among; of = extent.of })
-            | inr entry ↦
-                inr (inl (record {
-                  put = entry.put;
-                  among = among-prefix a rest entry.put entry.among;
-                  begin = entry.begin;
-                  position = entry.position;
-                  of = entry.of;
-                  value = entry.value;
-                  low = entry.low;
-                  high = entry.high;
-                }))
-          ]
+      | inl put ↦ puts_by versions stamp count part.position a (a ++ rest) word x some (among-prefix a rest) put
       | inr end ↦
           let at = end_pairs-where stamp part.ended.items word x end in
           inr (inr (record {
@@ -156,31 +155,6 @@ part_by versions stamp count part rest word x some names stored =
           }))
     ]
 
--- a store of a later part
-later_by : (versions : Versions) (stamp count : ℕ) (part : Part) (rest : List Put) (word x : ℕ)
-    → IsStoredBy (part_versions versions part) (stamp + 1) count rest word x → IsStoredBy versions stamp (suc count) (puts_of_part part ++ rest) word x
-later_by versions stamp count part rest word x (inl extent) =
-    inl (record { put = extent.put; among = among-back (puts_of_part part) rest extent.put extent.among; of = extent.of })
-later_by versions stamp count part rest word x (inr (inl entry)) =
-    inr (inl (record {
-      put = entry.put;
-      among = among-back (puts_of_part part) rest entry.put entry.among;
-      begin = entry.begin;
-      position = entry.position;
-      of = entry.of;
-      value = entry.value;
-      low = omega (arith, entry.low);
-      high = omega (arith, entry.high);
-    }))
-later_by versions stamp count part rest word x (inr (inr end)) =
-    inr (inr (record {
-      entry = end.entry;
-      word_is = end.word_is;
-      low = omega (arith, end.low);
-      high = omega (arith, end.high);
-      live = live_then versions part rest end.entry end.live;
-    }))
-
 -- Every store of the parts.
 pub parts_by : (parts : List Part) (before : ℕ) (versions : Versions) (stamp word x : ℕ) → AreParts before versions parts
     → IsStored (parts_pairs stamp parts) word x → IsStoredBy versions stamp (length parts) (puts_of_parts parts) word x
@@ -189,6 +163,6 @@ parts_by (part ∷ parts) before versions stamp word x follow stored =
     elim (IsStored-append (part_pairs stamp part) (parts_pairs (stamp + 1) parts) word x stored) [
       | inl here ↦ part_by versions stamp (suc (length parts)) part (puts_of_parts parts) word x (omega arith) follow.1 here
       | inr later ↦
-          later_by versions stamp (length parts) part (puts_of_parts parts) word x
+          widen (among-back (puts_of_part part) (puts_of_parts parts)) (omega arith) (omega arith) (live_then versions part (puts_of_parts parts))
           (parts_by parts part.position (part_versions versions part) (stamp + 1) word x follow.2 later)
     ]

@@ -1,5 +1,5 @@
 -- Contents without versions that have ended, and contents whose oldest gap is cleared.
-use Rattle.std.proofs.Common.{◌≡◌, ℕ, ◌+◌, ◌<◌, ◌≤◌, Bool, true, false, cond, ◌||◌, IsTrue, List, inl, inr, Option, None, Some, refl, sym, ap, subst, ◌∙◌, arith}
+use Rattle.std.proofs.Common.{◌≡◌, ℕ, ◌+◌, ◌<◌, ◌≤◌, Bool, true, false, cond, ◌||◌, IsTrue, List, inl, inr, Option, None, Some, refl, sym, ap, subst, ◌∙◌}
 use Rattle.std.proofs.lemmas.Bool.{cond-false, cases_Bool, or_cases, both_ways}
 use Rattle.kv_types.specs.declared.place.EntryNo.{EntryNo}
 use Rattle.kv_types.specs.declared.record_id.RecordId.{RecordId}
@@ -7,11 +7,11 @@ use Rattle.kv_types.specs.Keyspace.{Keyspace}
 use Rattle.model.specs.declared.image.TheConstants.{COUNTER_LIMIT}
 use Rattle.model.specs.Group.{Contents, IsConsistent, Versions, is_ended_version}
 use Rattle.model.specs.Image.{IsLive, IsMapOf, Version, entries_of_lines}
-use Rattle.model.proofs.MapLemmas.{IsMapOf-same}
 use Rattle.wbl_record.specs.Current.{IsLawful}
 use Rattle.wbl_engine.specs.Freeing.{Clears, is_listed, without}
 use Rattle.wbl_engine.specs.Lawful.{AreLawful}
 use Rattle.wbl_engine.proofs.GapLemmas.{lawful_but_one}
+use Rattle.wbl_engine.proofs.LawfulLemmas.{lawful_from}
 
 -- each of these entries holds a version that has ended
 abbrev pub AllEnded : (ℕ → Bool) → Versions → Type 0
@@ -114,16 +114,7 @@ consistent_without contents gone consistent =
 pub lawful_cleared : (old new : Contents) (cleared : List EntryNo) → Clears old cleared new → old.current.number + 1 < COUNTER_LIMIT
     → AreLawful old → AreLawful new
 lawful_cleared old new cleared clears room are =
-    record {
-      many = omega (arith, clears.lines_are, are.many);
-      few = omega (arith, clears.lines_are, are.few);
-      current = subst IsLawful (sym clears.current) (lawful_but_one old.current are.current room);
-      apart = λ i j v w differ is_v is_w. are.apart i j v w differ (sym (clears.versions i) ∙ is_v) (sym (clears.versions j) ∙ is_w);
-      keyspace = are.keyspace;
-      lawful = are.lawful;
-      map = subst (λ (n : ℕ). IsMapOf new.versions (entries_of_lines n) are.keyspace) (sym clears.lines_are)
-          (IsMapOf-same old.versions new.versions (entries_of_lines old.lines) are.keyspace (λ i within. sym (clears.versions i)) are.map);
-    }
+    lawful_from old new (subst IsLawful (sym clears.current) (lawful_but_one old.current are.current room)) clears.lines_are clears.versions are
 
 pub consistent_cleared : (old new : Contents) (cleared : List EntryNo) → Clears old cleared new → IsConsistent old → IsConsistent new
 consistent_cleared old new cleared clears consistent =

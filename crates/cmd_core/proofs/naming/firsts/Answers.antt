@@ -13,20 +13,17 @@ loop-name-init c =
 
 pub loop-name-preserved : goal.loop-name-preserved
 loop-name-preserved c =
-    let names = c.args.names.now in
-    let name = c.name-item.result in
-    let seen = c.loop-name.seen in
-    let next = c.insert.new.self in
-    let i = c.loop-name.name-index in
     elim c.if-branch.branch [
       | then-branch+in_ok-clone+in_ok-push w ↦
-          let was : contains bytes_cmp seen name ≡ false = search rules in
-          let updates : Updates bytes_cmp seen next name true = search rules in
-          let pushed : c.if-branch.once.items ≡ c.loop-name.once.items ++ name ∷ [] = search rules in
-          let made = taken names i name seen next c.loop-name.once.items (spec.firsts names) c.loop-name-test.true c.name-item.is was updates c.loop-name.invariant in
+          let was : contains bytes_cmp c.loop-name.seen c.name-item.result ≡ false = search rules in
+          let updates : Updates bytes_cmp c.loop-name.seen c.insert.new.self c.name-item.result true = search rules in
+          let pushed : c.if-branch.once.items ≡ c.loop-name.once.items ++ c.name-item.result ∷ [] = search rules in
+          let made = taken c.args.names.now c.loop-name.name-index c.name-item.result c.loop-name.seen c.insert.new.self c.loop-name.once.items _
+          c.loop-name-test.true c.name-item.is was updates c.loop-name.invariant in
           (rw pushed made)
       | else-branch w ↦
-          let was : contains bytes_cmp seen name ≡ true = search rules in
-          let made = passed names i name seen next c.loop-name.once.items (spec.firsts names) c.loop-name-test.true c.name-item.is was (search rules) c.loop-name.invariant in
+          let was : contains bytes_cmp c.loop-name.seen c.name-item.result ≡ true = search rules in
+          let made = passed c.args.names.now c.loop-name.name-index c.name-item.result c.loop-name.seen c.insert.new.self c.loop-name.once.items _ c.loop-name-test.true c.name-item.is was
+          (search rules) c.loop-name.invariant in
           (rw w.once-is made)
     ]

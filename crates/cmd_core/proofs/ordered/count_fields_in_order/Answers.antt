@@ -11,7 +11,5 @@ pub returns-clause-bound : goal.returns-clause-bound
 returns-clause-bound g c =
     let kept = g.R.KeptRecord.kept in
     let key = c.args.key.now in
-    let counted = ap (λ records. length records) c.fields_of_key.ensures in
     let both = length-filter_both (λ x. is_field_of key (kept x).0) (λ x. not (is_field_of key (kept x).0)) (λ x. refl) c.args.records.now in
-    let few = c.requires.few in
-    omega (arith, counted, both, few)
+    omega (arith, ap (λ records. length records) c.fields_of_key.ensures, both, c.requires.few)

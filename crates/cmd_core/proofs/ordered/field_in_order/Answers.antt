@@ -1,12 +1,9 @@
-use Rattle.std.proofs.Common.{map, ap, sym, ◌∙◌}
+use Rattle.std.proofs.Common.{sym, ◌∙◌}
 use Rattle.kv_types.specs.declared.record_id.RecordId.TheVariants.{Field}
-use Rattle.cmd_core.specs.Record.{first_value}
 use Rattle.cmd_core.proofs.OrderedLemmas.{value-at_cut}
 use Rattle.cmd_core.proofs.ordered.field_in_order.Goals as goal
 
 pub returns : goal.returns
 returns g c =
-    let kept = g.R.KeptRecord.kept in
-    let id = Field c.args.key.now c.args.field.now in
-    c.first_field.ensures ∙ ap (λ rest. first_value (map kept rest) id) c.split_at.ensures.back
-    ∙ sym (value-at_cut kept id c.args.records.now c.start_of_field.result c.requires.order c.start_of_field.ensures)
+    let read = rw c.split_at.ensures.back at c.first_field.ensures in
+    read ∙ sym (value-at_cut g.R.KeptRecord.kept (Field c.args.key.now c.args.field.now) c.args.records.now c.start_of_field.result c.requires.order c.start_of_field.ensures)

@@ -19,9 +19,6 @@ differ id other = not (is_clash id.now other.now)
 abbrev before : Bor RecordId → Bor RecordId → Bool
 before id other = comes_before id.now other.now
 
-abbrev id_of : Bor RecordId → RecordId
-id_of id = id.now
-
 pub returns : goal.returns
 returns c =
     let old = c.args.ids.now in
@@ -29,7 +26,7 @@ returns c =
     let same = NoTwo-moved clash (λ a b. is_clash-flips a.now b.now) old new c.sort_unstable.ensures.permutation in
     let up : IsSortedBy before new = c.sort_unstable.ensures.sorted in
     let decided : IsTrue c.is_sorted_by.result ↔ NoTwo clash new =
-    NoTwo-decided before clash differ (ranks_by record_cmp_total id_of) (λ x z y. no_clash-far x.now z.now y.now) new up
+    NoTwo-decided before clash differ (ranks_by record_cmp_total (λ (id : Bor RecordId). id.now)) (λ x z y. no_clash-far x.now z.now y.now) new up
     (λ k d within e. not-false (clash (get_or new k d) (get_or new (k + 1) d)) e) c.is_sorted_by.result
     (c.is_sorted_by.ensures.cases differ (answers_always _ _ _ (λ f a r g called. search rules))) in
     (λ distinct. same.1 (decided.0 distinct), λ none. decided.1 (same.0 none))

@@ -1,10 +1,6 @@
-use Rattle.std.proofs.Common.{◌<◌, List, All, ◌∙◌, subst, true≢false, sym}
+use Rattle.std.proofs.Common.{◌∙◌, true≢false, sym}
 use Rattle.pmem.specs.Crash.{image_of}
-use Rattle.kv_types.specs.declared.place.EntryNo.{EntryNo}
-use Rattle.heap_layout.specs.declared.entry.Entry.{Entry}
 use Rattle.model.specs.Image.{entries_of_lines}
-use Rattle.model.specs.ReadImage.{is_clash}
-use Rattle.heap_layout.specs.Versions.{NoTwo, overlap, runs_of, live_ids}
 use Rattle.heap_layout.proofs.VersionsLemmas.{runs_have_lines, runs-AreVersions, ids-AreVersions, AreVersions-from_lists}
 use Rattle.heap_layout.proofs.versions.read_versions.Goals as goal
 use Rattle.heap_layout.proofs.versions.read_versions.Goals.{then-not-branch-via-then-not-branch, then-not-branch-via-else-not-branch+in_ok-differ+then-not-branch-2}
@@ -12,8 +8,7 @@ use Rattle.heap_layout.proofs.versions.read_versions.Goals.{then-not-branch-via-
 pub lie_apart-requires : goal.lie_apart-requires
 lie_apart-requires g c =
     let state = g.P.Pmem.state c.args.device.now in
-    let P : List (EntryNo × Entry) → Type 0 = λ versions. All (λ run. 0 < run.lines) (runs_of versions) in
-    subst P (sym (c.as_slice-counted.ensures.value ∙ c.in_ok-versions.ensures.counted))
+    rw (c.as_slice-counted.ensures.value, c.in_ok-versions.ensures.counted)
     (runs_have_lines c.args.current.now (image_of state.words) (state.lines) (entries_of_lines state.lines) c.in_ok-versions.ensures.under)
 
 pub returns-then-not-branch-clause-damaged : goal.returns-then-not-branch-clause-damaged
@@ -21,26 +16,18 @@ returns-then-not-branch-clause-damaged g c _ whole =
     let r = c.args.current.now in
     let state = g.P.Pmem.state c.args.device.now in
     let image = image_of state.words in
-    let runs : List (EntryNo × Entry) → Type 0 = λ versions. NoTwo overlap (runs_of versions) in
-    let ids : List (EntryNo × Entry) → Type 0 = λ versions. NoTwo is_clash (live_ids versions) in
     elim c.then-not-branch.branch [
       | then-not-branch-via-then-not-branch w ↦
           true≢false
-          (sym (c.in_ok-lie_apart.ensures.1
-          (subst runs (sym (c.as_slice-counted.ensures.value ∙ c.in_ok-versions.ensures.counted)) (runs-AreVersions r image state.lines whole)))
-          ∙ w.if-not-branch.true)
+          (sym (c.in_ok-lie_apart.ensures.1 (rw (c.as_slice-counted.ensures.value, c.in_ok-versions.ensures.counted) (runs-AreVersions r image state.lines whole))) ∙ w.if-not-branch.true)
       | then-not-branch-via-else-not-branch+in_ok-differ+then-not-branch-2 w ↦
           true≢false
-          (sym (w.in_ok-differ.ensures.1
-          (subst ids (sym (c.as_slice-counted.ensures.value ∙ c.in_ok-versions.ensures.counted)) (ids-AreVersions r image state.lines whole)))
-          ∙ w.if-not-branch-2.true)
+          (sym (w.in_ok-differ.ensures.1 (rw (c.as_slice-counted.ensures.value, c.in_ok-versions.ensures.counted) (ids-AreVersions r image state.lines whole))) ∙ w.if-not-branch-2.true)
     ]
 
 pub returns-clause-whole : goal.returns-clause-whole
 returns-clause-whole g c =
     let state = g.P.Pmem.state c.args.device.now in
-    let runs : List (EntryNo × Entry) → Type 0 = λ versions. NoTwo overlap (runs_of versions) in
-    let ids : List (EntryNo × Entry) → Type 0 = λ versions. NoTwo is_clash (live_ids versions) in
     AreVersions-from_lists c.args.current.now (image_of state.words) state.lines c.in_ok-versions.ensures.under
-    (subst runs (c.as_slice-counted.ensures.value ∙ c.in_ok-versions.ensures.counted) (c.in_ok-lie_apart.ensures.0 c.if-not-branch.false))
-    (subst ids (c.as_slice-counted.ensures.value ∙ c.in_ok-versions.ensures.counted) (c.in_ok-differ.ensures.0 c.if-not-branch-2.false))
+    (rw (c.as_slice-counted.ensures.value, c.in_ok-versions.ensures.counted) at (c.in_ok-lie_apart.ensures.0 c.if-not-branch.false))
+    (rw (c.as_slice-counted.ensures.value, c.in_ok-versions.ensures.counted) at (c.in_ok-differ.ensures.0 c.if-not-branch-2.false))

@@ -1,11 +1,11 @@
-use Rattle.std.proofs.Common.{◌≡◌, ℕ, ◌<◌, ◌++◌, List, [], ◌∷◌, arith, length, get_or, ap, ◌∙◌, subst}
+use Rattle.std.proofs.Common.{◌≡◌, ℕ, ◌++◌, List, [], ◌∷◌, arith, length, ap, ◌∙◌}
 use Rattle.pmem.specs.Device.{State}
 use Rattle.pmem.specs.Crash.{image_of}
 use Rattle.pmem.specs.Runs.{Runs, stores, written}
 use Rattle.pmem.proofs.Staging.{newest-stores}
 use Rattle.heap_layout.specs.Put.{entry_words, put_pairs}
 use Rattle.heap_layout.proofs.LayoutRuns.{put_runs, length-name, read_bytes}
-use Rattle.heap_layout.proofs.ReadBack.{HasPut-written, not_ended-written, IsEntry-put, entry_in-put}
+use Rattle.heap_layout.proofs.ReadBack.{put_reads}
 use Rattle.heap_layout.proofs.ReadAlike.{ReadsAlike-put}
 use Rattle.heap_layout.proofs.writing.write_entry.Goals as goal
 
@@ -41,32 +41,24 @@ pub returns-clause-storable : goal.returns-clause-storable
 returns-clause-storable g c =
     record {
       bytes =
-          let P : List ℕ → Type 0 = λ bytes. (i : ℕ) → get_or bytes i 0 < 256 in
-          subst P
-          (read_bytes c.args.put.now c.name_of.result.0.now c.name_of.result.1.now c.as_slice.result.now c.name_of.ensures c.as_slice.ensures)
-          c.write_extent.ensures.bytes;
+          rw (read_bytes c.args.put.now c.name_of.result.0.now c.name_of.result.1.now c.as_slice.result.now c.name_of.ensures c.as_slice.ensures)
+          at c.write_extent.ensures.bytes;
       key = omega (arith, c.lengths_of.ensures.name.key);
     }
 
 pub returns-clause-whole : goal.returns-clause-whole
 returns-clause-whole g c =
-    let put = c.args.put.now in
     let old = g.P.Pmem.state c.args.device.now in
     let new = g.P.Pmem.state c.store_words.new.device in
-    let is = newest old new (put_pairs c.args.begin c.args.position put) (returns-clause-stored g c) in
-    IsEntry-put old.lines (image_of new.words) c.args.begin c.args.position put c.requires.placed c.requires.fitting
-    (returns-clause-storable g c) c.lengths_of.ensures.name (omega (arith, c.len.ensures.value, c.len.ensures.bound))
-    (HasPut-written old.lines c.args.begin c.args.position put (image_of old.words) (image_of new.words) c.requires.placed is)
+    (put_reads old.lines c.args.begin c.args.position c.args.put.now (image_of old.words) (image_of new.words) c.requires.placed c.requires.fitting (returns-clause-storable g c)
+    c.lengths_of.ensures.name (omega (arith, c.len.ensures.value, c.len.ensures.bound)) (newest old new (put_pairs c.args.begin c.args.position c.args.put.now) (returns-clause-stored g c))).0
 
 pub returns-clause-read : goal.returns-clause-read
 returns-clause-read g c =
-    let put = c.args.put.now in
     let old = g.P.Pmem.state c.args.device.now in
     let new = g.P.Pmem.state c.store_words.new.device in
-    let is = newest old new (put_pairs c.args.begin c.args.position put) (returns-clause-stored g c) in
-    entry_in-put (image_of new.words) c.args.begin c.args.position put (returns-clause-storable g c) c.requires.fitting
-    (HasPut-written old.lines c.args.begin c.args.position put (image_of old.words) (image_of new.words) c.requires.placed is)
-    (not_ended-written old.lines c.args.begin c.args.position put (image_of old.words) (image_of new.words) is)
+    (put_reads old.lines c.args.begin c.args.position c.args.put.now (image_of old.words) (image_of new.words) c.requires.placed c.requires.fitting (returns-clause-storable g c)
+    c.lengths_of.ensures.name (omega (arith, c.len.ensures.value, c.len.ensures.bound)) (newest old new (put_pairs c.args.begin c.args.position c.args.put.now) (returns-clause-stored g c))).1
 
 pub returns-clause-others : goal.returns-clause-others
 returns-clause-others g c i below other =

@@ -1,5 +1,5 @@
 use Rattle.machine.proofs.RunLemmas.{sound-run}
-use Rattle.machine.proofs.LawLemmas.{frames_are_committed}
+use Rattle.machine.proofs.EveryRun.{frames_are_committed}
 use Rattle.machine.proofs.laws.frames_are_committed_groups.Goals as goal
 
 pub returns-clause-groups : goal.returns-clause-groups

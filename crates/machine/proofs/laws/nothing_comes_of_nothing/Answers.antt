@@ -1,4 +1,4 @@
-use Rattle.machine.proofs.LawLemmas.{nothing_is_released_unacknowledged, only_what_was_made_is_delivered}
+use Rattle.machine.proofs.EveryRun.{nothing_is_released_unacknowledged, only_what_was_made_is_delivered}
 use Rattle.machine.proofs.laws.nothing_comes_of_nothing.Goals as goal
 
 pub returns-clause-released : goal.returns-clause-released

@@ -1,6 +1,5 @@
-use Rattle.machine.proofs.OpenedLemmas.{opened_where, read_off}
-use Rattle.machine.proofs.ModifiedLemmas.{some_modified}
-use Rattle.machine.proofs.ExecLemmas.{exec_answers}
+use Rattle.machine.proofs.TransactionLemmas.{opened_where, read_off}
+use Rattle.machine.proofs.WatchedLemmas.{some_modified, exec_answers}
 use Rattle.machine.proofs.laws.transactions_are_read_off_the_list.Goals as goal
 
 pub returns-clause-read : goal.returns-clause-read
@@ -8,8 +7,8 @@ returns-clause-read c =
     λ calls legal d.
     record {
       open_where = (opened_where d calls legal, λ o. (read_off d calls legal o).is_open);
-      queue = λ o. (read_off d calls legal o).queue_is;
-      spoiled = λ o. (read_off d calls legal o).spoiled_is;
+      queue = λ o. (read_off d calls legal o).queue;
+      spoiled = λ o. (read_off d calls legal o).spoiled;
       modified_where = some_modified d calls legal;
     }
 

@@ -1,4 +1,4 @@
-use Rattle.std.proofs.Common.{◌≤◌, Some, length, sym, ap, ◌∙◌, arith}
+use Rattle.std.proofs.Common.{Some, length, sym, ap, ◌∙◌, arith}
 use Rattle.kv_types.specs.declared.change.Change.TheVariants as kinds
 use Rattle.kv_types.specs.declared.record_id.RecordId.TheVariants.{Str, Field}
 use Rattle.kv_types.specs.Keyspace.{key_of}

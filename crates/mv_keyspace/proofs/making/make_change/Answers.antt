@@ -1,17 +1,14 @@
-use Rattle.std.proofs.Common.{◌+◌, ◌≤◌, ◌++◌, length, sym, ap, subst, ◌∙◌, arith}
+use Rattle.std.proofs.Common.{◌++◌, length, sym, ap, subst, ◌∙◌, arith}
 use Rattle.std.specs.Option.{option_to_list}
 use Rattle.std.specs.Vec.Iter.{into_iter_items}
 use Rattle.kv_types.specs.declared.change.Change.TheVariants as kinds
 use Rattle.model.specs.Group.{change_of, put_of, ends_record}
 use Rattle.mv_keyspace.specs.Table.{place, entries_of}
-use Rattle.mv_keyspace.specs.Row.{table_of, cell_of_row, rows_of_puts, ended_rows, numbers_of, TakesOut, PutsIn}
-use Rattle.mv_keyspace.proofs.EndedLemmas.{place-spared}
+use Rattle.mv_keyspace.specs.Row.{table_of, cell_of_row, rows_of_puts, ended_rows, numbers_of, PutsIn}
+use Rattle.mv_keyspace.proofs.EndedLemmas.{none_spared}
 use Rattle.mv_keyspace.proofs.EndingLemmas.{order-table}
 use Rattle.mv_keyspace.proofs.PlayingLemmas.{ended-put_id, id-first, placed-first, left-first}
 use Rattle.mv_keyspace.proofs.making.make_change.Goals as goal
-
-pub put_row-requires-clause-room : goal.put_row-requires-clause-room
-put_row-requires-clause-room c = let one = ap (λ change. length (put_of change)) c.in-Put.is in omega (arith, one, c.requires.room)
 
 pub put_row-requires-clause-room_for_ended : goal.put_row-requires-clause-room_for_ended
 put_row-requires-clause-room_for_ended c = λ value.
@@ -24,23 +21,6 @@ put_row-requires-clause-room_for_ended c = λ value.
     let same = ended-put_id row.id put.id value put.value table id_is in
     let change = ap (λ change. length (ended_rows (change_of change) table)) c.in-Put.is in
     omega (arith, same, change, c.requires.room_for_ended)
-
-pub end_record-requires-clause-room : goal.end_record-requires-clause-room
-end_record-requires-clause-room c =
-    let change = ap (λ change. length (ended_rows (change_of change) (table_of c.args.rows.now.items))) c.in-Drop.is in
-    omega (arith, change, c.requires.room_for_ended)
-
-pub end_key-requires-clause-room : goal.end_key-requires-clause-room
-end_key-requires-clause-room c =
-    let change = ap (λ change. length (ended_rows (change_of change) (table_of c.args.rows.now.items))) c.in-DropKey.is in
-    omega (arith, change, c.requires.room_for_ended)
-
-pub end_all-requires : goal.end_all-requires
-end_all-requires c = record {
-  room =
-      let change = ap (λ change. length (ended_rows (change_of change) (table_of c.args.rows.now.items))) c.in-Clear.is in
-      omega (arith, change, c.requires.room_for_ended);
-}
 
 pub returns-in-Put : goal.returns-in-Put
 returns-in-Put c =
@@ -69,50 +49,9 @@ returns-in-Put c =
       capacity_for_ended = puts.capacity_for_ended;
     }
 
-pub returns-in-Drop : goal.returns-in-Drop
-returns-in-Drop c =
-    let change = c.args.change.now in
-    let rows = c.args.rows.now in
-    let none = ap put_of c.in-Drop.is in
-    let taken = subst (λ change. TakesOut (ends_record (change_of change)) rows c.end_record.new.rows c.args.ended.now c.end_record.new.ended) (sym c.in-Drop.is) c.end_record.ensures in
-    record {
-      table = λ position later staged. (taken.table ∙ place-spared position change (table_of rows.items) none, staged ∙ ap (λ puts. rows_of_puts position (puts ++ later)) none);
-      ended = taken.numbers;
-      len = let len = taken.len in let zero = ap (λ puts. length puts) none in omega (arith, zero, len);
-      left = let zero = ap (λ puts. length puts) none in omega (arith, zero);
-      fewer = let fewer = taken.fewer in let zero = ap (λ puts. length puts) none in omega (arith, zero, fewer);
-      capacity = let capacity = taken.capacity in omega (arith, capacity);
-      capacity_for_ended = taken.capacity_for_ended;
-    }
-
-pub returns-in-DropKey : goal.returns-in-DropKey
-returns-in-DropKey c =
-    let change = c.args.change.now in
-    let rows = c.args.rows.now in
-    let none = ap put_of c.in-DropKey.is in
-    let taken = subst (λ change. TakesOut (ends_record (change_of change)) rows c.end_key.new.rows c.args.ended.now c.end_key.new.ended) (sym c.in-DropKey.is) c.end_key.ensures in
-    record {
-      table = λ position later staged. (taken.table ∙ place-spared position change (table_of rows.items) none, staged ∙ ap (λ puts. rows_of_puts position (puts ++ later)) none);
-      ended = taken.numbers;
-      len = let len = taken.len in let zero = ap (λ puts. length puts) none in omega (arith, zero, len);
-      left = let zero = ap (λ puts. length puts) none in omega (arith, zero);
-      fewer = let fewer = taken.fewer in let zero = ap (λ puts. length puts) none in omega (arith, zero, fewer);
-      capacity = let capacity = taken.capacity in omega (arith, capacity);
-      capacity_for_ended = taken.capacity_for_ended;
-    }
-
-pub returns-in-Clear : goal.returns-in-Clear
-returns-in-Clear c =
-    let change = c.args.change.now in
-    let rows = c.args.rows.now in
-    let none = ap put_of c.in-Clear.is in
-    let taken = subst (λ change. TakesOut (ends_record (change_of change)) rows c.end_all.new.rows c.args.ended.now c.end_all.new.ended) (sym c.in-Clear.is) c.end_all.ensures in
-    record {
-      table = λ position later staged. (taken.table ∙ place-spared position change (table_of rows.items) none, staged ∙ ap (λ puts. rows_of_puts position (puts ++ later)) none);
-      ended = taken.numbers;
-      len = let len = taken.len in let zero = ap (λ puts. length puts) none in omega (arith, zero, len);
-      left = let zero = ap (λ puts. length puts) none in omega (arith, zero);
-      fewer = let fewer = taken.fewer in let zero = ap (λ puts. length puts) none in omega (arith, zero, fewer);
-      capacity = let capacity = taken.capacity in omega (arith, capacity);
-      capacity_for_ended = taken.capacity_for_ended;
-    }
+pub returns-in-Clear-clause-table : goal.returns-in-Clear-clause-table
+returns-in-Clear-clause-table c = λ position later staged.
+    let table = table_of c.args.rows.now.items in (
+      c.end_all.ensures.table ∙ none_spared table ∙ ap (place position table) (sym c.in-Clear.is),
+      staged ∙ ap (λ change. rows_of_puts position (put_of change ++ later)) c.in-Clear.is,
+    )

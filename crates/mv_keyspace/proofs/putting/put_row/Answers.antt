@@ -1,4 +1,4 @@
-use Rattle.std.proofs.Common.{◌+◌, ◌≤◌, [], not, length, sym, ap, subst, ◌∙◌, arith}
+use Rattle.std.proofs.Common.{[], not, length, sym, ap, subst, ◌∙◌, arith}
 use Rattle.std.specs.FinMap.Entries.{where_key}
 use Rattle.kv_types.specs.Keyspace.{record_cmp}
 use Rattle.mv_keyspace.specs.Table.{Table}

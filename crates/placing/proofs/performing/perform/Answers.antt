@@ -14,8 +14,7 @@ apply-requires-clause-lawful g c = beside_lawful (g.K.Keyspace.table c.args.keys
 -- the changes that the keyspace is given are those that were added
 given : (g : Over) (c : After-deref g) → take (length c.deref.result.now - c.len-from.result) (drop c.len-from.result c.deref.result.now) ≡ c.in_ok-place_all.ensures.ok.placed
 given g c =
-    let rest = length-drop c.len-from.result c.deref.result.now in
-    take_all (length c.deref.result.now - c.len-from.result) (drop c.len-from.result c.deref.result.now) (omega (arith, rest))
+    take_all (length c.deref.result.now - c.len-from.result) (drop c.len-from.result c.deref.result.now) (omega (arith, length-drop c.len-from.result c.deref.result.now))
     ∙ ap (drop c.len-from.result) c.deref.ensures.value
     ∙ added c.args.heap.now c.args.part.now.changes.items c.args.changes.items c.place_all.new.placed.items c.place_all.new.heap c.in_ok-place_all.ensures.ok c.len-from.result
     (omega (arith, c.len-from.ensures, c.args.part.now.changes.ok.0))

@@ -18,8 +18,7 @@ with_last c = c.pop.ensures.items ∙ ap (λ last. c.pop.new.self.items ++ optio
 
 behind : (c : After-unwrap-change) → c.args.from ≤ length c.pop.new.self.items
 behind c =
-    let count = ap length (with_last c) ∙ length-append c.pop.new.self.items (c.unwrap-change.result ∷ []) in
-    omega (arith, count, c.loop-placed-test.true, c.len.ensures, c.loop-placed.placed.ok.0)
+    omega (arith, ap length (with_last c) ∙ length-append c.pop.new.self.items (c.unwrap-change.result ∷ []), c.loop-placed-test.true, c.len.ensures, c.loop-placed.placed.ok.0)
 
 -- the last change took its place after those that are left
 last : (c : After-unwrap-change) (before : Room) → TakesPlaces before (puts_of (drop c.args.from c.loop-placed.placed.items)) c.loop-placed.heap

@@ -7,27 +7,22 @@ use Rattle.mv_keyspace.specs.Loading.{AreCompatible, HasRows}
 use Rattle.placing.specs.Read.{ended_read}
 use Rattle.placing.specs.Rebuilt.{AreEndedOf, CanClaimAll, ClaimsAll}
 use Rattle.placing.proofs.MemberLemmas.{chosen_rise}
-use Rattle.placing.proofs.RebuiltLemmas.{can_claim_all, ended_are, free_gaps, fresh_end_entry, fresh_end_line, fresh_entries, fresh_lines, rebuilt_of, rows_compatible, table_of_versions}
+use Rattle.placing.proofs.RebuiltLemmas.{can_claim_all, ended_are, free_gaps, fresh_of, rebuilt_of, rows_compatible, table_of_versions}
 use Rattle.placing.proofs.rebuilding.rebuild.Goals as goal
 
 pub claim_places-requires : goal.claim_places-requires
 claim_places-requires g c =
     let contents = c.requires.read.0 in
-    let is = c.requires.read.1 in
     let heap = c.in_ok-heap.heap in
-    subst (CanClaimAll heap) (sym c.deref.ensures.value)
-    (can_claim_all contents c.args.counted.items c.args.gapped.now c.requires.read.2 heap
-    (fresh_lines contents heap c.args.lines c.first_extent_line.result is c.first_extent_line.ensures c.in_ok-heap.ensures.lines)
-    (fresh_entries contents heap c.args.lines c.entries_of_lines.result is c.entries_of_lines.ensures c.in_ok-heap.ensures.entries))
+    let fresh = fresh_of contents heap c.args.lines c.first_extent_line.result c.entries_of_lines.result c.requires.read.1 c.first_extent_line.ensures c.entries_of_lines.ensures c.in_ok-heap.ensures.lines c.in_ok-heap.ensures.entries c.in_ok-heap.ensures.room in
+    subst (CanClaimAll heap) (sym c.deref.ensures.value) (can_claim_all contents c.args.counted.items c.args.gapped.now c.requires.read.2 heap fresh)
 
 pub claim_entries-requires-clause-free : goal.claim_entries-requires-clause-free
 claim_entries-requires-clause-free g c =
     let contents = c.requires.read.0 in
-    let is = c.requires.read.1 in
     let heap = c.in_ok-heap.heap in
-    free_gaps contents c.args.counted.items c.args.gapped.now c.requires.read.2 heap
-    (fresh_lines contents heap c.args.lines c.first_extent_line.result is c.first_extent_line.ensures c.in_ok-heap.ensures.lines)
-    (fresh_entries contents heap c.args.lines c.entries_of_lines.result is c.entries_of_lines.ensures c.in_ok-heap.ensures.entries)
+    let fresh = fresh_of contents heap c.args.lines c.first_extent_line.result c.entries_of_lines.result c.requires.read.1 c.first_extent_line.ensures c.entries_of_lines.ensures c.in_ok-heap.ensures.lines c.in_ok-heap.ensures.entries c.in_ok-heap.ensures.room in
+    free_gaps contents c.args.counted.items c.args.gapped.now c.requires.read.2 heap fresh
     c.claim_places.new.heap (subst (λ counted. ClaimsAll heap counted c.claim_places.new.heap) c.deref.ensures.value c.in_ok-claim_places.ensures.ok)
 
 pub load-requires-clause-compatible : goal.load-requires-clause-compatible
@@ -39,17 +34,13 @@ returns-clause-ok g c = λ contents is are.
     let counted = c.args.counted.items in
     let gapped = c.args.gapped.now in
     let heap = c.in_ok-heap.heap in
+    let fresh = fresh_of contents heap c.args.lines c.first_extent_line.result c.entries_of_lines.result is c.first_extent_line.ensures c.entries_of_lines.ensures c.in_ok-heap.ensures.lines c.in_ok-heap.ensures.entries c.in_ok-heap.ensures.room in
     let table = g.K.Keyspace.table c.load.new.self in
     let has = subst (λ rows. HasRows rows table) c.in_ok-live_rows.ensures.ok c.in_ok-load.ensures.ok in
     let ended = c.in_ok-ended.ensures.ok ∙ ap ended_read c.deref-2.ensures.value in (
-      rebuilt_of contents counted gapped are heap
-          (fresh_lines contents heap c.args.lines c.first_extent_line.result is c.first_extent_line.ensures c.in_ok-heap.ensures.lines)
-          (fresh_entries contents heap c.args.lines c.entries_of_lines.result is c.entries_of_lines.ensures c.in_ok-heap.ensures.entries)
+      rebuilt_of contents counted gapped are heap fresh
           c.claim_places.new.heap (subst (λ read. ClaimsAll heap read c.claim_places.new.heap) c.deref.ensures.value c.in_ok-claim_places.ensures.ok)
-          c.claim_entries.new.heap c.claim_entries.ensures
-          (fresh_end_line contents heap c.first_extent_line.result c.args.lines c.entries_of_lines.result is c.in_ok-heap.ensures.room)
-          (fresh_end_entry contents heap c.first_extent_line.result c.args.lines c.entries_of_lines.result is c.entries_of_lines.ensures c.in_ok-heap.ensures.room)
-          table (table_of_versions contents counted gapped are table has),
+          c.claim_entries.new.heap c.claim_entries.ensures table (table_of_versions contents counted gapped are table has),
       subst (AreEndedOf contents) (sym ended) (ended_are contents counted gapped are),
     )
 

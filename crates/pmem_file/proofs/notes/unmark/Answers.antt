@@ -1,10 +1,9 @@
-use Rattle.std.proofs.Common.{◌≡◌, ℕ, ◌+◌, ◌<◌, true, false, ◌==◌, List, ◌∷◌, drop, length, get_or, refl, inl, inr, sym, ap, ◌∙◌, arith, get_or-set_other}
+use Rattle.std.proofs.Common.{◌≡◌, ℕ, ◌+◌, ◌<◌, true, false, List, ◌∷◌, drop, length, get_or, refl, inl, inr, sym, ap, ◌∙◌, arith, get_or-set_other}
 use Rattle.std.proofs.lemmas.List.{at_drop_more, drop_all}
-use Rattle.std.proofs.lemmas.Bool.{eqb-true}
+use Rattle.std.proofs.lemmas.Bool.Decides.{nat_tests}
 use Rattle.pmem.proofs.Staging.{same_or_other}
 use Rattle.pmem_file.specs.Line.{has_line}
 use Rattle.pmem_file.proofs.LinesLemmas.{marked-below, not_marked, has_line-at, cleared}
-use Rattle.pmem_file.proofs.CallsLemmas.{or_cases}
 use Rattle.pmem_file.proofs.notes.unmark.Goals as goal
 
 pub loop-line-init : goal.loop-line-init
@@ -32,10 +31,7 @@ loop-line-preserved c =
                 let listed = c.loop-line.invariant.0 other was in
                 let more : has_line (line ∷ drop (c.loop-line.line-index + 1) lines) other ≡ true =
                 sym (at_drop_more (λ (xs : List ℕ). has_line xs other) lines c.loop-line.line-index 0 c.loop-line-test.true) ∙ listed in
-                elim (or_cases (other == line) (has_line (drop (c.loop-line.line-index + 1) lines) other) more) [
-                  | inl is ↦ absurd (apart (eqb-true other line is))
-                  | inr later ↦ later
-                ]
+                grind (arith, nat_tests, more, apart)
           ]),
       c.loop-line.invariant.1,
     )

@@ -1,5 +1,5 @@
-use Rattle.std.proofs.Common.{◌≡◌, ◌↔◌, ℕ, ◌<◌, ◌≤◌, IsTrue, List, None, Some, Contains, ap, ap₂, refl, replicate, sym, ⊎_elim, ◌∙◌}
-use Rattle.std.proofs.lemmas.Bool.{cases_lt, true≢false}
+use Rattle.std.proofs.Common.{◌≡◌, ◌↔◌, ℕ, ◌<◌, ◌≤◌, IsTrue, List, None, Some, Contains, ap₂, refl, replicate, sym, ⊎_elim, ◌∙◌}
+use Rattle.std.proofs.lemmas.Bool.{cases_lt}
 use Rattle.std.specs.List.Sorted.{IsStrictlySortedBy}
 use Rattle.kv_types.specs.declared.place.EntryNo.{EntryNo}
 use Rattle.kv_types.specs.declared.record_id.RecordId.{RecordId}
@@ -14,18 +14,11 @@ use Rattle.placing.specs.Rebuilt.{AreEndedOf}
 use Rattle.redis_core.specs.Sequencing.{starts}
 use Rattle.standby_stream.specs.declared.opening.Opening.{Opening}
 use Rattle.standby_stream.specs.Delta.{AreIdsEnded, IsOpening}
-use Rattle.standby.proofs.EndedLemmas.{AreEnded-from_members, listed-from_member}
+use Rattle.standby.proofs.EndedLemmas.{ended-directory, AreEnded-from_members, listed-from_member}
 use Rattle.primary.proofs.resuming.resume.Goals as goal
 
--- a version that has ended is in the directory
-within : (contents : Contents) → IsConsistent contents → (i : ℕ) → IsTrue (is_ended_version (contents.versions i)) → i < entries_of_lines contents.lines
-within contents consistent i is =
-    ⊎_elim (λ (lt : i < entries_of_lines contents.lines). lt)
-    (λ (past : entries_of_lines contents.lines ≤ i). absurd (true≢false (sym is ∙ ap is_ended_version (consistent.beyond i past))))
-    (cases_lt i (entries_of_lines contents.lines))
-
 ended-listed : (contents : Contents) (ended : List EntryNo) → IsConsistent contents → AreEndedOf contents (numbers_of ended) → AreEnded contents ended
-ended-listed contents ended consistent are = AreEnded-from_members contents ended are.once (λ i m. let is = (are.these i).0 m in (within contents consistent i is, is))
+ended-listed contents ended consistent are = AreEnded-from_members contents ended are.once (λ i m. let is = (are.these i).0 m in (ended-directory contents consistent i is, is))
 
 ended-all : (contents : Contents) (ended : List EntryNo) → AreEndedOf contents (numbers_of ended) → (i : ℕ) → IsTrue (is_ended_version (contents.versions i)) → IsTrue (is_listed i ended)
 ended-all contents ended are i is = listed-from_member i ended ((are.these i).1 is)

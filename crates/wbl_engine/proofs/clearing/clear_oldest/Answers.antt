@@ -3,121 +3,80 @@ use Rattle.kv_types.specs.declared.place.EntryNo.{EntryNo}
 use Rattle.pmem.specs.Runs.{LeavesOnly}
 use Rattle.model.specs.declared.record.Record.{Record}
 use Rattle.wbl_record.specs.Record.{IsEitherRecord, IsRecorded, IsSucceeded}
+use Rattle.wbl_record.proofs.Results.{on_err_from}
 use Rattle.wbl_engine.specs.AtRest.{IsAtRest, contents_of}
 use Rattle.wbl_engine.specs.Freeing.{Clears}
-use Rattle.wbl_engine.proofs.ClearingLemmas.{begins_lines, clear_moments, cleared_rest, clearing, clears, ends_lines, erase_moments, keeps_versions, recorded_erased}
-use Rattle.wbl_record.proofs.Results.{on_err_from}
+use Rattle.wbl_engine.proofs.ClearingLemmas.{clear_moments, cleared_rest, clearing, clears, erase_moments, keeps_versions, recorded_erased, stamped_lines}
 use Rattle.wbl_engine.proofs.clearing.clear_oldest.Goals as goal
 
 pub erase_stamps-requires-clause-begins : goal.erase_stamps-requires-clause-begins
 erase_stamps-requires-clause-begins g c =
-    let r = c.args.current.now in
-    let d = g.P.Pmem.state c.args.device.now in
-    let begins = c.as_slice.result.now in
-    let begun = clearing r d begins c.as_slice-2.result.now c.args.stamped.now.begins.items c.args.stamped.now.ends.items c.requires.rest
-    c.requires.some c.as_slice.ensures.value c.as_slice-2.ensures.value c.requires.begins c.requires.ends in
-    begins_lines begun
+    let begun = clearing c.requires.rest c.requires.some c.as_slice.ensures.value c.as_slice-2.ensures.value c.requires.begins c.requires.ends in
+    (stamped_lines begun.stamped begun.rest.many).0
 
 pub erase_stamps-requires-clause-ends : goal.erase_stamps-requires-clause-ends
 erase_stamps-requires-clause-ends g c =
-    let r = c.args.current.now in
-    let d = g.P.Pmem.state c.args.device.now in
-    let begins = c.as_slice.result.now in
-    let begun = clearing r d begins c.as_slice-2.result.now c.args.stamped.now.begins.items c.args.stamped.now.ends.items c.requires.rest
-    c.requires.some c.as_slice.ensures.value c.as_slice-2.ensures.value c.requires.begins c.requires.ends in
-    ends_lines begun
+    let begun = clearing c.requires.rest c.requires.some c.as_slice.ensures.value c.as_slice-2.ensures.value c.requires.begins c.requires.ends in
+    (stamped_lines begun.stamped begun.rest.many).1
 
 pub returns-in_err-erase_stamps-clause-stays : goal.returns-in_err-erase_stamps-clause-stays
 returns-in_err-erase_stamps-clause-stays g c =
-    let r = c.args.current.now in
-    let d = g.P.Pmem.state c.args.device.now in
-    let begins = c.as_slice.result.now in
-    let begun = clearing r d begins c.as_slice-2.result.now c.args.stamped.now.begins.items c.args.stamped.now.ends.items c.requires.rest
-    c.requires.some c.as_slice.ensures.value c.as_slice-2.ensures.value c.requires.begins c.requires.ends in
+    let begun = clearing c.requires.rest c.requires.some c.as_slice.ensures.value c.as_slice-2.ensures.value c.requires.begins c.requires.ends in
     let failed = c.in_err-erase_stamps.ensures.err in
     on_err_from c.from_residual.result
-    (keeps_versions (g.P.Pmem.state c.erase_stamps.new.device) begun failed.stays.lines (λ word matters. failed.newest word))
+    (keeps_versions begun (g.P.Pmem.state c.erase_stamps.new.device) failed.stays.lines (λ word matters. failed.newest word))
 
 pub returns-in_err-erase_stamps-clause-moments : goal.returns-in_err-erase_stamps-clause-moments
 returns-in_err-erase_stamps-clause-moments g c =
-    let r = c.args.current.now in
-    let d = g.P.Pmem.state c.args.device.now in
-    let begins = c.as_slice.result.now in
-    let begun = clearing r d begins c.as_slice-2.result.now c.args.stamped.now.begins.items c.args.stamped.now.ends.items c.requires.rest
-    c.requires.some c.as_slice.ensures.value c.as_slice-2.ensures.value c.requires.begins c.requires.ends in
+    let begun = clearing c.requires.rest c.requires.some c.as_slice.ensures.value c.as_slice-2.ensures.value c.requires.begins c.requires.ends in
     erase_moments begun c.in_err-erase_stamps.ensures.err.moments
 
 pub returns-in_err-write_next-clause-stays : goal.returns-in_err-write_next-clause-stays
 returns-in_err-write_next-clause-stays g c =
-    let r = c.args.current.now in
-    let d = g.P.Pmem.state c.args.device.now in
-    let begins = c.as_slice.result.now in
-    let begun = clearing r d begins c.as_slice-2.result.now c.args.stamped.now.begins.items c.args.stamped.now.ends.items c.requires.rest
-    c.requires.some c.as_slice.ensures.value c.as_slice-2.ensures.value c.requires.begins c.requires.ends in
+    let begun = clearing c.requires.rest c.requires.some c.as_slice.ensures.value c.as_slice-2.ensures.value c.requires.begins c.requires.ends in
     let staged = c.in_ok-erase_stamps.ensures.ok in
-    let b = g.P.Pmem.state c.erase_stamps.new.device in
     let after = g.P.Pmem.state c.write_next.new.device in
-    let next = c.without_oldest_gap-next in
     let fault = c.in_err-write_next.ensures.err in
     on_err_from c.from_residual-in_err-write_next.result
-    (keeps_versions after begun (fault.stays.lines ∙ staged.stays.lines) (recorded_erased after next.result.number begun staged fault.newest))
+    (keeps_versions begun after (fault.stays.lines ∙ staged.stays.lines) (recorded_erased after c.without_oldest_gap-next.result.number begun staged fault.newest))
 
 pub returns-in_err-write_next-clause-moments : goal.returns-in_err-write_next-clause-moments
 returns-in_err-write_next-clause-moments g c =
-    let r = c.args.current.now in
-    let d = g.P.Pmem.state c.args.device.now in
-    let begins = c.as_slice.result.now in
-    let begun = clearing r d begins c.as_slice-2.result.now c.args.stamped.now.begins.items c.args.stamped.now.ends.items c.requires.rest
-    c.requires.some c.as_slice.ensures.value c.as_slice-2.ensures.value c.requires.begins c.requires.ends in
-    let staged = c.in_ok-erase_stamps.ensures.ok in
+    let begun = clearing c.requires.rest c.requires.some c.as_slice.ensures.value c.as_slice-2.ensures.value c.requires.begins c.requires.ends in
     let b = g.P.Pmem.state c.erase_stamps.new.device in
     let after = g.P.Pmem.state c.write_next.new.device in
-    let next = c.without_oldest_gap-next in
-    clear_moments begun next.ensures.lawful staged
+    clear_moments begun c.without_oldest_gap-next.ensures.lawful c.in_ok-erase_stamps.ensures.ok
     (subst (λ (q : Record). (current : Record) → IsSucceeded b current q → LeavesOnly b after (IsEitherRecord b current q))
-    next.ensures.next c.write_next.ensures.moments)
+    c.without_oldest_gap-next.ensures.next c.write_next.ensures.moments)
 
 pub returns-clause-rest : goal.returns-clause-rest
 returns-clause-rest g c =
-    let r = c.args.current.now in
-    let d = g.P.Pmem.state c.args.device.now in
-    let begins = c.as_slice.result.now in
-    let begun = clearing r d begins c.as_slice-2.result.now c.args.stamped.now.begins.items c.args.stamped.now.ends.items c.requires.rest
-    c.requires.some c.as_slice.ensures.value c.as_slice-2.ensures.value c.requires.begins c.requires.ends in
-    let staged = c.in_ok-erase_stamps.ensures.ok in
+    let begun = clearing c.requires.rest c.requires.some c.as_slice.ensures.value c.as_slice-2.ensures.value c.requires.begins c.requires.ends in
+    let next = c.without_oldest_gap-next in
     let b = g.P.Pmem.state c.erase_stamps.new.device in
     let after = g.P.Pmem.state c.write_next.new.device in
-    let next = c.without_oldest_gap-next in
-    let recorded = subst (λ (q : Record). IsRecorded b after q) next.ensures.next c.in_ok-write_next.ensures.ok in
-    subst (λ (q : Record). IsAtRest q after) (sym next.ensures.next) (cleared_rest begun next.ensures.lawful staged recorded)
+    subst (λ (q : Record). IsAtRest q after) (sym next.ensures.next)
+    (cleared_rest begun next.ensures.lawful c.in_ok-erase_stamps.ensures.ok
+    (subst (λ (q : Record). IsRecorded b after q) next.ensures.next c.in_ok-write_next.ensures.ok))
 
 pub returns-clause-clears : goal.returns-clause-clears
 returns-clause-clears g c =
+    let begun = clearing c.requires.rest c.requires.some c.as_slice.ensures.value c.as_slice-2.ensures.value c.requires.begins c.requires.ends in
     let r = c.args.current.now in
     let d = g.P.Pmem.state c.args.device.now in
-    let begins = c.as_slice.result.now in
-    let begun = clearing r d begins c.as_slice-2.result.now c.args.stamped.now.begins.items c.args.stamped.now.ends.items c.requires.rest
-    c.requires.some c.as_slice.ensures.value c.as_slice-2.ensures.value c.requires.begins c.requires.ends in
     let staged = c.in_ok-erase_stamps.ensures.ok in
-    let b = g.P.Pmem.state c.erase_stamps.new.device in
     let after = g.P.Pmem.state c.write_next.new.device in
     let next = c.without_oldest_gap-next in
     let recorded = c.in_ok-write_next.ensures.ok in
     subst (λ (l : List EntryNo). Clears (contents_of r d) l (contents_of next.result after)) c.as_slice.ensures.value
-    (subst (λ (q : Record). Clears (contents_of r d) begins (contents_of q after)) (sym next.ensures.next)
-    (clears after begun (recorded.stays.lines ∙ staged.stays.lines) (recorded_erased after next.result.number begun staged recorded.newest)))
+    (subst (λ (q : Record). Clears (contents_of r d) c.as_slice.result.now (contents_of q after)) (sym next.ensures.next)
+    (clears begun after (recorded.stays.lines ∙ staged.stays.lines) (recorded_erased after next.result.number begun staged recorded.newest)))
 
 pub returns-clause-moments : goal.returns-clause-moments
 returns-clause-moments g c =
-    let r = c.args.current.now in
-    let d = g.P.Pmem.state c.args.device.now in
-    let begins = c.as_slice.result.now in
-    let begun = clearing r d begins c.as_slice-2.result.now c.args.stamped.now.begins.items c.args.stamped.now.ends.items c.requires.rest
-    c.requires.some c.as_slice.ensures.value c.as_slice-2.ensures.value c.requires.begins c.requires.ends in
-    let staged = c.in_ok-erase_stamps.ensures.ok in
+    let begun = clearing c.requires.rest c.requires.some c.as_slice.ensures.value c.as_slice-2.ensures.value c.requires.begins c.requires.ends in
     let b = g.P.Pmem.state c.erase_stamps.new.device in
     let after = g.P.Pmem.state c.write_next.new.device in
-    let next = c.without_oldest_gap-next in
-    clear_moments begun next.ensures.lawful staged
+    clear_moments begun c.without_oldest_gap-next.ensures.lawful c.in_ok-erase_stamps.ensures.ok
     (subst (λ (q : Record). (current : Record) → IsSucceeded b current q → LeavesOnly b after (IsEitherRecord b current q))
-    next.ensures.next c.write_next.ensures.moments)
+    c.without_oldest_gap-next.ensures.next c.write_next.ensures.moments)

@@ -2,7 +2,7 @@ use Rattle.std.proofs.Common.{◌+◌, List, sym, subst}
 use Rattle.std.proofs.lemmas.Result.{on_ok_weaker, on_err_weaker}
 use Rattle.model.specs.declared.group.Part.{Part}
 use Rattle.wbl_engine.specs.Stage.{AreEndsWithin}
-use Rattle.wbl_engine.proofs.CommitSteps.{committing, group_staged, group_failed, first_fault, first_fault_moments, later_fault, done_rest, done_same, done_moments}
+use Rattle.wbl_engine.proofs.Committing.{committing, group_staged, group_failed, first_fault, stage_moments, later_fault, done_rest, done_same, done_moments}
 use Rattle.wbl_engine.proofs.EndsWithin.{ends_within}
 use Rattle.wbl_record.proofs.Results.{on_err_from}
 use Rattle.wbl_engine.proofs.commit.commit_group.Goals as goal
@@ -15,55 +15,36 @@ stage_parts-requires-clause-ends g c =
 
 pub returns-in_err-stage_parts-clause-stays : goal.returns-in_err-stage_parts-clause-stays
 returns-in_err-stage_parts-clause-stays g c =
-    let r = c.args.current.now in
-    let group = c.args.group.now in
-    let begun = committing r (g.P.Pmem.state c.args.device.now) group c.as_slice.result.now c.requires.rest c.requires.asked c.as_slice.ensures.value
-    c.in_err-stage_parts.ensures.writable in
-    let failed = group_failed (r.cp + 1) group c.as_slice.result.now c.as_slice.ensures.value c.in_err-stage_parts.ensures.err in
-    on_err_from c.from_residual.result (first_fault r group begun failed)
+    let begun = committing c.requires.rest c.requires.asked c.as_slice.ensures.value c.in_err-stage_parts.ensures.writable in
+    on_err_from c.from_residual.result
+    (first_fault begun (group_failed (c.args.current.now.cp + 1) c.args.group.now c.as_slice.ensures.value c.in_err-stage_parts.ensures.err))
 
 pub returns-in_err-stage_parts-clause-moments : goal.returns-in_err-stage_parts-clause-moments
 returns-in_err-stage_parts-clause-moments g c =
-    let r = c.args.current.now in
-    let group = c.args.group.now in
-    let begun = committing r (g.P.Pmem.state c.args.device.now) group c.as_slice.result.now c.requires.rest c.requires.asked c.as_slice.ensures.value
-    c.in_err-stage_parts.ensures.writable in
-    first_fault_moments r group begun
-    (group_failed (r.cp + 1) group c.as_slice.result.now c.as_slice.ensures.value c.in_err-stage_parts.ensures.err)
+    let begun = committing c.requires.rest c.requires.asked c.as_slice.ensures.value c.in_err-stage_parts.ensures.writable in
+    stage_moments begun (group_failed (c.args.current.now.cp + 1) c.args.group.now c.as_slice.ensures.value c.in_err-stage_parts.ensures.err).moments
 
 pub returns-clause-rest : goal.returns-clause-rest
 returns-clause-rest g c =
-    let r = c.args.current.now in
-    let group = c.args.group.now in
-    let begun = committing r (g.P.Pmem.state c.args.device.now) group c.as_slice.result.now c.requires.rest c.requires.asked c.as_slice.ensures.value
-    c.in_ok-stage_parts.ensures.writable in
-    let staged = group_staged (r.cp + 1) group c.as_slice.result.now c.as_slice.ensures.value c.in_ok-stage_parts.ensures.ok in
-    on_ok_weaker c.write_next.result (λ recorded. done_rest r c.args.next.now group c.requires.after c.requires.lawful begun staged recorded)
+    let begun = committing c.requires.rest c.requires.asked c.as_slice.ensures.value c.in_ok-stage_parts.ensures.writable in
+    let staged = group_staged (c.args.current.now.cp + 1) c.args.group.now c.as_slice.ensures.value c.in_ok-stage_parts.ensures.ok in
+    on_ok_weaker c.write_next.result (λ recorded. done_rest begun c.requires.after staged c.requires.lawful recorded)
     c.write_next.ensures.ok
 
 pub returns-clause-moved : goal.returns-clause-moved
 returns-clause-moved g c =
-    let r = c.args.current.now in
-    let group = c.args.group.now in
-    let begun = committing r (g.P.Pmem.state c.args.device.now) group c.as_slice.result.now c.requires.rest c.requires.asked c.as_slice.ensures.value
-    c.in_ok-stage_parts.ensures.writable in
-    let staged = group_staged (r.cp + 1) group c.as_slice.result.now c.as_slice.ensures.value c.in_ok-stage_parts.ensures.ok in
-    on_ok_weaker c.write_next.result (λ recorded. done_same r c.args.next.now group c.requires.after begun staged recorded) c.write_next.ensures.ok
+    let begun = committing c.requires.rest c.requires.asked c.as_slice.ensures.value c.in_ok-stage_parts.ensures.writable in
+    let staged = group_staged (c.args.current.now.cp + 1) c.args.group.now c.as_slice.ensures.value c.in_ok-stage_parts.ensures.ok in
+    on_ok_weaker c.write_next.result (λ recorded. done_same begun c.requires.after staged recorded) c.write_next.ensures.ok
 
 pub returns-clause-stays : goal.returns-clause-stays
 returns-clause-stays g c =
-    let r = c.args.current.now in
-    let group = c.args.group.now in
-    let begun = committing r (g.P.Pmem.state c.args.device.now) group c.as_slice.result.now c.requires.rest c.requires.asked c.as_slice.ensures.value
-    c.in_ok-stage_parts.ensures.writable in
-    let staged = group_staged (r.cp + 1) group c.as_slice.result.now c.as_slice.ensures.value c.in_ok-stage_parts.ensures.ok in
-    on_err_weaker c.write_next.result (λ fault. later_fault r c.args.next.now group c.requires.after begun staged fault) c.write_next.ensures.err
+    let begun = committing c.requires.rest c.requires.asked c.as_slice.ensures.value c.in_ok-stage_parts.ensures.writable in
+    let staged = group_staged (c.args.current.now.cp + 1) c.args.group.now c.as_slice.ensures.value c.in_ok-stage_parts.ensures.ok in
+    on_err_weaker c.write_next.result (λ fault. later_fault begun c.requires.after staged fault) c.write_next.ensures.err
 
 pub returns-clause-moments : goal.returns-clause-moments
 returns-clause-moments g c =
-    let r = c.args.current.now in
-    let group = c.args.group.now in
-    let begun = committing r (g.P.Pmem.state c.args.device.now) group c.as_slice.result.now c.requires.rest c.requires.asked c.as_slice.ensures.value
-    c.in_ok-stage_parts.ensures.writable in
-    let staged = group_staged (r.cp + 1) group c.as_slice.result.now c.as_slice.ensures.value c.in_ok-stage_parts.ensures.ok in
-    done_moments r c.args.next.now group c.requires.after begun staged c.write_next.ensures.moments
+    let begun = committing c.requires.rest c.requires.asked c.as_slice.ensures.value c.in_ok-stage_parts.ensures.writable in
+    let staged = group_staged (c.args.current.now.cp + 1) c.args.group.now c.as_slice.ensures.value c.in_ok-stage_parts.ensures.ok in
+    done_moments begun c.requires.after staged c.write_next.ensures.moments

@@ -2,8 +2,8 @@ use Rattle.std.proofs.Common.{ℕ, ◌+◌, ◌<◌, arith, subst}
 use Rattle.kv_types.specs.declared.place.EntryNo.{EntryNo}
 use Rattle.pmem.specs.Device.{Steps, store_at}
 use Rattle.pmem.proofs.Chaining.{Runs-none, Runs-step_store}
-use Rattle.wbl_engine.proofs.ErasingRuns.{zeros_stored}
-use Rattle.wbl_engine.proofs.StagingLemmas.{all_at, no_entry}
+use Rattle.model.specs.Image.{entry_word}
+use Rattle.wbl_engine.proofs.StagingLemmas.{all_at, entries_stored, no_entry}
 use Rattle.wbl_engine.proofs.erasing.store_zeros.Goals as goal
 
 pub loop-entry-init : goal.loop-entry-init
@@ -23,7 +23,7 @@ store-requires g c =
 pub loop-entry-preserved : goal.loop-entry-preserved
 loop-entry-preserved g c =
     let old = g.P.Pmem.state c.loop-entry.device in
-    zeros_stored c.args.k c.args.entries.now c.loop-entry.entry-index no_entry c.loop-entry-test.true c.loop-entry.invariant
+    entries_stored (λ (entry : EntryNo). (entry_word entry.0 c.args.k, 0)) c.args.entries.now c.loop-entry.entry-index no_entry c.loop-entry-test.true c.loop-entry.invariant
     (Runs-step_store _ 0
     (subst (λ (word : ℕ). Steps old (g.P.Pmem.state c.store.new.self) (store_at word 0 old.words) old.failures old.fences)
     c.entry_word.ensures c.store.ensures))

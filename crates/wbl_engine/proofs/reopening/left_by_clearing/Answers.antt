@@ -2,7 +2,7 @@ use Rattle.std.proofs.Common.{length, ◌∙◌, arith}
 use Rattle.std.proofs.lemmas.Bool.{ne_eqb}
 use Rattle.pmem.specs.Crash.{image_of}
 use Rattle.model.specs.Image.{entries_of_lines}
-use Rattle.wbl_engine.proofs.LeftEntries.{left_gapped}
+use Rattle.wbl_engine.proofs.ListedEntries.{left_gapped}
 use Rattle.wbl_engine.proofs.reopening.left_by_clearing.Goals as goal
 
 pub returns-then-len-lt-MAX_GAPS : goal.returns-then-len-lt-MAX_GAPS

@@ -1,5 +1,5 @@
 use Rattle.pmem.specs.Crash.{image_of}
-use Rattle.wbl_engine.proofs.LeftEntries.{left_more}
+use Rattle.wbl_engine.proofs.ListedEntries.{left_more}
 use Rattle.wbl_engine.proofs.reopening.list_left.Goals as goal
 
 pub loop-i-preserved : goal.loop-i-preserved

@@ -5,9 +5,9 @@ use Rattle.model.specs.declared.record.Record.{Record}
 use Rattle.wbl_engine.specs.AtRest.{IsAtRest, contents_of}
 use Rattle.wbl_engine.specs.Contents.{IsDurable}
 use Rattle.wbl_engine.specs.Reopening.{IsShown, Reopens, StaysReadable}
-use Rattle.wbl_engine.proofs.Readable.{settled_readable, settled_stays}
+use Rattle.wbl_engine.proofs.Readable.{readable_durable, readable_rest, settled_readable, settled_stays}
 use Rattle.wbl_engine.proofs.ReadingLemmas.{undamaged_unique}
-use Rattle.wbl_engine.proofs.ReopenedContents.{IsReopenedOver, reopened_rest, reopened_durable, reopens}
+use Rattle.wbl_engine.proofs.ReopenedContents.{over_low, reopened_over, reopens}
 use Rattle.wbl_engine.proofs.ShownLists.{shows}
 use Rattle.wbl_engine.proofs.reopening.reopen_device.Goals as goal
 
@@ -28,13 +28,9 @@ returns-in_err-next-clause-moments g c r whole =
 pub returns-clause-reopens : goal.returns-clause-reopens
 returns-clause-reopens g c =
     let d = g.P.Pmem.state c.args.device.now in
-    let over : IsReopenedOver c.in_ok-current.current d (g.P.Pmem.state c.write_reopened.new.device) =
-    record {
-      undamaged = c.in_ok-current.ensures.undamaged;
-      readable = c.in_ok-next.ensures.readable;
-      cleared = c.in_ok-next.ensures.cleared;
-      lines_are = c.in_ok-next.ensures.lines;
-    } in
+    let over =
+    reopened_over (g.P.Pmem.state c.args.device.now) (g.P.Pmem.state c.write_reopened.new.device) c.in_ok-current.ensures.undamaged
+    c.in_ok-next.ensures.readable c.in_ok-next.ensures.cleared c.in_ok-next.ensures.lines in
     subst (λ (q : Record). Reopens d.lines (image_of d.words) c.args.role (contents_of q (g.P.Pmem.state c.write_reopened.new.device))
     c.in_ok-current.versions.counted.items c.in_ok-current.versions.gapped.items) (sym c.in_ok-next.ensures.next)
     (reopens c.args.role c.in_ok-current.versions.counted.items c.in_ok-current.versions.gapped.items over c.in_ok-current.ensures.role c.in_ok-current.ensures.limits
@@ -42,26 +38,15 @@ returns-clause-reopens g c =
 
 pub returns-clause-rest : goal.returns-clause-rest
 returns-clause-rest g c =
-    let over : IsReopenedOver c.in_ok-current.current (g.P.Pmem.state c.args.device.now) (g.P.Pmem.state c.write_reopened.new.device) =
-    record {
-      undamaged = c.in_ok-current.ensures.undamaged;
-      readable = c.in_ok-next.ensures.readable;
-      cleared = c.in_ok-next.ensures.cleared;
-      lines_are = c.in_ok-next.ensures.lines;
-    } in
-    subst (λ (q : Record). IsAtRest q (g.P.Pmem.state c.write_reopened.new.device)) (sym c.in_ok-next.ensures.next) (reopened_rest over)
+    let over =
+    reopened_over (g.P.Pmem.state c.args.device.now) (g.P.Pmem.state c.write_reopened.new.device) c.in_ok-current.ensures.undamaged
+    c.in_ok-next.ensures.readable c.in_ok-next.ensures.cleared c.in_ok-next.ensures.lines in
+    subst (λ (q : Record). IsAtRest q (g.P.Pmem.state c.write_reopened.new.device)) (sym c.in_ok-next.ensures.next) (readable_rest over.readable (over_low over))
 
 pub returns-clause-durable : goal.returns-clause-durable
 returns-clause-durable g c =
-    let over : IsReopenedOver c.in_ok-current.current (g.P.Pmem.state c.args.device.now) (g.P.Pmem.state c.write_reopened.new.device) =
-    record {
-      undamaged = c.in_ok-current.ensures.undamaged;
-      readable = c.in_ok-next.ensures.readable;
-      cleared = c.in_ok-next.ensures.cleared;
-      lines_are = c.in_ok-next.ensures.lines;
-    } in
     subst (λ (q : Record). IsDurable (g.P.Pmem.state c.write_reopened.new.device) (contents_of q (g.P.Pmem.state c.write_reopened.new.device)))
-    (sym c.in_ok-next.ensures.next) (reopened_durable over)
+    (sym c.in_ok-next.ensures.next) (readable_durable c.in_ok-next.ensures.readable)
 
 pub returns-clause-moments : goal.returns-clause-moments
 returns-clause-moments g c r whole =
@@ -71,13 +56,9 @@ returns-clause-moments g c r whole =
 
 pub returns-clause-shown : goal.returns-clause-shown
 returns-clause-shown g c =
-    let over : IsReopenedOver c.in_ok-current.current (g.P.Pmem.state c.args.device.now) (g.P.Pmem.state c.write_reopened.new.device) =
-    record {
-      undamaged = c.in_ok-current.ensures.undamaged;
-      readable = c.in_ok-next.ensures.readable;
-      cleared = c.in_ok-next.ensures.cleared;
-      lines_are = c.in_ok-next.ensures.lines;
-    } in
+    let over =
+    reopened_over (g.P.Pmem.state c.args.device.now) (g.P.Pmem.state c.write_reopened.new.device) c.in_ok-current.ensures.undamaged
+    c.in_ok-next.ensures.readable c.in_ok-next.ensures.cleared c.in_ok-next.ensures.lines in
     subst (λ (q : Record). IsShown (contents_of q (g.P.Pmem.state c.write_reopened.new.device)) c.in_ok-current.versions.counted.items
     c.in_ok-current.versions.gapped.items (image_of (g.P.Pmem.state c.write_reopened.new.device).words)) (sym c.in_ok-next.ensures.next)
     (shows c.in_ok-current.versions.counted.items c.in_ok-current.versions.gapped.items over c.in_ok-current.ensures.counted

@@ -1,4 +1,4 @@
-use Rattle.wbl_engine.proofs.ReopeningSteps.{reopened_moments}
+use Rattle.wbl_engine.proofs.RoomLemmas.{reopened_moments}
 use Rattle.wbl_engine.proofs.reopening.write_reopened.Goals as goal
 
 pub returns-in-Ok-clause-moments : goal.returns-in-Ok-clause-moments

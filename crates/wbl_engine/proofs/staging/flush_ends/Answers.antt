@@ -2,7 +2,8 @@ use Rattle.std.proofs.Common.{ℕ, ◌+◌, ◌<◌, [], ◌∷◌, arith, subst
 use Rattle.kv_types.specs.declared.place.EntryNo.{EntryNo}
 use Rattle.pmem.specs.Runs.{Runs, flushes}
 use Rattle.pmem.proofs.Chaining.{Runs-none, Runs-step_flush}
-use Rattle.wbl_engine.proofs.StagingLemmas.{all_at, ends_flushed, no_entry}
+use Rattle.model.specs.Image.{entry_line}
+use Rattle.wbl_engine.proofs.StagingLemmas.{all_at, entries_flushed, no_entry}
 use Rattle.wbl_engine.proofs.staging.flush_ends.Goals as goal
 
 pub loop-entry-init : goal.loop-entry-init
@@ -21,5 +22,5 @@ flush-requires g c =
 pub loop-entry-preserved : goal.loop-entry-preserved
 loop-entry-preserved g c =
     let old = g.P.Pmem.state c.loop-entry.device in
-    ends_flushed c.args.ended.now c.loop-entry.entry-index no_entry c.loop-entry-test.true c.loop-entry.invariant
+    entries_flushed (λ (entry : EntryNo). entry_line entry.0) c.args.ended.now c.loop-entry.entry-index no_entry c.loop-entry-test.true c.loop-entry.invariant
     (subst (λ (line : ℕ). Runs old (g.P.Pmem.state c.flush.new.self) (flushes (line ∷ []) old.words)) c.entry_line.ensures (Runs-step_flush _ c.flush.ensures))

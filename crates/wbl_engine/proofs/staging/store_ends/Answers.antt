@@ -2,7 +2,8 @@ use Rattle.std.proofs.Common.{ℕ, ◌+◌, ◌<◌, arith, subst}
 use Rattle.kv_types.specs.declared.place.EntryNo.{EntryNo}
 use Rattle.pmem.specs.Device.{Steps, store_at}
 use Rattle.pmem.proofs.Chaining.{Runs-none, Runs-step_store}
-use Rattle.wbl_engine.proofs.StagingLemmas.{all_at, ends_stored, no_entry}
+use Rattle.model.specs.Image.{entry_word}
+use Rattle.wbl_engine.proofs.StagingLemmas.{all_at, entries_stored, no_entry}
 use Rattle.wbl_engine.proofs.staging.store_ends.Goals as goal
 
 pub loop-entry-init : goal.loop-entry-init
@@ -21,7 +22,7 @@ store-requires g c =
 pub loop-entry-preserved : goal.loop-entry-preserved
 loop-entry-preserved g c =
     let old = g.P.Pmem.state c.loop-entry.device in
-    ends_stored c.args.stamp c.args.ended.now c.loop-entry.entry-index no_entry c.loop-entry-test.true c.loop-entry.invariant
+    entries_stored (λ (entry : EntryNo). (entry_word entry.0 1, c.args.stamp)) c.args.ended.now c.loop-entry.entry-index no_entry c.loop-entry-test.true c.loop-entry.invariant
     (Runs-step_store _ c.args.stamp
     (subst (λ (word : ℕ). Steps old (g.P.Pmem.state c.store.new.self) (store_at word c.args.stamp old.words) old.failures old.fences)
     c.entry_word.ensures c.store.ensures))

@@ -1,7 +1,5 @@
-use Rattle.std.proofs.Common.{◌≡◌, ◌<◌, ◌≤◌, List, ◌∷◌, ◌++◌, Box, sym, ap, subst, ◌∙◌}
+use Rattle.std.proofs.Common.{◌≡◌, ◌∷◌, ◌++◌, Box, sym, ap, ◌∙◌}
 use Rattle.std.specs.declared.alloc.Global.{Global}
-use Rattle.kv_types.specs.declared.place.Extent.{Extent}
-use Rattle.extent_heap.specs.Split.{IsSplit}
 use Rattle.extent_heap.specs.Tree.{runs_of, runs_at}
 use Rattle.extent_heap.specs.declared.tree.Fork.{Fork}
 use Rattle.extent_heap.proofs.SplitLemmas.{split_behind, split_before}
@@ -17,10 +15,9 @@ returns-then-deref-line t c =
     let whole : c.of.result ≡ fork.left ++ fork.run ∷ below =
     c.of.ensures ∙ ap (λ (f : Fork). f.left ++ f.run ∷ below) c.deref_mut-then-deref-line.ensures.value ∙ ap (λ (f : Fork). f.left ++ f.run ∷ below) value in
     let same : c.deref.result.now ≡ fork = cc c.deref.ensures in
-    let less = subst (λ (f : Fork). f.run.first_line < c.args.line) same c.if-deref-line.true in
-    let inner = subst (λ (xs : List Extent). IsSplit c.args.line xs below rest) (c.replace-inner.ensures.value ∙ ap (λ (f : Fork). f.right) value) c.split-below.ensures in
-    let split = split_behind c.args.line fork.left fork.run fork.right below rest less inner in
-    subst (λ (xs : List Extent). IsSplit c.args.line c.args.self xs rest) (sym whole) (subst (λ (xs : List Extent). IsSplit c.args.line xs (fork.left ++ fork.run ∷ below) rest) (sym is) split)
+    let less = rw same at c.if-deref-line.true in
+    let inner = rw (c.replace-inner.ensures.value, value) at c.split-below.ensures in
+    rw (is, whole) (split_behind c.args.line fork.left fork.run fork.right below rest less inner)
 
 pub returns-else-deref-line : goal.returns-else-deref-line
 returns-else-deref-line t c =
@@ -32,7 +29,6 @@ returns-else-deref-line t c =
     let whole : c.of-else-deref-line.result ≡ rest ++ fork.run ∷ fork.right =
     c.of-else-deref-line.ensures ∙ ap (λ (f : Fork). rest ++ f.run ∷ f.right) c.deref_mut-else-deref-line-2.ensures.value ∙ ap (λ (f : Fork). rest ++ f.run ∷ f.right) value in
     let same : c.deref.result.now ≡ fork = cc c.deref.ensures in
-    let less = subst (λ (f : Fork). c.args.line ≤ f.run.first_line) same c.if-deref-line.false in
-    let inner = subst (λ (xs : List Extent). IsSplit c.args.line xs below rest) (c.replace-inner-else-deref-line.ensures.value ∙ ap (λ (f : Fork). f.left) value) c.split-below-else-deref-line.ensures in
-    let split = split_before c.args.line fork.left fork.run fork.right below rest less inner in
-    subst (λ (xs : List Extent). IsSplit c.args.line c.args.self below xs) (sym whole) (subst (λ (xs : List Extent). IsSplit c.args.line xs below (rest ++ fork.run ∷ fork.right)) (sym is) split)
+    let less = rw same at c.if-deref-line.false in
+    let inner = rw (c.replace-inner-else-deref-line.ensures.value, value) at c.split-below-else-deref-line.ensures in
+    rw (is, whole) (split_before c.args.line fork.left fork.run fork.right below rest less inner)

@@ -1,4 +1,4 @@
-use Rattle.std.proofs.Common.{Err, inl, inr, refl, ap, ◌∙◌}
+use Rattle.std.proofs.Common.{rules, Err, inl, inr, refl, ap, ◌∙◌}
 use Rattle.std.proofs.lemmas.Result.{err_from_is_err_and}
 use Rattle.group_commit.proofs.TurnLemmas.{none-left, some-left}
 use Rattle.group_commit.proofs.committer.Committer.clear_gap.Goals as goal
@@ -10,22 +10,8 @@ pub returns-in_err-cleared : goal.returns-in_err-cleared
 returns-in_err-cleared g c =
     let exit = err_from_is_err_and c.from_residual.result c.from_residual.ensures.1 in
     let engine = c.in_err-cleared.ensures in
-    rw (exit.1 ∙ ap Err exit.2) (inl record {
-      some = some-left (g.E.Durable.contents c.args.self.now.engine).current.gaps.items (c.has_gap.ensures.0 c.if-not-has_gap.false);
-      answer = tt;
-      durable = tt;
-      sound = tt;
-      causes = engine.causes;
-      memory = λ of. engine.memory (cc);
-      exhausted = λ of. let told = engine.exhausted (cc) in (told.1, told.2);
-      exhausts = λ sound reached. let told = engine.exhausts sound (some-left (g.E.Durable.contents c.args.self.now.engine).current.gaps.items (c.has_gap.ensures.0 c.if-not-has_gap.false)) reached in cc;
-      fault = λ of. engine.fault (cc);
-      stopped = λ of. engine.stopped (cc);
-      aside = c.requires.alone;
-      stage = c.requires.ready;
-      local = refl;
-      moments = engine.moments;
-    })
+    let some = some-left (g.E.Durable.contents c.args.self.now.engine).current.gaps.items (c.has_gap.ensures.0 c.if-not-has_gap.false) in
+    rw (exit.1 ∙ ap Err exit.2) (inl (search (rules, engine, some)))
 
 pub returns : goal.returns
 returns g c =

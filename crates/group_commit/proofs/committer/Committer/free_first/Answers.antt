@@ -1,4 +1,4 @@
-use Rattle.std.proofs.Common.{Err, inl, refl, ap, drop, ◌∙◌, arith}
+use Rattle.std.proofs.Common.{rules, Err, inl, refl, ap, drop, ◌∙◌, arith}
 use Rattle.std.proofs.lemmas.Result.{err_from_is_err_and}
 use Rattle.group_commit.proofs.TurnLemmas.{first-is, first-ended}
 use Rattle.group_commit.proofs.committer.Committer.free_first.Goals as goal
@@ -20,21 +20,7 @@ returns-in_err-freed g c =
       drop 1 items,
       is,
       c.if-list-remote.false,
-      record {
-        answer = tt;
-        aside = tt;
-        moved = tt;
-        durable = tt;
-        sound = tt;
-        causes = engine.causes;
-        kept = is;
-        memory = λ of. engine.memory (cc);
-        fault = λ of. engine.fault (cc);
-        stopped = λ of. engine.stopped (cc);
-        stage = c.requires.ready;
-        local = refl;
-        moments = engine.moments;
-      },
+      search (rules, engine, is),
     ))
 
 pub returns : goal.returns

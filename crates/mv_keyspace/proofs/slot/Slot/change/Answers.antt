@@ -1,6 +1,4 @@
-use Rattle.std.proofs.Common.{◌≡◌, ◌+◌, ◌≤◌, [], ◌∷◌, arith}
-use Rattle.mv_keyspace.specs.Table.{place_all}
-use Rattle.mv_keyspace.specs.Row.{table_of}
+use Rattle.std.proofs.Common.{[], ◌∷◌, arith}
 use Rattle.mv_keyspace.proofs.ListLemmas.{in_order-placed}
 use Rattle.mv_keyspace.proofs.slot.Slot.change.Goals as goal
 

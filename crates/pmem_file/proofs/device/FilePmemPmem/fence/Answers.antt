@@ -1,9 +1,7 @@
-use Rattle.std.proofs.Common.{ℕ, List, sym, subst, ◌∙◌}
-use Rattle.pmem.specs.Device.{Word, fenced}
+use Rattle.std.proofs.Common.{ℕ, List, subst, ◌∙◌}
 use Rattle.pmem.specs.History.{words_of}
 use Rattle.pmem_file.specs.Call.{Brings, read_of, calls_of}
 use Rattle.pmem_file.specs.Line.{Fixes}
-use Rattle.pmem_file.specs.Holding.{Holds}
 use Rattle.pmem_file.proofs.HoldingLemmas.{Holds-fenced}
 use Rattle.pmem_file.proofs.device.FilePmemPmem.fence.Goals as goal
 
@@ -17,7 +15,6 @@ invariant_of-self-clause-holds c =
     let lines = c.lines.result.now in
     let brings = subst (λ (ws : List ℕ). Brings ws (calls_of before) (calls_of after)) c.deref.ensures.value c.persist.ensures.within in
     let fixes = subst (λ (ws : List ℕ). Fixes ws lines (calls_of after)) c.deref.ensures.value (c.persist.ensures.durable c.if-persist.true) in
-    subst (λ (w : ℕ → Word). Holds copy notes (read_of after) (calls_of after) w) (sym c.fenced.ensures.words)
-    (subst (λ (read : List ℕ). Holds copy notes read (calls_of after) (fenced (words_of device.history))) (sym c.persist.ensures.read)
+    rw (c.fenced.ensures.words, c.persist.ensures.read)
     (Holds-fenced copy device.notes notes lines (read_of before) (calls_of before) (calls_of after) (words_of device.history)
-    (λ line. c.lines.ensures.listed line ∙ c.sort.ensures.noted line) brings fixes device.holds))
+    (λ line. c.lines.ensures.listed line ∙ c.sort.ensures.noted line) brings fixes device.holds)

@@ -1,8 +1,5 @@
-use Rattle.std.proofs.Common.{ℕ, sym, subst}
-use Rattle.pmem.specs.Device.{Word}
 use Rattle.pmem.specs.History.{words_of}
 use Rattle.pmem_file.specs.Call.{read_of, calls_of}
-use Rattle.pmem_file.specs.Holding.{Holds}
 use Rattle.pmem_file.proofs.HoldingLemmas.{Holds-flushed}
 use Rattle.pmem_file.proofs.device.FilePmemPmem.flush.Goals as goal
 
@@ -10,5 +7,5 @@ pub invariant_of-self-clause-holds : goal.invariant_of-self-clause-holds
 invariant_of-self-clause-holds c =
     let device = c.args.self.now in
     let calls = device.file.calls in
-    subst (λ (w : ℕ → Word). Holds device.words.items c.add.new.self (read_of calls) (calls_of calls) w) (sym c.flushed.ensures.words)
+    rw c.flushed.ensures.words
     (Holds-flushed device.words.items device.notes c.add.new.self (read_of calls) (calls_of calls) (words_of device.history) c.args.line c.add.ensures.noted device.holds)

@@ -1,8 +1,6 @@
-use Rattle.std.proofs.Common.{◌<◌, ℕ, length, set, sym, subst, arith}
-use Rattle.pmem.specs.Device.{Word}
+use Rattle.std.proofs.Common.{◌<◌, length, arith}
 use Rattle.pmem.specs.History.{words_of}
 use Rattle.pmem_file.specs.Call.{read_of, calls_of}
-use Rattle.pmem_file.specs.Holding.{Holds}
 use Rattle.pmem_file.proofs.HoldingLemmas.{Holds-stored}
 use Rattle.pmem_file.proofs.device.FilePmemPmem.store.Goals as goal
 
@@ -11,5 +9,5 @@ invariant_of-self-clause-holds c =
     let device = c.args.self.now in
     let calls = device.file.calls in
     let below : c.args.word < length device.words.items = omega (arith, c.requires, device.sized, device.words.ok.0) in
-    subst (λ (w : ℕ → Word). Holds (set device.words.items c.args.word c.args.value) device.notes (read_of calls) (calls_of calls) w) (sym c.stored.ensures.words)
+    rw c.stored.ensures.words
     (Holds-stored device.words.items device.notes (read_of calls) (calls_of calls) (words_of device.history) c.args.word c.args.value below device.holds)

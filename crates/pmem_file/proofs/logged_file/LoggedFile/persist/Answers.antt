@@ -1,6 +1,5 @@
-use Rattle.std.proofs.Common.{◌≡◌, Bool, true, false, not, ◌||◌, List, ◌∷◌, sym, subst, ap, ◌∙◌}
-use Rattle.pmem_file.specs.Call.{Call, Synced, calls_of, has_failed, Brings}
-use Rattle.pmem_file.specs.Line.{runs_of, with_writes, Fixes}
+use Rattle.std.proofs.Common.{◌≡◌, Bool, false, not, ◌||◌, List, sym, subst, ap, ◌∙◌}
+use Rattle.pmem_file.specs.Call.{Call, calls_of, has_failed, Brings}
 use Rattle.pmem_file.proofs.CallsLemmas.{Brings-synced, Fixes-synced}
 use Rattle.pmem_file.proofs.logged_file.LoggedFile.persist.Goals as goal
 
@@ -10,7 +9,7 @@ returns-clause-within c =
     let old = calls_of c.args.self.now.calls in
     let after = calls_of c.write_lines.new.self.calls in
     let brings : Brings words old after = subst (λ (cs : List Call). Brings words cs after) c.measure.ensures.calls c.write_lines.ensures.within in
-    subst (λ (cs : List Call). Brings words old cs) (sym c.sync.ensures.calls) (Brings-synced words old after c.sync.result brings)
+    rw c.sync.ensures.calls (Brings-synced words old after c.sync.result brings)
 
 pub returns-clause-durable : goal.returns-clause-durable
 returns-clause-durable c e =
@@ -22,8 +21,5 @@ returns-clause-durable c e =
     ap has_failed c.measure.ensures.calls
     ∙ ap (λ (b : Bool). b || not c.measure.result) (sym c.args.self.now.told ∙ c.if-self.false)
     ∙ ap (λ (b : Bool). not b) c.if-not-measure.false in
-    let wrote : calls_of c.write_lines.new.self.calls ≡ with_writes words (runs_of lines) measured =
-    c.write_lines.ensures.done c.if-not-write_lines.false in
-    subst (λ (cs : List Call). Fixes words lines cs)
-    (sym (c.sync.ensures.calls ∙ ap (λ (d : Bool). Synced d ∷ calls_of c.write_lines.new.self.calls) e ∙ ap (λ (cs : List Call). Synced true ∷ cs) wrote))
+    rw (c.sync.ensures.calls, e, c.write_lines.ensures.done c.if-not-write_lines.false)
     (Fixes-synced words lines measured (λ k. (c.type_inv.words k).fits) c.requires.in_range fine)

@@ -1,8 +1,6 @@
-use Rattle.std.proofs.Common.{◌≡◌, ℕ, ◌+◌, ◌*◌, ◌≤◌, Bool, true, false, not, ◌||◌, List, ◌∷◌, drop, get_or, length, refl, sym, subst, ap, ◌∙◌, arith}
+use Rattle.std.proofs.Common.{◌≡◌, ℕ, ◌+◌, ◌*◌, ◌≤◌, Bool, true, false, not, ◌||◌, List, drop, get_or, length, refl, sym, ap, ◌∙◌, arith}
 use Rattle.std.proofs.lemmas.List.{at_drop_more, drop_all}
-use Rattle.pmem_file.specs.declared.run.Run.{Run}
-use Rattle.pmem_file.specs.Call.{Call, Wrote, calls_of, has_failed, Brings}
-use Rattle.pmem_file.specs.Line.{run_bytes}
+use Rattle.pmem_file.specs.Call.{calls_of, has_failed}
 use Rattle.pmem_file.proofs.CallsLemmas.{Fit, Writing, Writing-start, Writing-joined, Writing-written, Writing-end, Brings-write, InRange-later}
 use Rattle.pmem_file.proofs.logged_file.LoggedFile.write_lines.Goals as goal
 use Rattle.pmem_file.proofs.logged_file.LoggedFile.write_lines.Goals.{then-is_next, else-is_next+then-write_run}
@@ -12,8 +10,7 @@ loop-line-init c =
     let old = calls_of c.args.self.now.calls in
     record {
       writing =
-          subst (λ (r : Run). Writing c.args.words.now c.args.lines.now old r.first r.count c.in-Some.later.now old) (sym c.of-run.ensures)
-          (Writing-start c.args.words.now c.args.lines.now old c.in-Some.first.now c.in-Some.later.now c.in-Some.ensures.cases.0 c.requires.in_range);
+          rw c.of-run.ensures (Writing-start c.args.words.now c.args.lines.now old c.in-Some.first.now c.in-Some.later.now c.in-Some.ensures.cases.0 c.requires.in_range);
       read = refl;
       capacity = omega arith;
     }
@@ -44,9 +41,7 @@ loop-line-preserved c =
     let calls = calls_of c.loop-line.self.calls in
     let last : 8 * line + 8 ≤ length words =
     InRange-later words lines c.in-Some.first.now later c.in-Some.ensures.cases.0 c.requires.in_range c.loop-line.line-index c.loop-line-test.true in
-    let writing : Writing words lines old run.first run.count (line ∷ rest) calls =
-    subst (λ (ls : List ℕ). Writing words lines old run.first run.count ls calls)
-    (at_drop_more (λ (ls : List ℕ). ls) later c.loop-line.line-index 0 c.loop-line-test.true) c.loop-line.invariant.writing in
+    let writing = rw (at_drop_more (λ (ls : List ℕ). ls) later c.loop-line.line-index 0 c.loop-line-test.true) at c.loop-line.invariant.writing in
     let fit : Fit words = λ k. (c.type_inv.words k).fits in
     elim c.if-is_next.branch [
       | then-is_next w ↦
@@ -57,12 +52,9 @@ loop-line-preserved c =
             capacity = c.loop-line.invariant.capacity;
           })
       | else-is_next+then-write_run w ↦
-          let asked : calls_of w.write_run.new.self.calls ≡ Wrote (64 * run.first) (run_bytes words (run.first, run.count)) true ∷ calls =
-          w.write_run.ensures.calls
-          ∙ ap (λ (d : Bool). Wrote (64 * run.first) (run_bytes words (run.first, run.count)) d ∷ calls) w.if-write_run.true in
+          let asked = rw w.if-write_run.true at w.write_run.ensures.calls in
           let next : Writing words lines old line 1 rest (calls_of w.write_run.new.self.calls) =
-          subst (λ (cs : List Call). Writing words lines old line 1 rest cs) (sym asked)
-          (Writing-written words lines old run.first run.count line rest calls fit last (sym c.is_next.ensures ∙ w.if-is_next.false) writing) in
+          rw asked (Writing-written words lines old run.first run.count line rest calls fit last (sym c.is_next.ensures ∙ w.if-is_next.false) writing) in
           rw (w.self-is, w.buffer-is, w.run-is, w.of-run-then-write_run.ensures)
           (record {
             writing = next;
@@ -77,17 +69,14 @@ returns-else-write_run c =
     let old = calls_of c.args.self.now.calls in
     let run = c.loop-line.run in
     let calls = calls_of c.loop-line.self.calls in
-    let asked : calls_of c.write_run.new.self.calls ≡ Wrote (64 * run.first) (run_bytes words (run.first, run.count)) false ∷ calls =
-    c.write_run.ensures.calls
-    ∙ ap (λ (d : Bool). Wrote (64 * run.first) (run_bytes words (run.first, run.count)) d ∷ calls) c.if-write_run.false in
+    let asked = rw c.if-write_run.false at c.write_run.ensures.calls in
     let fine : has_failed calls ≡ false = c.loop-line.invariant.writing.unfailed ∙ c.requires.unfailed in
     record {
       read = c.write_run.ensures.read ∙ c.loop-line.invariant.read;
-      done = λ e. absurd (let h : false ≡ true = e in cc);
+      done = λ e. absurd (cc);
       failed = ap has_failed asked ∙ ap (λ (b : Bool). b || true) fine;
       within =
-          subst (λ (cs : List Call). Brings words old cs) (sym asked)
-          (Brings-write words old calls run.first run.count false (λ k. (c.type_inv.words k).fits) c.loop-line.invariant.writing.brings);
+          rw asked (Brings-write words old calls run.first run.count false (λ k. (c.type_inv.words k).fits) c.loop-line.invariant.writing.brings);
       capacity = omega (arith, c.write_run.ensures.capacity, c.loop-line.invariant.capacity);
     }
 
@@ -103,13 +92,11 @@ returns c =
     record {
       read = c.write_run-2.ensures.read ∙ c.loop-line.invariant.read;
       done = λ e.
-          c.write_run-2.ensures.calls
-          ∙ ap (λ (d : Bool). Wrote (64 * run.first) (run_bytes words (run.first, run.count)) d ∷ calls) e
+          (rw e at c.write_run-2.ensures.calls)
           ∙ Writing-end words lines old run.first run.count (drop c.loop-line.line-index later) calls
           (drop_all c.loop-line.line-index later c.loop-line-test.false) c.loop-line.invariant.writing;
       failed = ap has_failed c.write_run-2.ensures.calls ∙ ap (λ (b : Bool). b || not c.write_run-2.result) fine;
       within =
-          subst (λ (cs : List Call). Brings words old cs) (sym c.write_run-2.ensures.calls)
-          (Brings-write words old calls run.first run.count c.write_run-2.result (λ k. (c.type_inv.words k).fits) c.loop-line.invariant.writing.brings);
+          rw c.write_run-2.ensures.calls (Brings-write words old calls run.first run.count c.write_run-2.result (λ k. (c.type_inv.words k).fits) c.loop-line.invariant.writing.brings);
       capacity = omega (arith, c.write_run-2.ensures.capacity, c.loop-line.invariant.capacity);
     }

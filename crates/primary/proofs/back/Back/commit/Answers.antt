@@ -21,24 +21,16 @@ turned g c =
     }
 
 pub returns-clause-told : goal.returns-clause-told
-returns-clause-told g c =
-    let E = g.E.Durable in
-    told-for-all E.device E.contents E.is_faulted c.args.self.now.committer c.turn.new.self c.args.self.now.work c.turn.new.work (g.O.Outlet.known_room c.turn.new.link) c.args.remote c.turn.result (turned g c)
+returns-clause-told g c = told-for-all _ _ _ _ _ _ _ _ _ _ (turned g c)
 
 pub returns-clause-position : goal.returns-clause-position
-returns-clause-position g c =
-    let E = g.E.Durable in
-    turn-position E.device E.contents E.is_faulted c.args.self.now.committer c.turn.new.self c.args.self.now.work c.turn.new.work (g.O.Outlet.known_room c.turn.new.link) c.args.remote c.turn.result (turned g c)
+returns-clause-position g c = turn-position _ _ _ _ _ _ _ _ _ _ (turned g c)
 
 pub returns-clause-rises : goal.returns-clause-rises
-returns-clause-rises g c =
-    let E = g.E.Durable in
-    turn-rises E.device E.contents E.is_faulted c.args.self.now.committer c.turn.new.self c.args.self.now.work c.turn.new.work (g.O.Outlet.known_room c.turn.new.link) c.args.remote c.turn.result c.requires.stands.0 (turned g c) c.requires.stands.1
+returns-clause-rises g c = turn-rises _ _ _ _ _ _ _ _ _ _ c.requires.stands.0 (turned g c) c.requires.stands.1
 
 pub returns-clause-stays : goal.returns-clause-stays
-returns-clause-stays g c =
-    let E = g.E.Durable in
-    turn-stays E.device E.contents E.is_faulted c.args.self.now.committer c.turn.new.self c.args.self.now.work c.turn.new.work (g.O.Outlet.known_room c.turn.new.link) c.args.remote c.turn.result (turned g c)
+returns-clause-stays g c = turn-stays _ _ _ _ _ _ _ _ _ _ (turned g c)
 
 pub returns-clause-committed : goal.returns-clause-committed
 returns-clause-committed g c =
@@ -46,6 +38,4 @@ returns-clause-committed g c =
     turn-committed E.device E.contents E.is_faulted (E.contents c.args.self.now.committer.engine).current.position c.turn.new.self c.turn.result (returns-clause-position g c)
 
 pub returns-clause-again : goal.returns-clause-again
-returns-clause-again g c = λ refused s over.
-    let E = g.E.Durable in
-    turn-again E.device E.contents E.is_faulted c.args.self.now.committer c.turn.new.self c.args.self.now.work c.turn.new.work (g.O.Outlet.known_room c.turn.new.link) c.args.remote c.turn.result s (turned g c) over refused
+returns-clause-again g c = λ refused s over. turn-again _ _ _ _ _ _ _ _ _ _ s (turned g c) over refused

@@ -19,30 +19,7 @@ finish-requires-clause-counted g c = λ some.
 pub returns-clause-ran : goal.returns-clause-ran
 returns-clause-ran g c =
     let words = c.args.request.now in
-    let inside = c.self.inside in
-    let old : Sequencing = record {
-      table = inside.store.table;
-      room = inside.store.room;
-      position = inside.position;
-      epoch = inside.epoch;
-      before = inside.before;
-      waiting = inside.waiting.items;
-      ended = inside.listed.entries.items;
-      newest = inside.listed.position;
-      sessions = inside.store.sessions;
-    } in
-    let mid : Sequencing = record {
-      table = c.run-reply.new.self.table;
-      room = c.run-reply.new.self.room;
-      position = inside.position;
-      epoch = inside.epoch;
-      before = inside.before;
-      waiting = inside.waiting.items;
-      ended = inside.listed.entries.items;
-      newest = inside.listed.position;
-      sessions = c.run-reply.new.self.sessions;
-    } in
-    let under = underway-more inside.store (inside.position + 1) (words ∷ []) [] words [] c.begin-running.result inside.store c.run-reply.result c.run-reply.new.running c.run-reply.new.self
+    let under = underway-more c.self.inside.store (c.self.inside.position + 1) (words ∷ []) [] words [] c.begin-running.result c.self.inside.store c.run-reply.result c.run-reply.new.running c.run-reply.new.self
     (c.begin-running.ensures (words ∷ [])) c.run-reply.ensures in
     subst (λ (s : Sequencing). Runs s (words ∷ []) (c.run-reply.result ∷ []) c.finish.new.self) c.self.view_is
-    (runs-finished old mid c.finish.new.self (words ∷ []) (c.run-reply.result ∷ []) c.run-reply.new.running under refl refl refl refl refl refl c.finish.ensures)
+    (runs-finished _ _ c.finish.new.self (words ∷ []) (c.run-reply.result ∷ []) c.run-reply.new.running under refl refl refl refl refl refl c.finish.ensures)

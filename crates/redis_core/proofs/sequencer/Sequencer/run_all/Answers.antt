@@ -18,33 +18,9 @@ pub returns : goal.returns
 returns g c =
     let requests = c.args.requests.now in
     let replies = c.run_all-replies.result.items in
-    let inside = c.self.inside in
-    let store = c.run_all-replies.new.self in
-    let old : Sequencing = record {
-      table = inside.store.table;
-      room = inside.store.room;
-      position = inside.position;
-      epoch = inside.epoch;
-      before = inside.before;
-      waiting = inside.waiting.items;
-      ended = inside.listed.entries.items;
-      newest = inside.listed.position;
-      sessions = inside.store.sessions;
-    } in
-    let mid : Sequencing = record {
-      table = store.table;
-      room = store.room;
-      position = inside.position;
-      epoch = inside.epoch;
-      before = inside.before;
-      waiting = inside.waiting.items;
-      ended = inside.listed.entries.items;
-      newest = inside.listed.position;
-      sessions = store.sessions;
-    } in
-    let under = c.run_all-replies.ensures (inside.position + 1) (c.begin-running.ensures requests) in (
+    let under = c.run_all-replies.ensures (c.self.inside.position + 1) (c.begin-running.ensures requests) in (
       replies,
       ap Array c.from_vec.ensures,
       subst (λ (s : Sequencing). Runs s requests replies c.finish.new.self) c.self.view_is
-          (runs-finished old mid c.finish.new.self requests replies c.run_all-replies.new.running under refl refl refl refl refl refl c.finish.ensures),
+          (runs-finished _ _ c.finish.new.self requests replies c.run_all-replies.new.running under refl refl refl refl refl refl c.finish.ensures),
     )

@@ -1,5 +1,5 @@
 use Rattle.std.proofs.Common.{◌≡◌, ◌+◌, ◌<◌, arith}
-use Rattle.resp_codec.proofs.Standing.{Steps-no_count, held-same, held-passed, held-counted, IsStanding-counted}
+use Rattle.resp_codec.proofs.UnreadReads.{Steps-no_count, held-same, held-passed, held-counted, IsStanding-counted}
 use Rattle.resp_codec.proofs.request_reading.Reading.read_count.Goals as goal
 
 pub returns-in-Err-clause-ok : goal.returns-in-Err-clause-ok

@@ -1,4 +1,4 @@
-use Rattle.resp_codec.proofs.Standing.{Steps-no_len, held-same, held-measured, IsStanding-measured}
+use Rattle.resp_codec.proofs.UnreadReads.{Steps-no_len, held-same, held-measured, IsStanding-measured}
 use Rattle.resp_codec.proofs.request_reading.Reading.read_len.Goals as goal
 
 pub returns-in-Ok-clause-standing : goal.returns-in-Ok-clause-standing

@@ -1,6 +1,6 @@
 use Rattle.std.proofs.Common.{◌≡◌, ◌≤◌, ◌+◌, ◌∷◌, [], ◌++◌, length, ap, ◌∙◌, arith}
 use Rattle.std.proofs.lemmas.List.{length-append}
-use Rattle.resp_codec.proofs.Standing.{Steps-no_payload, held-same, held-word, Steps-given}
+use Rattle.resp_codec.proofs.UnreadReads.{Steps-no_payload, held-same, held-word, Steps-given}
 use Rattle.resp_codec.proofs.request_reading.Reading.read_word.Goals as goal
 
 pub returns-in-Err-clause-ok : goal.returns-in-Err-clause-ok

@@ -1,7 +1,7 @@
 use Rattle.std.proofs.Common.{inl}
 use Rattle.pmem.proofs.Leaving.{none_leaves}
 use Rattle.wbl_engine.specs.Formatting.{IsFormatting}
-use Rattle.wbl_engine.proofs.Committing.{rest_keeps}
+use Rattle.wbl_engine.proofs.Erased.{rest_keeps}
 use Rattle.wbl_engine.proofs.engine.WblEngine.format.Goals as goal
 
 pub returns-then-lines-lt-MIN_LINES-clause-moments : goal.returns-then-lines-lt-MIN_LINES-clause-moments

@@ -1,7 +1,7 @@
 use Rattle.std.proofs.Common.{◌≡◌, false, length, refl, ap}
 use Rattle.wbl_engine.specs.AtRest.{IsAtRest, at_rest_prop}
 use Rattle.wbl_engine.proofs.ClearingLemmas.{clear_none}
-use Rattle.wbl_engine.proofs.Committing.{rest_keeps}
+use Rattle.wbl_engine.proofs.Erased.{rest_keeps}
 use Rattle.wbl_engine.proofs.GapLemmas.{some_gap}
 use Rattle.wbl_engine.proofs.engine.WblEngineDurable.clear_gap.Goals as goal
 

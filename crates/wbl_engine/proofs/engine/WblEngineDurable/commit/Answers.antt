@@ -1,6 +1,7 @@
 use Rattle.std.proofs.Common.{inl}
 use Rattle.pmem.proofs.Leaving.{none_leaves}
-use Rattle.wbl_engine.proofs.Committing.{IsBeforeOrAfter, rest_keeps}
+use Rattle.wbl_engine.proofs.Committing.{IsBeforeOrAfter}
+use Rattle.wbl_engine.proofs.Erased.{rest_keeps}
 use Rattle.wbl_engine.proofs.engine.WblEngineDurable.commit.Goals as goal
 
 pub returns-in_default-clause-moments : goal.returns-in_default-clause-moments

@@ -1,5 +1,5 @@
 use Rattle.std.proofs.Common.{◌∙◌}
-use Rattle.wbl_engine.proofs.Committing.{rest_keeps}
+use Rattle.wbl_engine.proofs.Erased.{rest_keeps}
 use Rattle.wbl_engine.proofs.FreeingLemmas.{ended_extents, ended_lines, freed_map, freed_moments, freed_none, freed_rest, freed_same}
 use Rattle.wbl_engine.proofs.engine.WblEngineDurable.free.Goals as goal
 
@@ -23,8 +23,8 @@ invariant_of-self g c =
     let self = c.args.self.now in
     record {
       at_rest = λ sound.
-          freed_rest self.current (g.P.Pmem.state self.device) (g.P.Pmem.state c.erase_stamps.new.device) c.args.entries.now (self.at_rest sound)
-          c.requires c.in-Ok.ensures.ok;
+          freed_rest self.current (g.P.Pmem.state self.device) c.args.entries.now (self.at_rest sound) c.requires
+          (g.P.Pmem.state c.erase_stamps.new.device) c.in-Ok.ensures.ok;
     }
 
 pub returns-clause-extents : goal.returns-clause-extents
@@ -36,8 +36,8 @@ pub returns-clause-moved : goal.returns-clause-moved
 returns-clause-moved g c =
     let self = c.args.self.now in
     let staged = c.in-Ok.ensures.ok in
-    freed_same self.current (g.P.Pmem.state self.device) (g.P.Pmem.state c.erase_stamps.new.device) c.args.entries.now
-    (self.at_rest c.if-self.false) c.requires staged.newest staged.stays.lines
+    freed_same self.current (g.P.Pmem.state self.device) c.args.entries.now (self.at_rest c.if-self.false) c.requires
+    (g.P.Pmem.state c.erase_stamps.new.device) staged.newest staged.stays.lines
 
 pub returns-clause-map : goal.returns-clause-map
 returns-clause-map g c =
@@ -49,23 +49,23 @@ returns-clause-durable g c =
     let self = c.args.self.now in
     let new = g.P.Pmem.state c.erase_stamps.new.device in
     rest_keeps self.current new
-    (freed_rest self.current (g.P.Pmem.state self.device) new c.args.entries.now (self.at_rest c.if-self.false) c.requires c.in-Ok.ensures.ok)
+    (freed_rest self.current (g.P.Pmem.state self.device) c.args.entries.now (self.at_rest c.if-self.false) c.requires new c.in-Ok.ensures.ok)
 
 pub returns-clause-moments : goal.returns-clause-moments
 returns-clause-moments g c sound =
     let self = c.args.self.now in
-    freed_moments self.current (g.P.Pmem.state self.device) (g.P.Pmem.state c.erase_stamps.new.device) c.args.entries.now (self.at_rest sound)
-    c.requires c.in-Ok.ensures.ok.moments
+    freed_moments self.current (g.P.Pmem.state self.device) c.args.entries.now (self.at_rest sound) c.requires
+    (g.P.Pmem.state c.erase_stamps.new.device) c.in-Ok.ensures.ok.moments
 
 pub returns-in_default-clause-stays : goal.returns-in_default-clause-stays
 returns-in_default-clause-stays g c is_fault sound =
     let self = c.args.self.now in
     let failed = c.in_default.ensures.err in
-    freed_same self.current (g.P.Pmem.state self.device) (g.P.Pmem.state c.erase_stamps.new.device) c.args.entries.now (self.at_rest sound)
-    c.requires failed.newest failed.stays.lines
+    freed_same self.current (g.P.Pmem.state self.device) c.args.entries.now (self.at_rest sound) c.requires
+    (g.P.Pmem.state c.erase_stamps.new.device) failed.newest failed.stays.lines
 
 pub returns-in_default-clause-moments : goal.returns-in_default-clause-moments
 returns-in_default-clause-moments g c sound =
     let self = c.args.self.now in
-    freed_moments self.current (g.P.Pmem.state self.device) (g.P.Pmem.state c.erase_stamps.new.device) c.args.entries.now (self.at_rest sound)
-    c.requires c.in_default.ensures.err.moments
+    freed_moments self.current (g.P.Pmem.state self.device) c.args.entries.now (self.at_rest sound) c.requires
+    (g.P.Pmem.state c.erase_stamps.new.device) c.in_default.ensures.err.moments

@@ -1,4 +1,4 @@
-use Rattle.wbl_engine.proofs.Committing.{rest_keeps}
+use Rattle.wbl_engine.proofs.Erased.{rest_keeps}
 use Rattle.wbl_engine.proofs.PromotingLemmas.{promotion_none}
 use Rattle.wbl_engine.proofs.engine.WblEngineDurable.promote.Goals as goal
 

@@ -1,20 +1,11 @@
-use Rattle.wbl_engine.proofs.CrashLemmas.{IsCrashed, crash_image, crash_moments, crash_picked}
+use Rattle.wbl_engine.proofs.CrashLemmas.{crash_image, crash_moments, crash_picked, has_crashed}
 use Rattle.wbl_engine.proofs.engine.WblEngineRestarting.crash.Goals as goal
 
 pub returns-clause-image : goal.returns-clause-image
-returns-clause-image g c =
-    let crashed : IsCrashed (g.P.Pmem.state c.args.self.now.device) (g.P.Pmem.state c.keep_at.new.self) (g.P.Pmem.state c.crash.new.self) =
-    record { keeps = c.keep_at.ensures; restarts = c.crash.ensures.restarts; within = c.crash.ensures.within } in
-    crash_image crashed
+returns-clause-image g c = crash_image (has_crashed c.keep_at.ensures c.crash.ensures.restarts c.crash.ensures.within)
 
 pub returns-clause-picked : goal.returns-clause-picked
-returns-clause-picked g c =
-    let crashed : IsCrashed (g.P.Pmem.state c.args.self.now.device) (g.P.Pmem.state c.keep_at.new.self) (g.P.Pmem.state c.crash.new.self) =
-    record { keeps = c.keep_at.ensures; restarts = c.crash.ensures.restarts; within = c.crash.ensures.within } in
-    crash_picked c.args.picks.now crashed c.crash.ensures.picked
+returns-clause-picked g c = crash_picked c.args.picks.now (has_crashed c.keep_at.ensures c.crash.ensures.restarts c.crash.ensures.within) c.crash.ensures.picked
 
 pub returns-clause-moments : goal.returns-clause-moments
-returns-clause-moments g c =
-    let crashed : IsCrashed (g.P.Pmem.state c.args.self.now.device) (g.P.Pmem.state c.keep_at.new.self) (g.P.Pmem.state c.crash.new.self) =
-    record { keeps = c.keep_at.ensures; restarts = c.crash.ensures.restarts; within = c.crash.ensures.within } in
-    crash_moments crashed
+returns-clause-moments g c = crash_moments (has_crashed c.keep_at.ensures c.crash.ensures.restarts c.crash.ensures.within)
