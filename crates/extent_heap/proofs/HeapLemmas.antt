@@ -1,11 +1,17 @@
 -- A heap's calls, seen as changes of a room.
-use Rattle.std.proofs.Common.{◌≡◌, ℕ, ◌+◌, ◌<◌, ◌≤◌, false, IsTrue, sym, subst, arith}
-use Rattle.std.proofs.lemmas.Bool.{false_from_ne_true}
+use Rattle.std.proofs.Common.{◌≡◌, ℕ, ◌+◌, ◌-◌, ◌<◌, ◌≤◌, ◌↔◌, IsTrue, List, inl, inr, sym, ◌∙◌, subst, true≢false, arith}
+use Rattle.std.proofs.lemmas.Bool.{cases_lt}
+use Rattle.std.proofs.lemmas.Bool.Decides.{nat_tests}
 use Rattle.kv_types.specs.declared.place.EntryNo.{EntryNo}
 use Rattle.kv_types.specs.declared.place.Extent.{Extent}
-use Rattle.extent_heap.specs.Runs.{has_line, longest, IsFirstFit}
-use Rattle.extent_heap.specs.Room.{Room, IsRoom, is_free_entry, IsFreeRun, ClaimsExtent, TakesExtent, ClaimsEntry, TakesEntry}
-use Rattle.extent_heap.proofs.FitLemmas.{InRuns, no_fit, fit_lowest, fit_in}
+use Rattle.extent_heap.specs.Entries.{IsLowest}
+use Rattle.extent_heap.specs.Runs.{has_line, longest, some_run, IsFirstFit}
+use Rattle.extent_heap.specs.Room.{Room, IsRoom, IsFreeRun, ClaimsExtent, TakesExtent, ClaimsEntry, TakesEntry}
+use Rattle.extent_heap.proofs.FitLemmas.{no_fit, fit_lowest, fit_in}
+
+pub fresh_lines : (first end free : ℕ) (runs : List Extent) → runs ≡ some_run (record { first_line = first; lines = free }) → free ≡ end - first → (line : ℕ)
+    → IsTrue (has_line runs line) ↔ ((first ≤ line) × (line < end))
+fresh_lines first end free runs runs_are free_is line = subst (λ (l : List Extent). IsTrue (has_line l line) ↔ ((first ≤ line) × (line < end))) (sym runs_are) (grind (arith, nat_tests, free_is))
 
 module _ (room : Room) (is_room : IsRoom room) where
   pub fit_is_free : (lines : ℕ) (run : Extent) → IsFirstFit lines room.lines run → IsFreeRun room run.first_line lines
@@ -22,18 +28,9 @@ module _ (room : Room) (is_room : IsRoom room) where
   pub none_is_free : (lines : ℕ) → longest room.lines < lines → (first : ℕ) → ¬ IsFreeRun room first lines
   none_is_free lines short first free = no_fit 0 (room.end_line + 1) lines first room.lines is_room.lines short free
 
-  one_in : (i : ℕ) → IsTrue (is_free_entry room i) → InRuns room.entries i 1
-  one_in i free = λ j from below. let is : j ≡ i = omega arith in subst (λ k. IsTrue (has_line room.entries k)) (sym is) free
-
-  pub entry_is_free : (run : Extent) → IsFirstFit 1 room.entries run → IsTrue (is_free_entry room run.first_line)
-  entry_is_free run fit = fit_in 0 (room.end_entry + 1) 1 room.entries run is_room.entries fit run.first_line (omega arith) (omega arith)
-
-  pub takes_entry : (new : Room) (entry : EntryNo) (run : Extent) → IsFirstFit 1 room.entries run → entry.0 ≡ run.first_line → ClaimsEntry room entry new → TakesEntry room entry new
-  takes_entry new entry run fit first after = record {
-    free = subst (λ i. IsTrue (is_free_entry room i)) (sym first) (entry_is_free run fit);
-    lowest = λ i free. subst (λ j. j ≤ i) (sym first) (fit_lowest 0 (room.end_entry + 1) 1 room.entries run is_room.entries fit (omega arith) i (one_in i free));
+  pub takes_entry : (new : Room) (entry : EntryNo) → IsLowest room.entries entry.0 → ClaimsEntry room entry new → TakesEntry room entry new
+  takes_entry new entry lowest after = record {
+    free = lowest.is;
+    lowest = λ i free. elim (cases_lt i entry.0) [ inl before ↦ absurd (true≢false (sym free ∙ lowest.before i before)) | inr from ↦ from ];
     after = after;
   }
-
-  pub no_entry_is_free : longest room.entries < 1 → (i : ℕ) → is_free_entry room i ≡ false
-  no_entry_is_free short i = false_from_ne_true (is_free_entry room i) (λ is. no_fit 0 (room.end_entry + 1) 1 i room.entries is_room.entries short (one_in i is))

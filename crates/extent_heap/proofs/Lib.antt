@@ -1,4 +1,6 @@
+pub mod BitsLemmas
 pub mod Counting
+pub mod EntriesLemmas
 pub mod CutLemmas
 pub mod FitLemmas
 pub mod HeapLemmas

@@ -1,8 +1,8 @@
 -- What the pools of free runs have room for.
-use Rattle.std.proofs.Common.{ℕ, ◌+◌, ◌^◌, ◌<◌, ◌≤◌, List, [], ◌∷◌, vec_len, arith}
+use Rattle.std.proofs.Common.{ℕ, ◌+◌, ◌^◌, ◌<◌, ◌≤◌, List, [], ◌∷◌, arith}
 use Rattle.kv_types.specs.declared.place.Extent.{Extent}
 use Rattle.extent_heap.specs.Runs.{AreRuns, total, HasGiven}
-use Rattle.extent_heap.specs.Pool.{AreLines, AreEntries}
+use Rattle.extent_heap.specs.Pool.{AreLines}
 use Rattle.extent_heap.specs.declared.spare.Spare.{Spare}
 use Rattle.extent_heap.proofs.RunsLemmas.{runs-bound}
 
@@ -15,9 +15,3 @@ pub free_fits : (end : ℕ) (runs new_runs : List Extent) (spare : Spare) (free 
     → HasGiven runs extent new_runs → free + extent.lines < 2 ^ 64
 free_fits end runs new_runs spare free held extent lines within given =
     omega (arith, lines.count, given.count, lines.pool.small, total-small end new_runs (given.ordered (end + 1) lines.pool.ordered (omega arith)))
-
--- there are more forks than runs
-pub entry_fork : (end : ℕ) (runs : List Extent) (spare : Spare) → AreEntries end runs spare → 0 < vec_len spare.forks
-entry_fork end runs spare entries =
-    let bound = runs-bound 0 (end + 1) runs entries.pool.ordered (omega arith) in
-    omega (arith, entries.pool.counted, entries.enough, bound.0, bound.1)

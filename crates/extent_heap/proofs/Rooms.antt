@@ -1,12 +1,14 @@
 -- What the definitions of a room imply together.
-use Rattle.std.proofs.Common.{◌≡◌, ℕ, ◌+◌, ◌-◌, ◌<◌, ◌≤◌, Bool, true, false, not, ◌&&◌, ◌||◌, nat_eq, IsTrue, List, sym, ◌∙◌, ap, ap₂, subst, arith}
+use Rattle.std.proofs.Common.{◌≡◌, ℕ, ◌+◌, ◌-◌, ◌<◌, ◌≤◌, Bool, true, false, not, ◌&&◌, ◌||◌, nat_eq, IsTrue, List, sym, ◌∙◌, ap, ap₂, subst, arith, ext_get_or}
 use Rattle.std.proofs.lemmas.Bool.{and_parts}
 use Rattle.std.proofs.lemmas.Bool.Decides.{nat_tests}
 use Rattle.kv_types.specs.declared.place.EntryNo.{EntryNo}
 use Rattle.kv_types.specs.declared.place.Extent.{Extent}
+use Rattle.extent_heap.specs.Entries.{is_free}
 use Rattle.extent_heap.specs.Extents.{is_line_of}
 use Rattle.extent_heap.specs.Runs.{has_line}
 use Rattle.extent_heap.specs.Room.{Room, IsRoom, is_free_line, is_free_entry, IsFreeRun, TakesExtent, GivesExtent, IsOut, TakesEntry, GivesEntry, IsOutEntry}
+use Rattle.extent_heap.proofs.EntriesLemmas.{free_below}
 use Rattle.extent_heap.proofs.RunsLemmas.{line_bounds, line_within}
 use Rattle.extent_heap.proofs.SameRuns.{runs_same, end_of_line}
 
@@ -29,19 +31,19 @@ pub TakesExtent-free : (old : Room) (extent : Extent) (new : Room) (line : ℕ) 
 TakesExtent-free old extent new line takes free = (and_parts (is_free_line old line) (not (is_line_of extent line)) (sym (takes.after.taken line) ∙ free)).0
 
 pub TakesExtent-entry : (old : Room) (extent : Extent) (new : Room) (i : ℕ) → TakesExtent old extent new → is_free_entry new i ≡ is_free_entry old i
-TakesExtent-entry old extent new i takes = ap (λ (runs : List Extent). has_line runs i) takes.after.entries
+TakesExtent-entry old extent new i takes = ap (λ (entries : List Bool). is_free entries i) takes.after.entries
 
 -- ---- a room is what its parts say
 
 room_same : (a b : Room) → a.lines ≡ b.lines → a.end_line ≡ b.end_line → a.held ≡ b.held → a.entries ≡ b.entries → a.end_entry ≡ b.end_entry → a ≡ b
 room_same a b lines end_line held entries end_entry = λ j. record { lines = lines j; end_line = end_line j; held = held j; entries = entries j; end_entry = end_entry j }
 
--- rooms with the same free lines and entries have the same runs
+-- rooms with the same free lines and entries have the same runs and marks
 same_lines : (a b : Room) → IsRoom a → IsRoom b → ((line : ℕ) → is_free_line a line ≡ is_free_line b line) → a.lines ≡ b.lines
 same_lines a b room room' same = runs_same 0 (a.end_line + 1) 0 (b.end_line + 1) a.lines b.lines room.lines room'.lines same
 
-same_entries : (a b : Room) → IsRoom a → IsRoom b → ((i : ℕ) → is_free_entry a i ≡ is_free_entry b i) → a.entries ≡ b.entries
-same_entries a b room room' same = runs_same 0 (a.end_entry + 1) 0 (b.end_entry + 1) a.entries b.entries room.entries room'.entries same
+same_entries : (a b : Room) → IsRoom a → IsRoom b → a.end_entry ≡ b.end_entry → ((i : ℕ) → is_free_entry a i ≡ is_free_entry b i) → a.entries ≡ b.entries
+same_entries a b room room' ends same = ext_get_or false a.entries b.entries (room.entries ∙ ends ∙ sym room'.entries) (λ i within. same i)
 
 pub TakesEntry-same : (old : Room) (entry entry' : EntryNo) (new new' : Room) → TakesEntry old entry new → TakesEntry old entry' new' → new ≡ new'
 TakesEntry-same old entry entry' new new' takes takes' =
@@ -50,7 +52,7 @@ TakesEntry-same old entry entry' new new' takes takes' =
     let same : entry.0 ≡ entry'.0 = omega arith in
     let after = takes.after in
     let after' = takes'.after in
-    let entries = same_entries new new' after.still_room after'.still_room
+    let entries = same_entries new new' after.still_room after'.still_room (after.end_entry ∙ sym after'.end_entry)
     (λ i. after.taken i ∙ ap (λ j. is_free_entry old i && not (nat_eq i j)) same ∙ sym (after'.taken i)) in
     room_same new new' (after.lines ∙ sym after'.lines) (after.end_line ∙ sym after'.end_line) (after.held ∙ sym after'.held) entries (after.end_entry ∙ sym after'.end_entry)
 
@@ -91,8 +93,8 @@ undo_extent before extent room new takes gives =
 
 pub out_entry_again : (before : Room) (entry : EntryNo) (room : Room) → TakesEntry before entry room → IsOutEntry room entry
 out_entry_again before entry room takes =
-    let within = end_of_line before.end_entry before.entries entry.0 takes.after.is_room.entries takes.free in
-    record { within = omega (arith, takes.after.end_entry); taken = TakesEntry-gone before entry room takes }
+    let within = free_below before.entries entry.0 takes.free in
+    record { within = omega (arith, within, takes.after.is_room.entries, takes.after.end_entry); taken = TakesEntry-gone before entry room takes }
 
 same_number : (i j : ℕ) → IsTrue (nat_eq i j) → i ≡ j
 same_number i j is = grind (arith, nat_tests)
@@ -100,7 +102,7 @@ same_number i j is = grind (arith, nat_tests)
 pub undo_entry : (before : Room) (entry : EntryNo) (room new : Room) → TakesEntry before entry room → GivesEntry room entry new → new ≡ before
 undo_entry before entry room new takes gives =
     let after = takes.after in
-    let entries = same_entries new before gives.still_room after.is_room
+    let entries = same_entries new before gives.still_room after.is_room (gives.end_entry ∙ after.end_entry)
     (λ i. gives.given i ∙ ap (λ b. b || nat_eq i entry.0) (after.taken i)
     ∙ back (is_free_entry before i) (nat_eq i entry.0) (λ is. subst (λ j. IsTrue (is_free_entry before j)) (sym (same_number i entry.0 is)) takes.free)) in
     room_same new before (gives.lines ∙ after.lines) (gives.end_line ∙ after.end_line) (gives.held ∙ after.held) entries (gives.end_entry ∙ after.end_entry)

@@ -1,5 +1,5 @@
 -- Free runs with the forks that are spare.
-use Rattle.std.specs.Prelude.{◌≡◌, ℕ, ◌+◌, ◌*◌, ◌^◌, ◌<◌, ◌≤◌, List, length, vec_len}
+use Rattle.std.specs.Prelude.{◌≡◌, ℕ, ◌+◌, ◌^◌, ◌<◌, ◌≤◌, List, length, vec_len}
 use Rattle.std.specs.Vec.{vec_capacity}
 use Rattle.kv_types.specs.declared.place.Extent.{Extent}
 use Rattle.extent_heap.specs.Runs.{AreRuns, total}
@@ -17,8 +17,3 @@ pub record AreLines (end : ℕ) (runs : List Extent) (spare : Spare) (free held 
   pub pool : IsPool end runs spare
   pub count : free ≡ total runs
   pub enough : held ≤ vec_len spare.forks
-
--- The entries: there are more forks than there can be runs.
-pub record AreEntries (end : ℕ) (runs : List Extent) (spare : Spare) : Type 0 where
-  pub pool : IsPool end runs spare
-  pub enough : end + 3 ≤ 2 * spare.made

@@ -1,23 +1,24 @@
 -- What a heap has left to hand out, and what a call takes from it (this project's profile of write-behind logging: extents are first fit,
 -- entries lowest first).
-use Rattle.std.specs.Prelude.{◌≡◌, ℕ, zero, suc, ◌+◌, ◌-◌, ◌<◌, ◌≤◌, Bool, false, not, ◌&&◌, ◌||◌, nat_eq, nat_le, if◌then◌else◌, IsTrue, List}
+use Rattle.std.specs.Prelude.{◌≡◌, ℕ, zero, suc, ◌+◌, ◌-◌, ◌<◌, ◌≤◌, Bool, true, false, not, ◌&&◌, ◌||◌, nat_eq, nat_le, if◌then◌else◌, IsTrue, List, length, replicate}
 use Rattle.kv_types.specs.declared.place.EntryNo.{EntryNo}
 use Rattle.kv_types.specs.declared.place.Extent.{Extent}
+use Rattle.extent_heap.specs.Entries.{is_free, count_free}
 use Rattle.extent_heap.specs.Extents.{is_line_of}
 use Rattle.extent_heap.specs.Runs.{has_line, pieces, AreRuns, some_run}
 
--- The free lines and the free entries, as runs; where both end; and how many extents were handed out and not yet given back.
+-- The free lines, as runs; for each entry whether it is free; where both end; and how many extents were handed out and not yet given back.
 pub record Room : Type 0 where
   pub lines : List Extent
   pub end_line : ℕ
   pub held : ℕ
-  pub entries : List Extent
+  pub entries : List Bool
   pub end_entry : ℕ
 
--- The runs are in order and below the end, and no two of them touch: free lines in a row are one run.
+-- The runs are in order and below the end, and no two of them touch: free lines in a row are one run. No entry beyond the end is told of.
 pub record IsRoom (room : Room) : Type 0 where
   pub lines : AreRuns 0 (room.end_line + 1) room.lines
-  pub entries : AreRuns 0 (room.end_entry + 1) room.entries
+  pub entries : length room.entries ≡ room.end_entry
 
 -- ---- lines
 
@@ -68,7 +69,7 @@ pub record GivesExtent (old : Room) (extent : Extent) (new : Room) : Type 0 wher
 -- ---- entries
 
 abbrev pub is_free_entry : Room → ℕ → Bool
-is_free_entry room i = has_line room.entries i
+is_free_entry room i = is_free room.entries i
 
 -- The entry is no longer free. Nothing else changed.
 pub record ClaimsEntry (old : Room) (entry : EntryNo) (new : Room) : Type 0 where
@@ -104,7 +105,7 @@ pub record GivesEntry (old : Room) (entry : EntryNo) (new : Room) : Type 0 where
 
 -- so many entries are free, and so many extents of this many lines can be cut from the free runs
 abbrev pub has_room : ℕ → ℕ → Room → Bool
-has_room count lines room = nat_le count (pieces 1 room.entries) && nat_le count (pieces lines room.lines)
+has_room count lines room = nat_le count (count_free room.entries) && nat_le count (pieces lines room.lines)
 
 -- ---- new rooms
 
@@ -114,6 +115,6 @@ fresh_room first end entries = record {
   lines = some_run (record { first_line = first; lines = end - first });
   end_line = end;
   held = 0;
-  entries = some_run (record { first_line = 0; lines = entries });
+  entries = replicate entries true;
   end_entry = entries;
 }

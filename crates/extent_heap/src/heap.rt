@@ -1,10 +1,10 @@
 //! The free lines and entries of an image.
 ghost use Rattle.std.specs.Prelude.{◌≡◌, ℕ, ◌+◌, ◌^◌, ◌<◌, ◌≤◌, ◌↔◌, ◌⊎◌, false, IsTrue, IfOk, IfErr, OnOk, OnErr, IsErrOf, length, vec_len};
 ghost use Rattle.std.specs.Vec.{vec_capacity};
-ghost use Rattle.extent_heap.specs.Extents.{entry_run};
 ghost use Rattle.extent_heap.specs.Runs.{some_run};
 ghost use Rattle.extent_heap.specs.Room.{Room, fresh_room, has_room, is_free_line, is_free_entry, IsFreeRun, free_lines_below, ClaimsExtent, TakesExtent, GivesExtent, IsOut, ClaimsEntry, TakesEntry, GivesEntry, IsOutEntry};
 
+use crate::entries::EntrySet;
 use crate::runs;
 use crate::spare::Spare;
 use crate::tree::Tree;
@@ -15,8 +15,8 @@ use std::mem;
 
 /// The free lines and entries of an image. A clause sees which they are, as a `Room`.
 ///
-/// Finding the lowest run that is long enough, and taking, claiming and giving back, each go a few times down a tree of the free runs. `new`, `take`
-/// and `claim` ask for memory: they make the room that the other calls will want, which ask for none.
+/// Finding the lowest run that is long enough, and taking, claiming and giving back, each go a few times down a tree of the free runs. The free
+/// entries are bits. `new`, `take` and `claim` ask for memory: they make the room that the other calls will want, which ask for none.
 #[derive(Drop)]
 pub struct ExtentHeap {
     lines: Tree,
@@ -26,14 +26,13 @@ pub struct ExtentHeap {
     free: u64,
     /// How many extents were handed out and not given back.
     held: usize,
-    entries: Tree,
-    entry_forks: Spare,
-    end_entry: u64,
+    entries: EntrySet,
 }
 
 impl Model for ExtentHeap {
     ghost use Rattle.extent_heap.specs.Room.{Room};
-    ghost use Rattle.extent_heap.specs.Pool.{AreLines, AreEntries};
+    ghost use Rattle.std.specs.Prelude.{length};
+    ghost use Rattle.extent_heap.specs.Pool.{AreLines};
 
     ghost Value = { Room };
 
@@ -42,17 +41,16 @@ impl Model for ExtentHeap {
       end_line = heap.end_line;
       held = heap.held;
       entries = heap.entries;
-      end_entry = heap.end_entry;
+      end_entry = length heap.entries;
     } };
 
-    ghost invariant = { λ heap. AreLines heap.end_line heap.lines heap.line_forks heap.free heap.held
-        × AreEntries heap.end_entry heap.entries heap.entry_forks };
+    ghost invariant = { λ heap. AreLines heap.end_line heap.lines heap.line_forks heap.free heap.held };
 }
 
 impl ExtentHeap {
     /// A heap in which all lines from `first` up to but not including `end` are free, and all entries below `entries`.
     ///
-    /// Makes the room for all entry numbers: some 32 bytes for each entry. `Refusal::Memory` where a growth was refused.
+    /// Makes the room for all entry numbers: an eighth of a byte for each. `Refusal::Memory` where a growth was refused.
     pub fn new(alloc: Global, first: u64, end: u64, entries: u64) -> Result<ExtentHeap, Refusal>
         ensures room { IfOk result (λ heap. heap ≡ fresh_room first end entries) }
         ensures lines { IfOk result (λ heap. (line : ℕ) → IsTrue (is_free_line heap line) ↔ ((first ≤ line) × (line < end))) }
@@ -60,17 +58,14 @@ impl ExtentHeap {
         ensures cause { IfErr result (λ refusal. refusal ≡ Refusal.Memory) }
     {
         let free = end.saturating_sub(first);
-        let (lines, line_forks) = fresh(alloc, first, free, 1)?;
-        let (entry_runs, entry_forks) = fresh(alloc, 0, entries, (entries / 2) as usize + 2)?;
+        let (lines, line_forks) = fresh(alloc, first, free)?;
         Ok(ExtentHeap {
             lines,
             line_forks,
             end_line: end,
             free,
             held: 0,
-            entries: entry_runs,
-            entry_forks,
-            end_entry: entries,
+            entries: EntrySet::new(alloc, entries)?,
         })
     }
 
@@ -135,7 +130,7 @@ impl ExtentHeap {
         requires { 0 < lines }
         ensures { result ≡ has_room count lines self.now }
     {
-        self.entries.lacking(1, count) == 0 && self.lines.lacking(lines, count) == 0
+        count <= self.entries.count() && self.lines.lacking(lines, count) == 0
     }
 
     /// Hands out the lowest free entry. `Refusal::Full` if none is free, and then nothing changed.
@@ -145,10 +140,10 @@ impl ExtentHeap {
         ensures full_only { OnErr result ((i : ℕ) → is_free_entry self.old i ≡ false) }
         ensures err { OnErr result (self.new ≡ self.old) }
     {
-        let Some(run) = self.entries.first_fit(1) else {
+        let Some(lowest) = self.entries.lowest() else {
             return Err(Refusal::Full);
         };
-        let entry = EntryNo(run.first_line);
+        let entry = EntryNo(lowest);
         self.claim_entry(entry);
         Ok(entry)
     }
@@ -158,8 +153,7 @@ impl ExtentHeap {
         requires { IsTrue (is_free_entry self.old entry.0) }
         ensures { ClaimsEntry self.old entry self.new }
     {
-        let entries = mem::replace(&mut self.entries, Tree::new());
-        self.entries = runs::claim(entries, &mut self.entry_forks, run_of(entry));
+        self.entries.assign(entry.0, false);
     }
 
     /// Gives an entry back.
@@ -168,36 +162,18 @@ impl ExtentHeap {
         ensures after { GivesEntry self.old entry self.new }
         ensures undoes { (before : Room) → TakesEntry before entry self.old → self.new ≡ before }
     {
-        let entries = mem::replace(&mut self.entries, Tree::new());
-        self.entries = runs::give(entries, &mut self.entry_forks, run_of(entry));
+        self.entries.assign(entry.0, true);
     }
 }
 
-/// The run of this entry alone.
-fn run_of(entry: EntryNo) -> Extent
-    ensures { result ≡ entry_run entry }
-{
-    Extent {
-        first_line: entry.0,
-        lines: 1,
-    }
-}
-
-/// One run, if it has a line, and so many forks.
-fn fresh(
-    alloc: Global,
-    first_line: u64,
-    lines: u64,
-    forks: usize,
-) -> Result<(Tree, Spare), AllocError>
-    requires { 0 < forks }
+/// One run, if it has a line, and the fork that it may want.
+fn fresh(alloc: Global, first_line: u64, lines: u64) -> Result<(Tree, Spare), AllocError>
     ensures runs { IfOk result (λ made. made.0 ≡ some_run (record { first_line = first_line; lines = lines })) }
     ensures counted { IfOk result (λ made. (made.1).made ≡ vec_len (made.1).forks + length made.0) }
     ensures room { IfOk result (λ made. (made.1).made ≤ vec_capacity (made.1).forks) }
-    ensures enough { IfOk result (λ made. forks ≤ (made.1).made) }
 {
     let mut spare = Spare::new(alloc);
-    spare.make(forks)?;
+    spare.make(1)?;
     let runs = spare.push(Tree::new(), Extent { first_line, lines });
     Ok((runs, spare))
 }

@@ -1,6 +1,8 @@
 //! Which lines and entries of an image are free.
 #![tactic(auto)]
 
+mod bits;
+mod entries;
 mod heap;
 mod runs;
 mod spare;

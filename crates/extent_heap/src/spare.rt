@@ -52,7 +52,7 @@ impl Spare {
         ensures room { (self.new).made ≤ vec_capacity (self.new).forks }
     {
         self.forks.reserve(self.made - self.forks.len() + 1)?;
-        let fork = Box::new(self.alloc, Fork::new(rank_of(self.made as u64)))?;
+        let fork = Box::new(self.alloc, Fork::new())?;
         self.forks.push_reserved(fork);
         self.made += 1;
         Ok(())
@@ -111,12 +111,4 @@ impl Spare {
             }
         }
     }
-}
-
-/// The rank of a fork: a number that looks random (Steele, Lea and Flood, "Fast splittable pseudorandom number generators", 2014).
-fn rank_of(number: u64) -> u64 {
-    let spread = number.wrapping_mul(0x9E37_79B9_7F4A_7C15);
-    let mixed = (spread ^ (spread >> 30)).wrapping_mul(0xBF58_476D_1CE4_E5B9);
-    let mixed = (mixed ^ (mixed >> 27)).wrapping_mul(0x94D0_49BB_1331_11EB);
-    mixed ^ (mixed >> 31)
 }

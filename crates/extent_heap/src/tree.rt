@@ -1,7 +1,8 @@
 //! Runs in order, in a balanced tree: each fork knows the length of the longest run at and below it.
 //!
-//! The tree is a treap (Seidel and Aragon, "Randomized search trees", 1996): no fork has a lower rank than those below it, and ranks are spread as
-//! if by chance. So it is some 2 log2(runs) deep. Nothing but the time that a call takes rests on the ranks.
+//! The tree is a treap (Seidel and Aragon, "Randomized search trees", 1996): no fork has a lower rank than those below it. A fork's rank is made from
+//! the line where its run begins, so that it takes no memory, and the ranks are spread as if by chance. So the tree is some 2 log2(runs) deep. Nothing
+//! but the time that a call takes rests on the ranks.
 ghost use Rattle.std.specs.Prelude.{◌≡◌, ◌-◌, ◌<◌, [], ◌∷◌, ◌++◌, MatchOption};
 ghost use Rattle.extent_heap.specs.Runs.{longest, pieces, IsFirstFit};
 ghost use Rattle.extent_heap.specs.Split.{IsSplit};
@@ -26,8 +27,6 @@ pub(crate) struct Fork {
     right: Tree,
     /// How many lines the longest run at and below this fork has.
     longest: u64,
-    /// No fork below has a higher rank.
-    rank: u64,
 }
 
 impl Model for Tree {
@@ -51,7 +50,7 @@ impl Model for Tree {
 
 impl Fork {
     /// A fork that holds no run yet.
-    pub(crate) fn new(rank: u64) -> Fork {
+    pub(crate) fn new() -> Fork {
         Fork {
             left: Tree::new(),
             run: Extent {
@@ -60,8 +59,11 @@ impl Fork {
             },
             right: Tree::new(),
             longest: 0,
-            rank,
         }
+    }
+
+    fn rank(&self) -> u64 {
+        rank_of(self.run.first_line)
     }
 }
 
@@ -115,7 +117,7 @@ impl Tree {
         let Some(mut after) = others.root else {
             return Tree { root: Some(before) };
         };
-        if before.rank >= after.rank {
+        if before.rank() >= after.rank() {
             let inner = mem::replace(&mut before.right, Tree::new());
             before.right = inner.join(Tree { root: Some(after) });
             Tree::of(before)
@@ -228,4 +230,13 @@ impl Tree {
             }
         }
     }
+}
+
+/// The rank of the fork of a run that begins at this line: a number that looks random (Steele, Lea and Flood, "Fast splittable pseudorandom number
+/// generators", 2014).
+fn rank_of(first_line: u64) -> u64 {
+    let spread = first_line.wrapping_mul(0x9E37_79B9_7F4A_7C15);
+    let mixed = (spread ^ (spread >> 30)).wrapping_mul(0xBF58_476D_1CE4_E5B9);
+    let mixed = (mixed ^ (mixed >> 27)).wrapping_mul(0x94D0_49BB_1331_11EB);
+    mixed ^ (mixed >> 31)
 }

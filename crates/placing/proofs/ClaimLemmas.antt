@@ -1,5 +1,5 @@
 -- What was read is claimed of a heap, one entry and extent after another.
-use Rattle.std.proofs.Common.{◌≡◌, ℕ, ◌+◌, ◌<◌, ◌≤◌, ◌&&◌, ⊎_elim, false, not, List, [], ◌∷◌, length, drop, get_or, nat_eq, sym, ap, subst, ◌∙◌, arith}
+use Rattle.std.proofs.Common.{◌≡◌, ℕ, ◌+◌, ◌<◌, ◌≤◌, ◌&&◌, ⊎_elim, Bool, false, not, List, [], ◌∷◌, length, drop, get_or, nat_eq, sym, ap, subst, ◌∙◌, arith}
 use Rattle.std.proofs.lemmas.Bool.{false_from_ne_true}
 use Rattle.std.proofs.lemmas.List.{drop_more}
 use Rattle.std.proofs.lemmas.Map.Keys.{IsDistinct-head, IsDistinct-tail}
@@ -7,6 +7,7 @@ use Rattle.std.specs.List.{AllByRecursion, IsDistinct}
 use Rattle.kv_types.specs.declared.place.EntryNo.{EntryNo}
 use Rattle.kv_types.specs.declared.place.Extent.{Extent}
 use Rattle.heap_layout.specs.declared.entry.Entry.{Entry}
+use Rattle.extent_heap.specs.Entries.{is_free}
 use Rattle.extent_heap.specs.Extents.{is_line_of}
 use Rattle.extent_heap.specs.Room.{Room, is_free_entry, is_free_line, ClaimsEntry, ClaimsExtent}
 use Rattle.extent_heap.specs.Runs.{has_line}
@@ -31,7 +32,7 @@ module _ (room : Room) (read : EntryNo × Entry) (between new : Room) (extent : 
   claimed_line line = ap (λ (runs : List Extent). has_line runs line) entry.lines ∙ extent.taken line
 
   pub claimed_entry : (i : ℕ) → is_free_entry new i ≡ (is_free_entry room i && not (nat_eq i read.0.0))
-  claimed_entry i = entry.taken i ∙ ap (λ (runs : List Extent). has_line runs i && not (nat_eq i read.0.0)) extent.entries
+  claimed_entry i = entry.taken i ∙ ap (λ (entries : List Bool). is_free entries i && not (nat_eq i read.0.0)) extent.entries
 
   can_still : (other : EntryNo × Entry) → LiesApart read other → CanClaim room other → CanClaim new other
   can_still other apart can = record {

@@ -10,7 +10,7 @@ pub overflow_add-self : goal.overflow_add-self
 overflow_add-self c =
     let out = subst (λ (r : Room). IsOut r c.args.extent) (sym c.self.view_is) c.requires in
     let given = subst (λ (xs : List Extent). HasGiven xs c.args.extent c.give.result) c.replace-lines.ensures.value c.give.ensures.given in
-    omega (arith, free_fits c.self.inside.end_line c.self.inside.lines c.give.result c.self.inside.line_forks c.self.inside.free c.self.inside.held c.args.extent c.self.invariant.0 out.within given)
+    omega (arith, free_fits c.self.inside.end_line c.self.inside.lines c.give.result c.self.inside.line_forks c.self.inside.free c.self.inside.held c.args.extent c.self.invariant out.within given)
 
 pub returns-clause-after : goal.returns-clause-after
 returns-clause-after c = search rules
