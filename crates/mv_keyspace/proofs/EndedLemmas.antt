@@ -88,11 +88,11 @@ fresh_moves table after (put ∷ puts) was fresh = (
 -- ---- rows before a change and after it
 
 -- the change makes this row
-abbrev Makes : ℕ → PlacedChange → RecordId → Cell → Type 0
+abbrev pub Makes : ℕ → PlacedChange → RecordId → Cell → Type 0
 Makes position c id cell = (put : Put) × (put_of c ≡ put ∷ []) × (id ≡ put.id) × (cell ≡ cell_of_put position put)
 
 -- a record that is there after a change was made by it, or was there before and was spared
-stands : (position : ℕ) (c : PlacedChange) (table : Table) (id : RecordId) (cell : Cell) → cell_at (place position table c) id ≡ Some cell
+pub stands : (position : ℕ) (c : PlacedChange) (table : Table) (id : RecordId) (cell : Cell) → cell_at (place position table c) id ≡ Some cell
     → Makes position c id cell ⊎ ((ends_record (change_of c) id ≡ false) × (cell_at table id ≡ Some cell))
 stands position (placed.Put put) table id cell e =
     let found : cond (is_same id put.id) (Some (cell_of_put position put)) (cond (ends_record (change.Put put.id put.value) id) None (cell_at table id)) ≡ Some cell = sym (cell_at-place position table (placed.Put put) id) ∙ e in
@@ -102,11 +102,15 @@ stands position (placed.Drop other) table id cell e = inr (grind (arith, cell_at
 stands position (placed.DropKey key) table id cell e = inr (grind (arith, cell_at-without_rows table key id))
 stands position placed.Clear table id cell e = cc
 
+-- a record that a change does not end is found after it as before
+pub same_spared : (position : ℕ) (c : PlacedChange) (table : Table) (id : RecordId) → ends_record (change_of c) id ≡ false → cell_at (place position table c) id ≡ cell_at table id
+same_spared position (placed.Put put) table id is_spared = grind (arith, cell_at-place position table (placed.Put put) id, same_record id put.id, ends_record-own put.id put.value)
+same_spared position (placed.Drop other) table id is_spared = grind (arith, cell_at-without_row table other id)
+same_spared position (placed.DropKey key) table id is_spared = grind (arith, cell_at-without_rows table key id)
+same_spared position placed.Clear table id is_spared = cc
+
 found_spared : (position : ℕ) (c : PlacedChange) (table : Table) (id : RecordId) (cell : Cell) → ends_record (change_of c) id ≡ false → cell_at table id ≡ Some cell → cell_at (place position table c) id ≡ Some cell
-found_spared position (placed.Put put) table id cell is_spared found = grind (arith, cell_at-place position table (placed.Put put) id, same_record id put.id, ends_record-own put.id put.value)
-found_spared position (placed.Drop other) table id cell is_spared found = grind (arith, cell_at-without_row table other id)
-found_spared position (placed.DropKey key) table id cell is_spared found = grind (arith, cell_at-without_rows table key id)
-found_spared position placed.Clear table id cell is_spared found = cc
+found_spared position c table id cell is_spared found = same_spared position c table id is_spared ∙ found
 
 -- the entry of the put has its row after the change
 made-stands : (position : ℕ) (c : PlacedChange) (table : Table) (i : ℕ) → IsTrue (is_put_at i (put_of c)) → Contains (entries_of (place position table c)) i

@@ -19,3 +19,7 @@ pub mod ReadingLemmas
 pub mod RoomLemmas
 pub mod FillingLemmas
 pub mod ClearingLemmas
+pub mod GatheringLemmas
+pub mod PastLemmas
+pub mod NotedLemmas
+pub mod ShownLemmas

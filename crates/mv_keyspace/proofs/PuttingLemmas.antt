@@ -48,15 +48,15 @@ module _ (key field : List ℕ) where
   spared-both [] = refl
   spared-both (row ∷ table) = grind (arith, spared-both table)
 
-where_none : (table : Table) → where_key record_cmp (λ id. false) table ≡ []
+pub where_none : (table : Table) → where_key record_cmp (λ id. false) table ≡ []
 where_none [] = refl
 where_none (row ∷ table) = where_none table
 
-where_all : (table : Table) → where_key record_cmp (λ id. true) table ≡ table
+pub where_all : (table : Table) → where_key record_cmp (λ id. true) table ≡ table
 where_all [] = refl
 where_all (row ∷ table) = ap (λ t. row ∷ t) (where_all table)
 
-ended-put : (id : RecordId) (value : List ℕ) (table : Table) → IsTrue (is_sorted record_cmp table)
+pub ended-put : (id : RecordId) (value : List ℕ) (table : Table) → IsTrue (is_sorted record_cmp table)
     → where_key record_cmp (is_string_of id) table ++ where_key record_cmp (stands_for id) (where_key record_cmp (λ other. not (is_string_of id other)) table) ≡ where_key record_cmp (ends_record (change.Put id value)) table
 ended-put (Str key) value table sorted = ap₂ (λ a b. a ++ where_key record_cmp (stands_for (Str key)) b) (where_none table) (where_all table)
 ended-put (Field key field) value table sorted = ended-both key field table sorted

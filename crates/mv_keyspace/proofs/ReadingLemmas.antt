@@ -44,7 +44,7 @@ module _ (A : Type 0) (key : List ℕ) (read : Keyspace → A) (with : RecordId 
       let own = around key es slots in
       ap (λ rows. read (records_of rows)) own.rows ∙ skip Greater not_tied_greater own.before (rows_at key es ++ own.after) own.lower ∙ stop (rows_at key es) own.after own.upper
 
-other_record : (order : Ordering) → (order ≡ Equal → ⊥) → (id other : RecordId) → bytes_cmp (key_of id) (key_of other) ≡ order → is_same id other ≡ false
+pub other_record : (order : Ordering) → (order ≡ Equal → ⊥) → (id other : RecordId) → bytes_cmp (key_of id) (key_of other) ≡ order → is_same id other ≡ false
 other_record order apart id other at =
     false_from_ne_true (is_same id other) (λ e. apart (sym at ∙ ap (λ x. bytes_cmp (key_of id) (key_of x)) (sym (same_record id other e)) ∙ tied_itself nat_list_cmp_total (key_of id)))
 

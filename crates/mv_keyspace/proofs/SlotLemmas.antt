@@ -48,7 +48,7 @@ slots-tail e es slots = record { sorted = sorted_tail bytes_cmp e.0 (keys_of es)
 pub slots-none : (es : Slots) → es ≡ [] → IsStrictlySortedBy bytes_cmp (keys_of es) → AreSlots es
 slots-none es none sorted = record { sorted = sorted; own = subst (AllByRecursion (λ (e : List ℕ × Slot). AreOfKey e.0 (table_of e.1.rows.items))) (sym none) tt }
 
-later-stand : (key : List ℕ) (es : Slots) → AllByRecursion (λ k. bytes_cmp key k ≡ Less) (keys_of es) → AllByRecursion (λ (e : List ℕ × Slot). AreOfKey e.0 (table_of e.1.rows.items)) es → AllStand Less key (table_of (rows_in es))
+pub later-stand : (key : List ℕ) (es : Slots) → AllByRecursion (λ k. bytes_cmp key k ≡ Less) (keys_of es) → AllByRecursion (λ (e : List ℕ × Slot). AreOfKey e.0 (table_of e.1.rows.items)) es → AllStand Less key (table_of (rows_in es))
 later-stand key [] less own = tt
 later-stand key (e ∷ es) less own =
     subst (AllStand Less key) (sym (table_of-append e.1.rows.items (rows_in es)))

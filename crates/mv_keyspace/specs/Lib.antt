@@ -3,3 +3,4 @@ pub mod Row
 pub mod Keys
 pub mod Slots
 pub mod Loading
+pub mod Versions

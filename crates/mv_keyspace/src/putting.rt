@@ -27,7 +27,7 @@ pub(crate) fn put_row(rows: &mut Vec<Row>, row: Row, ended: &mut Vec<EntryNo>)
 }
 
 /// The range of the rows in whose place a record goes, which is empty where there are none.
-fn range_of(rows: &[Row], id: &RecordId) -> (usize, usize)
+pub(crate) fn range_of(rows: &[Row], id: &RecordId) -> (usize, usize)
     requires order { IsTrue (is_sorted record_cmp (records_of rows.now)) }
     ensures { IsRangeOf id.now rows.now result.0 result.1 }
 {

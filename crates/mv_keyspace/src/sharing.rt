@@ -47,7 +47,7 @@ fn share_since(later: &mut Vec<Row>, rows: &[Row], from: u64) -> Result<(), Allo
 }
 
 /// The same row once more.
-fn shared(row: &Row) -> Result<Row, AllocError>
+pub(crate) fn shared(row: &Row) -> Result<Row, AllocError>
     ensures { IfOk result (λ copy. copy ≡ row.now) }
 {
     Ok(Row {

@@ -1,5 +1,0 @@
-use Rattle.mv_keyspace.proofs.SlotLemmas.{slots-none}
-use Rattle.mv_keyspace.proofs.mv_keyspace.MvKeyspace.new.Goals as goal
-
-pub invariant_of-result-clause-slotted : goal.invariant_of-result-clause-slotted
-invariant_of-result-clause-slotted c = slots-none c.new.result.entries c.new.ensures.empty c.new.ensures.ordered
