@@ -38,6 +38,15 @@ class Measured(common.Cases):
             *3 * [f"turns: {name}: 10000 of 10000 replies right" for name in ASKED],
             *(f"turns: {records + 11} keys" for records in (1_000, 100_000, 1_000_000)),
         ],
+        # (put at 1, which is pinned, put at 2, dropped at 3)
+        "versions": [
+            line
+            for kind in ("map", "list")
+            for line in (
+                f"versions in a {kind}: 2 ended, the pinned one shown: true",
+                f"versions in a {kind}: 1 once reclaimed, 0 once not pinned",
+            )
+        ],
         "ring": ["ring: 1000000 items in order: true, left: 0"],
         "marks": ["marks: 1000000 raises, no reading fell: true, local: 1, remote: 1000000"],
         "arrivals": ["arrivals: 100000 in order: true"],

@@ -1,3 +1,4 @@
 mod LinesLemmas
 mod ReopenedLemmas
 mod RingLemmas
+mod KeptVersionsLemmas

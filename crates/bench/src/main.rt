@@ -1,5 +1,5 @@
 //! What the layers cost: extents of a heap, calls of a simulated device, the calls of a commit, an image that is reopened, frames and requests
-//! in pieces, turns of a sequencer over many records, items through a pipe between two threads, raises and readings of the marks from three, arrivals
+//! in pieces, turns of a sequencer over many records, versions that a keyspace keeps for a pin, items through a pipe between two threads, raises and readings of the marks from three, arrivals
 //! from one thread to another, and fences of a device over a file. Without an argument it makes some of each but the last, and prints what
 //! they did. With the name of one it makes many, and prints their figures too.
 #![tactic(auto)]
@@ -12,6 +12,7 @@ mod engine;
 mod fences;
 mod first_commit;
 mod heap;
+mod kept_versions;
 mod marks_of_threads;
 mod rate;
 mod refused;
@@ -27,6 +28,7 @@ use crate::device::time_device;
 use crate::engine::print_commits;
 use crate::fences::time_fences;
 use crate::heap::time_heap;
+use crate::kept_versions::print_versions;
 use crate::marks_of_threads::time_marks;
 use crate::reopen::time_reopen;
 use crate::requests::time_requests;
@@ -78,6 +80,7 @@ fn make_some(
     time_stream(rt, alloc, SOME_FRAMES, false)?;
     time_requests(rt, alloc, SOME_REQUESTS, false)?;
     time_turns(rt, alloc, turns::SMALL, false)?;
+    print_versions(rt, alloc)?;
     make_some_between_threads(rt, alloc)
 }
 
@@ -104,6 +107,7 @@ fn make_many(
         "stream" => time_stream(rt, alloc, MANY_FRAMES, true),
         "requests" => time_requests(rt, alloc, MANY_REQUESTS, true),
         "turns" => time_all_turns(rt, alloc),
+        "versions" => print_versions(rt, alloc),
         _ => make_many_between_threads(rt, alloc, name),
     }
 }

@@ -24,4 +24,4 @@ returns-in-Ok-clause-follows c =
       end_line = ap (λ (room : Room). room.end_line) c.in_ok-room.ensures.fresh;
       end_entry = ap (λ (room : Room). room.end_entry) c.in_ok-room.ensures.fresh;
     })
-    c.new-in-Ok.ensures)
+    c.new-in-Ok.ensures.none)
