@@ -5,13 +5,18 @@ use Rattle.std.proofs.lemmas.Bool.{eqb-true, ltb-true}
 use Rattle.std.specs.Int.{w64}
 use Rattle.std.specs.List.{AllByRecursion}
 use Rattle.std.specs.Fmt.{decimal, signed_decimal}
+use Rattle.kv_types.specs.declared.item.ProtocolFault.{ProtocolFault}
 use Rattle.kv_types.specs.declared.item.ProtocolFault.TheVariants.{InvalidMultibulkLength, InvalidBulkLength, ExpectedLineEnd}
 use Rattle.kv_types.specs.declared.limits.Limits.{Limits}
 use Rattle.kv_types.specs.declared.reply.Reply.{Reply, Simple, Error, Int, Bulk, NullBulk, Array, NullArray}
 use Rattle.kv_types.specs.Request.{line_end, number_line, IsProperPrefix}
 use Rattle.kv_types.specs.Reply.{text_of}
-use Rattle.kv_types.specs.Reading.{Stop, Short, Broken, Read, ◌>>=◌, after_byte, number_at, payload_at}
-use Rattle.kv_types.proofs.GrammarSteps.{chosen, bind_err, after_byte-takes, after_byte-short}
+use Rattle.kv_types.specs.declared.stop.Stop.{Stop}
+use Rattle.kv_types.specs.declared.stop.Stop.TheVariants.{Short, Broken}
+use Rattle.kv_types.specs.Reader.{Read, ◌>>=◌}
+use Rattle.kv_types.specs.Reading.{after_byte, number_at, payload_at}
+use Rattle.kv_types.proofs.ReaderLemmas.{bind_err}
+use Rattle.kv_types.proofs.GrammarSteps.{chosen, after_byte-takes, after_byte-short}
 use Rattle.kv_types.proofs.GrammarNumbers.{number_at-short}
 use Rattle.kv_types.proofs.GrammarWords.{line_end_after, line_end_after-short, word_at-short}
 use Rattle.resp_codec.specs.declared.reply_limits.ReplyLimits.{ReplyLimits}
@@ -69,7 +74,7 @@ after_null-short bytes e =
     ]
 
 -- what is made of a value that was read is too short only where the reading is
-bind_short : {A B : Type 0} (f : A → B) (read : Result A Stop) → (read >>= λ x. Ok (f x)) ≡ Err Short → read ≡ Err Short
+bind_short : {A B : Type 0} (f : A → B) (read : Result A (Stop ProtocolFault)) → (read >>= λ x. Ok (f x)) ≡ Err Short → read ≡ Err Short
 bind_short f (Ok x) e = absurd (cc)
 bind_short f (Err stop) e = let same : stop ≡ Short = cc in ap Err same
 
@@ -113,7 +118,7 @@ BeginsHead limits most bytes = (head : Head) × IsReadableHead limits most head 
 null_head-short : (reply : Reply) (bytes : List ℕ) → (after_null bytes >>= λ rest. whole reply rest) ≡ Err Short → IsStartOf (49 ∷ line_end) bytes
 null_head-short reply bytes e = after_null-short bytes (bind_short (λ rest. (Whole reply, rest)) (after_null bytes) e)
 
-word_short : (read : Result (Read ℕ) Stop) → (read >>= λ len. payload_at len.0 len.1 >>= λ word. whole (Bulk word.0) word.1) ≡ Err Short → (read >>= λ len. payload_at len.0 len.1) ≡ Err Short
+word_short : (read : Result (Read ℕ) (Stop ProtocolFault)) → (read >>= λ len. payload_at len.0 len.1 >>= λ word. whole (Bulk word.0) word.1) ≡ Err Short → (read >>= λ len. payload_at len.0 len.1) ≡ Err Short
 word_short (Err stop) e = let same : stop ≡ Short = cc in ap Err same
 word_short (Ok len) e = bind_short (λ word. (Whole (Bulk word.0), word.1)) (payload_at len.0 len.1) e
 
@@ -170,7 +175,7 @@ head_at-short limits most (byte ∷ bytes) small few e =
 -- ---- replies
 
 -- where a reader finds the bytes too short, they begin the text of such a reply
-abbrev pub Begins : (Reply → Type 0) → (List ℕ → Result (Read Reply) Stop) → Type 0
+abbrev pub Begins : (Reply → Type 0) → (List ℕ → Result (Read Reply) (Stop ProtocolFault)) → Type 0
 Begins Each element = (bytes : List ℕ) → element bytes ≡ Err Short → (reply : Reply) × Each reply × IsStartOf (text_of reply) bytes
 
 -- any number of replies of which one is known
@@ -184,7 +189,7 @@ record BeginsReplies (Each : Reply → Type 0) (count : ℕ) (bytes : List ℕ) 
   each : AllByRecursion Each replies
   start : IsStartOf (flat_map text_of replies) bytes
 
-elements_at-short : (Each : Reply → Type 0) (element : List ℕ → Result (Read Reply) Stop) → Each NullBulk → Takes Each element → Begins Each element → (count : ℕ) (bytes : List ℕ) → elements_at element count bytes ≡ Err Short → BeginsReplies Each count bytes
+elements_at-short : (Each : Reply → Type 0) (element : List ℕ → Result (Read Reply) (Stop ProtocolFault)) → Each NullBulk → Takes Each element → Begins Each element → (count : ℕ) (bytes : List ℕ) → elements_at element count bytes ≡ Err Short → BeginsReplies Each count bytes
 elements_at-short Each element null takes begins zero bytes e = absurd (cc)
 elements_at-short Each element null takes begins (suc count) bytes e =
     elim (bind_err (λ first. elements_at element count first.1 >>= λ others. Ok (first.0 ∷ others.0, others.1)) (element bytes) Short e) [

@@ -1,9 +1,13 @@
 -- What a reader of replies answers remains when more bytes come.
 use Rattle.std.proofs.Common.{◌≡◌, ℕ, zero, suc, ◌+◌, ◌-◌, ◌^◌, ◌<◌, ◌≤◌, pos, negsuc, true, false, cond, ◌||◌, ◌==◌, inl, inr, List, [], ◌∷◌, ◌++◌, length, Result, Ok, Err, refl, ap, sym, subst, ◌∙◌, append-nil, arith}
 use Rattle.std.proofs.lemmas.Bool.{cases_lt}
+use Rattle.kv_types.specs.declared.item.ProtocolFault.{ProtocolFault}
 use Rattle.kv_types.specs.declared.item.ProtocolFault.TheVariants.{InvalidMultibulkLength, InvalidBulkLength, ExpectedLineEnd}
 use Rattle.kv_types.specs.declared.reply.Reply.{Reply, Simple, Error, Int, Bulk, NullBulk, Array, NullArray}
-use Rattle.kv_types.specs.Reading.{Stop, Short, Read, ◌>>=◌, after_byte, number_at, payload_at}
+use Rattle.kv_types.specs.declared.stop.Stop.{Stop}
+use Rattle.kv_types.specs.declared.stop.Stop.TheVariants.{Short}
+use Rattle.kv_types.specs.Reader.{Read, ◌>>=◌}
+use Rattle.kv_types.specs.Reading.{after_byte, number_at, payload_at}
 use Rattle.kv_types.proofs.GrammarGrows.{Keeps, with_more, longer, Keeps-bind, Keeps-if, after_byte-more, number_at-more, payload_at-more}
 use Rattle.kv_types.proofs.GrammarWords.{payload_at-behind}
 use Rattle.resp_codec.specs.declared.reply_limits.ReplyLimits.{ReplyLimits}
@@ -100,7 +104,7 @@ head_at-more more bulk_bytes most (byte ∷ bytes) =
 
 -- ---- replies
 
-elements_at-more : (more : List ℕ) (element : List ℕ → Result (Read Reply) Stop) → ((bytes : List ℕ) → Keeps (with_more more) (element bytes) (element (bytes ++ more))) → (count : ℕ) (bytes : List ℕ) → Keeps (with_more more) (elements_at element count bytes) (elements_at element count (bytes ++ more))
+elements_at-more : (more : List ℕ) (element : List ℕ → Result (Read Reply) (Stop ProtocolFault)) → ((bytes : List ℕ) → Keeps (with_more more) (element bytes) (element (bytes ++ more))) → (count : ℕ) (bytes : List ℕ) → Keeps (with_more more) (elements_at element count bytes) (elements_at element count (bytes ++ more))
 elements_at-more more element each zero bytes = refl
 elements_at-more more element each (suc count) bytes =
     Keeps-bind (with_more more) (with_more more) (λ first. elements_at element count first.1 >>= λ others. Ok (first.0 ∷ others.0, others.1))
@@ -108,7 +112,7 @@ elements_at-more more element each (suc count) bytes =
     (elements_at element count first.1) _ (elements_at-more more element each count first.1))
     (element bytes) _ (each bytes)
 
-reply_from-more : (more : List ℕ) (element : List ℕ → Result (Read Reply) Stop) → ((bytes : List ℕ) → Keeps (with_more more) (element bytes) (element (bytes ++ more))) → (head : Head) (bytes : List ℕ) → Keeps (with_more more) (reply_from element head bytes) (reply_from element head (bytes ++ more))
+reply_from-more : (more : List ℕ) (element : List ℕ → Result (Read Reply) (Stop ProtocolFault)) → ((bytes : List ℕ) → Keeps (with_more more) (element bytes) (element (bytes ++ more))) → (head : Head) (bytes : List ℕ) → Keeps (with_more more) (reply_from element head bytes) (reply_from element head (bytes ++ more))
 reply_from-more more element each (Whole reply) bytes = refl
 reply_from-more more element each (Opens count) bytes =
     Keeps-bind (with_more more) (with_more more) (λ replies. Ok (Array replies.0, replies.1)) (λ replies. refl)

@@ -3,7 +3,9 @@ use Rattle.std.proofs.Common.{◌≡◌, ◌≢◌, ℕ, zero, suc, ◌+◌, ◌
 use Rattle.kv_types.specs.declared.item.ProtocolFault.{ProtocolFault}
 use Rattle.kv_types.specs.declared.reply.Reply.{Reply}
 use Rattle.kv_types.specs.Reply.{text_of}
-use Rattle.kv_types.specs.Reading.{Stop, Short, Broken, Read}
+use Rattle.kv_types.specs.declared.stop.Stop.{Stop}
+use Rattle.kv_types.specs.declared.stop.Stop.TheVariants.{Short, Broken}
+use Rattle.kv_types.specs.Reader.{Read}
 use Rattle.resp_codec.specs.declared.reply_item.ReplyItem.{ReplyItem}
 use Rattle.resp_codec.specs.declared.reply_item.ReplyItem.TheVariants as item
 use Rattle.resp_codec.specs.declared.reply_limits.ReplyLimits.{ReplyLimits}
@@ -24,13 +26,13 @@ begins_none : (limits : ReplyLimits) → HasReplyNumbers limits → (bytes : Lis
 begins_none limits numbers bytes fault e b =
     let later : reply_at limits limits.depth (bytes ++ b.more) ≡ Err (Broken fault) = rw e at (reply_at-more b.more limits limits.depth bytes) in
     let read = reply_at-again limits numbers limits.depth b.reply [] b.readable in
-    let same : ◌≡◌ {A = Result (Read Reply) Stop} (Err (Broken fault)) (Ok (b.reply, [])) = sym later ∙ ap (reply_at limits limits.depth) (b.whole ∙ sym (append-nil (text_of b.reply))) ∙ read in
+    let same : ◌≡◌ {A = Result (Read Reply) (Stop ProtocolFault)} (Err (Broken fault)) (Ok (b.reply, [])) = sym later ∙ ap (reply_at limits limits.depth) (b.whole ∙ sym (append-nil (text_of b.reply))) ∙ read in
     absurd (cc)
 
 -- where the reading stops there is no whole reply
-stops_whole : (limits : ReplyLimits) → HasReplyNumbers limits → (bytes : List ℕ) (stop : Stop) → reply_at limits limits.depth bytes ≡ Err stop → (reply : Reply) (more : List ℕ) → IsReadable limits reply → bytes ≢ text_of reply ++ more
+stops_whole : (limits : ReplyLimits) → HasReplyNumbers limits → (bytes : List ℕ) (stop : Stop ProtocolFault) → reply_at limits limits.depth bytes ≡ Err stop → (reply : Reply) (more : List ℕ) → IsReadable limits reply → bytes ≢ text_of reply ++ more
 stops_whole limits numbers bytes stop e reply more readable split =
-    let same : ◌≡◌ {A = Result (Read Reply) Stop} (Err stop) (Ok (reply, more)) = sym e ∙ ap (reply_at limits limits.depth) split ∙ reply_at-again limits numbers limits.depth reply more readable in
+    let same : ◌≡◌ {A = Result (Read Reply) (Stop ProtocolFault)} (Err stop) (Ok (reply, more)) = sym e ∙ ap (reply_at limits limits.depth) split ∙ reply_at-again limits numbers limits.depth reply more readable in
     absurd (cc)
 
 holds_with : (limits : ReplyLimits) (bytes rest : List ℕ) (reply : Reply) (items : List ReplyItem) → IsReadable limits reply → bytes ≡ text_of reply ++ rest → HoldsReplies limits rest items → HoldsReplies limits bytes (item.Reply reply ∷ items)
@@ -46,7 +48,7 @@ holds_with limits bytes rest reply items readable split h =
       all = ap (λ x. item.Reply reply ∷ x) h.all;
     }
 
-holds_from : (limits : ReplyLimits) → HasReplyNumbers limits → (bytes : List ℕ) → ((rest : List ℕ) → length rest < length bytes → HoldsReplies limits rest (replies_at limits rest)) → (r : Result (Read Reply) Stop) → reply_at limits limits.depth bytes ≡ r → HoldsReplies limits bytes (reply_items_from (replies_at limits) r)
+holds_from : (limits : ReplyLimits) → HasReplyNumbers limits → (bytes : List ℕ) → ((rest : List ℕ) → length rest < length bytes → HoldsReplies limits rest (replies_at limits rest)) → (r : Result (Read Reply) (Stop ProtocolFault)) → reply_at limits limits.depth bytes ≡ r → HoldsReplies limits bytes (reply_items_from (replies_at limits) r)
 holds_from limits numbers bytes each (Ok read) e =
     let taken = reply_at-takes limits numbers limits.depth bytes read.0 read.1 e in
     holds_with limits bytes read.1 read.0 (replies_at limits read.1) taken.0 taken.1 (each read.1 (shorter limits numbers bytes read e))
@@ -66,7 +68,7 @@ HoldsReplies-replies_at limits numbers bytes = holds_within limits numbers (leng
 
 -- ---- no others
 
-ending_from : (limits : ReplyLimits) → HasReplyNumbers limits → (bytes : List ℕ) (items : List ReplyItem) (h : HoldsReplies limits bytes items) → (r : Result (Read Reply) Stop) → reply_at limits limits.depth h.rest ≡ r → reply_items_from (replies_at limits) r ≡ h.ending
+ending_from : (limits : ReplyLimits) → HasReplyNumbers limits → (bytes : List ℕ) (items : List ReplyItem) (h : HoldsReplies limits bytes items) → (r : Result (Read Reply) (Stop ProtocolFault)) → reply_at limits limits.depth h.rest ≡ r → reply_items_from (replies_at limits) r ≡ h.ending
 ending_from limits numbers bytes items h (Ok read) e =
     let taken = reply_at-takes limits numbers limits.depth h.rest read.0 read.1 e in
     absurd (h.longest read.0 read.1 taken.0 taken.1)

@@ -5,7 +5,9 @@ use Rattle.std.specs.List.{AllByRecursion}
 use Rattle.kv_types.specs.declared.item.ProtocolFault.{ProtocolFault}
 use Rattle.kv_types.specs.declared.reply.Reply.{Reply, NullBulk}
 use Rattle.kv_types.specs.Reply.{text_of}
-use Rattle.kv_types.specs.Reading.{Stop, Short, Broken, Read}
+use Rattle.kv_types.specs.declared.stop.Stop.{Stop}
+use Rattle.kv_types.specs.declared.stop.Stop.TheVariants.{Short, Broken}
+use Rattle.kv_types.specs.Reader.{Read}
 use Rattle.resp_codec.specs.declared.reply_item.ReplyItem.{ReplyItem}
 use Rattle.resp_codec.specs.declared.reply_item.ReplyItem.TheVariants as item
 use Rattle.resp_codec.specs.declared.reply_limits.ReplyLimits.{ReplyLimits}
@@ -30,7 +32,7 @@ reply_at-none : (limits : ReplyLimits) (depth : ℕ) → reply_at limits depth [
 reply_at-none limits zero = refl
 reply_at-none limits (suc depth) = refl
 
-items_from-same : (f g : List ℕ → List ReplyItem) (r : Result (Read Reply) Stop) → ((read : Read Reply) → r ≡ Ok read → f read.1 ≡ g read.1) → reply_items_from f r ≡ reply_items_from g r
+items_from-same : (f g : List ℕ → List ReplyItem) (r : Result (Read Reply) (Stop ProtocolFault)) → ((read : Read Reply) → r ≡ Ok read → f read.1 ≡ g read.1) → reply_items_from f r ≡ reply_items_from g r
 items_from-same f g (Ok read) same = ap (λ items. item.Reply read.0 ∷ items) (same read refl)
 items_from-same f g (Err Short) same = refl
 items_from-same f g (Err (Broken fault)) same = refl

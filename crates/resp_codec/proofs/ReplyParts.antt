@@ -1,21 +1,24 @@
 -- A reply by its depth, and the replies of an array, where some are still to be read.
 use Rattle.std.proofs.Common.{◌≡◌, ℕ, zero, suc, ◌+◌, ◌-◌, ◌<◌, ◌≤◌, List, [], ◌∷◌, ◌++◌, Option, None, Some, Result, Ok, Err, refl, ap, sym, ◌∙◌, append_assoc, append-nil, option_map, arith}
+use Rattle.kv_types.specs.declared.item.ProtocolFault.{ProtocolFault}
 use Rattle.kv_types.specs.declared.reply.Reply.{Reply, Array}
-use Rattle.kv_types.specs.Reading.{Stop, Short, Read, ◌>>=◌}
+use Rattle.kv_types.specs.declared.stop.Stop.{Stop}
+use Rattle.kv_types.specs.declared.stop.Stop.TheVariants.{Short}
+use Rattle.kv_types.specs.Reader.{Read, ◌>>=◌}
 use Rattle.resp_codec.specs.declared.reply_limits.ReplyLimits.{ReplyLimits}
-use Rattle.resp_codec.specs.Gives.{skipped}
+use Rattle.kv_types.specs.Reader.{skipped}
 use Rattle.resp_codec.specs.GivesReplies.{most_at, element_at, read_in, behind, array_of}
 use Rattle.resp_codec.specs.ReplyReading.{Head, Opens, head_at, elements_at, reply_from, reply_at}
 
 -- the reply that begins with a head, at this depth
-abbrev pub from_head : ReplyLimits → ℕ → Read Head → Result (Read Reply) Stop
+abbrev pub from_head : ReplyLimits → ℕ → Read Head → Result (Read Reply) (Stop ProtocolFault)
 from_head limits depth head = reply_from (element_at limits depth) head.0 head.1
 
 pub reply_at-by_depth : (limits : ReplyLimits) (depth : ℕ) (bytes : List ℕ) → reply_at limits depth bytes ≡ (head_at limits.bulk_bytes (most_at limits depth) bytes >>= from_head limits depth)
 reply_at-by_depth limits zero bytes = refl
 reply_at-by_depth limits (suc depth) bytes = refl
 
-pub reply_at-stop : (limits : ReplyLimits) (depth : ℕ) (bytes : List ℕ) (stop : Stop) → head_at limits.bulk_bytes (most_at limits depth) bytes ≡ Err stop → reply_at limits depth bytes ≡ Err stop
+pub reply_at-stop : (limits : ReplyLimits) (depth : ℕ) (bytes : List ℕ) (stop : Stop ProtocolFault) → head_at limits.bulk_bytes (most_at limits depth) bytes ≡ Err stop → reply_at limits depth bytes ≡ Err stop
 reply_at-stop limits depth bytes stop e = reply_at-by_depth limits depth bytes ∙ ap (λ r. r >>= from_head limits depth) e
 
 pub reply_at-head : (limits : ReplyLimits) (depth : ℕ) (bytes : List ℕ) (head : Head) (rest : List ℕ) → head_at limits.bulk_bytes (most_at limits depth) bytes ≡ Ok (head, rest) → reply_at limits depth bytes ≡ reply_from (element_at limits depth) head rest
@@ -34,32 +37,32 @@ element_at-inner limits zero inner bytes h = absurd (omega (arith, h.0))
 element_at-inner limits (suc depth) inner bytes h = let same : depth ≡ inner = omega (arith, h.1) in ap (λ d. reply_at limits d bytes) same
 
 -- the elements, once one is read
-elements-one : (element : List ℕ → Result (Read Reply) Stop) (count i : ℕ) (bytes : List ℕ) (reply : Reply) (rest : List ℕ) → i < count → element bytes ≡ Ok (reply, rest) → elements_at element (count - i) bytes ≡ (elements_at element (count - (i + 1)) rest >>= λ others. Ok (reply ∷ others.0, others.1))
+elements-one : (element : List ℕ → Result (Read Reply) (Stop ProtocolFault)) (count i : ℕ) (bytes : List ℕ) (reply : Reply) (rest : List ℕ) → i < count → element bytes ≡ Ok (reply, rest) → elements_at element (count - i) bytes ≡ (elements_at element (count - (i + 1)) rest >>= λ others. Ok (reply ∷ others.0, others.1))
 elements-one element count i bytes reply rest h e =
     ap (λ n. elements_at element n bytes) (one_more count i h)
     ∙ ap (λ r. r >>= λ first. elements_at element (count - (i + 1)) first.1 >>= λ others. Ok (first.0 ∷ others.0, others.1)) e
 
-pub elements-stop : (element : List ℕ → Result (Read Reply) Stop) (count i : ℕ) (bytes : List ℕ) (stop : Stop) → i < count → element bytes ≡ Err stop → elements_at element (count - i) bytes ≡ Err stop
+pub elements-stop : (element : List ℕ → Result (Read Reply) (Stop ProtocolFault)) (count i : ℕ) (bytes : List ℕ) (stop : Stop ProtocolFault) → i < count → element bytes ≡ Err stop → elements_at element (count - i) bytes ≡ Err stop
 elements-stop element count i bytes stop h e =
     ap (λ n. elements_at element n bytes) (one_more count i h)
     ∙ ap (λ r. r >>= λ first. elements_at element (count - (i + 1)) first.1 >>= λ others. Ok (first.0 ∷ others.0, others.1)) e
 
 -- ---- what follows
 
-skipped-first : (reply : Reply) (read : Result (Read (List Reply)) Stop) → skipped (read >>= λ others. Ok (reply ∷ others.0, others.1)) ≡ skipped read
+skipped-first : (reply : Reply) (read : Result (Read (List Reply)) (Stop ProtocolFault)) → skipped (read >>= λ others. Ok (reply ∷ others.0, others.1)) ≡ skipped read
 skipped-first reply (Ok others) = refl
 skipped-first reply (Err stop) = refl
 
-pub skipped-array : (read : Result (Read (List Reply)) Stop) → skipped (read >>= λ replies. Ok (Array replies.0, replies.1)) ≡ skipped read
+pub skipped-array : (read : Result (Read (List Reply)) (Stop ProtocolFault)) → skipped (read >>= λ replies. Ok (Array replies.0, replies.1)) ≡ skipped read
 skipped-array (Ok replies) = refl
 skipped-array (Err stop) = refl
 
 -- a result whose rest is known is a value with that rest
-skipped-ok : (element : Result (Read Reply) Stop) (rest : List ℕ) → skipped element ≡ Ok rest → (reply : Reply) × (element ≡ Ok (reply, rest))
+skipped-ok : (element : Result (Read Reply) (Stop ProtocolFault)) (rest : List ℕ) → skipped element ≡ Ok rest → (reply : Reply) × (element ≡ Ok (reply, rest))
 skipped-ok (Ok read) rest e = let same : read.1 ≡ rest = cc in (read.0, ap (λ r. Ok (read.0, r)) same)
 skipped-ok (Err stop) rest e = absurd (cc)
 
-pub skipped-err : (element : Result (Read Reply) Stop) (stop : Stop) → skipped element ≡ Err stop → element ≡ Err stop
+pub skipped-err : (element : Result (Read Reply) (Stop ProtocolFault)) (stop : Stop ProtocolFault) → skipped element ≡ Err stop → element ≡ Err stop
 skipped-err (Ok read) stop e = absurd (cc)
 skipped-err (Err other) stop e = let same : other ≡ stop = cc in ap Err same
 
@@ -69,7 +72,7 @@ skipped-element limits depth inner count i bytes rest is h e =
     ap skipped (elements-one (element_at limits depth) count i bytes read.0 rest h (element_at-inner limits depth inner bytes is ∙ read.1))
     ∙ skipped-first read.0 (elements_at (element_at limits depth) (count - (i + 1)) rest)
 
-pub stopped-element : (limits : ReplyLimits) (depth inner count i : ℕ) (bytes : List ℕ) (stop : Stop) → IsInner depth inner → i < count → skipped (reply_at limits inner bytes) ≡ Err stop → elements_at (element_at limits depth) (count - i) bytes ≡ Err stop
+pub stopped-element : (limits : ReplyLimits) (depth inner count i : ℕ) (bytes : List ℕ) (stop : Stop ProtocolFault) → IsInner depth inner → i < count → skipped (reply_at limits inner bytes) ≡ Err stop → elements_at (element_at limits depth) (count - i) bytes ≡ Err stop
 stopped-element limits depth inner count i bytes stop is h e =
     elements-stop (element_at limits depth) count i bytes stop h (element_at-inner limits depth inner bytes is ∙ skipped-err (reply_at limits inner bytes) stop e)
 
@@ -80,19 +83,19 @@ no-element limits (suc depth) count i bytes is h = absurd (is (omega arith))
 
 -- ---- copies
 
-pub array_of-read : (read : Result (Read (List Reply)) Stop) → array_of (behind [] (read_in read)) ≡ read_in (read >>= λ replies. Ok (Array replies.0, replies.1))
+pub array_of-read : (read : Result (Read (List Reply)) (Stop ProtocolFault)) → array_of (behind [] (read_in read)) ≡ read_in (read >>= λ replies. Ok (Array replies.0, replies.1))
 array_of-read (Ok replies) = refl
 array_of-read (Err stop) = refl
 
-behind-first : (replies : List Reply) (reply : Reply) (read : Result (Read (List Reply)) Stop) → behind replies (read_in (read >>= λ others. Ok (reply ∷ others.0, others.1))) ≡ behind (replies ++ reply ∷ []) (read_in read)
+behind-first : (replies : List Reply) (reply : Reply) (read : Result (Read (List Reply)) (Stop ProtocolFault)) → behind replies (read_in (read >>= λ others. Ok (reply ∷ others.0, others.1))) ≡ behind (replies ++ reply ∷ []) (read_in read)
 behind-first replies reply (Ok others) = ap (λ all. Some (all, others.1)) (sym (append_assoc replies (reply ∷ []) others.0))
 behind-first replies reply (Err stop) = refl
 
-pub read_in-ok : (element : Result (Read Reply) Stop) (reply : Reply) (rest : List ℕ) → Some (reply, rest) ≡ read_in element → element ≡ Ok (reply, rest)
+pub read_in-ok : (element : Result (Read Reply) (Stop ProtocolFault)) (reply : Reply) (rest : List ℕ) → Some (reply, rest) ≡ read_in element → element ≡ Ok (reply, rest)
 read_in-ok (Ok read) reply rest e = let same : read ≡ (reply, rest) = cc in ap Ok same
 read_in-ok (Err stop) reply rest e = absurd (cc)
 
-read_in-none : (element : Result (Read Reply) Stop) → None ≡ read_in element → (stop : Stop) × (element ≡ Err stop)
+read_in-none : (element : Result (Read Reply) (Stop ProtocolFault)) → None ≡ read_in element → (stop : Stop ProtocolFault) × (element ≡ Err stop)
 read_in-none (Ok read) e = absurd (cc)
 read_in-none (Err stop) e = (stop, refl)
 
@@ -127,7 +130,7 @@ copied-opens limits depth bytes most count head rest replies same read is none =
     ∙ sym (ap read_in (head_is limits depth bytes most count head rest same read is))
 
 -- the array once all its replies are copied
-pub copied-all : (element : List ℕ → Result (Read Reply) Stop) (count i : ℕ) (replies : List Reply) (rest : List ℕ) → count ≤ i → Some (Array replies, rest) ≡ array_of (behind replies (read_in (elements_at element (count - i) rest)))
+pub copied-all : (element : List ℕ → Result (Read Reply) (Stop ProtocolFault)) (count i : ℕ) (replies : List Reply) (rest : List ℕ) → count ≤ i → Some (Array replies, rest) ≡ array_of (behind replies (read_in (elements_at element (count - i) rest)))
 copied-all element count i replies rest h =
     let none : count - i ≡ 0 = omega arith in
     sym (ap (λ n. array_of (behind replies (read_in (elements_at element n rest)))) none ∙ ap (λ rs. Some (Array rs, rest)) (append-nil replies))
@@ -141,6 +144,6 @@ pub some_copied : {A B : Type 0} (view : A → B) (copy : Option A) (read : Opti
 some_copied view copy read x e some = sym (ap (option_map view) some) ∙ e
 
 -- a reply that was seen to be whole is copied
-pub copied-whole : (element : Result (Read Reply) Stop) (rest : List ℕ) → skipped element ≡ Ok rest → None ≡ read_in element → ⊥
+pub copied-whole : (element : Result (Read Reply) (Stop ProtocolFault)) (rest : List ℕ) → skipped element ≡ Ok rest → None ≡ read_in element → ⊥
 copied-whole (Ok read) rest e none = absurd (cc)
 copied-whole (Err stop) rest e none = absurd (cc)

@@ -11,8 +11,12 @@ use Rattle.kv_types.specs.declared.item.ProtocolFault.TheVariants.{InvalidMultib
 use Rattle.kv_types.specs.declared.reply.Reply.{Reply, Simple, Error, Int, Bulk, NullBulk, Array, NullArray, Array'}
 use Rattle.kv_types.specs.Request.{line_end, number_line}
 use Rattle.kv_types.specs.Reply.{text_of}
-use Rattle.kv_types.specs.Reading.{Stop, Short, Broken, Read, ◌>>=◌, after_byte, number_at, payload_at, is_digit, with_line_feed, number_from}
-use Rattle.kv_types.proofs.GrammarSteps.{chosen, bind_ok, ok_parts, after_byte-takes}
+use Rattle.kv_types.specs.declared.stop.Stop.{Stop}
+use Rattle.kv_types.specs.declared.stop.Stop.TheVariants.{Short, Broken}
+use Rattle.kv_types.specs.Reader.{Read, ◌>>=◌}
+use Rattle.kv_types.specs.Reading.{after_byte, number_at, payload_at, is_digit, with_line_feed, number_from}
+use Rattle.kv_types.proofs.ReaderLemmas.{bind_ok, ok_parts}
+use Rattle.kv_types.proofs.GrammarSteps.{chosen, after_byte-takes}
 use Rattle.kv_types.proofs.GrammarNumbers.{number_line-append, number_at-takes, number_at-number_line}
 use Rattle.kv_types.proofs.GrammarWords.{payload_at-takes, bulk-append, payload_at-behind}
 use Rattle.resp_codec.specs.declared.reply_limits.ReplyLimits.{ReplyLimits}
@@ -216,10 +220,10 @@ pub record AreReplies (Each : Reply → Type 0) (count : ℕ) (bytes : List ℕ)
   pub split : bytes ≡ flat_map text_of replies ++ rest
 
 -- a reader takes the text of what it gives
-abbrev pub Takes : (Reply → Type 0) → (List ℕ → Result (Read Reply) Stop) → Type 0
+abbrev pub Takes : (Reply → Type 0) → (List ℕ → Result (Read Reply) (Stop ProtocolFault)) → Type 0
 Takes Each element = (bytes : List ℕ) (reply : Reply) (rest : List ℕ) → element bytes ≡ Ok (reply, rest) → Each reply × (bytes ≡ text_of reply ++ rest)
 
-elements_at-takes : (Each : Reply → Type 0) (element : List ℕ → Result (Read Reply) Stop) → Takes Each element → (count : ℕ) (bytes : List ℕ) (replies : List Reply) (rest : List ℕ) → elements_at element count bytes ≡ Ok (replies, rest) → AreReplies Each count bytes replies rest
+elements_at-takes : (Each : Reply → Type 0) (element : List ℕ → Result (Read Reply) (Stop ProtocolFault)) → Takes Each element → (count : ℕ) (bytes : List ℕ) (replies : List Reply) (rest : List ℕ) → elements_at element count bytes ≡ Ok (replies, rest) → AreReplies Each count bytes replies rest
 elements_at-takes Each element takes zero bytes replies rest e =
     let parts = ok_parts [] replies bytes rest e in
     subst (λ replies. AreReplies Each zero bytes replies rest) parts.0 (record { counted = refl; each = tt; split = parts.1 })
@@ -246,7 +250,7 @@ array_split bytes inside rest count replies counted head split =
 abbrev Allows : ReplyLimits → ℕ → (Each : Reply → Type 0) → (Reply → Type 0) → Type 0
 Allows limits most Each Is = ((reply : Reply) → IsReadableAlone limits reply → Is reply) × ((replies : List Reply) → length replies ≤ most → AllByRecursion Each replies → Is (Array replies))
 
-reply_from-takes : (limits : ReplyLimits) (most : ℕ) (Each Is : Reply → Type 0) (element : List ℕ → Result (Read Reply) Stop) → Takes Each element → Allows limits most Each Is → (head : Head) (bytes inside : List ℕ) (reply : Reply) (rest : List ℕ) → IsHead limits most bytes head inside → reply_from element head inside ≡ Ok (reply, rest) → Is reply × (bytes ≡ text_of reply ++ rest)
+reply_from-takes : (limits : ReplyLimits) (most : ℕ) (Each Is : Reply → Type 0) (element : List ℕ → Result (Read Reply) (Stop ProtocolFault)) → Takes Each element → Allows limits most Each Is → (head : Head) (bytes inside : List ℕ) (reply : Reply) (rest : List ℕ) → IsHead limits most bytes head inside → reply_from element head inside ≡ Ok (reply, rest) → Is reply × (bytes ≡ text_of reply ++ rest)
 reply_from-takes limits most Each Is element takes allows (Whole whole) bytes inside reply rest is e =
     let parts = ok_parts whole reply inside rest e in
     subst (λ reply. Is reply × (bytes ≡ text_of reply ++ rest)) parts.0 (allows.0 whole is.0, is.1 ∙ ap (λ r. text_of whole ++ r) parts.1)
@@ -297,7 +301,7 @@ line_at-again text rest h =
 not_minus : (most : ℕ) (fault : ProtocolFault) (byte : ℕ) (bytes : List ℕ) (n : ℕ) (rest : List ℕ) → number_at most fault (byte ∷ bytes) ≡ Ok (n, rest) → (byte == 45) ≡ false
 not_minus most fault byte bytes n rest e =
     ne_eqb byte 45 (λ same.
-    let broken : ◌≡◌ {A = Result (Read ℕ) Stop} (Err (Broken fault)) (Ok (n, rest)) = sym (ap (λ b. number_at most fault (b ∷ bytes)) same) ∙ e in
+    let broken : ◌≡◌ {A = Result (Read ℕ) (Stop ProtocolFault)} (Err (Broken fault)) (Ok (n, rest)) = sym (ap (λ b. number_at most fault (b ∷ bytes)) same) ∙ e in
     absurd (cc))
 
 -- a number that begins with the digit 0 is 0
@@ -382,17 +386,17 @@ opens-again bulk_bytes most count rest small fits =
 -- ---- replies
 
 -- a reader reads back the texts of such replies
-abbrev pub ReadsBack : (Reply → Type 0) → (List ℕ → Result (Read Reply) Stop) → Type 0
+abbrev pub ReadsBack : (Reply → Type 0) → (List ℕ → Result (Read Reply) (Stop ProtocolFault)) → Type 0
 ReadsBack Each element = (reply : Reply) (rest : List ℕ) → Each reply → element (text_of reply ++ rest) ≡ Ok (reply, rest)
 
-pub elements_at-again : (Each : Reply → Type 0) (element : List ℕ → Result (Read Reply) Stop) → ReadsBack Each element → (replies : List Reply) (rest : List ℕ) → AllByRecursion Each replies → elements_at element (length replies) (flat_map text_of replies ++ rest) ≡ Ok (replies, rest)
+pub elements_at-again : (Each : Reply → Type 0) (element : List ℕ → Result (Read Reply) (Stop ProtocolFault)) → ReadsBack Each element → (replies : List Reply) (rest : List ℕ) → AllByRecursion Each replies → elements_at element (length replies) (flat_map text_of replies ++ rest) ≡ Ok (replies, rest)
 elements_at-again Each element again [] rest h = refl
 elements_at-again Each element again (reply ∷ replies) rest h =
     ap (elements_at element (suc (length replies))) (append_assoc (text_of reply) (flat_map text_of replies) rest)
     ∙ ap (λ r. r >>= λ first. elements_at element (length replies) first.1 >>= λ others. Ok (first.0 ∷ others.0, others.1)) (again reply (flat_map text_of replies ++ rest) h.0)
     ∙ ap (λ r. r >>= λ others. Ok (reply ∷ others.0, others.1)) (elements_at-again Each element again replies rest h.1)
 
-array-again : (bulk_bytes most : ℕ) (Each : Reply → Type 0) (element : List ℕ → Result (Read Reply) Stop) → ReadsBack Each element → most < 2 ^ 64 → (replies : List Reply) (rest : List ℕ) → length replies ≤ most → AllByRecursion Each replies → (head_at bulk_bytes most (text_of (Array replies) ++ rest) >>= λ head. reply_from element head.0 head.1) ≡ Ok (Array replies, rest)
+array-again : (bulk_bytes most : ℕ) (Each : Reply → Type 0) (element : List ℕ → Result (Read Reply) (Stop ProtocolFault)) → ReadsBack Each element → most < 2 ^ 64 → (replies : List Reply) (rest : List ℕ) → length replies ≤ most → AllByRecursion Each replies → (head_at bulk_bytes most (text_of (Array replies) ++ rest) >>= λ head. reply_from element head.0 head.1) ≡ Ok (Array replies, rest)
 array-again bulk_bytes most Each element again small replies rest count each =
     let split : text_of (Array replies) ++ rest ≡ (42 ∷ number_line (length replies)) ++ (flat_map text_of replies ++ rest) =
     ap (λ x. x ++ rest) (text_of-Array replies) ∙ append_assoc (42 ∷ number_line (length replies)) (flat_map text_of replies) rest in

@@ -4,20 +4,21 @@ use Rattle.std.proofs.Common.{zero, suc, Option, None, Some, IfSome}
 use Rattle.std.proofs.lemmas.List.{append_assoc, append-nil, length-append, length-drop, drop-drop, drop-append-le, take_at, drop_at, flat_map_more}
 use Rattle.std.proofs.lemmas.Bool.{eqb-true, ltb-true, ltb-false}
 use Rattle.kv_types.specs.declared.limits.TheConstants.{REQUEST_LIMITS}
+use Rattle.kv_types.specs.declared.item.ProtocolFault.{ProtocolFault}
 use Rattle.kv_types.specs.declared.item.ProtocolFault.TheVariants.{ExpectedArray, InvalidMultibulkLength, ExpectedBulk, InvalidBulkLength}
 use Rattle.kv_types.specs.Request.{number_line, line_end, bulk, item_of}
-use Rattle.kv_types.specs.Reading as grammar
-use Rattle.kv_types.specs.Reading.{Read, ◌>>=◌, after_byte, number_at, after_dollar, payload_at, word_at, with_first, words_at, request_at, items_from, items_at}
-use Rattle.kv_types.proofs.GrammarSteps.{chosen, bind_ok, after_byte-takes}
+use Rattle.kv_types.specs.declared.stop.Stop.{Stop}
+use Rattle.kv_types.specs.declared.stop.Stop.TheVariants.{Short, Broken}
+use Rattle.kv_types.specs.Reader.{Read, ◌>>=◌}
+use Rattle.kv_types.specs.Reading.{after_byte, number_at, after_dollar, payload_at, word_at, with_first, words_at, request_at, items_at}
+use Rattle.kv_types.proofs.ReaderLemmas.{bind_ok}
+use Rattle.kv_types.proofs.GrammarSteps.{chosen, after_byte-takes}
 use Rattle.kv_types.proofs.GrammarNumbers.{number_at-takes, number_at-number_line}
 use Rattle.kv_types.proofs.GrammarWords.{line_end_after, line_end_after-short, payload_at-takes, bulk-append, rest_of_word-again, word_at-again}
 use Rattle.kv_types.proofs.GrammarGrows.{Keeps, with_more, longer, Keeps-bind, Keeps-if, after_byte-more, number_at-more, payload_at-more}
 use Rattle.resp_codec.specs.declared.reading.Line.{Line}
 use Rattle.resp_codec.specs.declared.reading.Line.TheVariants.{Count, Length}
-use Rattle.resp_codec.specs.declared.reading.Stop.{Stop}
-use Rattle.resp_codec.specs.declared.reading.Stop.TheVariants.{Short, Broken}
 use Rattle.resp_codec.specs.declared.unread.Unread.{Unread}
-use Rattle.resp_codec.specs.Gives.{stop_of}
 use Rattle.resp_codec.specs.Lines.{line_at}
 use Rattle.resp_codec.specs.Unread.{unread_bytes, front}
 use Rattle.std.specs.List.{flat_map}
@@ -37,8 +38,8 @@ after_dollar-more more (byte ∷ bytes) = Keeps-if (longer more) (byte == 36) _ 
 after_dollar-takes : (bytes rest : List ℕ) → after_dollar bytes ≡ Ok rest → bytes ≡ 36 ∷ rest
 after_dollar-takes [] rest e = absurd (cc)
 after_dollar-takes (byte ∷ bytes) rest e =
-    elim (chosen (byte == 36) (Ok bytes) (Err (grammar.Broken (ExpectedBulk byte))) (Ok rest) e) [
-      | inl h ↦ after_byte-takes 36 ExpectedArray (byte ∷ bytes) rest (ap (λ b. cond b (Ok bytes) (Err (grammar.Broken ExpectedArray))) h.0 ∙ h.1)
+    elim (chosen (byte == 36) (Ok bytes) (Err (Broken (ExpectedBulk byte))) (Ok rest) e) [
+      | inl h ↦ after_byte-takes 36 ExpectedArray (byte ∷ bytes) rest (ap (λ b. cond b (Ok bytes) (Err (Broken ExpectedArray))) h.0 ∙ h.1)
       | inr h ↦ absurd (cc)
     ]
 
@@ -81,14 +82,14 @@ behind_front : (u : Unread) → (behind : List ℕ) × (unread_bytes u ≡ front
 behind_front u = behind_chosen (length u.cut.items == 0) u.cut.items u.rest (eqb-true (length u.cut.items) 0)
 
 -- what all the bytes read as, where the reading of the front stops
-pub front-stops : {X : Type 0} (read : List ℕ → Result (Read X) grammar.Stop) → ((more bytes : List ℕ) → Keeps (with_more more) (read bytes) (read (bytes ++ more))) → (u : Unread) (stop : Stop) → read (front u) ≡ Err (stop_of stop) → (read (front u) ≡ Err grammar.Short → unread_bytes u ≡ front u) → read (unread_bytes u) ≡ Err (stop_of stop)
+pub front-stops : {X : Type 0} (read : List ℕ → Result (Read X) (Stop ProtocolFault)) → ((more bytes : List ℕ) → Keeps (with_more more) (read bytes) (read (bytes ++ more))) → (u : Unread) (stop : Stop ProtocolFault) → read (front u) ≡ Err stop → (read (front u) ≡ Err Short → unread_bytes u ≡ front u) → read (unread_bytes u) ≡ Err stop
 front-stops read keeps u Short e whole = rw (whole e) e
 front-stops read keeps u (Broken fault) e whole =
     let behind = behind_front u in
     rw behind.1 (rw e at (keeps behind.0 (front u)))
 
 -- what all the bytes read as, where the front reads as a value
-pub front-reads : {X : Type 0} (read : List ℕ → Result (Read X) grammar.Stop) → ((more bytes : List ℕ) → Keeps (with_more more) (read bytes) (read (bytes ++ more))) → (u : Unread) (x : X) (part after : List ℕ) → read (front u) ≡ Ok (x, after) → front u ≡ part ++ after → read (unread_bytes u) ≡ Ok (x, drop (length part) (unread_bytes u))
+pub front-reads : {X : Type 0} (read : List ℕ → Result (Read X) (Stop ProtocolFault)) → ((more bytes : List ℕ) → Keeps (with_more more) (read bytes) (read (bytes ++ more))) → (u : Unread) (x : X) (part after : List ℕ) → read (front u) ≡ Ok (x, after) → front u ≡ part ++ after → read (unread_bytes u) ≡ Ok (x, drop (length part) (unread_bytes u))
 front-reads read keeps u x part after e joined =
     let behind = behind_front u in
     let all : unread_bytes u ≡ part ++ (after ++ behind.0) = behind.1 ∙ ap (λ f. f ++ behind.0) joined ∙ append_assoc part after behind.0 in
@@ -123,9 +124,9 @@ word-reads u len word after e =
     front-reads (payload_at len) (λ more bytes. payload_at-more more len bytes) u word (word ++ line_end) after e (taken.1 ∙ sym (append_assoc word line_end after))
     ∙ ap (λ n. Ok (word, drop n (unread_bytes u))) size ∙ ap (λ w. Ok (w, drop (len + 2) (unread_bytes u))) same
 
-pub payload_at-short : (len : ℕ) (bytes : List ℕ) → payload_at len bytes ≡ Err grammar.Short → length bytes < len + 2
+pub payload_at-short : (len : ℕ) (bytes : List ℕ) → payload_at len bytes ≡ Err Short → length bytes < len + 2
 payload_at-short len bytes e =
-    elim (chosen (nat_lt (length bytes) len) (Err grammar.Short) (line_end_after (take len bytes) (drop len bytes)) (Err grammar.Short) e) [
+    elim (chosen (nat_lt (length bytes) len) (Err Short) (line_end_after (take len bytes) (drop len bytes)) (Err Short) e) [
       | inl h ↦ omega (arith, ltb-true (length bytes) len h.0)
       | inr h ↦
           let end = line_end_after-short (take len bytes) (drop len bytes) h.1 in
@@ -168,14 +169,14 @@ passed_over-more (suc n) bytes =
 -- ---- the words that were read
 
 -- the words already read, followed by those that `read` gives
-abbrev with_prefix : List (List ℕ) → Result (Read (List (List ℕ))) grammar.Stop → Result (Read (List (List ℕ))) grammar.Stop
+abbrev with_prefix : List (List ℕ) → Result (Read (List (List ℕ))) (Stop ProtocolFault) → Result (Read (List (List ℕ))) (Stop ProtocolFault)
 with_prefix words read = read >>= λ others. Ok (words ++ others.0, others.1)
 
-with_prefix-none : (read : Result (Read (List (List ℕ))) grammar.Stop) → with_prefix [] read ≡ read
+with_prefix-none : (read : Result (Read (List (List ℕ))) (Stop ProtocolFault)) → with_prefix [] read ≡ read
 with_prefix-none (Ok others) = refl
 with_prefix-none (Err stop) = refl
 
-with_prefix-first : (word : List ℕ) (words : List (List ℕ)) (read : Result (Read (List (List ℕ))) grammar.Stop) → (with_prefix words read >>= λ others. Ok (with_first word others)) ≡ with_prefix (word ∷ words) read
+with_prefix-first : (word : List ℕ) (words : List (List ℕ)) (read : Result (Read (List (List ℕ))) (Stop ProtocolFault)) → (with_prefix words read >>= λ others. Ok (with_first word others)) ≡ with_prefix (word ∷ words) read
 with_prefix-first word words (Ok others) = refl
 with_prefix-first word words (Err stop) = refl
 
@@ -192,7 +193,7 @@ words_at-spelled (word ∷ words) (suc count) left bytes is short =
     ∙ with_prefix-first word words (words_at REQUEST_LIMITS left bytes)
 
 -- the next word, whose length may have been read
-abbrev next_word : Option ℕ → List ℕ → Result (Read (List ℕ)) grammar.Stop
+abbrev next_word : Option ℕ → List ℕ → Result (Read (List ℕ)) (Stop ProtocolFault)
 next_word None bytes = word_at REQUEST_LIMITS bytes
 next_word (Some len) bytes = payload_at len bytes
 
@@ -211,11 +212,11 @@ request_at-begun (suc n) words len left bytes is few short fits =
 
 -- ---- a part that is not there
 
-bind-stop : {A B C : Type 0} (r : Result A grammar.Stop) (f : A → Result B grammar.Stop) (g : B → Result C grammar.Stop) (stop : grammar.Stop) → (r >>= f) ≡ Err stop → (r >>= λ x. f x >>= g) ≡ Err stop
+bind-stop : {A B C : Type 0} (r : Result A (Stop ProtocolFault)) (f : A → Result B (Stop ProtocolFault)) (g : B → Result C (Stop ProtocolFault)) (stop : Stop ProtocolFault) → (r >>= f) ≡ Err stop → (r >>= λ x. f x >>= g) ≡ Err stop
 bind-stop (Ok x) f g stop e = ap (λ r. r >>= g) e
 bind-stop (Err other) f g stop e = let same : other ≡ stop = cc in ap Err same
 
-Steps-stopped : (old new : Reading) (stop : Stop) → held new ≡ held old → request_at REQUEST_LIMITS (text_from old.count old.words.items old.len (unread_bytes old.unread)) ≡ Err (stop_of stop) → Steps old (Stopped stop) new
+Steps-stopped : (old new : Reading) (stop : Stop ProtocolFault) → held new ≡ held old → request_at REQUEST_LIMITS (text_from old.count old.words.items old.len (unread_bytes old.unread)) ≡ Err stop → Steps old (Stopped stop) new
 Steps-stopped old new Short same e =
     let text = text_from old.count old.words.items old.len (unread_bytes old.unread) in
     (same, items_at-passed_over old.passed text ∙ items_at-short REQUEST_LIMITS text e)
@@ -223,28 +224,28 @@ Steps-stopped old new (Broken fault) same e =
     let text = text_from old.count old.words.items old.len (unread_bytes old.unread) in
     λ more. ap (items_at REQUEST_LIMITS) (append_assoc (passed_over old.passed) text more) ∙ items_at-passed_over old.passed (text ++ more) ∙ items_at-broken REQUEST_LIMITS text more fault e
 
-pub Steps-no_count : (old new : Reading) (stop : Stop) → held new ≡ held old → IsStanding old → old.count ≡ 0 → line_at Count (unread_bytes old.unread) ≡ Err (stop_of stop) → Steps old (Stopped stop) new
+pub Steps-no_count : (old new : Reading) (stop : Stop ProtocolFault) → held new ≡ held old → IsStanding old → old.count ≡ 0 → line_at Count (unread_bytes old.unread) ≡ Err stop → Steps old (Stopped stop) new
 Steps-no_count old new stop same standing none e =
     Steps-stopped old new stop same
-    (rw (none, (standing.between none).1) (bind-stop (after_byte 42 ExpectedArray (unread_bytes old.unread)) (number_at REQUEST_LIMITS.words InvalidMultibulkLength) (λ count. words_at REQUEST_LIMITS count.0 count.1) (stop_of stop) e))
+    (rw (none, (standing.between none).1) (bind-stop (after_byte 42 ExpectedArray (unread_bytes old.unread)) (number_at REQUEST_LIMITS.words InvalidMultibulkLength) (λ count. words_at REQUEST_LIMITS count.0 count.1) stop e))
 
 left_of : (count read : ℕ) → read < count → count ≡ read + suc (count - read - 1)
 left_of count read h = omega arith
 
-Steps-no_word : (old new : Reading) (stop : Stop) → held new ≡ held old → IsStanding old → 0 < old.count → next_word old.len (unread_bytes old.unread) ≡ Err (stop_of stop) → Steps old (Stopped stop) new
+Steps-no_word : (old new : Reading) (stop : Stop ProtocolFault) → held new ≡ held old → IsStanding old → 0 < old.count → next_word old.len (unread_bytes old.unread) ≡ Err stop → Steps old (Stopped stop) new
 Steps-no_word old new stop same standing begun e =
     let left = old.count - length old.words.items - 1 in
     Steps-stopped old new stop same
     (request_at-begun old.count old.words.items old.len left (unread_bytes old.unread) (left_of old.count (length old.words.items) (standing.begun begun)) standing.few standing.short standing.measure
     ∙ ap (λ r. with_prefix old.words.items (r >>= words_after REQUEST_LIMITS left)) e)
 
-pub Steps-no_len : (old new : Reading) (stop : Stop) → held new ≡ held old → IsStanding old → 0 < old.count → old.len ≡ None → line_at Length (unread_bytes old.unread) ≡ Err (stop_of stop) → Steps old (Stopped stop) new
+pub Steps-no_len : (old new : Reading) (stop : Stop ProtocolFault) → held new ≡ held old → IsStanding old → 0 < old.count → old.len ≡ None → line_at Length (unread_bytes old.unread) ≡ Err stop → Steps old (Stopped stop) new
 Steps-no_len old new stop same standing begun none e =
     let unread = unread_bytes old.unread in
-    let stopped : word_at REQUEST_LIMITS unread ≡ Err (stop_of stop) = bind-stop (after_dollar unread) (number_at REQUEST_LIMITS.word_bytes InvalidBulkLength) (λ len. payload_at len.0 len.1) (stop_of stop) e in
+    let stopped : word_at REQUEST_LIMITS unread ≡ Err stop = bind-stop (after_dollar unread) (number_at REQUEST_LIMITS.word_bytes InvalidBulkLength) (λ len. payload_at len.0 len.1) stop e in
     Steps-no_word old new stop same standing begun (ap (λ len. next_word len unread) none ∙ stopped)
 
-pub Steps-no_payload : (old new : Reading) (stop : Stop) (len : ℕ) → held new ≡ held old → IsStanding old → 0 < old.count → old.len ≡ Some len → payload_at len (unread_bytes old.unread) ≡ Err (stop_of stop) → Steps old (Stopped stop) new
+pub Steps-no_payload : (old new : Reading) (stop : Stop ProtocolFault) (len : ℕ) → held new ≡ held old → IsStanding old → 0 < old.count → old.len ≡ Some len → payload_at len (unread_bytes old.unread) ≡ Err stop → Steps old (Stopped stop) new
 Steps-no_payload old new stop len same standing begun is e =
     Steps-no_word old new stop same standing begun (ap (λ l. next_word l (unread_bytes old.unread)) is ∙ e)
 

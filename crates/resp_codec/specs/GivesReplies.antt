@@ -1,8 +1,11 @@
 -- What the readers of replies in the code answer, compared with the readers of the definitions.
 use Rattle.std.specs.Prelude.{◌≡◌, ℕ, zero, suc, List, [], ◌++◌, Option, None, Some, Result, Ok, Err, option_to_list}
+use Rattle.kv_types.specs.declared.item.ProtocolFault.{ProtocolFault}
 use Rattle.kv_types.specs.declared.reply.Reply as reply
 use Rattle.kv_types.specs.declared.reply.Reply.{Reply}
-use Rattle.kv_types.specs.Reading.{Stop, Short, Read}
+use Rattle.kv_types.specs.declared.stop.Stop.{Stop}
+use Rattle.kv_types.specs.declared.stop.Stop.TheVariants.{Short}
+use Rattle.kv_types.specs.Reader.{Read}
 use Rattle.resp_codec.specs.declared.reply_heads.Plain.{Plain}
 use Rattle.resp_codec.specs.declared.reply_heads.Plain.TheVariants as plain
 use Rattle.resp_codec.specs.declared.reply_heads.Head as code
@@ -34,12 +37,12 @@ most_at limits zero = 0
 most_at limits (suc depth) = limits.elements
 
 -- a reply of an array at this depth; at depth 0 an array is empty
-abbrev pub element_at : ReplyLimits → ℕ → List ℕ → Result (Read Reply) Stop
+abbrev pub element_at : ReplyLimits → ℕ → List ℕ → Result (Read Reply) (Stop ProtocolFault)
 element_at limits zero bytes = Err Short
 element_at limits (suc depth) bytes = reply_at limits depth bytes
 
 -- what was read, if anything was
-abbrev pub read_in : {A : Type 0} → Result (Read A) Stop → Option (Read A)
+abbrev pub read_in : {A : Type 0} → Result (Read A) (Stop ProtocolFault) → Option (Read A)
 read_in (Ok read) = Some read
 read_in (Err stop) = None
 

@@ -1,4 +1,3 @@
-pub mod Gives
 pub mod GivesReplies
 pub mod Lines
 pub mod Parsing

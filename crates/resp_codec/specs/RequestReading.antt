@@ -6,7 +6,7 @@ use Rattle.kv_types.specs.declared.item.Item.{Item}
 use Rattle.kv_types.specs.declared.item.Item.TheVariants as item
 use Rattle.kv_types.specs.Request.{number_line, bulk}
 use Rattle.kv_types.specs.Reading.{items_at}
-use Rattle.resp_codec.specs.declared.reading.Stop.TheVariants.{Short, Broken}
+use Rattle.kv_types.specs.declared.stop.Stop.TheVariants.{Short, Broken}
 use Rattle.resp_codec.specs.declared.request_reading.Reading.{Reading}
 use Rattle.resp_codec.specs.declared.request_reading.Step.{Step}
 use Rattle.resp_codec.specs.declared.request_reading.Step.TheVariants.{Read, Given, Stopped}

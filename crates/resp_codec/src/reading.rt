@@ -1,17 +1,10 @@
 //! Reading the parts of a request from the front of bytes.
 ghost use Rattle.std.specs.Prelude.{◌≡◌, ◌+◌, ◌-◌, ◌*◌, ◌&&◌, nat_lt, nat_le, if◌then◌else◌};
+ghost use Rattle.kv_types.specs.Reader.{Gives};
 ghost use Rattle.kv_types.specs.Reading.{is_digit, after_byte, number_from, number_at, after_dollar, payload_at};
-ghost use Rattle.resp_codec.specs.Gives.{Gives};
 ghost use Rattle.resp_codec.specs.Lines.{line_at};
 
-use kv_types::{ProtocolFault, REQUEST_LIMITS};
-
-/// Why there is no whole request at the front: further bytes may complete one, or no further bytes can.
-#[derive(Clone, Copy, Debug, PartialEq, Eq)]
-pub(crate) enum Stop {
-    Short,
-    Broken(ProtocolFault),
-}
+use kv_types::{ProtocolFault, REQUEST_LIMITS, Stop};
 
 /// A line of a request that holds a number.
 #[derive(Clone, Copy, Debug, PartialEq, Eq)]
@@ -23,7 +16,11 @@ pub(crate) enum Line {
 }
 
 /// What follows a first byte, which must be `expected`.
-pub(crate) fn after_byte(bytes: &[u8], expected: u8, fault: ProtocolFault) -> Result<&[u8], Stop>
+pub(crate) fn after_byte(
+    bytes: &[u8],
+    expected: u8,
+    fault: ProtocolFault,
+) -> Result<&[u8], Stop<ProtocolFault>>
     ensures { Gives (λ rest. rest.now) result (after_byte expected fault bytes.now) }
 {
     match bytes.split_first() {
@@ -64,7 +61,12 @@ fn longer(n: u64, byte: u8, most: u64) -> Option<u64>
 }
 
 /// The number whose digits so far make `n`, read on through its line end: at most `most`.
-fn number_from(bytes: &[u8], n: u64, most: u64, fault: ProtocolFault) -> Result<(u64, &[u8]), Stop>
+fn number_from(
+    bytes: &[u8],
+    n: u64,
+    most: u64,
+    fault: ProtocolFault,
+) -> Result<(u64, &[u8]), Stop<ProtocolFault>>
     ensures { Gives (λ x. (x.0, x.1.now)) result (number_from most fault n bytes.now) }
 {
     let mut number = n;
@@ -83,7 +85,11 @@ fn number_from(bytes: &[u8], n: u64, most: u64, fault: ProtocolFault) -> Result<
 }
 
 /// A number of at most `most` and its line end.
-pub(crate) fn number_at(bytes: &[u8], most: u64, fault: ProtocolFault) -> Result<(u64, &[u8]), Stop>
+pub(crate) fn number_at(
+    bytes: &[u8],
+    most: u64,
+    fault: ProtocolFault,
+) -> Result<(u64, &[u8]), Stop<ProtocolFault>>
     ensures { Gives (λ x. (x.0, x.1.now)) result (number_at most fault bytes.now) }
 {
     match bytes.split_first() {
@@ -96,7 +102,7 @@ pub(crate) fn number_at(bytes: &[u8], most: u64, fault: ProtocolFault) -> Result
 }
 
 /// What follows the `$` of a word.
-fn after_dollar(bytes: &[u8]) -> Result<&[u8], Stop>
+fn after_dollar(bytes: &[u8]) -> Result<&[u8], Stop<ProtocolFault>>
     ensures { Gives (λ rest. rest.now) result (after_dollar bytes.now) }
 {
     match bytes.split_first() {
@@ -112,7 +118,7 @@ fn after_dollar(bytes: &[u8]) -> Result<&[u8], Stop>
 }
 
 /// A word of `len` bytes and its line end.
-pub(crate) fn payload_at(bytes: &[u8], len: u64) -> Result<(&[u8], &[u8]), Stop>
+pub(crate) fn payload_at(bytes: &[u8], len: u64) -> Result<(&[u8], &[u8]), Stop<ProtocolFault>>
     ensures { Gives (λ x. (x.0.now, x.1.now)) result (payload_at len bytes.now) }
 {
     let len = len as usize;
@@ -126,7 +132,7 @@ pub(crate) fn payload_at(bytes: &[u8], len: u64) -> Result<(&[u8], &[u8]), Stop>
 }
 
 /// The number of a line, and what follows the line.
-pub(crate) fn line_at(bytes: &[u8], line: Line) -> Result<(u64, &[u8]), Stop>
+pub(crate) fn line_at(bytes: &[u8], line: Line) -> Result<(u64, &[u8]), Stop<ProtocolFault>>
     ensures { Gives (λ x. (x.0, x.1.now)) result (line_at line bytes.now) }
 {
     match line {

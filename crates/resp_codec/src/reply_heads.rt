@@ -1,12 +1,12 @@
 //! Heads of replies read from the front of bytes.
 ghost use Rattle.std.specs.Prelude.{◌≡◌, ℕ, ◌+◌, ◌-◌, ◌<◌, ◌≤◌, ◌^◌, negsuc, length};
+ghost use Rattle.kv_types.specs.Reader.{Gives};
 ghost use Rattle.resp_codec.specs.ReplyReading.{line_length, line_at, negative_at, integer_at, after_null, bulk_at, count_at, head_at};
-ghost use Rattle.resp_codec.specs.Gives.{Gives};
 ghost use Rattle.resp_codec.specs.GivesReplies.{head_read};
 
-use crate::reading::{Stop, after_byte, number_at, payload_at};
+use crate::reading::{after_byte, number_at, payload_at};
 use bytes::Bytes;
-use kv_types::{ProtocolFault, Reply};
+use kv_types::{Payload, ProtocolFault, Reply, Stop};
 use std::alloc::{AllocError, Global};
 
 /// A reply that is no array, with its bytes where they were read.
@@ -32,7 +32,9 @@ impl Plain<'_> {
             Plain::Simple(text) => Reply::Simple(Bytes::copy_from_slice(alloc, text)?),
             Plain::Error(text) => Reply::Error(Bytes::copy_from_slice(alloc, text)?),
             Plain::Int(n) => Reply::Int(n),
-            Plain::Bulk(bytes) => Reply::Bulk(Bytes::copy_from_slice(alloc, bytes)?),
+            Plain::Bulk(bytes) => {
+                Reply::Bulk(Payload::new(Bytes::copy_from_slice(alloc, bytes)?))
+            }
             Plain::NullBulk => Reply::NullBulk,
             Plain::NullArray => Reply::NullArray,
         })
@@ -64,7 +66,7 @@ fn line_length(bytes: &[u8]) -> usize
 }
 
 /// A line without its line end.
-fn line_at(bytes: &[u8]) -> Result<(&[u8], &[u8]), Stop>
+fn line_at(bytes: &[u8]) -> Result<(&[u8], &[u8]), Stop<ProtocolFault>>
     ensures { Gives (λ x. (x.0.now, x.1.now)) result (line_at bytes.now) }
 {
     payload_at(bytes, line_length(bytes) as u64)
@@ -80,7 +82,7 @@ fn negated(n: u64) -> i64
 }
 
 /// An integer below zero, after its `-`.
-fn negative_at(bytes: &[u8]) -> Result<(i64, &[u8]), Stop>
+fn negative_at(bytes: &[u8]) -> Result<(i64, &[u8]), Stop<ProtocolFault>>
     ensures { Gives (λ x. (x.0, x.1.now)) result (negative_at bytes.now) }
 {
     match bytes.split_first() {
@@ -96,7 +98,7 @@ fn negative_at(bytes: &[u8]) -> Result<(i64, &[u8]), Stop>
 }
 
 /// An integer and its line end.
-fn integer_at(bytes: &[u8]) -> Result<(i64, &[u8]), Stop>
+fn integer_at(bytes: &[u8]) -> Result<(i64, &[u8]), Stop<ProtocolFault>>
     ensures { Gives (λ x. (x.0, x.1.now)) result (integer_at bytes.now) }
 {
     match bytes.split_first() {
@@ -112,7 +114,7 @@ fn integer_at(bytes: &[u8]) -> Result<(i64, &[u8]), Stop>
 }
 
 /// What follows the `-` of a null reply.
-fn after_null(bytes: &[u8]) -> Result<&[u8], Stop>
+fn after_null(bytes: &[u8]) -> Result<&[u8], Stop<ProtocolFault>>
     ensures { Gives (λ rest. rest.now) result (after_null bytes.now) }
 {
     let rest = after_byte(bytes, b'1', ProtocolFault::ExpectedLineEnd)?;
@@ -121,7 +123,7 @@ fn after_null(bytes: &[u8]) -> Result<&[u8], Stop>
 }
 
 /// A bulk string of at most `most` bytes, or the null bulk string, after the `$`.
-fn bulk_at(bytes: &[u8], most: u64) -> Result<(Head<'_>, &[u8]), Stop>
+fn bulk_at(bytes: &[u8], most: u64) -> Result<(Head<'_>, &[u8]), Stop<ProtocolFault>>
     ensures { Gives (λ x. (head_read x.0, x.1.now)) result (bulk_at most bytes.now) }
 {
     match bytes.split_first() {
@@ -138,7 +140,7 @@ fn bulk_at(bytes: &[u8], most: u64) -> Result<(Head<'_>, &[u8]), Stop>
 }
 
 /// The number of replies of an array, at most `most`, or the null array, after the `*`.
-fn count_at(bytes: &[u8], most: u64) -> Result<(Head<'_>, &[u8]), Stop>
+fn count_at(bytes: &[u8], most: u64) -> Result<(Head<'_>, &[u8]), Stop<ProtocolFault>>
     ensures { Gives (λ x. (head_read x.0, x.1.now)) result (count_at most bytes.now) }
 {
     match bytes.split_first() {
@@ -154,7 +156,11 @@ fn count_at(bytes: &[u8], most: u64) -> Result<(Head<'_>, &[u8]), Stop>
 }
 
 /// The head at the front: a bulk string has at most `bulk_bytes` bytes, an array at most `most` replies.
-pub(crate) fn head_at(bytes: &[u8], bulk_bytes: u64, most: u64) -> Result<(Head<'_>, &[u8]), Stop>
+pub(crate) fn head_at(
+    bytes: &[u8],
+    bulk_bytes: u64,
+    most: u64,
+) -> Result<(Head<'_>, &[u8]), Stop<ProtocolFault>>
     ensures { Gives (λ x. (head_read x.0, x.1.now)) result (head_at bulk_bytes most bytes.now) }
 {
     let Some((byte, after)) = bytes.split_first() else {

@@ -1,14 +1,13 @@
 //! Reading replies from the front of bytes.
 ghost use Rattle.std.specs.Prelude.{◌≡◌, ◌+◌, ◌-◌, IfOk, option_map};
+ghost use Rattle.kv_types.specs.Reader.{Gives, skipped};
 ghost use Rattle.resp_codec.specs.ReplyReading.{reply_at};
-ghost use Rattle.resp_codec.specs.Gives.{Gives, skipped};
 ghost use Rattle.resp_codec.specs.GivesReplies.{head_read, most_at, read_in, IsFirstReply};
 
-use crate::reading::Stop;
 use crate::reply_heads::{Head, head_at};
 use crate::reply_item::ReplyItem;
 use crate::reply_limits::{REPLY_LIMITS, ReplyLimits};
-use kv_types::{Listed, Reply};
+use kv_types::{Listed, ProtocolFault, Reply, Stop};
 use std::alloc::{AllocError, Global};
 
 /// The most replies of an array at this depth.
@@ -19,7 +18,7 @@ fn most_at(limits: ReplyLimits, depth: u64) -> u64
 }
 
 /// What follows the reply at the front, with arrays at most `depth` deep. Takes no memory.
-fn reply_end(bytes: &[u8], limits: ReplyLimits, depth: u64) -> Result<&[u8], Stop>
+fn reply_end(bytes: &[u8], limits: ReplyLimits, depth: u64) -> Result<&[u8], Stop<ProtocolFault>>
     ensures { Gives (λ rest. rest.now) result (skipped (reply_at limits depth bytes.now)) }
 {
     let (head, after) = head_at(bytes, limits.bulk_bytes, most_at(limits, depth))?;

@@ -5,10 +5,10 @@ ghost use Rattle.kv_types.specs.Reading.{items_at};
 ghost use Rattle.resp_codec.specs.Parsing.{Advances};
 ghost use Rattle.resp_codec.specs.RequestReading.{held, IsStanding, Steps, left_behind};
 
-use crate::reading::{Line, Stop};
+use crate::reading::Line;
 use crate::unread::Unread;
 use bytes::Bytes;
-use kv_types::{Item, REQUEST_LIMITS, Request};
+use kv_types::{Item, ProtocolFault, REQUEST_LIMITS, Request, Stop};
 use std::alloc::{AllocError, Global};
 use std::mem;
 
@@ -34,7 +34,7 @@ enum Step {
     /// The last word of a request was read.
     Given(Request),
     /// The next part is not there, and nothing was read.
-    Stopped(Stop),
+    Stopped(Stop<ProtocolFault>),
 }
 
 impl Reading {

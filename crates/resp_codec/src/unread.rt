@@ -1,13 +1,14 @@
 //! Bytes that come in pieces and are taken from the front, a part at a time.
 ghost use Rattle.std.specs.Prelude.{◌≡◌, ◌+◌, ◌≤◌, ◌<◌, ◌==◌, ◌^◌, true, [], ◌++◌, length, take, drop, Err, IfOk, OnOk, OnErr};
+ghost use Rattle.kv_types.specs.declared.stop.Stop.TheVariants.{Short};
+ghost use Rattle.kv_types.specs.Reader.{Takes};
 ghost use Rattle.kv_types.specs.Reading.{payload_at};
-ghost use Rattle.kv_types.specs.Reading as grammar;
-ghost use Rattle.resp_codec.specs.Gives.{Takes};
 ghost use Rattle.resp_codec.specs.Lines.{line_at};
 ghost use Rattle.resp_codec.specs.Unread.{unread_bytes, front};
 
-use crate::reading::{Line, Stop, line_at, payload_at};
+use crate::reading::{Line, line_at, payload_at};
 use bytes::{Bytes, BytesMut};
+use kv_types::{ProtocolFault, Stop};
 use std::alloc::{AllocError, Global};
 
 /// The bytes of pieces that were not read yet. A part that lies in one piece is read where it lies.
@@ -86,7 +87,7 @@ impl Unread {
     /// Joins the line at the front, a byte at a time, since it is short and mostly ends soon in the last piece.
     fn join_line(&mut self, line: Line) -> Result<(), AllocError>
         ensures same { unread_bytes self.new ≡ unread_bytes self.old }
-        ensures whole { OnOk result (line_at line (front self.new) ≡ Err grammar.Short → unread_bytes self.new ≡ front self.new) }
+        ensures whole { OnOk result (line_at line (front self.new) ≡ Err Short → unread_bytes self.new ≡ front self.new) }
     {
         while !self.cut.is_empty() && !self.rest.is_empty() && is_short(self.cut.as_slice(), line) {
             self.join(1)?;
@@ -95,7 +96,10 @@ impl Unread {
     }
 
     /// Takes the line at the front.
-    pub(crate) fn line(&mut self, line: Line) -> Result<Result<u64, Stop>, AllocError>
+    pub(crate) fn line(
+        &mut self,
+        line: Line,
+    ) -> Result<Result<u64, Stop<ProtocolFault>>, AllocError>
         ensures ok { IfOk result (λ answer. Takes answer (line_at line) (unread_bytes self.old) (unread_bytes self.new)) }
         ensures err { OnErr result (unread_bytes self.new ≡ unread_bytes self.old) }
     {
@@ -138,7 +142,10 @@ impl Unread {
     }
 
     /// Takes the `len` bytes of a word and its line end. A word that lies in one piece is a slice of it, and not copied.
-    pub(crate) fn word(&mut self, len: u64) -> Result<Result<Bytes, Stop>, AllocError>
+    pub(crate) fn word(
+        &mut self,
+        len: u64,
+    ) -> Result<Result<Bytes, Stop<ProtocolFault>>, AllocError>
         requires { len < 2 ^ 32 }
         ensures ok { IfOk result (λ answer. Takes answer (payload_at len) (unread_bytes self.old) (unread_bytes self.new)) }
         ensures err { OnErr result (unread_bytes self.new ≡ unread_bytes self.old) }
@@ -171,7 +178,7 @@ impl Unread {
 
 /// Whether bytes hold no whole line yet, but may begin one.
 fn is_short(bytes: &[u8], line: Line) -> bool
-    ensures { line_at line bytes.now ≡ Err grammar.Short → result ≡ true }
+    ensures { line_at line bytes.now ≡ Err Short → result ≡ true }
 {
     matches!(line_at(bytes, line), Err(Stop::Short))
 }

@@ -8,9 +8,10 @@ use Rattle.std.proofs.lemmas.List.{append-nil}
 use Rattle.kv_types.specs.declared.change.Change.{Change}
 use Rattle.kv_types.specs.Change.{change_text, changes_text, changes_size}
 use Rattle.kv_types.proofs.ChangeTextLemmas.{change_text_nonempty, changes_size-cons}
-use Rattle.stream_codec.specs.declared.reading.Stop.{Stop}
+use Rattle.kv_types.specs.declared.stop.Stop.{Stop}
+use Rattle.kv_types.specs.Reader.{◌>>=◌}
 use Rattle.stream_codec.specs.Message.{IsChange}
-use Rattle.stream_codec.specs.Bytes.{Read, ◌>>=◌}
+use Rattle.stream_codec.specs.Bytes.{Outcome}
 use Rattle.stream_codec.specs.Reading.{change_at, changes_within, changes_at}
 use Rattle.stream_codec.proofs.Readers.{Gives, Reads, Reads-as, Reads-done, Reads-then, Reads-same, Then, same_readers}
 use Rattle.stream_codec.proofs.Numbers.{true_or_false, cond_true, cond_false}
@@ -74,10 +75,10 @@ some_of_body left h (c ∷ changes) text i =
       joined = i.text_is;
     }
 
-abbrev others_at : ℕ → ℕ → Change → List ℕ → Read (List Change)
+abbrev others_at : ℕ → ℕ → Change → List ℕ → Outcome (List Change)
 others_at most left c rest = changes_within most (left - length (change_text c)) rest >>= λ others. Ok (c ∷ others.0, others.1)
 
-abbrev some_at : ℕ → ℕ → List ℕ → Read (List Change)
+abbrev some_at : ℕ → ℕ → List ℕ → Outcome (List Change)
 some_at most left bytes = change_at left bytes >>= λ c. others_at most left c.0 c.1
 
 pub within_reads : (most left : ℕ) → left ≤ most → Reads (changes_within most left) (IsBody left)
@@ -114,7 +115,7 @@ changes_at-step (suc most) bytes c rest h e =
     (within_reads most (suc most - length (change_text c)) smaller)
     (within_reads (suc most - length (change_text c)) (suc most - length (change_text c)) (omega arith)) rest)
 
-pub changes_at-stop : (left : ℕ) (bytes : List ℕ) (stop : Stop) → 0 < left → change_at left bytes ≡ Err stop → changes_at left bytes ≡ Err stop
+pub changes_at-stop : (left : ℕ) (bytes : List ℕ) (stop : Stop Unit) → 0 < left → change_at left bytes ≡ Err stop → changes_at left bytes ≡ Err stop
 unfolding changes_at
 changes_at-stop zero bytes stop h e = absurd (omega (arith, h))
 changes_at-stop (suc most) bytes stop h e =

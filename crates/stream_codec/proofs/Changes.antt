@@ -6,10 +6,10 @@ use Rattle.kv_types.specs.declared.record_id.RecordId.TheVariants.{Str, Field}
 use Rattle.kv_types.specs.declared.change.Change.{Change}
 use Rattle.kv_types.specs.declared.change.Change.TheVariants.{Put, Drop, DropKey, Clear}
 use Rattle.kv_types.specs.Change.{short_bytes, long_bytes, change_text}
+use Rattle.kv_types.specs.Reader.{◌>>=◌}
 use Rattle.stream_codec.specs.declared.change.Kind.{Kind}
 use Rattle.stream_codec.specs.declared.change.Kind.TheVariants as kind
 use Rattle.stream_codec.specs.Message.{IsChange}
-use Rattle.stream_codec.specs.Bytes.{◌>>=◌}
 use Rattle.stream_codec.specs.Reading.{least_size, kind_at, name_at, value_at, change_of, change_at}
 use Rattle.stream_codec.proofs.Readers.{Gives, Reads, Reads-as, Reads-done, Reads-last, Reads-then, Last, Then, last, pair}
 use Rattle.stream_codec.proofs.Names.{IsName, name_reads, IsValue, value_reads, byte_of, IsKind, kind_reads}

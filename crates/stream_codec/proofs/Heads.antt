@@ -3,16 +3,18 @@ use Rattle.std.proofs.Common.{◌≡◌, ℕ, ◌+◌, ◌-◌, ◌^◌, ◌<◌
 use Rattle.std.proofs.lemmas.Bool.Decides.{nat_tests}
 use Rattle.std.proofs.lemmas.List.{append-nil}
 use Rattle.frames.specs.declared.ack.Ack.{Ack}
-use Rattle.stream_codec.specs.declared.reading.Stop.TheVariants.{Short, Broken}
+use Rattle.kv_types.specs.declared.stop.Stop.TheVariants.{Short, Broken}
+use Rattle.kv_types.specs.Reader.{◌>>=◌}
+use Rattle.kv_types.proofs.ReaderLemmas.{ok_parts}
 use Rattle.stream_codec.specs.declared.message.TheConstants.{MAX_BODY_BYTES}
 use Rattle.stream_codec.specs.declared.head.HeadKind.{HeadKind}
 use Rattle.stream_codec.specs.declared.head.HeadKind.TheVariants as head_kind
 use Rattle.stream_codec.specs.declared.head.Head.{Head}
 use Rattle.stream_codec.specs.declared.head.Head.TheVariants as head
 use Rattle.stream_codec.specs.Message.{long}
-use Rattle.stream_codec.specs.Bytes.{Read, ◌>>=◌, eight_places}
+use Rattle.stream_codec.specs.Bytes.{Outcome, eight_places}
 use Rattle.stream_codec.specs.Reading.{head_kind_of, known, head_kind_at, long_at, head_of, head_at}
-use Rattle.stream_codec.proofs.Readers.{read_is, Reads, Reads-as, Reads-last, Reads-then, Last, Then, last, pair}
+use Rattle.stream_codec.proofs.Readers.{Reads, Reads-as, Reads-last, Reads-then, Last, Then, last, pair}
 use Rattle.stream_codec.proofs.Numbers.{AreDigits, IsNumber, number_reads, digits_eight, eight_digits}
 
 -- a number of eight bytes
@@ -65,16 +67,16 @@ Before epoch = Then (IsLong 0 (2 ^ 64 - 2)) (After epoch)
 abbrev Position : ℕ → Head → List ℕ → Type 0
 Position epoch = Last (IsLong 0 (2 ^ 64 - 1)) (λ position. head.Ack (record { epoch = epoch; position = position }))
 
-abbrev pub size_at : ℕ → ℕ → ℕ → List ℕ → Read Head
+abbrev pub size_at : ℕ → ℕ → ℕ → List ℕ → Outcome Head
 size_at epoch before after bytes = long_at 0 MAX_BODY_BYTES bytes >>= λ size. Ok (head.Group epoch before after size.0, size.1)
 
-abbrev pub after_at : ℕ → ℕ → List ℕ → Read Head
+abbrev pub after_at : ℕ → ℕ → List ℕ → Outcome Head
 after_at epoch before bytes = long_at (before + 1) (2 ^ 64 - 1) bytes >>= λ after. size_at epoch before after.0 after.1
 
-abbrev pub before_at : ℕ → List ℕ → Read Head
+abbrev pub before_at : ℕ → List ℕ → Outcome Head
 before_at epoch bytes = long_at 0 (2 ^ 64 - 2) bytes >>= λ before. after_at epoch before.0 before.1
 
-abbrev position_at : ℕ → List ℕ → Read Head
+abbrev position_at : ℕ → List ℕ → Outcome Head
 position_at epoch bytes = long_at 0 (2 ^ 64 - 1) bytes >>= λ position. Ok (head.Ack (record { epoch = epoch; position = position.0 }), position.1)
 
 after_reads : (epoch before : ℕ) → before ≤ 2 ^ 64 - 2 → Reads (after_at epoch before) (After epoch before)
@@ -154,7 +156,7 @@ IsByte k text = text ≡ byte_of k ∷ []
 known_takes : (byte : ℕ) (bytes : List ℕ) (o : Option HeadKind) → head_kind_of byte ≡ o → (k : HeadKind) (rest : List ℕ) → known bytes o ≡ Ok (k, rest) → (text : List ℕ) × IsByte k text × (byte ∷ bytes ≡ text ++ rest)
 known_takes byte bytes None h k rest e = absurd cc
 known_takes byte bytes (Some x) h k rest e =
-    let same = read_is x k bytes rest e in
+    let same = ok_parts x k bytes rest e in
     let is : byte ≡ byte_of k = byte-head_kind_of byte k (h ∙ ap Some same.0) in
     (byte_of k ∷ [], refl, ap (λ b. b ∷ bytes) is ∙ ap (λ b. byte_of k ∷ b) same.1)
 
@@ -162,7 +164,7 @@ known_not_short : (bytes : List ℕ) (o : Option HeadKind) → known bytes o ≡
 known_not_short bytes None e = absurd cc
 known_not_short bytes (Some x) e = absurd cc
 
-known_stays : (bytes more : List ℕ) (o : Option HeadKind) → known bytes o ≡ Err Broken → known (bytes ++ more) o ≡ Err Broken
+known_stays : (bytes more : List ℕ) (o : Option HeadKind) → known bytes o ≡ Err (Broken tt) → known (bytes ++ more) o ≡ Err (Broken tt)
 known_stays bytes more None e = refl
 known_stays bytes more (Some x) e = absurd cc
 
@@ -174,7 +176,7 @@ byte_short : (bytes : List ℕ) → head_kind_at bytes ≡ Err Short → (k : He
 byte_short [] e = (head_kind.Ack, 2 ∷ [], refl)
 byte_short (byte ∷ bytes) e = absurd (known_not_short bytes (head_kind_of byte) e)
 
-byte_stays : (bytes more : List ℕ) → head_kind_at bytes ≡ Err Broken → head_kind_at (bytes ++ more) ≡ Err Broken
+byte_stays : (bytes more : List ℕ) → head_kind_at bytes ≡ Err (Broken tt) → head_kind_at (bytes ++ more) ≡ Err (Broken tt)
 byte_stays [] more e = absurd cc
 byte_stays (byte ∷ bytes) more e = known_stays bytes more (head_kind_of byte) e
 

@@ -3,7 +3,7 @@ use Rattle.std.proofs.Common.{◌≡◌, ℕ, ◌<◌, List, [], ◌∷◌, ◌+
 use Rattle.std.proofs.lemmas.List.{append-nil, length-append}
 use Rattle.kv_types.specs.declared.change.Change.{Change}
 use Rattle.kv_types.specs.Change.{changes_text, changes_size}
-use Rattle.stream_codec.specs.declared.reading.Stop.TheVariants.{Short}
+use Rattle.kv_types.specs.declared.stop.Stop.TheVariants.{Short}
 use Rattle.stream_codec.specs.declared.head.Head.{Head}
 use Rattle.stream_codec.specs.declared.head.Head.TheVariants as head
 use Rattle.stream_codec.specs.Message.{Sent, Changes, Acknowledged, IsSent, sent_text}

@@ -5,12 +5,13 @@ use Rattle.std.specs.Int.{w16, w32, to_be_bytes}
 use Rattle.std.proofs.lemmas.Bool.Decides.{nat_tests}
 use Rattle.kv_types.specs.declared.limits.TheConstants.{MAX_KEY_BYTES, MAX_VALUE_BYTES}
 use Rattle.kv_types.specs.Change.{short_bytes, long_bytes}
-use Rattle.stream_codec.specs.declared.reading.Stop.TheVariants.{Short, Broken}
+use Rattle.kv_types.specs.declared.stop.Stop.TheVariants.{Short, Broken}
+use Rattle.kv_types.proofs.ReaderLemmas.{ok_parts}
 use Rattle.stream_codec.specs.declared.change.Kind.{Kind}
 use Rattle.stream_codec.specs.declared.change.Kind.TheVariants as kind
 use Rattle.stream_codec.specs.Bytes.{two_places, four_places}
 use Rattle.stream_codec.specs.Reading.{kind_of, least_size, kind_within, kind_at, name_at, value_at}
-use Rattle.stream_codec.proofs.Readers.{read_is, Reads, Reads-as}
+use Rattle.stream_codec.proofs.Readers.{Reads, Reads-as}
 use Rattle.stream_codec.proofs.Numbers.{IsCounted, counted_reads, digits_two, digits_four, two_digits, four_digits, true_or_false, cond_true, cond_false}
 
 -- ---- names and values
@@ -87,33 +88,33 @@ pub record IsKind (left : ℕ) (k : Kind) (text : List ℕ) : Type 0 where
 kind_again : (left : ℕ) (k : Kind) (text more : List ℕ) → IsKind left k text → kind_at left (text ++ more) ≡ Ok (k, more)
 kind_again left k text more i =
     ap (λ t. kind_at left (t ++ more)) i.text_is ∙ ap (kind_within left more) (kind_of-byte k)
-    ∙ cond_true (nat_le (least_size k) left) (Ok (k, more)) (Err Broken) (grind (arith, nat_tests, i.fits))
+    ∙ cond_true (nat_le (least_size k) left) (Ok (k, more)) (Err (Broken tt)) (grind (arith, nat_tests, i.fits))
 
 within_takes : (left byte : ℕ) (bytes : List ℕ) (o : Option Kind) → kind_of byte ≡ o → (k : Kind) (rest : List ℕ) → kind_within left bytes o ≡ Ok (k, rest) → (text : List ℕ) × IsKind left k text × (byte ∷ bytes ≡ text ++ rest)
 within_takes left byte bytes None h k rest e = absurd cc
 within_takes left byte bytes (Some x) h k rest e =
     elim (true_or_false (nat_le (least_size x) left)) [
-      | inl t ↦ let same = read_is x k bytes rest (sym (cond_true (nat_le (least_size x) left) (Ok (x, bytes)) (Err Broken) t) ∙ e) in
+      | inl t ↦ let same = ok_parts x k bytes rest (sym (cond_true (nat_le (least_size x) left) (Ok (x, bytes)) (Err (Broken tt)) t) ∙ e) in
           let fits : least_size x ≤ left = grind (arith, nat_tests) in
           let is : byte ≡ byte_of k = byte-kind_of byte k (h ∙ ap Some same.0) in
           (byte_of k ∷ [], record { fits = subst (λ y. least_size y ≤ left) same.0 fits; text_is = refl }, ap (λ b. b ∷ bytes) is ∙ ap (λ b. byte_of k ∷ b) same.1)
-      | inr f ↦ let broken = sym (cond_false (nat_le (least_size x) left) (Ok (x, bytes)) (Err Broken) f) ∙ e in absurd cc
+      | inr f ↦ let broken = sym (cond_false (nat_le (least_size x) left) (Ok (x, bytes)) (Err (Broken tt)) f) ∙ e in absurd cc
     ]
 
 within_not_short : (left : ℕ) (bytes : List ℕ) (o : Option Kind) → kind_within left bytes o ≡ Err Short → ⊥
 within_not_short left bytes None e = absurd cc
 within_not_short left bytes (Some x) e =
     elim (true_or_false (nat_le (least_size x) left)) [
-      | inl t ↦ let is = sym (cond_true (nat_le (least_size x) left) (Ok (x, bytes)) (Err Broken) t) ∙ e in absurd cc
-      | inr f ↦ let is = sym (cond_false (nat_le (least_size x) left) (Ok (x, bytes)) (Err Broken) f) ∙ e in absurd cc
+      | inl t ↦ let is = sym (cond_true (nat_le (least_size x) left) (Ok (x, bytes)) (Err (Broken tt)) t) ∙ e in absurd cc
+      | inr f ↦ let is = sym (cond_false (nat_le (least_size x) left) (Ok (x, bytes)) (Err (Broken tt)) f) ∙ e in absurd cc
     ]
 
-within_stays : (left : ℕ) (bytes more : List ℕ) (o : Option Kind) → kind_within left bytes o ≡ Err Broken → kind_within left (bytes ++ more) o ≡ Err Broken
+within_stays : (left : ℕ) (bytes more : List ℕ) (o : Option Kind) → kind_within left bytes o ≡ Err (Broken tt) → kind_within left (bytes ++ more) o ≡ Err (Broken tt)
 within_stays left bytes more None e = refl
 within_stays left bytes more (Some x) e =
     elim (true_or_false (nat_le (least_size x) left)) [
-      | inl t ↦ let is = sym (cond_true (nat_le (least_size x) left) (Ok (x, bytes)) (Err Broken) t) ∙ e in absurd cc
-      | inr f ↦ cond_false (nat_le (least_size x) left) (Ok (x, bytes ++ more)) (Err Broken) f
+      | inl t ↦ let is = sym (cond_true (nat_le (least_size x) left) (Ok (x, bytes)) (Err (Broken tt)) t) ∙ e in absurd cc
+      | inr f ↦ cond_false (nat_le (least_size x) left) (Ok (x, bytes ++ more)) (Err (Broken tt)) f
     ]
 
 kind_takes : (left : ℕ) (bytes : List ℕ) (k : Kind) (rest : List ℕ) → kind_at left bytes ≡ Ok (k, rest) → (text : List ℕ) × IsKind left k text × (bytes ≡ text ++ rest)
@@ -124,7 +125,7 @@ kind_short : (left : ℕ) → 1 ≤ left → (bytes : List ℕ) → kind_at left
 kind_short left h [] e = (kind.Clear, 6 ∷ [], record { fits = h; text_is = refl })
 kind_short left h (byte ∷ bytes) e = absurd (within_not_short left bytes (kind_of byte) e)
 
-kind_stays : (left : ℕ) (bytes more : List ℕ) → kind_at left bytes ≡ Err Broken → kind_at left (bytes ++ more) ≡ Err Broken
+kind_stays : (left : ℕ) (bytes more : List ℕ) → kind_at left bytes ≡ Err (Broken tt) → kind_at left (bytes ++ more) ≡ Err (Broken tt)
 kind_stays left [] more e = absurd cc
 kind_stays left (byte ∷ bytes) more e = within_stays left bytes more (kind_of byte) e
 

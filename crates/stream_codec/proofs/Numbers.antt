@@ -7,9 +7,10 @@ use Rattle.std.proofs.lemmas.Bool.Decides.{nat_tests}
 use Rattle.std.proofs.lemmas.List.{take_at, drop_at, take-append-drop, length-append, length-take}
 use Rattle.std.proofs.Math.Nat.{pow-suc, one-le-pow}
 use Rattle.std.proofs.lemmas.Nat.{div_below, mod_below, div-add-mod', mul-le, be_bytes_2, be_bytes_4, be_bytes_8}
-use Rattle.stream_codec.specs.declared.reading.Stop.TheVariants.{Short, Broken}
-use Rattle.stream_codec.specs.Bytes.{Read, two_places, four_places, eight_places, span, ArePlaces, IsBytes, number_from, number_at, bytes_at, counted_at}
-use Rattle.stream_codec.proofs.Readers.{read_is, Reads, Reads-as, Reads-then, Then}
+use Rattle.kv_types.specs.declared.stop.Stop.TheVariants.{Short, Broken}
+use Rattle.kv_types.proofs.ReaderLemmas.{ok_parts}
+use Rattle.stream_codec.specs.Bytes.{Outcome, two_places, four_places, eight_places, span, ArePlaces, IsBytes, number_from, number_at, bytes_at, counted_at}
+use Rattle.stream_codec.proofs.Readers.{Reads, Reads-as, Reads-then, Then}
 
 -- ---- digits
 
@@ -88,13 +89,13 @@ next_can_end place places least most sum byte a c t =
     let pos = span_pos places a.1 in
     record { some = c.some; low = t.1; high = omega (arith, a.0, t.2, pos) }
 
-number_begins : (places : List ℕ) (least most sum : ℕ) → number_from places least most sum [] ≡ Err Broken → ⊥
+number_begins : (places : List ℕ) (least most sum : ℕ) → number_from places least most sum [] ≡ Err (Broken tt) → ⊥
 number_begins [] least most sum e = absurd cc
 number_begins (place ∷ places) least most sum e = absurd cc
 
 number_again : (places : List ℕ) (least most sum : ℕ) → ArePlaces places → (n : ℕ) (text more : List ℕ) → IsNumberFrom places least most sum n text → number_from places least most sum (text ++ more) ≡ Ok (n, more)
 number_again [] least most sum a n text more i =
-    let done : ℕ → List ℕ → Read ℕ = λ m bytes. Ok (m, bytes) in
+    let done : ℕ → List ℕ → Outcome ℕ = λ m bytes. Ok (m, bytes) in
     let same : sum ≡ n = omega (arith, i.parts, i.digits.0) in
     ap (λ t. done sum (t ++ more)) i.digits.1 ∙ ap (λ m. done m more) same
 number_again (place ∷ places) least most sum a n [] more i = absurd i.digits
@@ -102,20 +103,20 @@ number_again (place ∷ places) least most sum a n (byte ∷ text) more i =
     let d = i.digits in
     let below = digits_below places d.1 text a.1 d.3 in
     let t = is_in_range byte (sum + byte * place) (sum + byte * place + (place - 1)) least most d.0 (omega (arith, i.parts, d.2, i.most_is)) (omega (arith, i.parts, d.2, i.least_is, below, a.0)) in
-    cond_true (fits place places least most sum byte) (number_from places least most (sum + byte * place) (text ++ more)) (Err Broken) t
+    cond_true (fits place places least most sum byte) (number_from places least most (sum + byte * place) (text ++ more)) (Err (Broken tt)) t
     ∙ number_again places least most (sum + byte * place) a.1 n text more (record { least_is = i.least_is; most_is = i.most_is; rest = d.1; parts = omega (arith, i.parts, d.2); digits = d.3 })
 
 number_takes : (places : List ℕ) (least most sum : ℕ) → ArePlaces places → CanEnd places least most sum → (bytes : List ℕ) (n : ℕ) (rest : List ℕ) → number_from places least most sum bytes ≡ Ok (n, rest) → (text : List ℕ) × IsNumberFrom places least most sum n text × (bytes ≡ text ++ rest)
 number_takes [] least most sum a c bytes n rest e =
-    let same = read_is sum n bytes rest e in
+    let same = ok_parts sum n bytes rest e in
     ([], record { least_is = omega (arith, same.0, c.high); most_is = omega (arith, same.0, c.low); rest = 0; parts = omega (arith, same.0); digits = (refl, refl) }, same.1)
 number_takes (place ∷ places) least most sum a c [] n rest e = absurd cc
 number_takes (place ∷ places) least most sum a c (byte ∷ bytes) n rest e =
     elim (true_or_false (fits place places least most sum byte)) [
       | inl t ↦ let u = in_range byte (sum + byte * place) (sum + byte * place + (place - 1)) least most t in
-          let k = number_takes places least most (sum + byte * place) a.1 (next_can_end place places least most sum byte a c u) bytes n rest (sym (cond_true (fits place places least most sum byte) (number_from places least most (sum + byte * place) bytes) (Err Broken) t) ∙ e) in
+          let k = number_takes places least most (sum + byte * place) a.1 (next_can_end place places least most sum byte a c u) bytes n rest (sym (cond_true (fits place places least most sum byte) (number_from places least most (sum + byte * place) bytes) (Err (Broken tt)) t) ∙ e) in
           (byte ∷ k.0, record { least_is = k.1.least_is; most_is = k.1.most_is; rest = byte * place + k.1.rest; parts = omega (arith, k.1.parts); digits = (u.0, k.1.rest, refl, k.1.digits) }, ap (λ b. byte ∷ b) k.2)
-      | inr f ↦ let broken = sym (cond_false (fits place places least most sum byte) (number_from places least most (sum + byte * place) bytes) (Err Broken) f) ∙ e in absurd cc
+      | inr f ↦ let broken = sym (cond_false (fits place places least most sum byte) (number_from places least most (sum + byte * place) bytes) (Err (Broken tt)) f) ∙ e in absurd cc
     ]
 
 number_short : (places : List ℕ) (least most sum : ℕ) → ArePlaces places → CanEnd places least most sum → (bytes : List ℕ) → number_from places least most sum bytes ≡ Err Short → (n : ℕ) × (more : List ℕ) × IsNumberFrom places least most sum n (bytes ++ more)
@@ -126,37 +127,37 @@ number_short (place ∷ places) least most sum a c [] e =
 number_short (place ∷ places) least most sum a c (byte ∷ bytes) e =
     elim (true_or_false (fits place places least most sum byte)) [
       | inl t ↦ let u = in_range byte (sum + byte * place) (sum + byte * place + (place - 1)) least most t in
-          let k = number_short places least most (sum + byte * place) a.1 (next_can_end place places least most sum byte a c u) bytes (sym (cond_true (fits place places least most sum byte) (number_from places least most (sum + byte * place) bytes) (Err Broken) t) ∙ e) in
+          let k = number_short places least most (sum + byte * place) a.1 (next_can_end place places least most sum byte a c u) bytes (sym (cond_true (fits place places least most sum byte) (number_from places least most (sum + byte * place) bytes) (Err (Broken tt)) t) ∙ e) in
           (k.0, k.1, record { least_is = k.2.least_is; most_is = k.2.most_is; rest = byte * place + k.2.rest; parts = omega (arith, k.2.parts); digits = (u.0, k.2.rest, refl, k.2.digits) })
-      | inr f ↦ let broken = sym (cond_false (fits place places least most sum byte) (number_from places least most (sum + byte * place) bytes) (Err Broken) f) ∙ e in absurd cc
+      | inr f ↦ let broken = sym (cond_false (fits place places least most sum byte) (number_from places least most (sum + byte * place) bytes) (Err (Broken tt)) f) ∙ e in absurd cc
     ]
 
-number_stays : (places : List ℕ) (least most sum : ℕ) (bytes more : List ℕ) → number_from places least most sum bytes ≡ Err Broken → number_from places least most sum (bytes ++ more) ≡ Err Broken
+number_stays : (places : List ℕ) (least most sum : ℕ) (bytes more : List ℕ) → number_from places least most sum bytes ≡ Err (Broken tt) → number_from places least most sum (bytes ++ more) ≡ Err (Broken tt)
 number_stays [] least most sum bytes more e = absurd cc
 number_stays (place ∷ places) least most sum [] more e = absurd cc
 number_stays (place ∷ places) least most sum (byte ∷ bytes) more e =
     elim (true_or_false (fits place places least most sum byte)) [
-      | inl t ↦ cond_true (fits place places least most sum byte) (number_from places least most (sum + byte * place) (bytes ++ more)) (Err Broken) t
-          ∙ number_stays places least most (sum + byte * place) bytes more (sym (cond_true (fits place places least most sum byte) (number_from places least most (sum + byte * place) bytes) (Err Broken) t) ∙ e)
-      | inr f ↦ cond_false (fits place places least most sum byte) (number_from places least most (sum + byte * place) (bytes ++ more)) (Err Broken) f
+      | inl t ↦ cond_true (fits place places least most sum byte) (number_from places least most (sum + byte * place) (bytes ++ more)) (Err (Broken tt)) t
+          ∙ number_stays places least most (sum + byte * place) bytes more (sym (cond_true (fits place places least most sum byte) (number_from places least most (sum + byte * place) bytes) (Err (Broken tt)) t) ∙ e)
+      | inr f ↦ cond_false (fits place places least most sum byte) (number_from places least most (sum + byte * place) (bytes ++ more)) (Err (Broken tt)) f
     ]
 
 -- what was read stays read, and each place takes a byte, whatever the bounds are
 pub number_grows : (places : List ℕ) (least most sum : ℕ) (bytes more : List ℕ) (n : ℕ) (rest : List ℕ) → number_from places least most sum bytes ≡ Ok (n, rest) → (number_from places least most sum (bytes ++ more) ≡ Ok (n, rest ++ more)) × (text : List ℕ) × (bytes ≡ text ++ rest) × (length text ≡ length places)
 number_grows [] least most sum bytes more n rest e =
-    let same = read_is sum n bytes rest e in
-    let done : ℕ → List ℕ → Read ℕ = λ m b. Ok (m, b) in
+    let same = ok_parts sum n bytes rest e in
+    let done : ℕ → List ℕ → Outcome ℕ = λ m b. Ok (m, b) in
     (ap (λ m. done m (bytes ++ more)) same.0 ∙ ap (λ b. done n (b ++ more)) same.1, [], same.1, refl)
 number_grows (place ∷ places) least most sum [] more n rest e = absurd cc
 number_grows (place ∷ places) least most sum (byte ∷ bytes) more n rest e =
     elim (true_or_false (fits place places least most sum byte)) [
-      | inl t ↦ let k = number_grows places least most (sum + byte * place) bytes more n rest (sym (cond_true (fits place places least most sum byte) (number_from places least most (sum + byte * place) bytes) (Err Broken) t) ∙ e) in (
-        cond_true (fits place places least most sum byte) (number_from places least most (sum + byte * place) (bytes ++ more)) (Err Broken) t ∙ k.0,
+      | inl t ↦ let k = number_grows places least most (sum + byte * place) bytes more n rest (sym (cond_true (fits place places least most sum byte) (number_from places least most (sum + byte * place) bytes) (Err (Broken tt)) t) ∙ e) in (
+        cond_true (fits place places least most sum byte) (number_from places least most (sum + byte * place) (bytes ++ more)) (Err (Broken tt)) t ∙ k.0,
         byte ∷ k.1,
         ap (λ b. byte ∷ b) k.2,
         ap suc k.3,
       )
-      | inr f ↦ let broken = sym (cond_false (fits place places least most sum byte) (number_from places least most (sum + byte * place) bytes) (Err Broken) f) ∙ e in absurd cc
+      | inr f ↦ let broken = sym (cond_false (fits place places least most sum byte) (number_from places least most (sum + byte * place) bytes) (Err (Broken tt)) f) ∙ e in absurd cc
     ]
 
 -- the end of bytes
@@ -178,7 +179,7 @@ number_waits (place ∷ next ∷ places) most sum a wide (byte ∷ bytes) are h 
     let low = share byte place (are 0) in
     let pos = span_pos places a.1.1 in
     let t = is_in_range byte (sum + byte * place) (sum + byte * place + (place - 1)) 0 most (are 0) (omega (arith, wide, low, pos, a.0, a.1.0)) (omega arith) in
-    cond_true (fits place (next ∷ places) 0 most sum byte) (number_from (next ∷ places) 0 most (sum + byte * place) bytes) (Err Broken) t
+    cond_true (fits place (next ∷ places) 0 most sum byte) (number_from (next ∷ places) 0 most (sum + byte * place) bytes) (Err (Broken tt)) t
     ∙ number_waits (next ∷ places) most (sum + byte * place) a.1 (omega (arith, wide, low, a.0)) bytes (λ i. are (suc i)) (omega (arith, h))
 
 -- Where no number of so many bytes is too high, and the least of them is no less than `least` by so many zeros, those bytes are only short.
@@ -192,11 +193,11 @@ number_waits_above (place ∷ places) least most sum a wide (byte ∷ bytes) are
     let more : least * 1 ≤ least * 256 ^ length bytes = mul-le least 1 least (256 ^ length bytes) (omega arith) (one-le-pow (length bytes) 256 (omega arith)) in
     let below : least * 256 ^ length bytes < place = omega (arith, low, scaled) in
     let t = is_in_range byte (sum + byte * place) (sum + byte * place + (place - 1)) least most (are 0) (omega (arith, wide, high, pos, a.0)) (omega (arith, more, below)) in
-    cond_true (fits place places least most sum byte) (number_from places least most (sum + byte * place) bytes) (Err Broken) t
+    cond_true (fits place places least most sum byte) (number_from places least most (sum + byte * place) bytes) (Err (Broken tt)) t
     ∙ number_waits_above places least most (sum + byte * place) a.1 (omega (arith, wide, high, a.0)) bytes (λ i. are (suc i)) (omega (arith, h)) (omega (arith, below, a.0))
 
 -- where the bound is not below any number of so many bytes, no byte breaks it
-pub number_unbroken : (places : List ℕ) (most sum : ℕ) → ArePlaces places → sum + span places ≤ most + 1 → (bytes : List ℕ) → IsBytes bytes → number_from places 0 most sum bytes ≡ Err Broken → ⊥
+pub number_unbroken : (places : List ℕ) (most sum : ℕ) → ArePlaces places → sum + span places ≤ most + 1 → (bytes : List ℕ) → IsBytes bytes → number_from places 0 most sum bytes ≡ Err (Broken tt) → ⊥
 number_unbroken [] most sum a wide bytes are e = absurd cc
 number_unbroken (place ∷ places) most sum a wide [] are e = absurd cc
 number_unbroken (place ∷ places) most sum a wide (byte ∷ bytes) are e =
@@ -204,7 +205,7 @@ number_unbroken (place ∷ places) most sum a wide (byte ∷ bytes) are e =
     let pos = span_pos places a.1 in
     let t = is_in_range byte (sum + byte * place) (sum + byte * place + (place - 1)) 0 most (are 0) (omega (arith, wide, low, pos, a.0)) (omega arith) in
     number_unbroken places most (sum + byte * place) a.1 (omega (arith, wide, low, a.0)) bytes (λ i. are (suc i))
-    (sym (cond_true (fits place places 0 most sum byte) (number_from places 0 most (sum + byte * place) bytes) (Err Broken) t) ∙ e)
+    (sym (cond_true (fits place places 0 most sum byte) (number_from places 0 most (sum + byte * place) bytes) (Err (Broken tt)) t) ∙ e)
 
 -- a number within the bounds
 pub record IsNumber (places : List ℕ) (least most n : ℕ) (text : List ℕ) : Type 0 where
@@ -301,7 +302,7 @@ run_takes count bytes run rest e =
       | inl t ↦ let no_run = sym (cond_true (ltb (length bytes) count) (Err Short) (Ok (take count bytes, drop count bytes)) t) ∙ e in absurd cc
       | inr f ↦ let is = sym (cond_false (ltb (length bytes) count) (Err Short) (Ok (take count bytes, drop count bytes)) f) ∙ e in
           let long : count ≤ length bytes = ltb-false _ _ f in
-          let same = read_is (take count bytes) run (drop count bytes) rest is in
+          let same = ok_parts (take count bytes) run (drop count bytes) rest is in
           (run, (omega (arith, ap length same.0, length-take count bytes), refl), rw (← same.0, ← same.1) (sym (take-append-drop count bytes)))
     ]
 
@@ -318,7 +319,7 @@ run_short count bytes e =
       | inr f ↦ let is = sym (cond_false (ltb (length bytes) count) (Err Short) (Ok (take count bytes, drop count bytes)) f) ∙ e in absurd cc
     ]
 
-run_unbroken : (count : ℕ) (bytes : List ℕ) → bytes_at count bytes ≡ Err Broken → ⊥
+run_unbroken : (count : ℕ) (bytes : List ℕ) → bytes_at count bytes ≡ Err (Broken tt) → ⊥
 run_unbroken count bytes e =
     elim (true_or_false (ltb (length bytes) count)) [
       | inl t ↦ let is = sym (cond_true (ltb (length bytes) count) (Err Short) (Ok (take count bytes, drop count bytes)) t) ∙ e in absurd cc

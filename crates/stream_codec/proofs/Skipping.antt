@@ -5,12 +5,14 @@ use Rattle.std.proofs.lemmas.List.{take-append-drop, drop-append-le, drop_at, ap
 use Rattle.kv_types.specs.declared.change.Change.{Change}
 use Rattle.kv_types.specs.Change.{change_text}
 use Rattle.kv_types.proofs.ChangeTextLemmas.{change_text_nonempty}
-use Rattle.stream_codec.specs.declared.reading.Stop.{Stop}
-use Rattle.stream_codec.specs.declared.reading.Stop.TheVariants.{Short, Broken}
+use Rattle.kv_types.specs.declared.stop.Stop.{Stop}
+use Rattle.kv_types.specs.declared.stop.Stop.TheVariants.{Short, Broken}
+use Rattle.kv_types.specs.Reader.{◌>>=◌, skipped}
+use Rattle.kv_types.proofs.ReaderLemmas.{bind_ok, ok_parts}
 use Rattle.stream_codec.specs.declared.head.Head.TheVariants as head
 use Rattle.frames.specs.declared.ack.Ack.{Ack}
 use Rattle.stream_codec.specs.Message.{Sent, Changes, Acknowledged, IsChange, sent_of}
-use Rattle.stream_codec.specs.Bytes.{Read, IsBytes, ◌>>=◌}
+use Rattle.stream_codec.specs.Bytes.{Outcome, IsBytes}
 use Rattle.stream_codec.specs.Reading.{change_at, changes_at, head_at, body_at, message_at}
 use Rattle.std.specs.Prelude.{option_map}
 use Rattle.std.specs.Option.{IsSome}
@@ -18,10 +20,10 @@ use Rattle.stream_codec.specs.declared.message.Message.{Message}
 use Rattle.stream_codec.specs.declared.scan.Progress.{Progress}
 use Rattle.stream_codec.specs.declared.step.Next.{Next}
 use Rattle.stream_codec.specs.declared.step.Next.TheVariants as next
-use Rattle.stream_codec.specs.Stepping.{skipped, is_more, end_from}
+use Rattle.stream_codec.specs.Stepping.{is_more, end_from}
 use Rattle.stream_codec.specs.Scanning.{with_front, IsEnd, Waits, EndsAlike, IsAt, IsTaken, sent_of_all}
 use Rattle.stream_codec.specs.Stream.{with_first, stream_at}
-use Rattle.stream_codec.proofs.Readers.{bind_ok, read_is, grows}
+use Rattle.stream_codec.proofs.Readers.{grows}
 use Rattle.stream_codec.proofs.Numbers.{IsBytes-append}
 use Rattle.stream_codec.proofs.Streams.{behind, stream_at-read, stream_at-short}
 use Rattle.stream_codec.proofs.Bodies.{changes_at-step, changes_at-stop, changes_at-none}
@@ -29,15 +31,15 @@ use Rattle.stream_codec.proofs.Changes.{IsChangeWithin, change_reads}
 
 -- ---- what is skipped
 
-pub skipped_map : {A B : Type 0} (r : Read A) (f : A → B) → skipped (r >>= λ x. Ok (f x.0, x.1)) ≡ skipped r
+pub skipped_map : {A B : Type 0} (r : Outcome A) (f : A → B) → skipped (r >>= λ x. Ok (f x.0, x.1)) ≡ skipped r
 skipped_map (Ok x) f = refl
 skipped_map (Err stop) f = refl
 
-pub skipped_err : {A : Type 0} (r : Read A) (stop : Stop) → skipped r ≡ Err stop → r ≡ Err stop
+pub skipped_err : {A : Type 0} (r : Outcome A) (stop : Stop Unit) → skipped r ≡ Err stop → r ≡ Err stop
 skipped_err (Ok x) stop e = absurd cc
 skipped_err (Err other) stop e = cc
 
-pub skipped_ok : {A : Type 0} (r : Read A) (rest : List ℕ) → skipped r ≡ Ok rest → (x : A) × (r ≡ Ok (x, rest))
+pub skipped_ok : {A : Type 0} (r : Outcome A) (rest : List ℕ) → skipped r ≡ Ok rest → (x : A) × (r ≡ Ok (x, rest))
 skipped_ok (Ok x) rest e = let same : x.1 ≡ rest = cc in (x.0, ap (λ s. Ok (x.0, s)) same)
 skipped_ok (Err stop) rest e = absurd cc
 
@@ -71,7 +73,7 @@ passed_size left rest c after h e more =
     ∙ ap (λ n. skipped (changes_at (left - n) (after ++ more))) (sym size)
 
 -- the changes read so far and those that are left
-regrouped : (front : List Change) (c : Change) (r : Read (List Change)) → with_front front (r >>= λ others. Ok (c ∷ others.0, others.1)) ≡ with_front (front ++ c ∷ []) r
+regrouped : (front : List Change) (c : Change) (r : Outcome (List Change)) → with_front front (r >>= λ others. Ok (c ∷ others.0, others.1)) ≡ with_front (front ++ c ∷ []) r
 regrouped front c (Ok others) = ap (λ all. Ok (all, others.1)) (sym (append_assoc front (c ∷ []) others.0))
 regrouped front c (Err stop) = refl
 
@@ -92,7 +94,7 @@ pub group_read : (bytes : List ℕ) (epoch before after size : ℕ) (rest : List
 unfolding message_at
 group_read bytes epoch before after size rest e = ap (λ r. r >>= λ h. body_at h.0 h.1) e
 
-pub head_stops : (bytes : List ℕ) (stop : Stop) → head_at bytes ≡ Err stop → message_at bytes ≡ Err stop
+pub head_stops : (bytes : List ℕ) (stop : Stop Unit) → head_at bytes ≡ Err stop → message_at bytes ≡ Err stop
 unfolding message_at
 head_stops bytes stop e = ap (λ r. r >>= λ h. body_at h.0 h.1) e
 
@@ -102,7 +104,7 @@ head_stops bytes stop e = ap (λ r. r >>= λ h. body_at h.0 h.1) e
 pub EndsAlike-now : (a : Next) (x : List ℕ) (b : Next) (y : List ℕ) → EndsAlike a x b y → end_from a x ≡ end_from b y
 EndsAlike-now a x b y p = ap (end_from a) (sym (append-nil x)) ∙ p [] ∙ ap (end_from b) (append-nil y)
 
-pub stopped_after : (a : Next) (x : List ℕ) (b : Next) (y : List ℕ) (stop : Stop) → EndsAlike a x b y → end_from b y ≡ Err stop → end_from a x ≡ Err stop
+pub stopped_after : (a : Next) (x : List ℕ) (b : Next) (y : List ℕ) (stop : Stop Unit) → EndsAlike a x b y → end_from b y ≡ Err stop → end_from a x ≡ Err stop
 stopped_after a x b y stop p e = EndsAlike-now a x b y p ∙ e
 
 ended : (next : Next) (bytes : List ℕ) → is_more next ≡ false → end_from next bytes ≡ Ok bytes
@@ -137,8 +139,8 @@ look_begun bytes progress body next rest wanted missing i is alike end short wai
       },
     )
 
-pub look_broken : (bytes : List ℕ) (progress : Progress) (body : List ℕ) → IsAt bytes progress → body ≡ drop progress.at bytes → end_from progress.next body ≡ Err Broken → message_at bytes ≡ Err Broken
-look_broken bytes progress body i is e = skipped_err (message_at bytes) Broken (from_place bytes progress i ∙ ap (end_from progress.next) (sym is) ∙ e)
+pub look_broken : (bytes : List ℕ) (progress : Progress) (body : List ℕ) → IsAt bytes progress → body ≡ drop progress.at bytes → end_from progress.next body ≡ Err (Broken tt) → message_at bytes ≡ Err (Broken tt)
+look_broken bytes progress body i is e = skipped_err (message_at bytes) (Broken tt) (from_place bytes progress i ∙ ap (end_from progress.next) (sym is) ∙ e)
 
 -- a place stays what it is when bytes come
 still_at : (bytes piece : List ℕ) (progress : Progress) → IsAt bytes progress → IsBytes piece → IsAt (bytes ++ piece) progress
@@ -173,14 +175,14 @@ at_start bytes = record { within = omega arith; same = λ more. refl; waits = λ
 
 pub found_group : (bytes : List ℕ) (epoch before after size : ℕ) (rest : List ℕ) (items : List Change) → head_at bytes ≡ Ok (head.Group epoch before after size, rest) → ((changes : List Change) (r : List ℕ) → changes_at size rest ≡ Ok (changes, r) → items ≡ changes) → (m : Sent) (r : List ℕ) → message_at bytes ≡ Ok (m, r) → Some (Changes epoch before after items) ≡ Some m
 found_group bytes epoch before after size rest items e same m r f =
-    let k = bind_ok (changes_at size rest) (λ changes. Ok (Changes epoch before after changes.0, changes.1)) (m, r) (sym (group_read bytes epoch before after size rest e) ∙ f) in
-    let is = read_is (Changes epoch before after k.0.0) m k.0.1 r k.2 in
+    let k = bind_ok (λ changes. Ok (Changes epoch before after changes.0, changes.1)) (changes_at size rest) (m, r) (sym (group_read bytes epoch before after size rest e) ∙ f) in
+    let is = ok_parts (Changes epoch before after k.0.0) m k.0.1 r k.2 in
     ap (λ cs. Some (Changes epoch before after cs)) (same k.0.0 k.0.1 k.1) ∙ ap Some is.0
 
 pub found_ack : (bytes : List ℕ) (ack : Ack) (rest : List ℕ) → head_at bytes ≡ Ok (head.Ack ack, rest) → (m : Sent) (r : List ℕ) → message_at bytes ≡ Ok (m, r) → Some (Acknowledged ack.epoch ack.position) ≡ Some m
-found_ack bytes ack rest e m r f = ap Some (read_is (Acknowledged ack.epoch ack.position) m rest r (sym (ack_ends bytes ack rest e) ∙ f)).0
+found_ack bytes ack rest e m r f = ap Some (ok_parts (Acknowledged ack.epoch ack.position) m rest r (sym (ack_ends bytes ack rest e) ∙ f)).0
 
-pub found_none : (bytes : List ℕ) (stop : Stop) → head_at bytes ≡ Err stop → (m : Sent) (r : List ℕ) → message_at bytes ≡ Ok (m, r) → ⊥
+pub found_none : (bytes : List ℕ) (stop : Stop Unit) → head_at bytes ≡ Err stop → (m : Sent) (r : List ℕ) → message_at bytes ≡ Ok (m, r) → ⊥
 found_none bytes stop e m r f = let bad = head_stops bytes stop e in absurd cc
 
 -- ---- many frames
@@ -212,9 +214,9 @@ pub all_read : (a : ℕ) (x : List ℕ) (b : ℕ) (y : List ℕ) (front : List C
 all_read a x b y front p h changes rest e =
     let none : b ≡ 0 = omega (arith, h) in
     let is = p ∙ ap (λ n. with_front front (changes_at n y)) none ∙ ap (with_front front) (changes_at-none y) in
-    sym (append-nil front) ∙ (read_is (front ++ []) changes y rest (sym is ∙ e)).0
+    sym (append-nil front) ∙ (ok_parts (front ++ []) changes y rest (sym is ∙ e)).0
 
-pub cut_short : (a : ℕ) (x : List ℕ) (b : ℕ) (y : List ℕ) (front : List Change) (stop : Stop) → changes_at a x ≡ with_front front (changes_at b y) → 0 < b → change_at b y ≡ Err stop → (changes : List Change) (rest : List ℕ) → changes_at a x ≡ Ok (changes, rest) → front ≡ changes
+pub cut_short : (a : ℕ) (x : List ℕ) (b : ℕ) (y : List ℕ) (front : List Change) (stop : Stop Unit) → changes_at a x ≡ with_front front (changes_at b y) → 0 < b → change_at b y ≡ Err stop → (changes : List Change) (rest : List ℕ) → changes_at a x ≡ Ok (changes, rest) → front ≡ changes
 cut_short a x b y front stop p h e changes rest f =
     let is = p ∙ ap (with_front front) (changes_at-stop b y stop h e) in
     absurd cc

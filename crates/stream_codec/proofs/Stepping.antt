@@ -2,7 +2,9 @@
 use Rattle.std.proofs.Common.{◌≡◌, ℕ, ◌+◌, ◌-◌, ◌^◌, ◌<◌, true, List, [], ◌++◌, length, Result, Ok, Err, inl, inr, refl, sym, ap, ◌∙◌, arith}
 use Rattle.std.proofs.lemmas.Bool.Decides.{nat_tests}
 use Rattle.std.proofs.lemmas.List.{length-append}
-use Rattle.stream_codec.specs.declared.reading.Stop.{Stop}
+use Rattle.kv_types.specs.declared.stop.Stop.{Stop}
+use Rattle.kv_types.specs.Reader.{◌>>=◌, skipped}
+use Rattle.kv_types.proofs.ReaderLemmas.{bind_ok, bind_err, ok_parts}
 use Rattle.stream_codec.specs.declared.message.TheConstants.{MAX_BODY_BYTES}
 use Rattle.stream_codec.specs.declared.head.HeadKind.{HeadKind}
 use Rattle.stream_codec.specs.declared.head.HeadKind.TheVariants as head_kind
@@ -11,11 +13,11 @@ use Rattle.stream_codec.specs.declared.head.Head.TheVariants as head
 use Rattle.stream_codec.specs.declared.step.Next.{Next}
 use Rattle.stream_codec.specs.declared.step.Next.TheVariants as next
 use Rattle.stream_codec.specs.Message.{Changes}
-use Rattle.stream_codec.specs.Bytes.{Read, ◌>>=◌, eight_places}
+use Rattle.stream_codec.specs.Bytes.{Outcome, eight_places}
 use Rattle.stream_codec.specs.Reading.{change_at, changes_at, head_kind_at, long_at, head_of, head_at, body_at, message_at}
-use Rattle.stream_codec.specs.Stepping.{is_more, IsMore, first_of, step_of, skipped, size_end, after_end, before_end, position_end, end_from}
+use Rattle.stream_codec.specs.Stepping.{is_more, IsMore, first_of, step_of, size_end, after_end, before_end, position_end, end_from}
 use Rattle.stream_codec.specs.Scanning.{IsEnd, EndsAlike}
-use Rattle.stream_codec.proofs.Readers.{bind_ok, bind_err, read_is, grows}
+use Rattle.stream_codec.proofs.Readers.{grows}
 use Rattle.stream_codec.proofs.Numbers.{number_grows}
 use Rattle.stream_codec.proofs.Heads.{IsByte, byte_reads, size_at, after_at, before_at}
 use Rattle.stream_codec.proofs.Bodies.{changes_at-stop, changes_at-none}
@@ -23,36 +25,36 @@ use Rattle.stream_codec.proofs.Skipping.{skipped_map, taken_size, passed_size}
 
 -- ---- where the numbers of a message leave off
 
-abbrev group_of : ℕ → ℕ → ℕ → ℕ × List ℕ → Read Head
+abbrev group_of : ℕ → ℕ → ℕ → ℕ × List ℕ → Outcome Head
 group_of epoch before after size = Ok (head.Group epoch before after size.0, size.1)
 
-abbrev ack_of : ℕ → ℕ × List ℕ → Read Head
+abbrev ack_of : ℕ → ℕ × List ℕ → Outcome Head
 ack_of epoch position = Ok (head.Ack (record { epoch = epoch; position = position.0 }), position.1)
 
-abbrev body_end : Read Head → Result (List ℕ) Stop
+abbrev body_end : Outcome Head → Result (List ℕ) (Stop Unit)
 body_end r = skipped (r >>= λ h. body_at h.0 h.1)
 
-size_from : (epoch before after : ℕ) (r : Read ℕ) → body_end (r >>= group_of epoch before after) ≡ (r >>= λ size. skipped (changes_at size.0 size.1))
+size_from : (epoch before after : ℕ) (r : Outcome ℕ) → body_end (r >>= group_of epoch before after) ≡ (r >>= λ size. skipped (changes_at size.0 size.1))
 size_from epoch before after (Ok size) = skipped_map (changes_at size.0 size.1) (λ changes. Changes epoch before after changes)
 size_from epoch before after (Err stop) = refl
 
-after_from : (epoch before : ℕ) (r : Read ℕ) → body_end (r >>= λ after. size_at epoch before after.0 after.1) ≡ (r >>= λ after. size_end after.1)
+after_from : (epoch before : ℕ) (r : Outcome ℕ) → body_end (r >>= λ after. size_at epoch before after.0 after.1) ≡ (r >>= λ after. size_end after.1)
 after_from epoch before (Ok after) = size_from epoch before after.0 (long_at 0 MAX_BODY_BYTES after.1)
 after_from epoch before (Err stop) = refl
 
-before_from : (epoch : ℕ) (r : Read ℕ) → body_end (r >>= λ before. after_at epoch before.0 before.1) ≡ (r >>= λ before. after_end (before.0 + 1) before.1)
+before_from : (epoch : ℕ) (r : Outcome ℕ) → body_end (r >>= λ before. after_at epoch before.0 before.1) ≡ (r >>= λ before. after_end (before.0 + 1) before.1)
 before_from epoch (Ok before) = after_from epoch before.0 (long_at (before.0 + 1) (2 ^ 64 - 1) before.1)
 before_from epoch (Err stop) = refl
 
-epoch_from : (r : Read ℕ) → body_end (r >>= λ epoch. before_at epoch.0 epoch.1) ≡ (r >>= λ epoch. before_end epoch.1)
+epoch_from : (r : Outcome ℕ) → body_end (r >>= λ epoch. before_at epoch.0 epoch.1) ≡ (r >>= λ epoch. before_end epoch.1)
 epoch_from (Ok epoch) = before_from epoch.0 (long_at 0 (2 ^ 64 - 2) epoch.1)
 epoch_from (Err stop) = refl
 
-position_from : (epoch : ℕ) (r : Read ℕ) → body_end (r >>= ack_of epoch) ≡ skipped r
+position_from : (epoch : ℕ) (r : Outcome ℕ) → body_end (r >>= ack_of epoch) ≡ skipped r
 position_from epoch (Ok position) = refl
 position_from epoch (Err stop) = refl
 
-ack_from : (r : Read ℕ) → body_end (r >>= λ epoch. long_at 0 (2 ^ 64 - 1) epoch.1 >>= ack_of epoch.0) ≡ (r >>= λ epoch. position_end epoch.1)
+ack_from : (r : Outcome ℕ) → body_end (r >>= λ epoch. long_at 0 (2 ^ 64 - 1) epoch.1 >>= ack_of epoch.0) ≡ (r >>= λ epoch. position_end epoch.1)
 ack_from (Ok epoch) = position_from epoch.0 (long_at 0 (2 ^ 64 - 1) epoch.1)
 ack_from (Err stop) = refl
 
@@ -64,7 +66,7 @@ behind_kind : (bytes : List ℕ) (kind : HeadKind) (rest : List ℕ) → head_ki
 unfolding message_at head_at
 behind_kind bytes kind rest e = ap (λ r. skipped ((r >>= λ k. head_of k.0 k.1) >>= λ h. body_at h.0 h.1)) e ∙ kind_from kind rest
 
-kind_stops : (bytes : List ℕ) (stop : Stop) → head_kind_at bytes ≡ Err stop → skipped (message_at bytes) ≡ Err stop
+kind_stops : (bytes : List ℕ) (stop : Stop Unit) → head_kind_at bytes ≡ Err stop → skipped (message_at bytes) ≡ Err stop
 unfolding message_at head_at
 kind_stops bytes stop e = ap (λ r. skipped ((r >>= λ k. head_of k.0 k.1) >>= λ h. body_at h.0 h.1)) e
 
@@ -80,13 +82,13 @@ pub record Leads (first : Next) (bytes : List ℕ) (later : Next) (rest : List �
   pub end : IsEnd bytes rest
   pub shorter : length rest < length bytes
 
-abbrev followed : (ℕ → Next) → ℕ × List ℕ → Read Next
+abbrev followed : (ℕ → Next) → ℕ × List ℕ → Outcome Next
 followed later n = Ok (later n.0, n.1)
 
-long_leads : (first : Next) (least most : ℕ) (f : ℕ × List ℕ → Result (List ℕ) Stop) (later : ℕ → Next) → ((bytes : List ℕ) → end_from first bytes ≡ (long_at least most bytes >>= f)) → ((n : ℕ) (bytes : List ℕ) → f (n, bytes) ≡ end_from (later n) bytes) → (bytes : List ℕ) (x : Next) (rest : List ℕ) → (long_at least most bytes >>= followed later) ≡ Ok (x, rest) → Leads first bytes x rest
+long_leads : (first : Next) (least most : ℕ) (f : ℕ × List ℕ → Result (List ℕ) (Stop Unit)) (later : ℕ → Next) → ((bytes : List ℕ) → end_from first bytes ≡ (long_at least most bytes >>= f)) → ((n : ℕ) (bytes : List ℕ) → f (n, bytes) ≡ end_from (later n) bytes) → (bytes : List ℕ) (x : Next) (rest : List ℕ) → (long_at least most bytes >>= followed later) ≡ Ok (x, rest) → Leads first bytes x rest
 long_leads first least most f later is then_is bytes x rest e =
-    let k = bind_ok (long_at least most bytes) (followed later) (x, rest) e in
-    let same = read_is (later k.0.0) x k.0.1 rest k.2 in
+    let k = bind_ok (followed later) (long_at least most bytes) (x, rest) e in
+    let same = ok_parts (later k.0.0) x k.0.1 rest k.2 in
     let t = number_grows eight_places least most 0 bytes [] k.0.0 k.0.1 k.1 in
     record {
       alike = λ more.
@@ -99,8 +101,8 @@ long_leads first least most f later is then_is bytes x rest e =
 
 kind_leads : (bytes : List ℕ) (x : Next) (rest : List ℕ) → step_of next.Kind bytes ≡ Ok (x, rest) → Leads next.Kind bytes x rest
 kind_leads bytes x rest e =
-    let k = bind_ok (head_kind_at bytes) (λ kind. Ok (first_of kind.0, kind.1)) (x, rest) e in
-    let same = read_is (first_of k.0.0) x k.0.1 rest k.2 in
+    let k = bind_ok (λ kind. Ok (first_of kind.0, kind.1)) (head_kind_at bytes) (x, rest) e in
+    let same = ok_parts (first_of k.0.0) x k.0.1 rest k.2 in
     let t = byte_reads.takes bytes k.0.0 k.0.1 k.1 in
     record {
       alike = λ more.
@@ -112,8 +114,8 @@ kind_leads bytes x rest e =
 
 change_leads : (left : ℕ) → 0 < left → (bytes : List ℕ) (x : Next) (rest : List ℕ) → step_of (next.Changes left) bytes ≡ Ok (x, rest) → Leads (next.Changes left) bytes x rest
 change_leads left h bytes x rest e =
-    let k = bind_ok (change_at left bytes) (λ change. Ok (next.Changes (left - (length bytes - length change.1)), change.1)) (x, rest) e in
-    let same = read_is (next.Changes (left - (length bytes - length k.0.1))) x k.0.1 rest k.2 in
+    let k = bind_ok (λ change. Ok (next.Changes (left - (length bytes - length change.1)), change.1)) (change_at left bytes) (x, rest) e in
+    let same = ok_parts (next.Changes (left - (length bytes - length k.0.1))) x k.0.1 rest k.2 in
     let t = taken_size left bytes k.0.0 k.0.1 h k.1 in
     record {
       alike = λ more.
@@ -134,13 +136,13 @@ step_leads next.AckPosition h bytes x rest e = long_leads next.AckPosition 0 (2 
 step_leads (next.Changes left) h bytes x rest e = change_leads left h bytes x rest e
 
 -- what stops a step stops the frame
-stops : {A B : Type 0} (r : Read A) (g : A × List ℕ → Read B) (f : A × List ℕ → Result (List ℕ) Stop) (stop : Stop) → ((x : A × List ℕ) → g x ≡ Err stop → ⊥) → (r >>= g) ≡ Err stop → (r >>= f) ≡ Err stop
+stops : {A B : Type 0} (r : Outcome A) (g : A × List ℕ → Outcome B) (f : A × List ℕ → Result (List ℕ) (Stop Unit)) (stop : Stop Unit) → ((x : A × List ℕ) → g x ≡ Err stop → ⊥) → (r >>= g) ≡ Err stop → (r >>= f) ≡ Err stop
 stops (Ok x) g f stop never e = absurd (never x e)
 stops (Err other) g f stop never e = cc
 
-pub step_stops : (first : Next) → IsMore first → (bytes : List ℕ) (stop : Stop) → step_of first bytes ≡ Err stop → end_from first bytes ≡ Err stop
+pub step_stops : (first : Next) → IsMore first → (bytes : List ℕ) (stop : Stop Unit) → step_of first bytes ≡ Err stop → end_from first bytes ≡ Err stop
 step_stops next.Kind h bytes stop e =
-    elim (bind_err (head_kind_at bytes) (λ kind. Ok (first_of kind.0, kind.1)) stop e) [
+    elim (bind_err (λ kind. Ok (first_of kind.0, kind.1)) (head_kind_at bytes) stop e) [
       | inl p ↦ kind_stops bytes stop p
       | inr k ↦ let bad = k.2 in absurd cc
     ]
@@ -151,7 +153,7 @@ step_stops next.Size h bytes stop e = stops (long_at 0 MAX_BODY_BYTES bytes) (λ
 step_stops next.AckEpoch h bytes stop e = stops (long_at 0 (2 ^ 64 - 1) bytes) (λ n. Ok (next.AckPosition, n.1)) (λ n. position_end n.1) stop (λ x bad. absurd cc) e
 step_stops next.AckPosition h bytes stop e = stops (long_at 0 (2 ^ 64 - 1) bytes) (λ n. Ok (next.Changes 0, n.1)) (λ n. Ok n.1) stop (λ x bad. absurd cc) e
 step_stops (next.Changes left) h bytes stop e =
-    elim (bind_err (change_at left bytes) (λ change. Ok (next.Changes (left - (length bytes - length change.1)), change.1)) stop e) [
+    elim (bind_err (λ change. Ok (next.Changes (left - (length bytes - length change.1)), change.1)) (change_at left bytes) stop e) [
       | inl p ↦ ap skipped (changes_at-stop left bytes stop h p)
       | inr k ↦ let bad = k.2 in absurd cc
     ]

@@ -1,13 +1,14 @@
 -- Streams of messages, as they come in pieces.
-use Rattle.std.proofs.Common.{◌≡◌, ℕ, zero, suc, ◌<◌, ◌≤◌, List, [], ◌∷◌, ◌++◌, length, Option, None, Some, Result, Ok, Err, refl, sym, ap, subst, ◌∙◌, arith}
+use Rattle.std.proofs.Common.{◌≡◌, ℕ, zero, suc, ◌<◌, ◌≤◌, List, [], ◌∷◌, ◌++◌, length, Option, None, Some, Ok, Err, refl, sym, ap, subst, ◌∙◌, arith}
 use Rattle.std.specs.List.{flat_map, AllByRecursion}
 use Rattle.std.proofs.lemmas.List.{append_assoc, append-nil}
-use Rattle.stream_codec.specs.declared.reading.Stop.{Stop}
-use Rattle.stream_codec.specs.declared.reading.Stop.TheVariants.{Short, Broken}
+use Rattle.kv_types.specs.declared.stop.Stop.TheVariants.{Short, Broken}
+use Rattle.kv_types.proofs.ReaderLemmas.{ok_parts}
+use Rattle.stream_codec.specs.Bytes.{Outcome}
 use Rattle.stream_codec.specs.Message.{Sent, IsSent, sent_text}
 use Rattle.stream_codec.specs.Reading.{message_at}
 use Rattle.stream_codec.specs.Stream.{Stream, with_first, stream_from, stream_within, stream_at, IsBegun, IsFault, EndsWith, IsStream, fed, Reaches, begun, took}
-use Rattle.stream_codec.proofs.Readers.{read_is, grows}
+use Rattle.stream_codec.proofs.Readers.{grows}
 use Rattle.stream_codec.proofs.Messages.{IsMessage, message_reads, message_at-nothing, message_shorter}
 
 -- ---- steps
@@ -20,10 +21,10 @@ nothing_within zero = refl
 nothing_within (suc most) = from_nothing (stream_within most)
 
 -- two ways to go on that agree on shorter bytes
-from_same : (f g : List ℕ → Stream) (bytes : List ℕ) (r : Result (Sent × List ℕ) Stop) → message_at bytes ≡ r → ((rest : List ℕ) → length rest < length bytes → f rest ≡ g rest) → stream_from f bytes r ≡ stream_from g bytes r
+from_same : (f g : List ℕ → Stream) (bytes : List ℕ) (r : Outcome Sent) → message_at bytes ≡ r → ((rest : List ℕ) → length rest < length bytes → f rest ≡ g rest) → stream_from f bytes r ≡ stream_from g bytes r
 from_same f g bytes (Ok message) e h = ap (with_first message.0) (h message.1 (message_shorter bytes message.0 message.1 e))
 from_same f g bytes (Err Short) e h = refl
-from_same f g bytes (Err Broken) e h = refl
+from_same f g bytes (Err (Broken fault)) e h = refl
 
 within_same : (n m : ℕ) (bytes : List ℕ) → length bytes ≤ n → length bytes ≤ m → stream_within n bytes ≡ stream_within m bytes
 within_same n m [] h k = nothing_within n ∙ sym (nothing_within m)
@@ -46,7 +47,7 @@ stream_at-read bytes m rest e = stream_at-step bytes ∙ ap (stream_from stream_
 pub stream_at-short : (bytes : List ℕ) → message_at bytes ≡ Err Short → stream_at bytes ≡ record { messages = []; unread = Some bytes }
 stream_at-short bytes e = stream_at-step bytes ∙ ap (stream_from stream_at bytes) e
 
-pub stream_at-broken : (bytes : List ℕ) → message_at bytes ≡ Err Broken → stream_at bytes ≡ record { messages = []; unread = None }
+pub stream_at-broken : (bytes : List ℕ) → message_at bytes ≡ Err (Broken tt) → stream_at bytes ≡ record { messages = []; unread = None }
 stream_at-broken bytes e = stream_at-step bytes ∙ ap (stream_from stream_at bytes) e
 
 -- ---- more bytes
@@ -58,14 +59,14 @@ behind messages stream = record { messages = messages ++ stream.messages; unread
 abbrev grown : List ℕ → Stream → Stream
 grown more stream = behind stream.messages (fed stream.unread more)
 
-grows_within : (most : ℕ) (bytes more : List ℕ) → length bytes ≤ most → (r : Result (Sent × List ℕ) Stop) → message_at bytes ≡ r → stream_at (bytes ++ more) ≡ grown more (stream_at bytes)
+grows_within : (most : ℕ) (bytes more : List ℕ) → length bytes ≤ most → (r : Outcome Sent) → message_at bytes ≡ r → stream_at (bytes ++ more) ≡ grown more (stream_at bytes)
 grows_within zero bytes more h (Ok message) e = absurd (omega (arith, h, message_shorter bytes message.0 message.1 e))
 grows_within (suc most) bytes more h (Ok message) e =
     stream_at-read (bytes ++ more) message.0 (message.1 ++ more) (grows message_at IsMessage message_reads bytes more message.0 message.1 e)
     ∙ ap (with_first message.0) (grows_within most message.1 more (omega (arith, h, message_shorter bytes message.0 message.1 e)) (message_at message.1) refl)
     ∙ ap (grown more) (sym (stream_at-read bytes message.0 message.1 e))
 grows_within most bytes more h (Err Short) e = ap (grown more) (sym (stream_at-short bytes e))
-grows_within most bytes more h (Err Broken) e =
+grows_within most bytes more h (Err (Broken fault)) e =
     stream_at-broken (bytes ++ more) (message_reads.stays bytes more e) ∙ ap (grown more) (sym (stream_at-broken bytes e))
 
 pub stream_grows : (bytes more : List ℕ) → stream_at (bytes ++ more) ≡ behind (stream_at bytes).messages (fed (stream_at bytes).unread more)
@@ -82,7 +83,7 @@ pub one_spelling : (a b : Sent) (x y : List ℕ) → IsSent a → IsSent b → s
 one_spelling a b x y p q e =
     let first = message_reads.again a (sent_text a) x (record { sent = p; text_is = refl }) in
     let second = message_reads.again b (sent_text b) y (record { sent = q; text_is = refl }) in
-    read_is a b x y (sym first ∙ ap message_at e ∙ second)
+    ok_parts a b x y (sym first ∙ ap message_at e ∙ second)
 
 begun_of : (bytes : List ℕ) (m : Sent) (more : List ℕ) → message_at bytes ≡ Err Short → IsMessage m (bytes ++ more) → IsBegun bytes
 begun_of bytes m [] e i =
@@ -93,13 +94,13 @@ begun_of bytes m (byte ∷ more) e i = record { message = m; byte = byte; rest =
 begins : (bytes : List ℕ) → message_at bytes ≡ Err Short → IsBegun bytes
 begins bytes e = let s = message_reads.short bytes e in begun_of bytes s.0 s.1 e s.2
 
-faults : (bytes : List ℕ) → message_at bytes ≡ Err Broken → IsFault bytes
+faults : (bytes : List ℕ) → message_at bytes ≡ Err (Broken tt) → IsFault bytes
 faults bytes e more m rest sent same =
     let bad = message_reads.stays bytes more e in
     let good = ap message_at same ∙ message_reads.again m (sent_text m) rest (record { sent = sent; text_is = refl }) in
     absurd cc
 
-is_stream_within : (most : ℕ) (text : List ℕ) → length text ≤ most → (r : Result (Sent × List ℕ) Stop) → message_at text ≡ r → IsStream text (stream_at text).messages (stream_at text).unread
+is_stream_within : (most : ℕ) (text : List ℕ) → length text ≤ most → (r : Outcome Sent) → message_at text ≡ r → IsStream text (stream_at text).messages (stream_at text).unread
 is_stream_within zero text h (Ok message) e = absurd (omega (arith, h, message_shorter text message.0 message.1 e))
 is_stream_within (suc most) text h (Ok message) e =
     let i = is_stream_within most message.1 (omega (arith, h, message_shorter text message.0 message.1 e)) (message_at message.1) refl in
@@ -112,7 +113,7 @@ is_stream_within (suc most) text h (Ok message) e =
     })
 is_stream_within most text h (Err Short) e =
     subst (λ s. IsStream text s.messages s.unread) (sym (stream_at-short text e)) (record { rest = text; split = refl; each = tt; ends = (refl, begins text e) })
-is_stream_within most text h (Err Broken) e =
+is_stream_within most text h (Err (Broken fault)) e =
     subst (λ s. IsStream text s.messages s.unread) (sym (stream_at-broken text e)) (record { rest = text; split = refl; each = tt; ends = faults text e })
 
 pub is_stream : (text : List ℕ) → IsStream text (stream_at text).messages (stream_at text).unread
@@ -124,29 +125,29 @@ append_cons_not_nil : (bytes : List ℕ) (byte : ℕ) (rest : List ℕ) → byte
 append_cons_not_nil [] byte rest e = absurd cc
 append_cons_not_nil (b ∷ bytes) byte rest e = absurd cc
 
-short_by : (bytes : List ℕ) → IsBegun bytes → (r : Result (Sent × List ℕ) Stop) → message_at bytes ≡ r → message_at bytes ≡ Err Short
+short_by : (bytes : List ℕ) → IsBegun bytes → (r : Outcome Sent) → message_at bytes ≡ r → message_at bytes ≡ Err Short
 short_by bytes b (Ok message) e =
     let more = b.byte ∷ b.rest in
     let one = grows message_at IsMessage message_reads bytes more message.0 message.1 e in
     let i : IsMessage b.message (bytes ++ more) = record { sent = b.sent; text_is = b.joined } in
     let two = ap message_at (sym (append-nil (bytes ++ more))) ∙ message_reads.again b.message (bytes ++ more) [] i in
-    absurd (append_cons_not_nil message.1 b.byte b.rest (read_is message.0 b.message (message.1 ++ more) [] (sym one ∙ two)).1)
+    absurd (append_cons_not_nil message.1 b.byte b.rest (ok_parts message.0 b.message (message.1 ++ more) [] (sym one ∙ two)).1)
 short_by bytes b (Err Short) e = e
-short_by bytes b (Err Broken) e =
+short_by bytes b (Err (Broken fault)) e =
     let more = b.byte ∷ b.rest in
     let bad = message_reads.stays bytes more e in
     let i : IsMessage b.message (bytes ++ more) = record { sent = b.sent; text_is = b.joined } in
     let good = ap message_at (sym (append-nil (bytes ++ more))) ∙ message_reads.again b.message (bytes ++ more) [] i in
     absurd cc
 
-broken_by : (bytes : List ℕ) → IsFault bytes → (r : Result (Sent × List ℕ) Stop) → message_at bytes ≡ r → message_at bytes ≡ Err Broken
+broken_by : (bytes : List ℕ) → IsFault bytes → (r : Outcome Sent) → message_at bytes ≡ r → message_at bytes ≡ Err (Broken tt)
 broken_by bytes f (Ok message) e =
     let t = message_reads.takes bytes message.0 message.1 e in
     absurd (f [] message.0 message.1 t.1.sent (append-nil bytes ∙ t.2 ∙ ap (λ b. b ++ message.1) t.1.text_is))
 broken_by bytes f (Err Short) e =
     let s = message_reads.short bytes e in
     absurd (f s.1 s.0 [] s.2.sent (s.2.text_is ∙ sym (append-nil (sent_text s.0))))
-broken_by bytes f (Err Broken) e = e
+broken_by bytes f (Err (Broken fault)) e = e
 
 ended : (rest : List ℕ) (unread : Option (List ℕ)) → EndsWith rest unread → stream_at rest ≡ record { messages = []; unread = unread }
 ended rest (Some unread) h =

@@ -7,8 +7,9 @@ use Rattle.std.proofs.Math.Nat.{pow-suc, suc-mul, one-le-pow}
 use Rattle.std.proofs.Math.Pow.{pow_mono}
 use Rattle.std.specs.Int.{w64, leading_zeros}
 use Rattle.std.specs.List.{starts_with}
-use Rattle.stream_codec.specs.declared.reading.Stop.{Stop}
-use Rattle.stream_codec.specs.declared.reading.Stop.TheVariants.{Short, Broken}
+use Rattle.kv_types.specs.declared.stop.Stop.{Stop}
+use Rattle.kv_types.specs.declared.stop.Stop.TheVariants.{Short, Broken}
+use Rattle.kv_types.specs.Reader.{◌>>=◌, skipped}
 use Rattle.kv_types.specs.declared.record_id.RecordId.TheVariants.{Str, Field}
 use Rattle.kv_types.specs.declared.change.Change.{Change}
 use Rattle.kv_types.specs.declared.change.Change.TheVariants.{Put, Drop}
@@ -19,10 +20,10 @@ use Rattle.stream_codec.specs.declared.head.Head.TheVariants as head
 use Rattle.stream_codec.specs.declared.head.HeadKind.TheVariants as head_kind
 use Rattle.stream_codec.specs.declared.step.Next.{Next}
 use Rattle.stream_codec.specs.declared.step.Next.TheVariants as next
-use Rattle.stream_codec.specs.Bytes.{Read, IsBytes, ◌>>=◌, eight_places, ArePlaces}
+use Rattle.stream_codec.specs.Bytes.{Outcome, IsBytes, eight_places, ArePlaces}
 use Rattle.stream_codec.specs.Reading.{least_size, kind_at, name_at, value_at, change_of, change_at, changes_at, long_at, head_of}
 use Rattle.stream_codec.specs.declared.message.TheConstants.{MAX_BODY_BYTES}
-use Rattle.stream_codec.specs.Stepping.{IsMore, skipped, size_end, after_end, before_end, position_end, end_from}
+use Rattle.stream_codec.specs.Stepping.{IsMore, size_end, after_end, before_end, position_end, end_from}
 use Rattle.stream_codec.specs.Scanning.{Waits, field_and_value_at}
 use Rattle.stream_codec.proofs.Readers.{Reads, grows}
 use Rattle.stream_codec.proofs.Numbers.{number_grows, IsBytes-end, IsBytes-append, number_waits, number_waits_above, number_unbroken}
@@ -30,15 +31,15 @@ use Rattle.stream_codec.proofs.Names.{IsName, name_reads, IsKind, kind_reads}
 use Rattle.stream_codec.proofs.Bodies.{changes_at-stop}
 
 -- what waits in the first of two readers
-pub waits_first : {A B : Type 0} (r : List ℕ → Read A) (f : A × List ℕ → Result B Stop) (bytes : List ℕ) (missing : ℕ) → Waits r bytes missing → Waits (λ b. r b >>= f) bytes missing
+pub waits_first : {A B : Type 0} (r : List ℕ → Outcome A) (f : A × List ℕ → Result B (Stop Unit)) (bytes : List ℕ) (missing : ℕ) → Waits r bytes missing → Waits (λ b. r b >>= f) bytes missing
 waits_first r f bytes missing w more are h = ap (λ z. z >>= f) (w more are h)
 
 -- and in the second
-pub waits_second : {A B : Type 0} (r : List ℕ → Read A) (S : A → List ℕ → Type 0) (f : A × List ℕ → Result B Stop) → Reads r S → (bytes : List ℕ) (x : A) (rest : List ℕ) (missing : ℕ) → r bytes ≡ Ok (x, rest) → Waits (λ b. f (x, b)) rest missing → Waits (λ b. r b >>= f) bytes missing
+pub waits_second : {A B : Type 0} (r : List ℕ → Outcome A) (S : A → List ℕ → Type 0) (f : A × List ℕ → Result B (Stop Unit)) → Reads r S → (bytes : List ℕ) (x : A) (rest : List ℕ) (missing : ℕ) → r bytes ≡ Ok (x, rest) → Waits (λ b. f (x, b)) rest missing → Waits (λ b. r b >>= f) bytes missing
 waits_second r S f p bytes x rest missing e w more are h = ap (λ z. z >>= f) (grows r S p bytes more x rest e) ∙ w more are h
 
 -- behind a key or a field
-waits_behind : {B : Type 0} (spare : ℕ) (f : List ℕ × List ℕ → Result B Stop) (bytes name rest : List ℕ) (missing : ℕ) → name_at spare bytes ≡ Ok (name, rest) → Waits (λ b. f (name, b)) rest missing → Waits (λ b. name_at spare b >>= f) bytes missing
+waits_behind : {B : Type 0} (spare : ℕ) (f : List ℕ × List ℕ → Result B (Stop Unit)) (bytes name rest : List ℕ) (missing : ℕ) → name_at spare bytes ≡ Ok (name, rest) → Waits (λ b. f (name, b)) rest missing → Waits (λ b. name_at spare b >>= f) bytes missing
 waits_behind spare f bytes name rest missing e w = waits_second (name_at spare) (IsName spare) f (name_reads spare) bytes name rest missing e w
 
 pub waits_field_and_value : (spare : ℕ) (bytes field rest : List ℕ) (missing : ℕ) → name_at spare bytes ≡ Ok (field, rest) → Waits (value_at (spare - length field)) rest missing → Waits (field_and_value_at spare) bytes missing
@@ -46,7 +47,7 @@ waits_field_and_value spare bytes field rest missing e w = waits_behind spare (�
 
 -- ---- changes
 
-abbrev done : Change → List ℕ → Read Change
+abbrev done : Change → List ℕ → Outcome Change
 done change rest = Ok (change, rest)
 
 pub waits_put_string : (k : Kind) (spare : ℕ) (bytes key rest : List ℕ) (missing : ℕ) → k ≡ kind.PutString → name_at spare bytes ≡ Ok (key, rest) → Waits (value_at (spare - length key)) rest missing → Waits (change_of k spare) bytes missing
@@ -55,7 +56,7 @@ waits_put_string k spare bytes key rest missing is e w more are h =
     ∙ waits_behind spare (λ name. value_at (spare - length name.0) name.1 >>= λ value. done (Put (Str name.0) value.0) value.1) bytes key rest missing e
     (waits_first (value_at (spare - length key)) (λ value. done (Put (Str key) value.0) value.1) rest missing w) more are h
 
-field_or_value : (spare : ℕ) (key : List ℕ) (r : Read (List ℕ)) → (r >>= λ field. value_at (spare - length field.0) field.1) ≡ Err Short → (r >>= λ field. value_at (spare - length field.0) field.1 >>= λ value. done (Put (Field key field.0) value.0) value.1) ≡ Err Short
+field_or_value : (spare : ℕ) (key : List ℕ) (r : Outcome (List ℕ)) → (r >>= λ field. value_at (spare - length field.0) field.1) ≡ Err Short → (r >>= λ field. value_at (spare - length field.0) field.1 >>= λ value. done (Put (Field key field.0) value.0) value.1) ≡ Err Short
 field_or_value spare key (Ok field) h = ap (λ z. z >>= λ value. done (Put (Field key field.0) value.0) value.1) h
 field_or_value spare key (Err stop) h = cc
 
@@ -93,12 +94,12 @@ long_waits : (most : ℕ) → 2 ^ 64 ≤ most + 256 → (bytes : List ℕ) → I
 long_waits most wide bytes are h = number_waits eight_places most 0 are_eight (omega (arith, wide)) bytes are (omega (arith, h))
 
 -- a number that cannot be broken, and another reader behind it
-behind_long : {B : Type 0} (g : ℕ × List ℕ → Result B Stop) → ((n : ℕ) (rest : List ℕ) → IsBytes rest → length rest < 8 → g (n, rest) ≡ Err Short) → (bytes : List ℕ) → IsBytes bytes → length bytes < 16 → (r : Read ℕ) → long_at 0 (2 ^ 64 - 1) bytes ≡ r → (r >>= g) ≡ Err Short
+behind_long : {B : Type 0} (g : ℕ × List ℕ → Result B (Stop Unit)) → ((n : ℕ) (rest : List ℕ) → IsBytes rest → length rest < 8 → g (n, rest) ≡ Err Short) → (bytes : List ℕ) → IsBytes bytes → length bytes < 16 → (r : Outcome ℕ) → long_at 0 (2 ^ 64 - 1) bytes ≡ r → (r >>= g) ≡ Err Short
 behind_long g waits bytes are h (Ok n) e =
     let t = number_grows eight_places 0 (2 ^ 64 - 1) 0 bytes [] n.0 n.1 e in
     waits n.0 n.1 (IsBytes-end t.1 n.1 (subst IsBytes t.2 are)) (omega (arith, h, ap length t.2, length-append t.1 n.1, t.3))
 behind_long g waits bytes are h (Err Short) e = refl
-behind_long g waits bytes are h (Err Broken) e = absurd (number_unbroken eight_places (2 ^ 64 - 1) 0 are_eight (omega arith) bytes are e)
+behind_long g waits bytes are h (Err (Broken fault)) e = absurd (number_unbroken eight_places (2 ^ 64 - 1) 0 are_eight (omega arith) bytes are e)
 
 before_waits : (bytes : List ℕ) → IsBytes bytes → length bytes < 8 → before_end bytes ≡ Err Short
 before_waits bytes are h = ap (λ z. z >>= λ before. after_end (before.0 + 1) before.1) (long_waits (2 ^ 64 - 2) (omega arith) bytes are h)
@@ -109,7 +110,7 @@ position_waits bytes are h = ap skipped (long_waits (2 ^ 64 - 1) (omega arith) b
 -- the numbers of an acknowledgement are short until all of their bytes are there
 pub ack_waits : (bytes : List ℕ) → IsBytes bytes → length bytes < 16 → head_of head_kind.Ack bytes ≡ Err Short
 ack_waits bytes are h =
-    let ack : ℕ → ℕ × List ℕ → Read Head = λ epoch position. Ok (head.Ack (record { epoch = epoch; position = position.0 }), position.1) in
+    let ack : ℕ → ℕ × List ℕ → Outcome Head = λ epoch position. Ok (head.Ack (record { epoch = epoch; position = position.0 }), position.1) in
     behind_long (λ epoch. long_at 0 (2 ^ 64 - 1) epoch.1 >>= ack epoch.0)
     (λ epoch rest rest_are k. ap (λ z. z >>= ack epoch) (long_waits (2 ^ 64 - 1) (omega arith) rest rest_are k)) bytes are h (long_at 0 (2 ^ 64 - 1) bytes) refl
 

@@ -1,20 +1,16 @@
 -- Reading numbers and runs of bytes from the front of bytes that may be only the beginning of what is read.
 use Rattle.std.specs.Prelude.{ℕ, ◌≡◌, ◌+◌, ◌-◌, ◌*◌, ◌^◌, ◌<◌, List, [], ◌∷◌, length, take, drop, get_or, ◌&&◌, if◌then◌else◌, nat_lt, nat_le, Result, Ok, Err}
-use Rattle.stream_codec.specs.declared.reading.Stop.{Stop}
-use Rattle.stream_codec.specs.declared.reading.Stop.TheVariants.{Short, Broken}
+use Rattle.kv_types.specs.declared.stop.Stop.{Stop}
+use Rattle.kv_types.specs.declared.stop.Stop.TheVariants.{Short, Broken}
+use Rattle.kv_types.specs.Reader.{Read, ◌>>=◌}
 
--- what was read and the bytes after it; or why nothing could be: further bytes may complete it, or no further bytes can
-abbrev pub Read : Type 0 → Type 0
-Read A = Result (A × List ℕ) Stop
+-- what a reader of frames answers; it tells no more of a fault than that there is one
+abbrev pub Outcome : Type 0 → Type 0
+Outcome A = Result (Read A) (Stop Unit)
 
 -- each is a byte
 abbrev pub IsBytes : List ℕ → Type 0
 IsBytes bytes = (i : ℕ) → get_or bytes i 0 < 256
-
-infixl 10 ◌>>=◌
-abbrev pub ◌>>=◌ : {A B : Type 0} → Result A Stop → (A → Result B Stop) → Result B Stop
-(Ok x) >>= f = f x
-(Err stop) >>= f = Err stop
 
 -- what each byte of a big-endian number counts
 abbrev pub two_places : List ℕ
@@ -38,27 +34,22 @@ ArePlaces (place ∷ places) = (place ≡ span places) × ArePlaces places
 
 -- A number from `least` to `most`, of which the bytes so far count `sum`. It is broken at the first byte with which no number from `least` to
 -- `most` begins.
-abbrev pub number_from : List ℕ → ℕ → ℕ → ℕ → List ℕ → Read ℕ
+abbrev pub number_from : List ℕ → ℕ → ℕ → ℕ → List ℕ → Outcome ℕ
 number_from [] least most sum bytes = Ok (sum, bytes)
 number_from (place ∷ places) least most sum [] = Err Short
 number_from (place ∷ places) least most sum (byte ∷ bytes) =
     if nat_lt byte 256 && nat_le (sum + byte * place) most && nat_le least (sum + byte * place + (place - 1))
     then number_from places least most (sum + byte * place) bytes
-    else Err Broken
+    else Err (Broken tt)
 
 -- a number from `least` to `most` in as many bytes as there are places
-abbrev pub number_at : List ℕ → ℕ → ℕ → List ℕ → Read ℕ
+abbrev pub number_at : List ℕ → ℕ → ℕ → List ℕ → Outcome ℕ
 number_at places least most bytes = number_from places least most 0 bytes
 
 -- as many bytes as are told
-abbrev pub bytes_at : ℕ → List ℕ → Read (List ℕ)
+abbrev pub bytes_at : ℕ → List ℕ → Outcome (List ℕ)
 bytes_at count bytes = if nat_lt (length bytes) count then Err Short else Ok (take count bytes, drop count bytes)
 
 -- a length of at most `most` in these places, and so many bytes
-abbrev pub counted_at : List ℕ → ℕ → List ℕ → Read (List ℕ)
+abbrev pub counted_at : List ℕ → ℕ → List ℕ → Outcome (List ℕ)
 counted_at places most bytes = number_at places 0 most bytes >>= λ count. bytes_at count.0 count.1
-
--- what the code answers, seen by `view`, is what the definition reads
-abbrev pub Gives : {X Y : Type 0} → (X → Y) → Result X Stop → Result Y Stop → Type 0
-Gives view (Ok x) read = read ≡ Ok (view x)
-Gives view (Err stop) read = read ≡ Err stop

@@ -5,10 +5,11 @@ use Rattle.kv_types.specs.declared.record_id.RecordId.TheVariants.{Str, Field}
 use Rattle.kv_types.specs.declared.change.Change.{Change}
 use Rattle.kv_types.specs.declared.change.Change.TheVariants.{Put, Drop, DropKey, Clear}
 use Rattle.kv_types.specs.Change.{change_text}
-use Rattle.stream_codec.specs.declared.reading.Stop.TheVariants.{Short, Broken}
+use Rattle.kv_types.specs.declared.stop.Stop.TheVariants.{Short, Broken}
+use Rattle.kv_types.specs.Reader.{◌>>=◌}
 use Rattle.stream_codec.specs.declared.message.TheConstants.{MAX_BODY_BYTES}
 use Rattle.stream_codec.specs.Message.{Sent, Changes, Acknowledged}
-use Rattle.stream_codec.specs.Bytes.{Read, ◌>>=◌, two_places, four_places, eight_places, number_at, counted_at}
+use Rattle.stream_codec.specs.Bytes.{Outcome, two_places, four_places, eight_places, number_at, counted_at}
 use Rattle.stream_codec.specs.declared.change.Kind.{Kind}
 use Rattle.stream_codec.specs.declared.change.Kind.TheVariants as kind
 use Rattle.stream_codec.specs.declared.head.HeadKind.{HeadKind}
@@ -39,23 +40,23 @@ least_size kind.DropKey = 3
 least_size kind.Clear = 1
 
 -- the kind of a change of at most `left` bytes
-abbrev pub kind_within : ℕ → List ℕ → Option Kind → Read Kind
-kind_within left bytes None = Err Broken
-kind_within left bytes (Some kind) = if nat_le (least_size kind) left then Ok (kind, bytes) else Err Broken
+abbrev pub kind_within : ℕ → List ℕ → Option Kind → Outcome Kind
+kind_within left bytes None = Err (Broken tt)
+kind_within left bytes (Some kind) = if nat_le (least_size kind) left then Ok (kind, bytes) else Err (Broken tt)
 
-abbrev pub kind_at : ℕ → List ℕ → Read Kind
+abbrev pub kind_at : ℕ → List ℕ → Outcome Kind
 kind_at left [] = Err Short
 kind_at left (byte ∷ bytes) = kind_within left bytes (kind_of byte)
 
 -- a key or a field with its length, where `spare` bytes are left for the bytes of keys, fields and values
-abbrev pub name_at : ℕ → List ℕ → Read (List ℕ)
+abbrev pub name_at : ℕ → List ℕ → Outcome (List ℕ)
 name_at spare bytes = counted_at two_places (min MAX_KEY_BYTES spare) bytes
 
-abbrev pub value_at : ℕ → List ℕ → Read (List ℕ)
+abbrev pub value_at : ℕ → List ℕ → Outcome (List ℕ)
 value_at spare bytes = counted_at four_places (min MAX_VALUE_BYTES spare) bytes
 
 -- the names and the value of a change, behind its first byte
-abbrev pub change_of : Kind → ℕ → List ℕ → Read Change
+abbrev pub change_of : Kind → ℕ → List ℕ → Outcome Change
 change_of kind.PutString spare bytes =
     name_at spare bytes >>= λ key. value_at (spare - length key.0) key.1 >>= λ value. Ok (Put (Str key.0) value.0, value.1)
 change_of kind.PutField spare bytes =
@@ -68,18 +69,18 @@ change_of kind.DropKey spare bytes = name_at spare bytes >>= λ key. Ok (DropKey
 change_of kind.Clear spare bytes = Ok (Clear, bytes)
 
 -- a change of at most `left` bytes
-unfoldable pub change_at : ℕ → List ℕ → Read Change
+unfoldable pub change_at : ℕ → List ℕ → Outcome Change
 change_at left bytes = kind_at left bytes >>= λ kind. change_of kind.0 (left - least_size kind.0) kind.1
 
 -- The changes that make up exactly `left` bytes, at most so many of them as are told first: each has at least one byte.
-abbrev pub changes_within : ℕ → ℕ → List ℕ → Read (List Change)
+abbrev pub changes_within : ℕ → ℕ → List ℕ → Outcome (List Change)
 changes_within zero left bytes = Ok ([], bytes)
 changes_within (suc most) left bytes =
     if left == 0 then Ok ([], bytes)
     else (change_at left bytes >>= λ change. changes_within most (left - length (change_text change.0)) change.1 >>= λ others.
     Ok (change.0 ∷ others.0, others.1))
 
-unfoldable pub changes_at : ℕ → List ℕ → Read (List Change)
+unfoldable pub changes_at : ℕ → List ℕ → Outcome (List Change)
 changes_at left bytes = changes_within left left bytes
 
 -- ---- messages
@@ -87,19 +88,19 @@ changes_at left bytes = changes_within left left bytes
 abbrev pub head_kind_of : ℕ → Option HeadKind
 head_kind_of byte = if byte == 1 then Some head_kind.Group else (if byte == 2 then Some head_kind.Ack else None)
 
-abbrev pub known : List ℕ → Option HeadKind → Read HeadKind
-known bytes None = Err Broken
+abbrev pub known : List ℕ → Option HeadKind → Outcome HeadKind
+known bytes None = Err (Broken tt)
 known bytes (Some kind) = Ok (kind, bytes)
 
-abbrev pub head_kind_at : List ℕ → Read HeadKind
+abbrev pub head_kind_at : List ℕ → Outcome HeadKind
 head_kind_at [] = Err Short
 head_kind_at (byte ∷ bytes) = known bytes (head_kind_of byte)
 
-abbrev pub long_at : ℕ → ℕ → List ℕ → Read ℕ
+abbrev pub long_at : ℕ → ℕ → List ℕ → Outcome ℕ
 long_at least most bytes = number_at eight_places least most bytes
 
 -- the numbers of a message, behind its first byte
-abbrev pub head_of : HeadKind → List ℕ → Read Head
+abbrev pub head_of : HeadKind → List ℕ → Outcome Head
 head_of head_kind.Group bytes =
     long_at 0 (2 ^ 64 - 1) bytes >>= λ epoch. long_at 0 (2 ^ 64 - 2) epoch.1 >>= λ before. long_at (before.0 + 1) (2 ^ 64 - 1) before.1 >>= λ after.
     long_at 0 MAX_BODY_BYTES after.1 >>= λ size. Ok (head.Group epoch.0 before.0 after.0 size.0, size.1)
@@ -107,14 +108,14 @@ head_of head_kind.Ack bytes =
     long_at 0 (2 ^ 64 - 1) bytes >>= λ epoch. long_at 0 (2 ^ 64 - 1) epoch.1 >>= λ position. Ok (head.Ack (record { epoch = epoch.0; position = position.0 }), position.1)
 
 -- all of a message but the changes of a group
-unfoldable pub head_at : List ℕ → Read Head
+unfoldable pub head_at : List ℕ → Outcome Head
 head_at bytes = head_kind_at bytes >>= λ kind. head_of kind.0 kind.1
 
 -- a message, behind its numbers
-abbrev pub body_at : Head → List ℕ → Read Sent
+abbrev pub body_at : Head → List ℕ → Outcome Sent
 body_at (head.Group epoch before after size) bytes = changes_at size bytes >>= λ changes. Ok (Changes epoch before after changes.0, changes.1)
 body_at (head.Ack ack) bytes = Ok (Acknowledged ack.epoch ack.position, bytes)
 
 -- the message at the front
-unfoldable pub message_at : List ℕ → Read Sent
+unfoldable pub message_at : List ℕ → Outcome Sent
 message_at bytes = head_at bytes >>= λ head. body_at head.0 head.1

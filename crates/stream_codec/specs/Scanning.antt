@@ -1,7 +1,8 @@
 -- What the code knows of a frame of which not all bytes are there.
 use Rattle.std.specs.Prelude.{◌≡◌, ℕ, ◌+◌, ◌-◌, ◌<◌, ◌≤◌, Bool, true, false, List, ◌++◌, length, drop, map, Option, None, Some, Result, Ok, Err, IfSome}
-use Rattle.stream_codec.specs.declared.reading.Stop.{Stop}
-use Rattle.stream_codec.specs.declared.reading.Stop.TheVariants.{Short, Broken}
+use Rattle.kv_types.specs.declared.stop.Stop.{Stop}
+use Rattle.kv_types.specs.declared.stop.Stop.TheVariants.{Short, Broken}
+use Rattle.kv_types.specs.Reader.{◌>>=◌, skipped}
 use Rattle.stream_codec.specs.declared.message.Message.{Message}
 use Rattle.stream_codec.specs.declared.scan.Progress.{Progress}
 use Rattle.stream_codec.specs.declared.scan.Look.{Look}
@@ -10,13 +11,13 @@ use Rattle.stream_codec.specs.declared.scan.Pass.{Pass}
 use Rattle.stream_codec.specs.declared.scan.Pass.TheVariants as pass
 use Rattle.stream_codec.specs.declared.step.Next.{Next}
 use Rattle.stream_codec.specs.Message.{Sent, sent_of}
-use Rattle.stream_codec.specs.Bytes.{Read, IsBytes, ◌>>=◌}
+use Rattle.stream_codec.specs.Bytes.{Outcome, IsBytes}
 use Rattle.stream_codec.specs.Reading.{name_at, value_at, message_at}
-use Rattle.stream_codec.specs.Stepping.{skipped, IsMore, end_from}
+use Rattle.stream_codec.specs.Stepping.{IsMore, end_from}
 use Rattle.stream_codec.specs.Stream.{stream_at}
 
 -- the values already read, followed by those that `read` gives
-abbrev pub with_front : {A : Type 0} → List A → Read (List A) → Read (List A)
+abbrev pub with_front : {A : Type 0} → List A → Outcome (List A) → Outcome (List A)
 with_front front read = read >>= λ x. Ok (front ++ x.0, x.1)
 
 -- `rest` is the end of the bytes
@@ -24,10 +25,10 @@ abbrev pub IsEnd : List ℕ → List ℕ → Type 0
 IsEnd bytes rest = (prefix : List ℕ) × (bytes ≡ prefix ++ rest)
 
 -- with fewer bytes more than are missing, `read` has only the beginning of what it reads, whatever bytes they are
-abbrev pub Waits : {A : Type 0} → (List ℕ → Result A Stop) → List ℕ → ℕ → Type 0
+abbrev pub Waits : {A : Type 0} → (List ℕ → Result A (Stop Unit)) → List ℕ → ℕ → Type 0
 Waits read bytes missing = (more : List ℕ) → IsBytes more → length more < missing → read (bytes ++ more) ≡ Err Short
 
-abbrev pub field_and_value_at : ℕ → List ℕ → Read (List ℕ)
+abbrev pub field_and_value_at : ℕ → List ℕ → Outcome (List ℕ)
 field_and_value_at spare bytes = name_at spare bytes >>= λ field. value_at (spare - length field.0) field.1
 
 -- whatever comes, the frame ends where it does from what comes next on
@@ -38,7 +39,7 @@ EndsAlike first bytes later rest = (more : List ℕ) → end_from first (bytes +
 abbrev pub IsPass : Next → List ℕ → Pass → Type 0
 IsPass first bytes (pass.Whole rest) = (end_from first bytes ≡ Ok rest.now) × IsEnd bytes rest.now
 IsPass first bytes (pass.Begun later rest) = EndsAlike first bytes later rest.now × IsEnd bytes rest.now × IsMore later × (end_from later rest.now ≡ Err Short)
-IsPass first bytes pass.Broken = end_from first bytes ≡ Err Broken
+IsPass first bytes pass.Broken = end_from first bytes ≡ Err (Broken tt)
 
 -- whatever comes, the frame ends where it does from this place in it on, and with fewer bytes than are wanted it is only begun
 pub record IsAt (bytes : List ℕ) (progress : Progress) : Type 0 where
@@ -50,7 +51,7 @@ pub record IsAt (bytes : List ℕ) (progress : Progress) : Type 0 where
 abbrev pub IsLook : List ℕ → Look → Type 0
 IsLook bytes (look.Whole rest) = (skipped (message_at bytes) ≡ Ok rest.now) × IsEnd bytes rest.now
 IsLook bytes (look.Begun progress) = (message_at bytes ≡ Err Short) × IsAt bytes progress
-IsLook bytes look.Broken = message_at bytes ≡ Err Broken
+IsLook bytes look.Broken = message_at bytes ≡ Err (Broken tt)
 
 abbrev pub sent_of_all : List Message → List Sent
 sent_of_all messages = map sent_of messages

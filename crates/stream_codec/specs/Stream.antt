@@ -1,9 +1,9 @@
 -- A stream of messages that comes in pieces. A clause sees a decoder as the bytes that were fed and not yet given as messages, or as `None` once
 -- no continuation of them is a message.
-use Rattle.std.specs.Prelude.{◌≡◌, ◌≢◌, ℕ, zero, suc, List, [], ◌∷◌, ◌++◌, length, Option, None, Some, Result, Ok, Err}
+use Rattle.std.specs.Prelude.{◌≡◌, ◌≢◌, ℕ, zero, suc, List, [], ◌∷◌, ◌++◌, length, Option, None, Some, Ok, Err}
 use Rattle.std.specs.List.{flat_map, AllByRecursion}
-use Rattle.stream_codec.specs.declared.reading.Stop.{Stop}
-use Rattle.stream_codec.specs.declared.reading.Stop.TheVariants.{Short, Broken}
+use Rattle.kv_types.specs.declared.stop.Stop.TheVariants.{Short, Broken}
+use Rattle.stream_codec.specs.Bytes.{Outcome}
 use Rattle.stream_codec.specs.Message.{Sent, IsSent, sent_text}
 use Rattle.stream_codec.specs.Reading.{message_at}
 
@@ -16,10 +16,10 @@ abbrev pub with_first : Sent → Stream → Stream
 with_first message stream = record { messages = message ∷ stream.messages; unread = stream.unread }
 
 -- the stream, given what the message at its front reads as; `following` reads the bytes after that message
-abbrev pub stream_from : (List ℕ → Stream) → List ℕ → Result (Sent × List ℕ) Stop → Stream
+abbrev pub stream_from : (List ℕ → Stream) → List ℕ → Outcome Sent → Stream
 stream_from following bytes (Ok message) = with_first message.0 (following message.1)
 stream_from following bytes (Err Short) = record { messages = []; unread = Some bytes }
-stream_from following bytes (Err Broken) = record { messages = []; unread = None }
+stream_from following bytes (Err (Broken fault)) = record { messages = []; unread = None }
 
 -- the stream, if it has at most so many messages
 abbrev pub stream_within : ℕ → List ℕ → Stream

@@ -1,13 +1,13 @@
 //! The change at the front of bytes, without copying it.
 ghost use Rattle.std.specs.Prelude.{◌≡◌, ◌+◌, ◌-◌, ◌≤◌, length, IfOk};
-ghost use Rattle.stream_codec.specs.Bytes.{Gives};
+ghost use Rattle.kv_types.specs.Reader.{Gives};
 ghost use Rattle.stream_codec.specs.Reading.{kind_of, least_size, kind_at, name_at, value_at, change_of, change_at};
 ghost use Rattle.stream_codec.specs.Message.{IsChange};
 ghost use Rattle.stream_codec.specs.Shown.{shown};
 
-use crate::reading::{Stop, bytes_at, u16_at, u32_at};
+use crate::reading::{bytes_at, u16_at, u32_at};
 use cmd_core::stored;
-use kv_types::{Change, MAX_KEY_BYTES, MAX_VALUE_BYTES, RecordId};
+use kv_types::{Change, MAX_KEY_BYTES, MAX_VALUE_BYTES, RecordId, Stop};
 use std::alloc::{AllocError, Global};
 
 /// The kinds of changes.
@@ -52,20 +52,20 @@ fn kind_of(byte: u8) -> Option<Kind>
 }
 
 /// The kind of a change of at most `left` bytes.
-pub(crate) fn kind_at(bytes: &[u8], left: u64) -> Result<(Kind, &[u8]), Stop>
+pub(crate) fn kind_at(bytes: &[u8], left: u64) -> Result<(Kind, &[u8]), Stop<()>>
     ensures { Gives (λ x. (x.0, x.1.now)) result (kind_at left bytes.now) }
 {
     match bytes.split_first() {
         None => Err(Stop::Short),
         Some((byte, rest)) => match kind_of(*byte) {
             Some(kind) if kind.least_size() <= left => Ok((kind, rest)),
-            _ => Err(Stop::Broken),
+            _ => Err(Stop::Broken(())),
         },
     }
 }
 
 /// A key or a field, where the names and the value of the change have at most `spare` bytes more.
-pub(crate) fn name_at(bytes: &[u8], spare: u64) -> Result<(&[u8], &[u8]), Stop>
+pub(crate) fn name_at(bytes: &[u8], spare: u64) -> Result<(&[u8], &[u8]), Stop<()>>
     ensures { Gives (λ x. (x.0.now, x.1.now)) result (name_at spare bytes.now) }
 {
     let (len, rest) = u16_at(bytes, spare.min(MAX_KEY_BYTES as u64))?;
@@ -73,7 +73,7 @@ pub(crate) fn name_at(bytes: &[u8], spare: u64) -> Result<(&[u8], &[u8]), Stop>
 }
 
 /// A value, where the names and the value of the change have at most `spare` bytes more.
-fn value_at(bytes: &[u8], spare: u64) -> Result<(&[u8], &[u8]), Stop>
+fn value_at(bytes: &[u8], spare: u64) -> Result<(&[u8], &[u8]), Stop<()>>
     ensures { Gives (λ x. (x.0.now, x.1.now)) result (value_at spare bytes.now) }
 {
     let (len, rest) = u32_at(bytes, spare.min(MAX_VALUE_BYTES as u64))?;
@@ -118,7 +118,7 @@ impl RawChange<'_> {
 }
 
 /// A change, behind its first byte.
-fn change_of(kind: Kind, spare: u64, bytes: &[u8]) -> Result<(RawChange<'_>, &[u8]), Stop>
+fn change_of(kind: Kind, spare: u64, bytes: &[u8]) -> Result<(RawChange<'_>, &[u8]), Stop<()>>
     ensures { Gives (λ x. (shown x.0, x.1.now)) result (change_of kind spare bytes.now) }
 {
     match kind {
@@ -153,7 +153,7 @@ fn change_of(kind: Kind, spare: u64, bytes: &[u8]) -> Result<(RawChange<'_>, &[u
 
 /// The change at the front, of at most `left` bytes. It takes no memory, and looks at no byte of keys, fields and values.
 #[tactic(auto, unfolding(crate::specs::Reading::change_at))]
-pub(crate) fn change_at(bytes: &[u8], left: u64) -> Result<(RawChange<'_>, &[u8]), Stop>
+pub(crate) fn change_at(bytes: &[u8], left: u64) -> Result<(RawChange<'_>, &[u8]), Stop<()>>
     ensures { Gives (λ x. (shown x.0, x.1.now)) result (change_at left bytes.now) }
 {
     let (kind, rest) = kind_at(bytes, left)?;

@@ -1,12 +1,13 @@
 //! The numbers of the message at the front of bytes.
 ghost use Rattle.std.specs.Prelude.{◌≡◌, ◌+◌, ◌-◌, ◌≤◌, length, IfOk};
-ghost use Rattle.stream_codec.specs.Bytes.{Gives};
+ghost use Rattle.kv_types.specs.Reader.{Gives};
 ghost use Rattle.stream_codec.specs.declared.head.HeadKind.TheVariants as head_kind;
 ghost use Rattle.stream_codec.specs.Reading.{head_kind_of, head_kind_at, head_of, head_at};
 
 use crate::message::MAX_BODY_BYTES;
-use crate::reading::{Stop, u64_at};
+use crate::reading::u64_at;
 use frames::Ack;
+use kv_types::Stop;
 
 /// The kinds of messages.
 #[derive(Clone, Copy, Debug, PartialEq, Eq)]
@@ -35,20 +36,20 @@ fn head_kind_of(byte: u8) -> Option<HeadKind>
 }
 
 /// The kind of the message at the front.
-pub(crate) fn head_kind_at(bytes: &[u8]) -> Result<(HeadKind, &[u8]), Stop>
+pub(crate) fn head_kind_at(bytes: &[u8]) -> Result<(HeadKind, &[u8]), Stop<()>>
     ensures { Gives (λ x. (x.0, x.1.now)) result (head_kind_at bytes.now) }
 {
     match bytes.split_first() {
         None => Err(Stop::Short),
         Some((byte, rest)) => match head_kind_of(*byte) {
             Some(kind) => Ok((kind, rest)),
-            None => Err(Stop::Broken),
+            None => Err(Stop::Broken(())),
         },
     }
 }
 
 /// The numbers of a message, behind its first byte.
-fn head_of(kind: HeadKind, bytes: &[u8]) -> Result<(Head, &[u8]), Stop>
+fn head_of(kind: HeadKind, bytes: &[u8]) -> Result<(Head, &[u8]), Stop<()>>
     ensures { Gives (λ x. (x.0, x.1.now)) result (head_of kind bytes.now) }
 {
     match kind {
@@ -64,7 +65,7 @@ fn head_of(kind: HeadKind, bytes: &[u8]) -> Result<(Head, &[u8]), Stop>
 }
 
 /// The numbers of an acknowledgement. No byte of theirs can break them.
-fn ack_at(bytes: &[u8]) -> Result<(Head, &[u8]), Stop>
+fn ack_at(bytes: &[u8]) -> Result<(Head, &[u8]), Stop<()>>
     ensures { Gives (λ x. (x.0, x.1.now)) result (head_of head_kind.Ack bytes.now) }
 {
     match bytes.split_first_chunk::<16>() {
@@ -75,7 +76,7 @@ fn ack_at(bytes: &[u8]) -> Result<(Head, &[u8]), Stop>
 
 /// All of the message at the front but the changes of a group.
 #[tactic(auto, unfolding(crate::specs::Reading::head_at))]
-pub(crate) fn head_at(bytes: &[u8]) -> Result<(Head, &[u8]), Stop>
+pub(crate) fn head_at(bytes: &[u8]) -> Result<(Head, &[u8]), Stop<()>>
     ensures { Gives (λ x. (x.0, x.1.now)) result (head_at bytes.now) }
 {
     let (kind, rest) = head_kind_at(bytes)?;

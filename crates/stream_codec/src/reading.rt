@@ -1,13 +1,9 @@
 //! Reading numbers and runs of bytes from the front of bytes of which more may come.
 ghost use Rattle.std.specs.Prelude.{◌≡◌, ◌+◌, ◌^◌, ◌≤◌, length};
-ghost use Rattle.stream_codec.specs.Bytes.{Gives, span, ArePlaces, two_places, four_places, eight_places, number_at, bytes_at, counted_at};
+ghost use Rattle.kv_types.specs.Reader.{Gives};
+ghost use Rattle.stream_codec.specs.Bytes.{span, ArePlaces, two_places, four_places, eight_places, number_at, bytes_at, counted_at};
 
-/// Why nothing whole is at the front: further bytes may complete it, or no further bytes can.
-#[derive(Clone, Copy, Debug, PartialEq, Eq)]
-pub(crate) enum Stop {
-    Short,
-    Broken,
-}
+use kv_types::Stop;
 
 /// The big-endian number at the front, of as many bytes as `places` tells what they count. It is broken at the first byte with which no
 /// number from `least` to `most` begins.
@@ -16,7 +12,7 @@ fn number_at<'a>(
     places: &[u64],
     least: u64,
     most: u64,
-) -> Result<(u64, &'a [u8]), Stop>
+) -> Result<(u64, &'a [u8]), Stop<()>>
     requires places { ArePlaces places.now }
     requires fits { span places.now ≤ 2 ^ 64 }
     ensures { Gives (λ x. (x.0, x.1.now)) result (number_at places.now least most bytes.now) }
@@ -33,28 +29,28 @@ fn number_at<'a>(
             sum = lowest;
             rest = after;
         } else {
-            return Err(Stop::Broken);
+            return Err(Stop::Broken(()));
         }
     }
     Ok((sum, rest))
 }
 
 /// A number of two bytes, at most `most`.
-pub(crate) fn u16_at(bytes: &[u8], most: u64) -> Result<(u64, &[u8]), Stop>
+pub(crate) fn u16_at(bytes: &[u8], most: u64) -> Result<(u64, &[u8]), Stop<()>>
     ensures { Gives (λ x. (x.0, x.1.now)) result (number_at two_places 0 most bytes.now) }
 {
     number_at(bytes, &[1 << 8, 1], 0, most)
 }
 
 /// A number of four bytes, at most `most`.
-pub(crate) fn u32_at(bytes: &[u8], most: u64) -> Result<(u64, &[u8]), Stop>
+pub(crate) fn u32_at(bytes: &[u8], most: u64) -> Result<(u64, &[u8]), Stop<()>>
     ensures { Gives (λ x. (x.0, x.1.now)) result (number_at four_places 0 most bytes.now) }
 {
     number_at(bytes, &[1 << 24, 1 << 16, 1 << 8, 1], 0, most)
 }
 
 /// A number of eight bytes, from `least` to `most`.
-pub(crate) fn u64_at(bytes: &[u8], least: u64, most: u64) -> Result<(u64, &[u8]), Stop>
+pub(crate) fn u64_at(bytes: &[u8], least: u64, most: u64) -> Result<(u64, &[u8]), Stop<()>>
     ensures { Gives (λ x. (x.0, x.1.now)) result (number_at eight_places least most bytes.now) }
 {
     let places = [
@@ -71,7 +67,7 @@ pub(crate) fn u64_at(bytes: &[u8], least: u64, most: u64) -> Result<(u64, &[u8])
 }
 
 /// The first `count` bytes.
-pub(crate) fn bytes_at(bytes: &[u8], count: u64) -> Result<(&[u8], &[u8]), Stop>
+pub(crate) fn bytes_at(bytes: &[u8], count: u64) -> Result<(&[u8], &[u8]), Stop<()>>
     ensures { Gives (λ x. (x.0.now, x.1.now)) result (bytes_at count bytes.now) }
 {
     let count = count as usize;

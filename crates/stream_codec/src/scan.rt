@@ -4,8 +4,8 @@ ghost use Rattle.stream_codec.specs.Stepping.{IsMore, end_from};
 ghost use Rattle.stream_codec.specs.Scanning.{IsAt, IsPass, IsLook, Waits};
 
 use crate::missing::{missing_of_after, missing_of_change, missing_of_size};
-use crate::reading::Stop;
 use crate::step::{Next, step_at};
+use kv_types::Stop;
 
 /// A place in the frame at the front, up to which it was read.
 #[derive(Clone, Copy, Debug, PartialEq, Eq)]
@@ -49,7 +49,7 @@ fn pass_on(bytes: &[u8], next: Next) -> Pass<'_>
                 rest = after;
             }
             Err(Stop::Short) => return Pass::Begun(next, rest),
-            Err(Stop::Broken) => return Pass::Broken,
+            Err(Stop::Broken(())) => return Pass::Broken,
         }
     }
     Pass::Whole(rest)

@@ -1,13 +1,14 @@
 //! A frame from its front to its end, one number or one change at a time.
 ghost use Rattle.std.specs.Prelude.{◌≡◌, ◌+◌, ◌-◌, ◌<◌, length};
-ghost use Rattle.stream_codec.specs.Bytes.{Gives};
+ghost use Rattle.kv_types.specs.Reader.{Gives};
 ghost use Rattle.stream_codec.specs.declared.step.Next.TheVariants.{Changes};
 ghost use Rattle.stream_codec.specs.Stepping.{first_of, step_of, IsMore, is_more};
 
 use crate::change::change_at;
 use crate::head::{HeadKind, head_kind_at};
 use crate::message::MAX_BODY_BYTES;
-use crate::reading::{Stop, u64_at};
+use crate::reading::u64_at;
+use kv_types::Stop;
 
 /// What of a frame comes next. Of what was read before it holds what says where the frame ends.
 #[derive(Clone, Copy, Debug, PartialEq, Eq)]
@@ -53,7 +54,7 @@ fn first_of(kind: HeadKind) -> Next
 }
 
 /// Passes a change, and tells how many bytes of changes follow it.
-fn pass_change(bytes: &[u8], left: u64) -> Result<(Next, &[u8]), Stop>
+fn pass_change(bytes: &[u8], left: u64) -> Result<(Next, &[u8]), Stop<()>>
     requires { 0 < left }
     ensures { Gives (λ x. (x.0, x.1.now)) result (step_of (Changes left) bytes.now) }
 {
@@ -63,7 +64,7 @@ fn pass_change(bytes: &[u8], left: u64) -> Result<(Next, &[u8]), Stop>
 }
 
 /// Passes what comes next, and tells what follows it.
-pub(crate) fn step_at(bytes: &[u8], next: Next) -> Result<(Next, &[u8]), Stop>
+pub(crate) fn step_at(bytes: &[u8], next: Next) -> Result<(Next, &[u8]), Stop<()>>
     requires { IsMore next }
     ensures { Gives (λ x. (x.0, x.1.now)) result (step_of next bytes.now) }
 {

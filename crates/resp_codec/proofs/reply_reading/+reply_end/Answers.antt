@@ -1,6 +1,6 @@
 use Rattle.std.proofs.Common.{ap, sym, ◌∙◌}
 use Rattle.std.proofs.lemmas.Result.{err_from_is_err_and}
-use Rattle.resp_codec.specs.Gives.{skipped}
+use Rattle.kv_types.specs.Reader.{skipped}
 use Rattle.resp_codec.specs.GivesReplies.{head_read}
 use Rattle.resp_codec.proofs.ReplyParts.{no-element, skipped-opens, skipped-element, stopped-element}
 use Rattle.resp_codec.proofs.reply_reading.+reply_end.Goals as goal

@@ -1,5 +1,5 @@
 use Rattle.std.proofs.Common.{◌≡◌, ◌-◌}
-use Rattle.resp_codec.specs.Gives.{skipped}
+use Rattle.kv_types.specs.Reader.{skipped}
 use Rattle.resp_codec.specs.GivesReplies.{element_at}
 use Rattle.resp_codec.specs.ReplyReading.{reply_at, elements_at}
 use Rattle.resp_codec.proofs.reply_reading.+reply_end.Given as goal

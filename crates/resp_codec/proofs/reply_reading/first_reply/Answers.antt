@@ -1,4 +1,4 @@
-use Rattle.kv_types.specs.Reading as reading
+use Rattle.kv_types.specs.declared.stop.Stop.TheVariants.{Short, Broken}
 use Rattle.resp_codec.specs.declared.reply_limits.TheConstants.{REPLY_LIMITS}
 use Rattle.resp_codec.specs.ReplyReading.{reply_at}
 use Rattle.resp_codec.proofs.ReplyItems.{IsFirstReply-read, IsFirstReply-short, IsFirstReply-broken}
@@ -16,8 +16,8 @@ returns-in-Some c =
 
 pub returns-in-Err-Short : goal.returns-in-Err-Short
 returns-in-Err-Short c =
-    IsFirstReply-short c.args.bytes.now (skipped-err (reply_at REPLY_LIMITS REPLY_LIMITS.depth c.args.bytes.now) reading.Short (rw c.in-Err-Short.field-0-is at c.in-Err-Short.ensures))
+    IsFirstReply-short c.args.bytes.now (skipped-err (reply_at REPLY_LIMITS REPLY_LIMITS.depth c.args.bytes.now) Short (rw c.in-Err-Short.field-0-is at c.in-Err-Short.ensures))
 
 pub returns-in-Err-Broken : goal.returns-in-Err-Broken
 returns-in-Err-Broken c =
-    IsFirstReply-broken c.args.bytes.now c.in-Err-Broken._fault (skipped-err (reply_at REPLY_LIMITS REPLY_LIMITS.depth c.args.bytes.now) (reading.Broken c.in-Err-Broken._fault) (rw c.in-Err-Broken.field-0-is at c.in-Err-Broken.ensures))
+    IsFirstReply-broken c.args.bytes.now c.in-Err-Broken._fault (skipped-err (reply_at REPLY_LIMITS REPLY_LIMITS.depth c.args.bytes.now) (Broken c.in-Err-Broken._fault) (rw c.in-Err-Broken.field-0-is at c.in-Err-Broken.ensures))

@@ -1,5 +1,5 @@
 use Rattle.std.proofs.Common.{sym, ◌∙◌}
-use Rattle.stream_codec.specs.declared.reading.Stop.TheVariants.{Short, Broken}
+use Rattle.kv_types.specs.declared.stop.Stop.TheVariants.{Short, Broken}
 use Rattle.stream_codec.proofs.Skipping.{IsEnd-then, stopped_after, whole_after}
 use Rattle.stream_codec.proofs.Stepping.{more_is, step_leads, step_stops}
 use Rattle.stream_codec.proofs.scan.pass_on.Goals as goal
@@ -29,8 +29,8 @@ returns-in-Err-Short c =
 
 pub returns-in-Err-Broken : goal.returns-in-Err-Broken
 returns-in-Err-Broken c =
-    stopped_after c.args.next c.args.bytes.now c.loop-next.next c.loop-next.rest.now Broken c.loop-next.invariant.alike
-    (step_stops c.loop-next.next (more_is c.loop-next.next (sym c.is_more.ensures ∙ c.loop-next-test.true)) c.loop-next.rest.now Broken (rw c.in-Err-Broken.field-0-is at c.in-Err-Broken.ensures))
+    stopped_after c.args.next c.args.bytes.now c.loop-next.next c.loop-next.rest.now (Broken tt) c.loop-next.invariant.alike
+    (step_stops c.loop-next.next (more_is c.loop-next.next (sym c.is_more.ensures ∙ c.loop-next-test.true)) c.loop-next.rest.now (Broken tt) (rw c.in-Err-Broken.field-0-is at c.in-Err-Broken.ensures))
 
 pub returns : goal.returns
 returns c = (whole_after c.args.next c.args.bytes.now c.loop-next.next c.loop-next.rest.now c.loop-next.invariant.alike (sym c.is_more.ensures ∙ c.loop-next-test.false), c.loop-next.invariant.end)
