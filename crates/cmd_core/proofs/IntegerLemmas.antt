@@ -6,7 +6,7 @@ use Rattle.std.specs.Str.{bytes_eq}
 use Rattle.std.specs.Str.Parse.{AllDigits, digits_value}
 use Rattle.std.proofs.lemmas.Slice.Eq.{bytes_eq-Decides}
 use Rattle.std.proofs.lemmas.Str.Parse.{IsNumeralModel, numerals_by_value, tells_digits, not_in_digits}
-use Rattle.std.proofs.lemmas.Fmt.{digits_decimal, digits_value-decimal, decimal_nonempty, length_signed_le}
+use Rattle.std.proofs.lemmas.Fmt.{digits_decimal, digits_value-decimal, decimal_nonempty}
 use Rattle.std.proofs.lemmas.Bool.Decides.{nat_tests}
 use Rattle.cmd_core.specs.Integer.{value_of, int_of, is_in_range}
 
@@ -36,13 +36,6 @@ found text n small is =
 
 nothing : (n : ℤ) (a b : Bool) → (a ≡ true → b ≡ true → ⊥) → None ≡ (if a && b then Some n else None)
 nothing n a b both = grind arith
-
-pub length-written : (text : List ℕ) (n m : ℤ) → FitsSigned w64 n → text ≡ signed_decimal m → m ≡ n → length text ≤ 20
-length-written text n m fits is same =
-    let small : mag n < 2 ^ 63 = fits.sfits in
-    let few : length (signed_decimal n) ≤ 20 = length_signed_le 19 n (omega arith) small in
-    let same_text : text ≡ signed_decimal n = is ∙ ap signed_decimal same in
-    rw same_text few
 
 refused : (text : List ℕ) → ((n : ℤ) → FitsSigned w64 n → text ≢ signed_decimal n) → None ≡ int_of text
 unfolding int_of

@@ -1,7 +1,6 @@
 //! What is stored from a request.
 ghost use Rattle.std.specs.Prelude.{◌≡◌, ◌≤◌, length, IfOk};
 
-use bytes::Bytes;
 use kv_types::BoundedBytes;
 use std::alloc::{AllocError, Global};
 
@@ -13,8 +12,5 @@ pub fn stored<const MAX: usize>(
     requires { length bytes.now ≤ MAX }
     ensures { IfOk result (λ copy. copy ≡ bytes.now) }
 {
-    match BoundedBytes::new(Bytes::copy_from_slice(alloc, bytes)?) {
-        Some(copy) => Ok(copy),
-        None => unreachable!(),
-    }
+    BoundedBytes::new(alloc, bytes)
 }

@@ -17,8 +17,5 @@ pub fn int_of(text: &[u8]) -> Option<i64>
 pub fn number_text(alloc: Global, number: i64) -> Result<Value, AllocError>
     ensures { IfOk result (λ text. text ≡ signed_decimal number) }
 {
-    match Value::new(write_int(alloc, number)?) {
-        Some(text) => Ok(text),
-        None => unreachable!(),
-    }
+    write_int(alloc, number)
 }

@@ -13,7 +13,7 @@ pub fn firsts(alloc: Global, names: &[Key]) -> Result<Vec<Key>, AllocError>
     let mut seen = BTreeSet::new(alloc);
     let mut once = Vec::new(alloc);
     for name in names {
-        if seen.insert(name.to_bytes()?)? {
+        if seen.insert(name.clone()?)? {
             once.push(name.clone()?)?;
         }
     }

@@ -6,7 +6,7 @@ ghost use Rattle.cmd_core.specs.Reply.{status_text, bulk_or_null, reply_of_answe
 
 use crate::error::CommandError;
 use bytes::Bytes;
-use kv_types::{Change, Listed, RecordId, Reply, Value};
+use kv_types::{Change, Listed, Payload, RecordId, Reply, Value};
 use std::alloc::{AllocError, Global};
 
 /// The word that a command answers as a simple string.
@@ -28,9 +28,9 @@ pub enum Answer {
     Simple(Status),
     Integer(i64),
     /// A value, or none.
-    Bulk(Option<Bytes>),
+    Bulk(Option<Payload>),
     /// Values, or none, one after another.
-    Bulks(Vec<Option<Bytes>>),
+    Bulks(Vec<Option<Payload>>),
 }
 
 /// What a command answers and what it changes, one change after another. One that fails changes nothing.
@@ -111,7 +111,7 @@ impl Outcome {
     }
 }
 
-fn bulk(value: Option<Bytes>) -> Reply
+fn bulk(value: Option<Payload>) -> Reply
     ensures { result ≡ bulk_or_null value }
 {
     match value {
@@ -120,7 +120,7 @@ fn bulk(value: Option<Bytes>) -> Reply
     }
 }
 
-fn bulks(alloc: Global, values: Vec<Option<Bytes>>) -> Result<Reply, AllocError>
+fn bulks(alloc: Global, values: Vec<Option<Payload>>) -> Result<Reply, AllocError>
     ensures { IfOk result (λ reply. reply ≡ reply_of_answer (answer_now (Answer.Bulks values))) }
 {
     let mut replies = Listed::new(alloc);

@@ -11,7 +11,7 @@ ghost use Rattle.cmd_hash.specs.Reading as spec;
 
 use bytes::Bytes;
 use cmd_core::{Answer, Lookup, Outcome, check_hash};
-use kv_types::Value;
+use kv_types::{Payload, Value};
 use std::alloc::{AllocError, Global};
 
 /// HGET key field: the value of a field, shared.
@@ -88,7 +88,7 @@ fn values_of<L: Lookup>(
     lookup: &L,
     key: &[u8],
     fields: &[Bytes],
-) -> Result<Vec<Option<Bytes>>, AllocError>
+) -> Result<Vec<Option<Payload>>, AllocError>
     ensures { IfOk result (λ values. values.items ≡ map (λ field. value_of (L.keyspace lookup.now) key.now field) fields.now) }
 {
     let mut values = Vec::new(alloc);
@@ -103,11 +103,11 @@ fn shared_value<L: Lookup>(
     lookup: &L,
     key: &[u8],
     field: &[u8],
-) -> Result<Option<Bytes>, AllocError>
+) -> Result<Option<Payload>, AllocError>
     ensures { IfOk result (λ value. value ≡ value_of (L.keyspace lookup.now) key.now field.now) }
 {
     match lookup.field(key, field) {
-        Some(value) => Ok(Some(value.to_bytes()?)),
+        Some(value) => Ok(Some(value.to_payload()?)),
         None => Ok(None),
     }
 }

@@ -8,7 +8,7 @@ ghost use Rattle.cmd_hash.specs.Whole as spec;
 
 use bytes::Bytes;
 use cmd_core::{Answer, Lookup, Outcome, check_hash};
-use kv_types::{Field, Value};
+use kv_types::{Field, Payload, Value};
 use std::alloc::{AllocError, Global};
 
 /// HLEN key: how many fields there are.
@@ -63,7 +63,7 @@ pub fn hkeys<L: Lookup>(
     }
     let mut names = Vec::new(alloc);
     for (field, _) in lookup.fields(alloc, key.as_slice())? {
-        names.push(Some(field.into_bytes()))?;
+        names.push(Some(field.into_payload()))?;
     }
     Ok(Outcome::reads(alloc, Answer::Bulks(names)))
 }
@@ -85,20 +85,20 @@ pub fn hvals<L: Lookup>(
     }
     let mut values = Vec::new(alloc);
     for (_, value) in lookup.fields(alloc, key.as_slice())? {
-        values.push(Some(value.into_bytes()))?;
+        values.push(Some(value.into_payload()))?;
     }
     Ok(Outcome::reads(alloc, Answer::Bulks(values)))
 }
 
 /// Fields and values by turns, each shared.
-fn by_turns(alloc: Global, fields: &[(Field, Value)]) -> Result<Vec<Option<Bytes>>, AllocError>
+fn by_turns(alloc: Global, fields: &[(Field, Value)]) -> Result<Vec<Option<Payload>>, AllocError>
     ensures { IfOk result (λ bulks. bulks.items ≡ spec.by_turns fields.now) }
 {
     let mut bulks = Vec::new(alloc);
     let mut left = fields;
     while let [(field, value), rest @ ..] = left {
-        bulks.push(Some(field.to_bytes()?))?;
-        bulks.push(Some(value.to_bytes()?))?;
+        bulks.push(Some(field.to_payload()?))?;
+        bulks.push(Some(value.to_payload()?))?;
         left = rest;
     }
     Ok(bulks)

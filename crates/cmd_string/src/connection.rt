@@ -8,6 +8,7 @@ ghost use Rattle.cmd_string.specs.Connection as spec;
 
 use bytes::Bytes;
 use cmd_core::{Answer, Outcome, Status};
+use kv_types::Payload;
 use std::alloc::{AllocError, Global};
 
 /// PING [text]: `PONG`, or the text, shared.
@@ -16,7 +17,7 @@ pub fn ping(alloc: Global, arguments: &[Bytes]) -> Result<Outcome, AllocError>
     ensures { IfOk result (λ o. outcome_now o ≡ spec.ping arguments.now) }
 {
     let answer = match arguments {
-        [text, ..] => Answer::Bulk(Some(text.clone()?)),
+        [text, ..] => Answer::Bulk(Some(Payload::new(text.clone()?))),
         [] => Answer::Simple(Status::Pong),
     };
     Ok(Outcome::reads(alloc, answer))
@@ -30,7 +31,7 @@ pub fn echo(alloc: Global, arguments: &[Bytes]) -> Result<Outcome, AllocError>
     let [text] = arguments else {
         unreachable!();
     };
-    Ok(Outcome::reads(alloc, Answer::Bulk(Some(text.clone()?))))
+    Ok(Outcome::reads(alloc, Answer::Bulk(Some(Payload::new(text.clone()?)))))
 }
 
 /// QUIT: `OK`. That the connection closes then is not said here.

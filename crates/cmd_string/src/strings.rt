@@ -27,7 +27,7 @@ pub fn get<L: Lookup>(alloc: Global, lookup: &L, arguments: &[Bytes]) -> Result<
         unreachable!();
     };
     let value = match string_at(lookup, key.as_slice()) {
-        Ok(Some(value)) => Some(value.to_bytes()?),
+        Ok(Some(value)) => Some(value.to_payload()?),
         Ok(None) => None,
         Err(error) => return Ok(Outcome::Fails(error)),
     };
@@ -84,7 +84,7 @@ pub fn getdel<L: Lookup>(
         unreachable!();
     };
     let value = match string_at(lookup, key.as_slice()) {
-        Ok(Some(value)) => value.to_bytes()?,
+        Ok(Some(value)) => value.to_payload()?,
         Ok(None) => return Ok(Outcome::reads(alloc, Answer::Bulk(None))),
         Err(error) => return Ok(Outcome::Fails(error)),
     };
@@ -148,7 +148,7 @@ pub fn mget<L: Lookup>(
     let mut values = Vec::new(alloc);
     for key in arguments {
         let value = match lookup.string(key.as_slice()) {
-            Some(value) => Some(value.to_bytes()?),
+            Some(value) => Some(value.to_payload()?),
             None => None,
         };
         values.push(value)?;
@@ -245,8 +245,5 @@ fn joined(alloc: Global, first: &[u8], second: &[u8]) -> Result<Value, AllocErro
     let mut bytes = Vec::with_capacity(alloc, first.len() + second.len())?;
     bytes.extend_from_slice(first)?;
     bytes.extend_from_slice(second)?;
-    match Value::new(Bytes::from_vec(bytes)?) {
-        Some(value) => Ok(value),
-        None => unreachable!(),
-    }
+    Value::from_vec(alloc, bytes)
 }

@@ -9,7 +9,6 @@ ghost use Rattle.heap_layout.specs.Shape.{IsShape, IsOfKind, IsShort, IsPlaced, 
 
 use crate::entry::{FIELD_KIND, STRING_KIND, load_of};
 use crate::place::lines_of_bytes;
-use bytes::Bytes;
 use kv_types::{EntryNo, Extent, Key, MAX_KEY_BYTES, MAX_VALUE_BYTES, RecordId, Value};
 use model::{FIELD_LENGTH_UNIT, LAYOUT, LINE_WORDS, WORD_BYTES};
 use pmem::Pmem;
@@ -103,7 +102,7 @@ pub fn read_record<P: Pmem>(
     let (_, value) = bytes
         .as_slice()
         .split_at((shape.key + shape.field) as usize);
-    let value = Value::new(Bytes::copy_from_slice(alloc, value)?).unwrap();
+    let value = Value::new(alloc, value)?;
     Ok((id, value))
 }
 
@@ -134,11 +133,11 @@ fn id_of(alloc: Global, shape: Shape, bytes: &[u8]) -> Result<RecordId, AllocErr
     ensures { IfOk result (λ id. id ≡ images.id_of shape.kind shape.key shape.field bytes.now) }
 {
     let (key, rest) = bytes.split_at(shape.key as usize);
-    let key = Key::new(Bytes::copy_from_slice(alloc, key)?).unwrap();
+    let key = Key::new(alloc, key)?;
     if shape.kind != FIELD_KIND {
         return Ok(RecordId::Str(key));
     }
     let (field, _) = rest.split_at(shape.field as usize);
-    let field = Key::new(Bytes::copy_from_slice(alloc, field)?).unwrap();
+    let field = Key::new(alloc, field)?;
     Ok(RecordId::Field(key, field))
 }

@@ -8,7 +8,10 @@ use Rattle.kv_types.specs.declared.item.Item.{Item}
 use Rattle.kv_types.specs.declared.item.Item.TheVariants.{Fault}
 use Rattle.kv_types.specs.Word.{IsWithin}
 use Rattle.kv_types.specs.Request.{spelling, Begins, FaultsWith, item_of, EndsWith, AsksFor}
-use Rattle.kv_types.specs.Reading.{Stop, Short, Broken, Read, request_at, items_from, items_at}
+use Rattle.kv_types.specs.declared.stop.Stop.{Stop}
+use Rattle.kv_types.specs.declared.stop.Stop.TheVariants.{Short, Broken}
+use Rattle.kv_types.specs.Reader.{Read}
+use Rattle.kv_types.specs.Reading.{request_at, items_from, items_at}
 use Rattle.kv_types.proofs.GrammarGrows.{request_at-more}
 use Rattle.kv_types.proofs.GrammarRests.{length-IsEndOf, Leaves, rest_of, request_at-leaves}
 use Rattle.kv_types.proofs.GrammarItems.{items_at-step}
@@ -40,13 +43,13 @@ FaultsWith-broken limits bytes fault numbers e =
       says = b.3;
     }
 
-asks_none : (limits : Limits) (text : List ℕ) (stop : Stop) (ending : List Item) → HasNumbers limits → request_at limits text ≡ Err stop → EndsWith limits text ending → AsksFor limits text ending
+asks_none : (limits : Limits) (text : List ℕ) (stop : Stop ProtocolFault) (ending : List Item) → HasNumbers limits → request_at limits text ≡ Err stop → EndsWith limits text ending → AsksFor limits text ending
 asks_none limits text stop ending numbers e ends =
     let none : (words : List (List ℕ)) (more : List ℕ) → IsWithin limits words → text ≢ spelling words ++ more = λ words more within same.
     let whole : request_at limits text ≡ Ok (words, more) = ap (request_at limits) same ∙ request_at-again limits words more numbers within in cc in
     record { requests = []; rest = text; ending = ending; within = tt; split = refl; longest = none; ends = ends; all = refl }
 
-asks_from : (limits : Limits) (byte : ℕ) (bytes : List ℕ) (most : ℕ) → HasNumbers limits → length bytes ≤ most → ((rest : List ℕ) → length rest ≤ most → AsksFor limits rest (items_at limits rest)) → (r : Result (Read (List (List ℕ))) Stop) → request_at limits (byte ∷ bytes) ≡ r → Leaves rest_of bytes r → AsksFor limits (byte ∷ bytes) (items_from (items_at limits) r)
+asks_from : (limits : Limits) (byte : ℕ) (bytes : List ℕ) (most : ℕ) → HasNumbers limits → length bytes ≤ most → ((rest : List ℕ) → length rest ≤ most → AsksFor limits rest (items_at limits rest)) → (r : Result (Read (List (List ℕ))) (Stop ProtocolFault)) → request_at limits (byte ∷ bytes) ≡ r → Leaves rest_of bytes r → AsksFor limits (byte ∷ bytes) (items_from (items_at limits) r)
 asks_from limits byte bytes most numbers fits each (Ok request) e end =
     let found = request_at-takes limits (byte ∷ bytes) request.0 request.1 numbers e in
     let a = each request.1 (omega (arith, length-IsEndOf end)) in

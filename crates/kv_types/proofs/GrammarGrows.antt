@@ -5,11 +5,14 @@ use Rattle.std.proofs.lemmas.Bool.{ltb-false, le-ltb}
 use Rattle.kv_types.specs.declared.limits.Limits.{Limits}
 use Rattle.kv_types.specs.declared.item.ProtocolFault.{ProtocolFault}
 use Rattle.kv_types.specs.declared.item.ProtocolFault.TheVariants.{ExpectedArray, InvalidMultibulkLength, InvalidBulkLength, ExpectedLineEnd}
-use Rattle.kv_types.specs.Reading.{Stop, Short, Broken, Read, ◌>>=◌, is_digit, after_byte, with_line_feed, number_from, number_at, after_dollar, payload_at, word_at, words_at, request_at}
+use Rattle.kv_types.specs.declared.stop.Stop.{Stop}
+use Rattle.kv_types.specs.declared.stop.Stop.TheVariants.{Short, Broken}
+use Rattle.kv_types.specs.Reader.{Read, ◌>>=◌}
+use Rattle.kv_types.specs.Reading.{is_digit, after_byte, with_line_feed, number_from, number_at, after_dollar, payload_at, word_at, words_at, request_at}
 use Rattle.kv_types.proofs.GrammarWords.{line_end_after}
 
 -- the later answer is the earlier one, unless that was `Short`; `grow` appends the bytes that came to a value's rest
-abbrev pub Keeps : {A : Type 0} → (A → A) → Result A Stop → Result A Stop → Type 0
+abbrev pub Keeps : {A : Type 0} → (A → A) → Result A (Stop ProtocolFault) → Result A (Stop ProtocolFault) → Type 0
 Keeps grow (Ok x) later = later ≡ Ok (grow x)
 Keeps grow (Err Short) later = Unit {0}
 Keeps grow (Err (Broken fault)) later = later ≡ Err (Broken fault)
@@ -21,12 +24,12 @@ with_more more read = (read.0, read.1 ++ more)
 abbrev pub longer : List ℕ → List ℕ → List ℕ
 longer more bytes = bytes ++ more
 
-pub Keeps-bind : {A B : Type 0} (grow_a : A → A) (grow_b : B → B) (f : A → Result B Stop) → ((x : A) → Keeps grow_b (f x) (f (grow_a x))) → (r later : Result A Stop) → Keeps grow_a r later → Keeps grow_b (r >>= f) (later >>= f)
+pub Keeps-bind : {A B : Type 0} (grow_a : A → A) (grow_b : B → B) (f : A → Result B (Stop ProtocolFault)) → ((x : A) → Keeps grow_b (f x) (f (grow_a x))) → (r later : Result A (Stop ProtocolFault)) → Keeps grow_a r later → Keeps grow_b (r >>= f) (later >>= f)
 Keeps-bind grow_a grow_b f each (Ok x) later e = rw e (each x)
 Keeps-bind grow_a grow_b f each (Err Short) later e = tt
 Keeps-bind grow_a grow_b f each (Err (Broken fault)) later e = rw e refl
 
-pub Keeps-if : {A : Type 0} (grow : A → A) (test : Bool) (x y x' y' : Result A Stop) → Keeps grow x x' → Keeps grow y y' → Keeps grow (cond test x y) (cond test x' y')
+pub Keeps-if : {A : Type 0} (grow : A → A) (test : Bool) (x y x' y' : Result A (Stop ProtocolFault)) → Keeps grow x x' → Keeps grow y y' → Keeps grow (cond test x y) (cond test x' y')
 Keeps-if grow true x y x' y' h k = h
 Keeps-if grow false x y x' y' h k = k
 

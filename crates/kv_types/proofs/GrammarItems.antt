@@ -6,11 +6,14 @@ use Rattle.kv_types.specs.declared.item.ProtocolFault.{ProtocolFault}
 use Rattle.kv_types.specs.declared.item.Item.{Item}
 use Rattle.kv_types.specs.declared.item.Item.TheVariants.{Request, Fault}
 use Rattle.kv_types.specs.Request.{item_of}
-use Rattle.kv_types.specs.Reading.{Stop, Short, Broken, Read, request_at, items_from, items_within, items_at}
+use Rattle.kv_types.specs.declared.stop.Stop.{Stop}
+use Rattle.kv_types.specs.declared.stop.Stop.TheVariants.{Short, Broken}
+use Rattle.kv_types.specs.Reader.{Read}
+use Rattle.kv_types.specs.Reading.{request_at, items_from, items_within, items_at}
 use Rattle.kv_types.proofs.GrammarGrows.{request_at-more}
 use Rattle.kv_types.proofs.GrammarRests.{IsEndOf, IsEndOf-self, IsEndOf-tail, IsEndOf-trans, length-IsEndOf, Leaves, rest_of, request_at-leaves}
 
-items_from-same : (whole : List ℕ) (f g : List ℕ → List Item) → ((bytes : List ℕ) → IsEndOf whole bytes → f bytes ≡ g bytes) → (r : Result (Read (List (List ℕ))) Stop) → Leaves rest_of whole r → items_from f r ≡ items_from g r
+items_from-same : (whole : List ℕ) (f g : List ℕ → List Item) → ((bytes : List ℕ) → IsEndOf whole bytes → f bytes ≡ g bytes) → (r : Result (Read (List (List ℕ))) (Stop ProtocolFault)) → Leaves rest_of whole r → items_from f r ≡ items_from g r
 items_from-same whole f g same (Ok request) h = ap (λ items. item_of request.0 ++ items) (same request.1 h)
 items_from-same whole f g same (Err Short) h = refl
 items_from-same whole f g same (Err (Broken fault)) h = refl
@@ -52,7 +55,7 @@ items_at-broken limits text more fault e =
 -- ---- what is left of a text once its items are taken
 
 -- the bytes after the last whole request, or `None` where the text is broken there
-abbrev pub unread_from : (List ℕ → Option (List ℕ)) → List ℕ → Result (Read (List (List ℕ))) Stop → Option (List ℕ)
+abbrev pub unread_from : (List ℕ → Option (List ℕ)) → List ℕ → Result (Read (List (List ℕ))) (Stop ProtocolFault) → Option (List ℕ)
 unread_from following bytes (Ok request) = following request.1
 unread_from following bytes (Err Short) = Some bytes
 unread_from following bytes (Err (Broken fault)) = None
@@ -105,7 +108,7 @@ splits_short : (limits : Limits) (text : List ℕ) → request_at limits text �
 splits_short limits text e = record { append = λ more. refl; left = (IsEndOf-self text, items_at-short limits text e, λ fault h. absurd (omega (arith, h.1))) }
 
 splits_from : (limits : Limits) (byte : ℕ) (bytes : List ℕ) (most : ℕ) → length bytes ≤ most
-    → ((rest : List ℕ) → length rest ≤ most → Splits limits rest (items_within most limits rest) (unread_within most limits rest)) → (r : Result (Read (List (List ℕ))) Stop)
+    → ((rest : List ℕ) → length rest ≤ most → Splits limits rest (items_within most limits rest) (unread_within most limits rest)) → (r : Result (Read (List (List ℕ))) (Stop ProtocolFault))
     → request_at limits (byte ∷ bytes) ≡ r → Leaves rest_of bytes r → Splits limits (byte ∷ bytes) (items_from (items_within most limits) r) (unread_from (unread_within most limits) (byte ∷ bytes) r)
 splits_from limits byte bytes most fits each (Ok request) e end =
     let words = request.0 in

@@ -6,7 +6,10 @@ use Rattle.std.proofs.lemmas.Fmt.{decimal_by_steps, decimal_digit, decimal_step}
 use Rattle.std.specs.Fmt.{decimal}
 use Rattle.kv_types.specs.declared.item.ProtocolFault.{ProtocolFault}
 use Rattle.kv_types.specs.Request.{line_end, number_line, IsProperPrefix}
-use Rattle.kv_types.specs.Reading.{Stop, Short, Broken, Read, is_digit, after_byte, with_line_feed, number_from, number_at}
+use Rattle.kv_types.specs.declared.stop.Stop.{Stop}
+use Rattle.kv_types.specs.declared.stop.Stop.TheVariants.{Short, Broken}
+use Rattle.kv_types.specs.Reader.{Read}
+use Rattle.kv_types.specs.Reading.{is_digit, after_byte, with_line_feed, number_from, number_at}
 use Rattle.kv_types.proofs.GrammarSteps.{chosen, cond_cases, after_byte-breaks, BreaksAt, BreaksAt-first, BreaksAt-behind, BreaksAt-here, Anywhere}
 
 pub number_line-append : (n : ℕ) (rest : List ℕ) → number_line n ++ rest ≡ decimal n ++ (13 ∷ 10 ∷ rest)
@@ -57,7 +60,7 @@ with_line_feed-takes : (fault : ProtocolFault) (n : ℕ) (bytes : List ℕ) (m :
 with_line_feed-takes fault n bytes m rest e = grind arith
 
 -- a number goes on with its line end or with a digit, or it breaks
-number_from-cases : (most : ℕ) (fault : ProtocolFault) (n byte : ℕ) (bytes : List ℕ) (z : Result (Read ℕ) Stop) → number_from most fault n (byte ∷ bytes) ≡ z
+number_from-cases : (most : ℕ) (fault : ProtocolFault) (n byte : ℕ) (bytes : List ℕ) (z : Result (Read ℕ) (Stop ProtocolFault)) → number_from most fault n (byte ∷ bytes) ≡ z
     → (((byte == 13) ≡ true) × (with_line_feed fault n bytes ≡ z))
     ⊎ (((byte == 13) ≡ false) × ((is_digit byte && nat_lt 0 n && nat_le (10 * n + (byte - 48)) most) ≡ true) × (number_from most fault (10 * n + (byte - 48)) bytes ≡ z))
     ⊎ (((byte == 13) ≡ false) × ((is_digit byte && nat_lt 0 n && nat_le (10 * n + (byte - 48)) most) ≡ false) × (Err (Broken fault) ≡ z))

@@ -7,8 +7,12 @@ use Rattle.kv_types.specs.declared.item.ProtocolFault.{ProtocolFault}
 use Rattle.kv_types.specs.declared.item.ProtocolFault.TheVariants.{ExpectedArray, InvalidMultibulkLength, ExpectedBulk, InvalidBulkLength, ExpectedLineEnd}
 use Rattle.kv_types.specs.Word.{IsWithin}
 use Rattle.kv_types.specs.Request.{number_line, bulk, spelling, IsProperPrefix, Says}
-use Rattle.kv_types.specs.Reading.{Stop, Short, Broken, Read, ◌>>=◌, after_byte, number_at, word_at, with_first, words_at, request_at}
-use Rattle.kv_types.proofs.GrammarSteps.{bind_ok, bind_err, ok_parts, after_byte-takes, after_byte-short, after_byte-breaks, BreaksAt, BreaksAt-first, BreaksAt-behind}
+use Rattle.kv_types.specs.declared.stop.Stop.{Stop}
+use Rattle.kv_types.specs.declared.stop.Stop.TheVariants.{Short, Broken}
+use Rattle.kv_types.specs.Reader.{Read, ◌>>=◌}
+use Rattle.kv_types.specs.Reading.{after_byte, number_at, word_at, with_first, words_at, request_at}
+use Rattle.kv_types.proofs.ReaderLemmas.{bind_ok, bind_err, ok_parts}
+use Rattle.kv_types.proofs.GrammarSteps.{after_byte-takes, after_byte-short, after_byte-breaks, BreaksAt, BreaksAt-first, BreaksAt-behind}
 use Rattle.kv_types.proofs.GrammarNumbers.{number_at-number_line, number_at-takes, number_at-short, number_at-breaks, InNumber}
 use Rattle.kv_types.proofs.GrammarWords.{IsProperPrefix-append, IsProperPrefix-behind, IsProperPrefix-same, InWord, word_at-again, word_at-takes, word_at-short, word_at-breaks}
 
@@ -24,7 +28,7 @@ AreShort limits words = AllByRecursion (λ word. length word ≤ limits.word_byt
 -- ---- words
 
 -- the words after the first, and the first put before them
-abbrev pub words_after : Limits → ℕ → Read (List ℕ) → Result (Read (List (List ℕ))) Stop
+abbrev pub words_after : Limits → ℕ → Read (List ℕ) → Result (Read (List (List ℕ))) (Stop ProtocolFault)
 words_after limits count word = words_at limits count word.1 >>= λ others. Ok (with_first word.0 others)
 
 pub words_at-again : (limits : Limits) (words : List (List ℕ)) (rest : List ℕ) → HasNumbers limits → AreShort limits words → words_at limits (length words) (flat_map bulk words ++ rest) ≡ Ok (words, rest)
@@ -103,7 +107,7 @@ words_at-breaks limits (suc count) bytes said numbers e =
 -- ---- requests
 
 -- the number of words and the words
-abbrev pub counted_words : Limits → List ℕ → Result (Read (List (List ℕ))) Stop
+abbrev pub counted_words : Limits → List ℕ → Result (Read (List (List ℕ))) (Stop ProtocolFault)
 counted_words limits bytes = number_at limits.words InvalidMultibulkLength bytes >>= λ count. words_at limits count.0 count.1
 
 pub counted_words-behind : (limits : Limits) (count : ℕ) (after : List ℕ) → HasNumbers limits → count ≤ limits.words → counted_words limits (number_line count ++ after) ≡ words_at limits count after

@@ -4,7 +4,10 @@ use Rattle.std.proofs.lemmas.List.{append_assoc, length-append, take-append-drop
 use Rattle.kv_types.specs.declared.limits.Limits.{Limits}
 use Rattle.kv_types.specs.declared.item.ProtocolFault.{ProtocolFault}
 use Rattle.kv_types.specs.declared.item.ProtocolFault.TheVariants.{ExpectedArray, InvalidMultibulkLength, ExpectedBulk, InvalidBulkLength, ExpectedLineEnd}
-use Rattle.kv_types.specs.Reading.{Stop, Short, Broken, Read, ◌>>=◌, is_digit, after_byte, with_line_feed, number_from, number_at, after_dollar, payload_at, word_at, words_at, request_at}
+use Rattle.kv_types.specs.declared.stop.Stop.{Stop}
+use Rattle.kv_types.specs.declared.stop.Stop.TheVariants.{Short, Broken}
+use Rattle.kv_types.specs.Reader.{Read, ◌>>=◌}
+use Rattle.kv_types.specs.Reading.{is_digit, after_byte, with_line_feed, number_from, number_at, after_dollar, payload_at, word_at, words_at, request_at}
 
 -- part is the end of whole
 pub record IsEndOf (whole part : List ℕ) : Type 0 where
@@ -29,15 +32,15 @@ pub length-IsEndOf : {whole part : List ℕ} → IsEndOf whole part → length p
 length-IsEndOf {whole} {part} end = omega (arith, ap length end.joined, length-append end.prefix part)
 
 -- what is left after what was read is the end of whole
-abbrev pub Leaves : {A : Type 0} → (A → List ℕ) → List ℕ → Result A Stop → Type 0
+abbrev pub Leaves : {A : Type 0} → (A → List ℕ) → List ℕ → Result A (Stop ProtocolFault) → Type 0
 Leaves rest whole (Ok x) = IsEndOf whole (rest x)
 Leaves rest whole (Err stop) = Unit {0}
 
-Leaves-bind : {A B : Type 0} (rest_a : A → List ℕ) (rest_b : B → List ℕ) (f : A → Result B Stop) (whole : List ℕ) → ((x : A) → IsEndOf whole (rest_a x) → Leaves rest_b whole (f x)) → (r : Result A Stop) → Leaves rest_a whole r → Leaves rest_b whole (r >>= f)
+Leaves-bind : {A B : Type 0} (rest_a : A → List ℕ) (rest_b : B → List ℕ) (f : A → Result B (Stop ProtocolFault)) (whole : List ℕ) → ((x : A) → IsEndOf whole (rest_a x) → Leaves rest_b whole (f x)) → (r : Result A (Stop ProtocolFault)) → Leaves rest_a whole r → Leaves rest_b whole (r >>= f)
 Leaves-bind rest_a rest_b f whole each (Ok x) h = each x h
 Leaves-bind rest_a rest_b f whole each (Err stop) h = tt
 
-Leaves-if : {A : Type 0} (rest : A → List ℕ) (whole : List ℕ) (test : Bool) (x y : Result A Stop) → Leaves rest whole x → Leaves rest whole y → Leaves rest whole (cond test x y)
+Leaves-if : {A : Type 0} (rest : A → List ℕ) (whole : List ℕ) (test : Bool) (x y : Result A (Stop ProtocolFault)) → Leaves rest whole x → Leaves rest whole y → Leaves rest whole (cond test x y)
 Leaves-if rest whole true x y h k = h
 Leaves-if rest whole false x y h k = k
 

@@ -6,7 +6,7 @@ use Rattle.kv_types.specs.declared.limits.Limits.{Limits}
 use Rattle.kv_types.specs.Word.{IsWithin}
 use Rattle.kv_types.specs.Request.{number_line, bulk, spelling, Begins}
 use Rattle.kv_types.specs.Reading.{request_at}
-use Rattle.kv_types.proofs.GrammarSteps.{ok_parts}
+use Rattle.kv_types.proofs.ReaderLemmas.{ok_parts}
 use Rattle.kv_types.proofs.GrammarDecimals.{number_line-parted}
 use Rattle.kv_types.proofs.GrammarWords.{bulk-append}
 use Rattle.kv_types.proofs.GrammarRequests.{HasNumbers, AreShort, request_at-again}

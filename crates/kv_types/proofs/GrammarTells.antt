@@ -6,8 +6,11 @@ use Rattle.kv_types.specs.declared.limits.Limits.{Limits}
 use Rattle.kv_types.specs.declared.item.ProtocolFault.{ProtocolFault}
 use Rattle.kv_types.specs.declared.item.ProtocolFault.TheVariants.{ExpectedArray, InvalidMultibulkLength, ExpectedBulk, InvalidBulkLength, ExpectedLineEnd}
 use Rattle.kv_types.specs.Request.{line_end, number_line, bulk, IsProperPrefix, Begins, Says}
-use Rattle.kv_types.specs.Reading.{Stop, Short, Broken, Read, ◌>>=◌, after_byte, number_at, payload_at, word_at, with_first, words_at, request_at}
-use Rattle.kv_types.proofs.GrammarSteps.{ok_parts}
+use Rattle.kv_types.specs.declared.stop.Stop.{Stop}
+use Rattle.kv_types.specs.declared.stop.Stop.TheVariants.{Short, Broken}
+use Rattle.kv_types.specs.Reader.{Read, ◌>>=◌}
+use Rattle.kv_types.specs.Reading.{after_byte, number_at, payload_at, word_at, with_first, words_at, request_at}
+use Rattle.kv_types.proofs.ReaderLemmas.{ok_parts}
 use Rattle.kv_types.proofs.GrammarGrows.{Keeps, with_more, number_at-more}
 use Rattle.kv_types.proofs.GrammarNumbers.{number_at-number_line, number_at-takes, number_at-breaks}
 use Rattle.kv_types.proofs.GrammarWords.{line_end_after, payload_at-behind, rest_of_word, rest_of_word-again, InWord}
@@ -15,23 +18,23 @@ use Rattle.kv_types.proofs.GrammarRequests.{HasNumbers, AreShort, words_after, w
 use Rattle.kv_types.proofs.GrammarSpellings.{IsInside, IsInside-begins, length-inside}
 
 -- what a reader answers at the end of its bytes: if it broke, it was with this fault, and if it read something, nothing is left
-abbrev pub Tells : {A : Type 0} → ProtocolFault → Result (Read A) Stop → Type 0
+abbrev pub Tells : {A : Type 0} → ProtocolFault → Result (Read A) (Stop ProtocolFault) → Type 0
 Tells fault (Ok x) = x.1 ≡ []
 Tells fault (Err Short) = Unit {0}
 Tells fault (Err (Broken other)) = other ≡ fault
 
-Tells-bind : {A B : Type 0} (fault : ProtocolFault) (f : Read A → Result (Read B) Stop) → ((x : A) → Tells fault (f (x, []))) → (r : Result (Read A) Stop) → Tells fault r → Tells fault (r >>= f)
+Tells-bind : {A B : Type 0} (fault : ProtocolFault) (f : Read A → Result (Read B) (Stop ProtocolFault)) → ((x : A) → Tells fault (f (x, []))) → (r : Result (Read A) (Stop ProtocolFault)) → Tells fault r → Tells fault (r >>= f)
 Tells-bind fault f each (Ok x) h = rw h (each x.0)
 Tells-bind fault f each (Err Short) h = tt
 Tells-bind fault f each (Err (Broken other)) h = h
 
-Tells-if : {A : Type 0} (fault : ProtocolFault) (test : Bool) (x y : Result (Read A) Stop) → Tells fault x → Tells fault y → Tells fault (cond test x y)
+Tells-if : {A : Type 0} (fault : ProtocolFault) (test : Bool) (x y : Result (Read A) (Stop ProtocolFault)) → Tells fault x → Tells fault y → Tells fault (cond test x y)
 Tells-if fault true x y h k = h
 Tells-if fault false x y h k = k
 
 -- ---- numbers
 
-prefix_from : (most : ℕ) (fault : ProtocolFault) (line : List ℕ) (byte : ℕ) (rest : List ℕ) (n : ℕ) → number_at most fault (line ++ byte ∷ rest) ≡ Ok (n, []) → (r : Result (Read ℕ) Stop) → Keeps (with_more (byte ∷ rest)) r (number_at most fault (line ++ byte ∷ rest)) → r ≡ Err Short
+prefix_from : (most : ℕ) (fault : ProtocolFault) (line : List ℕ) (byte : ℕ) (rest : List ℕ) (n : ℕ) → number_at most fault (line ++ byte ∷ rest) ≡ Ok (n, []) → (r : Result (Read ℕ) (Stop ProtocolFault)) → Keeps (with_more (byte ∷ rest)) r (number_at most fault (line ++ byte ∷ rest)) → r ≡ Err Short
 prefix_from most fault line byte rest n whole (Ok x) keeps =
     let parts = ok_parts x.0 n (x.1 ++ byte ∷ rest) [] (sym keeps ∙ whole) in
     absurd (omega (arith, ap length parts.1, length-append x.1 (byte ∷ rest)))
@@ -59,7 +62,7 @@ nothing_left most fault line byte m (d ∷ rest) small short fits e =
     let read : number_at most fault line ≡ Ok (m, prefix.0) = ap (number_at most fault) prefix.1 ∙ number_at-number_line most fault m prefix.0 small fits in
     absurd (cc)
 
-tells_number : (most : ℕ) (fault : ProtocolFault) (line : List ℕ) (byte : ℕ) → most < 2 ^ 64 → number_at most fault line ≡ Err Short → (r : Result (Read ℕ) Stop) → number_at most fault (line ++ byte ∷ []) ≡ r → Tells fault r
+tells_number : (most : ℕ) (fault : ProtocolFault) (line : List ℕ) (byte : ℕ) → most < 2 ^ 64 → number_at most fault line ≡ Err Short → (r : Result (Read ℕ) (Stop ProtocolFault)) → number_at most fault (line ++ byte ∷ []) ≡ r → Tells fault r
 tells_number most fault line byte small short (Ok x) e =
     let found = number_at-takes most fault (line ++ byte ∷ []) x.0 x.1 small e in
     nothing_left most fault line byte x.0 x.1 small short found.0 found.1

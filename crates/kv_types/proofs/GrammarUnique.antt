@@ -8,7 +8,10 @@ use Rattle.kv_types.specs.declared.item.Item.{Item}
 use Rattle.kv_types.specs.declared.item.Item.TheVariants.{Fault}
 use Rattle.kv_types.specs.Word.{IsWithin}
 use Rattle.kv_types.specs.Request.{spelling, Begins, FaultsWith, item_of, EndsWith, AsksFor}
-use Rattle.kv_types.specs.Reading.{Stop, Short, Broken, Read, request_at, items_from, items_at}
+use Rattle.kv_types.specs.declared.stop.Stop.{Stop}
+use Rattle.kv_types.specs.declared.stop.Stop.TheVariants.{Short, Broken}
+use Rattle.kv_types.specs.Reader.{Read}
+use Rattle.kv_types.specs.Reading.{request_at, items_from, items_at}
 use Rattle.kv_types.proofs.GrammarGrows.{request_at-more}
 use Rattle.kv_types.proofs.GrammarItems.{items_at-step}
 use Rattle.kv_types.proofs.GrammarRequests.{HasNumbers, request_at-again, request_at-takes}
@@ -16,7 +19,7 @@ use Rattle.kv_types.proofs.GrammarTells.{Tells, Says-tells}
 use Rattle.kv_types.proofs.GrammarAsks.{Begins-short, not_begun}
 
 -- the byte with which no spelling continues breaks the reading, with the fault of its position
-told_by : (limits : Limits) (bytes : List ℕ) (fault said : ProtocolFault) → HasNumbers limits → (f : FaultsWith limits bytes fault) → request_at limits bytes ≡ Err (Broken said) → (r : Result (Read (List (List ℕ))) Stop) → request_at limits (f.prefix ++ f.byte ∷ []) ≡ r → Tells fault r → fault ≡ said
+told_by : (limits : Limits) (bytes : List ℕ) (fault said : ProtocolFault) → HasNumbers limits → (f : FaultsWith limits bytes fault) → request_at limits bytes ≡ Err (Broken said) → (r : Result (Read (List (List ℕ))) (Stop ProtocolFault)) → request_at limits (f.prefix ++ f.byte ∷ []) ≡ r → Tells fault r → fault ≡ said
 told_by limits bytes fault said numbers f e (Ok x) broken tells =
     let found = request_at-takes limits (f.prefix ++ f.byte ∷ []) x.0 x.1 numbers broken in
     absurd (f.breaks (record { rest = []; words = x.0; spells = record { within = found.0; whole = append-nil (f.prefix ++ f.byte ∷ []) ∙ found.1 ∙ ap (λ rest. spelling x.0 ++ rest) tells ∙ append-nil (spelling x.0) } }))
@@ -27,7 +30,7 @@ told_by limits bytes fault said numbers f e (Err (Broken other)) broken tells =
     let same : other ≡ said = cc in
     sym tells ∙ same
 
-ends_so : (limits : Limits) (rest : List ℕ) (ending : List Item) → HasNumbers limits → ((words : List (List ℕ)) (more : List ℕ) → IsWithin limits words → rest ≢ spelling words ++ more) → EndsWith limits rest ending → (r : Result (Read (List (List ℕ))) Stop) → request_at limits rest ≡ r → ending ≡ items_from (items_at limits) r
+ends_so : (limits : Limits) (rest : List ℕ) (ending : List Item) → HasNumbers limits → ((words : List (List ℕ)) (more : List ℕ) → IsWithin limits words → rest ≢ spelling words ++ more) → EndsWith limits rest ending → (r : Result (Read (List (List ℕ))) (Stop ProtocolFault)) → request_at limits rest ≡ r → ending ≡ items_from (items_at limits) r
 ends_so limits rest ending numbers longest ends (Ok request) e =
     let found = request_at-takes limits rest request.0 request.1 numbers e in
     absurd (longest request.0 request.1 found.0 found.1)

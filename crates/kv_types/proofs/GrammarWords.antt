@@ -6,8 +6,12 @@ use Rattle.kv_types.specs.declared.limits.Limits.{Limits}
 use Rattle.kv_types.specs.declared.item.ProtocolFault.{ProtocolFault}
 use Rattle.kv_types.specs.declared.item.ProtocolFault.TheVariants.{ExpectedArray, InvalidMultibulkLength, ExpectedBulk, InvalidBulkLength, ExpectedLineEnd}
 use Rattle.kv_types.specs.Request.{line_end, number_line, bulk, IsProperPrefix}
-use Rattle.kv_types.specs.Reading.{Stop, Short, Broken, Read, ◌>>=◌, after_byte, number_at, after_dollar, payload_at, word_at}
-use Rattle.kv_types.proofs.GrammarSteps.{chosen, bind_ok, bind_err, BreaksAt, BreaksAt-first, BreaksAt-behind, BreaksAt-here}
+use Rattle.kv_types.specs.declared.stop.Stop.{Stop}
+use Rattle.kv_types.specs.declared.stop.Stop.TheVariants.{Short, Broken}
+use Rattle.kv_types.specs.Reader.{Read, ◌>>=◌}
+use Rattle.kv_types.specs.Reading.{after_byte, number_at, after_dollar, payload_at, word_at}
+use Rattle.kv_types.proofs.ReaderLemmas.{bind_ok, bind_err}
+use Rattle.kv_types.proofs.GrammarSteps.{chosen, BreaksAt, BreaksAt-first, BreaksAt-behind, BreaksAt-here}
 use Rattle.kv_types.proofs.GrammarNumbers.{number_at-number_line, number_at-takes, number_at-short, number_at-breaks, InNumber}
 
 -- ---- proper prefixes
@@ -26,7 +30,7 @@ IsProperPrefix-same same_prefix same_whole p =
 
 -- ---- the line end after a word
 
-abbrev pub line_end_after : List ℕ → List ℕ → Result (Read (List ℕ)) Stop
+abbrev pub line_end_after : List ℕ → List ℕ → Result (Read (List ℕ)) (Stop ProtocolFault)
 line_end_after word bytes = after_byte 13 ExpectedLineEnd bytes >>= λ rest. after_byte 10 ExpectedLineEnd rest >>= λ after. Ok (word, after)
 
 pub line_end_after-takes : (word bytes w rest : List ℕ) → line_end_after word bytes ≡ Ok (w, rest) → (word ≡ w) × (bytes ≡ 13 ∷ 10 ∷ rest)
@@ -137,7 +141,7 @@ pub bulk-append : (word rest : List ℕ) → bulk word ++ rest ≡ 36 ∷ (numbe
 bulk-append word rest = ap (λ x. 36 ∷ x) (simp append_assoc)
 
 -- the length of a word and the word
-abbrev pub rest_of_word : Limits → List ℕ → Result (Read (List ℕ)) Stop
+abbrev pub rest_of_word : Limits → List ℕ → Result (Read (List ℕ)) (Stop ProtocolFault)
 rest_of_word limits bytes = number_at limits.word_bytes InvalidBulkLength bytes >>= λ len. payload_at len.0 len.1
 
 pub rest_of_word-again : (limits : Limits) (len : ℕ) (after : List ℕ) → limits.word_bytes < 2 ^ 64 → len ≤ limits.word_bytes → rest_of_word limits (number_line len ++ after) ≡ payload_at len after

@@ -1,5 +1,6 @@
 pub mod CommandNameLemmas
 pub mod OrderLemmas
+pub mod ByteOrderLemmas
 pub mod LookUpLemmas
 pub mod PlayLemmas
 pub mod MemberLemmas
@@ -7,6 +8,7 @@ pub mod PutLemmas
 pub mod ChangeTextLemmas
 pub mod IntegerLemmas
 pub mod ReplyLemmas
+pub mod ReaderLemmas
 pub mod GrammarAsks
 pub mod GrammarDecimals
 pub mod GrammarGrows

@@ -7,6 +7,9 @@ pub mod Order
 pub mod Change
 pub mod Fault
 pub mod Request
+pub mod Storage
+pub mod ByteOrder
+pub mod Reader
 pub mod Reading
 pub mod Reply
 pub mod Refusal

@@ -1,6 +1,6 @@
 -- Requests as bytes: the array of bulk strings of RESP2 (the Redis serialization protocol specification). The limits, and the moment at
 -- which a fault is decided, are this project's profile.
-use Rattle.std.specs.Prelude.{◌≡◌, ℕ, ◌<◌, ◌≤◌, List, [], ◌∷◌, ◌++◌, length, ◌≢◌, ◌⊎◌, map}
+use Rattle.std.specs.Prelude.{◌≡◌, ℕ, ◌<◌, ◌≤◌, List, [], ◌∷◌, ◌++◌, length, ◌≢◌, ◌⊎◌}
 use Rattle.std.specs.List.{AllByRecursion, flat_map}
 use Rattle.std.specs.Fmt.{decimal}
 use Rattle.kv_types.specs.declared.limits.Limits.{Limits}

@@ -3,7 +3,7 @@ ghost use Rattle.std.specs.Prelude.{◌≡◌, ◌≢◌, ℤ, IfSome, IfNone, I
 ghost use Rattle.std.specs.Int.{w64};
 ghost use Rattle.std.specs.Fmt.{signed_decimal};
 
-use bytes::Bytes;
+use crate::bounded::Value;
 use itoa::Buffer;
 use std::alloc::{AllocError, Global};
 use std::str;
@@ -29,9 +29,9 @@ pub fn read_int(text: &[u8]) -> Option<i64>
 }
 
 /// The text of an integer.
-pub fn write_int(alloc: Global, number: i64) -> Result<Bytes, AllocError>
+pub fn write_int(alloc: Global, number: i64) -> Result<Value, AllocError>
     ensures { IfOk result (λ text. text ≡ signed_decimal number) }
 {
     let mut buffer = Buffer::new();
-    Bytes::copy_from_slice(alloc, buffer.format(number).as_bytes())
+    Value::new(alloc, buffer.format(number).as_bytes())
 }

@@ -2,22 +2,29 @@
 #![tactic(auto)]
 
 mod bounded;
+mod byte_order;
 mod change;
 mod command_name;
+mod counted;
 mod grammar_laws;
+mod inline;
 mod integer;
 mod item;
 mod laws;
 mod limits;
 mod listed;
+mod payload;
 mod place;
 mod plain_keyspace;
 mod record_id;
 mod refusal;
 mod reply;
 mod request;
+mod stop;
+mod storage;
 
 pub use bounded::{BoundedBytes, Field, Key, Value};
+pub use byte_order::compare_bytes;
 pub use change::{Change, changes_fit};
 pub use command_name::{COMMANDS, CommandName};
 pub use grammar_laws::{items_are_asked_for, items_grow, one_spelling};
@@ -29,9 +36,11 @@ pub use laws::{
 };
 pub use limits::{Limits, MAX_CHANGE_BYTES, MAX_KEY_BYTES, MAX_VALUE_BYTES, REQUEST_LIMITS};
 pub use listed::Listed;
+pub use payload::Payload;
 pub use place::{EntryNo, Extent};
 pub use plain_keyspace::PlainKeyspace;
 pub use record_id::RecordId;
 pub use refusal::Refusal;
 pub use reply::{Held, Reply};
 pub use request::Request;
+pub use stop::Stop;

@@ -1,5 +1,6 @@
 //! Replies, and a reply with the position at which it was made.
 use crate::listed::Listed;
+use crate::payload::Payload;
 use bytes::Bytes;
 use std::alloc::AllocError;
 
@@ -13,7 +14,7 @@ pub enum Reply {
     /// An integer.
     Int(i64),
     /// A bulk string of any bytes.
-    Bulk(Bytes),
+    Bulk(Payload),
     /// No value.
     NullBulk,
     /// An array of replies.

@@ -7,7 +7,6 @@ ghost use Rattle.model.specs.Shape.{IsShape};
 
 use crate::image_words::{entry_word, word_at};
 use crate::layout::{FIELD_LENGTH_UNIT, LINE_BYTES, LINE_WORDS, WORD_BYTES};
-use bytes::Bytes;
 use kv_types::{Key, MAX_KEY_BYTES, MAX_VALUE_BYTES, RecordId, Value};
 use std::alloc::{AllocError, Global};
 
@@ -81,14 +80,11 @@ fn id_of(alloc: Global, kind: u64, shape: Shape, bytes: &[u8]) -> Result<RecordI
     ensures { IfOk result (λ id. id ≡ images.id_of kind shape.key shape.field bytes.now) }
 {
     let (key, rest) = bytes.split_at(shape.key as usize);
-    let key = Key::new(Bytes::copy_from_slice(alloc, key)?).unwrap();
+    let key = Key::new(alloc, key)?;
     if kind != 2 {
         return Ok(RecordId::Str(key));
     }
-    let field = Key::new(Bytes::copy_from_slice(
-        alloc,
-        rest.split_at(shape.field as usize).0,
-    )?).unwrap();
+    let field = Key::new(alloc, rest.split_at(shape.field as usize).0)?;
     Ok(RecordId::Field(key, field))
 }
 
@@ -120,6 +116,6 @@ pub fn read_entry(
     let (_, value) = bytes
         .as_slice()
         .split_at((shape.key + shape.field) as usize);
-    let value = Value::new(Bytes::copy_from_slice(alloc, value)?).unwrap();
+    let value = Value::new(alloc, value)?;
     Ok(Some((id, value)))
 }

@@ -6,7 +6,6 @@ ghost use Rattle.kv_types.specs.declared.limits.TheConstants.{MAX_KEY_BYTES};
 ghost use Rattle.cmd_core.specs.Contents.{same_bytes, has_key};
 
 use crate::watches::Watches;
-use bytes::Bytes;
 use cmd_core::Lookup;
 use kv_types::Key;
 use std::alloc::{AllocError, Global};
@@ -38,6 +37,10 @@ impl Watchers {
     pub(crate) fn of(&self, key: &Key) -> &[usize]
         ensures { (number : ℕ) → has_number number result.now ≡ watches self.now.table.entries key.now number }
     {
+        // Where nothing is watched no key is hashed.
+        if self.table.is_empty() {
+            return &[];
+        }
         match self.table.get(key.as_slice()) {
             Some(numbers) => numbers.as_slice(),
             None => &[],
@@ -149,8 +152,5 @@ fn key_of(alloc: Global, bytes: &[u8]) -> Result<Key, AllocError>
     requires { length bytes.now ≤ MAX_KEY_BYTES }
     ensures { IfOk result (λ key. key ≡ bytes.now) }
 {
-    let Some(key) = Key::new(Bytes::copy_from_slice(alloc, bytes)?) else {
-        unreachable!()
-    };
-    Ok(key)
+    Key::new(alloc, bytes)
 }

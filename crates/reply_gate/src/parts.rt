@@ -5,7 +5,7 @@ ghost use Rattle.reply_gate.specs.Woven.{IsWoven};
 use crate::shared_part::SharedPart;
 use bytes::{Buf, Bytes, BytesMut};
 use itoa::Buffer;
-use kv_types::Reply;
+use kv_types::{Payload, Reply};
 use resp_codec::write_reply;
 use std::alloc::{AllocError, Global};
 use std::collections::VecDeque;
@@ -153,7 +153,7 @@ impl Parts {
     }
 
     /// Puts a bulk string. A large value is shared and not copied.
-    fn put_bulk(&mut self, bytes: &Bytes, reply: &Reply) -> Result<(), AllocError>
+    fn put_bulk(&mut self, bytes: &Payload, reply: &Reply) -> Result<(), AllocError>
         requires { text_of reply.now ≡ bulk bytes.now }
         ensures ok { OnOk result (all_bytes self.new ≡ all_bytes self.old ++ bulk bytes.now) }
         ensures grew { Grows self.old self.new }
@@ -161,8 +161,20 @@ impl Parts {
         if bytes.len() < SHARED_BYTES {
             return self.put_copied(reply);
         }
-        self.put_head(b'$', bytes.len())?;
-        self.put_shared(bytes)?;
+        match bytes.to_bytes()? {
+            Some(value) => self.put_large(value),
+            None => self.put_copied(reply),
+        }
+    }
+
+    /// Puts a bulk string whose value is not copied.
+    fn put_large(&mut self, value: Bytes) -> Result<(), AllocError>
+        requires { 0 < length value }
+        ensures ok { OnOk result (all_bytes self.new ≡ all_bytes self.old ++ bulk value) }
+        ensures grew { Grows self.old self.new }
+    {
+        self.put_head(b'$', value.len())?;
+        self.put_shared(value)?;
         self.put_bytes(b"\r\n")
     }
 
@@ -193,23 +205,23 @@ impl Parts {
     }
 
     /// Puts a value that is not copied.
-    fn put_shared(&mut self, bytes: &Bytes) -> Result<(), AllocError>
-        requires { 0 < length bytes.now }
-        ensures ok { OnOk result (all_bytes self.new ≡ all_bytes self.old ++ bytes.now) }
+    fn put_shared(&mut self, value: Bytes) -> Result<(), AllocError>
+        requires { 0 < length value }
+        ensures ok { OnOk result (all_bytes self.new ≡ all_bytes self.old ++ value) }
         ensures grew { Grows self.old self.new }
     {
-        if MOST_SHARED_BYTES - self.shared < bytes.len() {
+        let count = value.len();
+        if MOST_SHARED_BYTES - self.shared < count {
             return Err(AllocError);
         }
         let text = self.text.len();
-        let part = SharedPart {
-            lead: text - self.led,
-            bytes: bytes.clone()?,
-        };
         self.values.reserve(1)?;
-        self.values.push_back_reserved(part);
+        self.values.push_back_reserved(SharedPart {
+            lead: text - self.led,
+            bytes: value,
+        });
         self.led = text;
-        self.shared += bytes.len();
+        self.shared += count;
         Ok(())
     }
 

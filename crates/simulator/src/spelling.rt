@@ -4,7 +4,7 @@ ghost use Rattle.kv_types.specs.Request.{spelling, number_line, bulk};
 
 use bytes::Bytes;
 use itoa::Buffer;
-use kv_types::Reply;
+use kv_types::{Payload, Reply};
 use resp_codec::write_reply;
 use std::alloc::{AllocError, Global};
 
@@ -33,7 +33,7 @@ fn put_words(text: &mut Vec<u8>, words: Vec<Bytes>) -> Result<(), AllocError>
     ensures { OnOk result (text.new.items ≡ text.old.items ++ flat_map bulk words.items) }
 {
     for word in words {
-        write_reply(&Reply::Bulk(word), text)?;
+        write_reply(&Reply::Bulk(Payload::new(word)), text)?;
     }
     Ok(())
 }

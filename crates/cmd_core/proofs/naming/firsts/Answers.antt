@@ -4,7 +4,7 @@ use Rattle.kv_types.specs.Keyspace.{bytes_cmp}
 use Rattle.cmd_core.specs.Naming as spec
 use Rattle.cmd_core.proofs.NamingLemmas.{none_seen, passed, taken}
 use Rattle.cmd_core.proofs.naming.firsts.Goals as goal
-use Rattle.cmd_core.proofs.naming.firsts.Goals.{then-branch+in_ok-clone+in_ok-push, else-branch}
+use Rattle.cmd_core.proofs.naming.firsts.Goals.{then-branch+in_ok-clone-2+in_ok-push, else-branch}
 
 pub loop-name-init : goal.loop-name-init
 loop-name-init c =
@@ -14,7 +14,7 @@ loop-name-init c =
 pub loop-name-preserved : goal.loop-name-preserved
 loop-name-preserved c =
     elim c.if-branch.branch [
-      | then-branch+in_ok-clone+in_ok-push w ↦
+      | then-branch+in_ok-clone-2+in_ok-push w ↦
           let was : contains bytes_cmp c.loop-name.seen c.name-item.result ≡ false = search rules in
           let updates : Updates bytes_cmp c.loop-name.seen c.insert.new.self c.name-item.result true = search rules in
           let pushed : c.if-branch.once.items ≡ c.loop-name.once.items ++ c.name-item.result ∷ [] = search rules in
