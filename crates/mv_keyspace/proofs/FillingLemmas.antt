@@ -13,6 +13,7 @@ use Rattle.kv_types.specs.Order.{record_cmp_total}
 use Rattle.mv_keyspace.specs.declared.row.Row.{Row}
 use Rattle.mv_keyspace.specs.declared.slot.Slot.{Slot}
 use Rattle.mv_keyspace.specs.Row.{records_of, table_of}
+use Rattle.mv_keyspace.specs.Slot.{rows_of}
 use Rattle.mv_keyspace.specs.Slots.{Slots, rows_in, slot_at, AreOfKey, AreSlots}
 use Rattle.mv_keyspace.proofs.EndingLemmas.{AreInOrder}
 use Rattle.mv_keyspace.proofs.SlotLemmas.{AllStand, slots-written, table_of-append}
@@ -52,28 +53,28 @@ module _ (row : Row) (es : Slots) (slot : Slot) (slots : AreSlots es) (found : s
   abbrev after : List Row
   after = (own (key_of row.id) es slot slots found).after
 
-  split : rows_in es ++ row ∷ [] ≡ before ++ (slot.rows.items ++ (after ++ row ∷ []))
+  split : rows_in es ++ row ∷ [] ≡ before ++ (rows_of (key_of row.id) slot ++ (after ++ row ∷ []))
   split =
       ap (λ rows. rows ++ row ∷ []) (rows-found (key_of row.id) es slot slots found)
-      ∙ append_assoc before (slot.rows.items ++ after) (row ∷ [])
-      ∙ ap (λ rows. before ++ rows) (append_assoc slot.rows.items after (row ∷ []))
+      ∙ append_assoc before (rows_of (key_of row.id) slot ++ after) (row ∷ [])
+      ∙ ap (λ rows. before ++ rows) (append_assoc (rows_of (key_of row.id) slot) after (row ∷ []))
 
-  in_turn : AreInOrder (slot.rows.items ++ (after ++ row ∷ []))
-  in_turn = order-last before (slot.rows.items ++ (after ++ row ∷ [])) (subst AreInOrder split order)
+  in_turn : AreInOrder (rows_of (key_of row.id) slot ++ (after ++ row ∷ []))
+  in_turn = order-last before (rows_of (key_of row.id) slot ++ (after ++ row ∷ [])) (subst AreInOrder split order)
 
   last : after ≡ []
-  last = none-after row after (own (key_of row.id) es slot slots found).upper (order-last slot.rows.items (after ++ row ∷ []) in_turn)
+  last = none-after row after (own (key_of row.id) es slot slots found).upper (order-last (rows_of (key_of row.id) slot) (after ++ row ∷ []) in_turn)
 
-  pub order-behind : AreInOrder (slot.rows.items ++ row ∷ [])
-  order-behind = subst (λ rest. AreInOrder (slot.rows.items ++ (rest ++ row ∷ []))) last in_turn
+  pub order-behind : AreInOrder (rows_of (key_of row.id) slot ++ row ∷ [])
+  order-behind = subst (λ rest. AreInOrder (rows_of (key_of row.id) slot ++ (rest ++ row ∷ []))) last in_turn
 
-  of-behind : AreOfKey (key_of row.id) (table_of (slot.rows.items ++ row ∷ []))
+  of-behind : AreOfKey (key_of row.id) (table_of (rows_of (key_of row.id) slot ++ row ∷ []))
   of-behind =
-      subst (AreOfKey (key_of row.id)) (sym (table_of-append slot.rows.items (row ∷ [])))
-      (All-append (λ other. key_of other.0 ≡ key_of row.id) (table_of slot.rows.items) (table_of (row ∷ [])) (of-key (key_of row.id) es slot slots found) (refl, tt))
+      subst (AreOfKey (key_of row.id)) (sym (table_of-append (rows_of (key_of row.id) slot) (row ∷ [])))
+      (All-append (λ other. key_of other.0 ≡ key_of row.id) (table_of (rows_of (key_of row.id) slot)) (table_of (row ∷ [])) (of-key (key_of row.id) es slot slots found) (refl, tt))
 
   -- and it was written with the row behind those that it had
-  module _ (other : Slot) (left : Slots) (is : left ≡ set_value (is_at (bytes_cmp (key_of row.id))) es other) (sorted : IsStrictlySortedBy bytes_cmp (keys_of left)) (added : other.rows.items ≡ slot.rows.items ++ row ∷ []) where
+  module _ (other : Slot) (left : Slots) (is : left ≡ set_value (is_at (bytes_cmp (key_of row.id))) es other) (sorted : IsStrictlySortedBy bytes_cmp (keys_of left)) (added : rows_of (key_of row.id) other ≡ rows_of (key_of row.id) slot ++ row ∷ []) where
     pub slots-behind : AreSlots left
     slots-behind = slots-written (key_of row.id) other es left is sorted (subst (λ items. AreOfKey (key_of row.id) (table_of items)) (sym added) of-behind) slots
 
@@ -81,7 +82,7 @@ module _ (row : Row) (es : Slots) (slot : Slot) (slots : AreSlots es) (found : s
     rows-behind =
         rows-written (key_of row.id) es slot slots found other left is sorted
         ∙ ap (λ items. before ++ (items ++ after)) added
-        ∙ ap (λ rest. before ++ ((slot.rows.items ++ row ∷ []) ++ rest)) last
-        ∙ ap (λ rows. before ++ rows) (append-nil (slot.rows.items ++ row ∷ []))
-        ∙ ap (λ rest. before ++ (slot.rows.items ++ (rest ++ row ∷ []))) (sym last)
+        ∙ ap (λ rest. before ++ ((rows_of (key_of row.id) slot ++ row ∷ []) ++ rest)) last
+        ∙ ap (λ rows. before ++ rows) (append-nil (rows_of (key_of row.id) slot ++ row ∷ []))
+        ∙ ap (λ rest. before ++ (rows_of (key_of row.id) slot ++ (rest ++ row ∷ []))) (sym last)
         ∙ sym split

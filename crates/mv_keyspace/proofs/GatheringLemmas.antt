@@ -15,13 +15,10 @@ use Rattle.mv_keyspace.specs.declared.row.Row.{Row}
 use Rattle.mv_keyspace.specs.Table.{Cell, Table, cell_at, with_cell}
 use Rattle.mv_keyspace.specs.Keys.{changed_key}
 use Rattle.mv_keyspace.specs.Row.{cell_of_row, table_of, ended_rows, is_string_of, stands_for}
-use Rattle.mv_keyspace.specs.Slots.{Slots, AreSlots, rows_at, rows_in}
 use Rattle.mv_keyspace.specs.Versions.{Gathered, table_in, with_rows}
 use Rattle.mv_keyspace.proofs.TableLemmas.{cell_at-where}
 use Rattle.mv_keyspace.proofs.TableMembers.{found-first}
 use Rattle.mv_keyspace.proofs.PuttingLemmas.{ended-put, where_all}
-use Rattle.mv_keyspace.proofs.SlotLemmas.{around, table_of-append}
-use Rattle.mv_keyspace.proofs.PlacingLemmas.{ended-within}
 
 -- a row that is put into the map is put into its table
 pub table_in-inserted : (id : RecordId) (row : Row) (es : Gathered) → table_in (insert_entry record_cmp es id row) ≡ with_cell id (cell_of_row row) (table_in es)
@@ -91,15 +88,6 @@ put-in_two id value rows before between after sorted first second =
     ∙ ap (λ t. with_rows t before) (ended-put id value table sorted)
 
 -- ---- the rows of all slots that a change ends
-
-pub ended-at : (key : List ℕ) (es : Slots) → AreSlots es → (c : Change) → changed_key c ≡ Some key → ended_rows c (table_of (rows_at key es)) ≡ ended_rows c (table_of (rows_in es))
-ended-at key es slots c is =
-    let a = around key es slots in
-    sym (
-    ap (λ rows. ended_rows c (table_of rows)) a.rows
-    ∙ ap (ended_rows c) (table_of-append a.before (rows_at key es ++ a.after) ∙ ap (λ t. table_of a.before ++ t) (table_of-append (rows_at key es) a.after))
-    ∙ ended-within key c (table_of a.before) (table_of (rows_at key es)) (table_of a.after) is a.lower a.upper
-    )
 
 -- a change of no key ends all rows
 pub ended-all : (c : Change) (table : Table) → changed_key c ≡ None → ended_rows c table ≡ table

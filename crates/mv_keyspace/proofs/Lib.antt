@@ -12,6 +12,7 @@ pub mod EndingLemmas
 pub mod KeyCountLemmas
 pub mod PuttingLemmas
 pub mod LoadingLemmas
+pub mod StringLemmas
 pub mod SlotLemmas
 pub mod PlacingLemmas
 pub mod WritingLemmas

@@ -13,8 +13,10 @@ use Rattle.kv_types.proofs.LookUpLemmas.{is_same}
 use Rattle.model.specs.declared.group.PlacedChange.{PlacedChange}
 use Rattle.model.specs.Group.{change_of, ends_record}
 use Rattle.mv_keyspace.specs.declared.row.Row.{Row}
+use Rattle.mv_keyspace.specs.declared.slot.Slot.{Slot}
 use Rattle.mv_keyspace.specs.Row.{ended_rows, records_of, records_of_table, table_of}
-use Rattle.mv_keyspace.specs.Slots.{Slots, AreOfKey, AreSlots, rows_at, rows_in}
+use Rattle.mv_keyspace.specs.Slot.{rows_of}
+use Rattle.mv_keyspace.specs.Slots.{Slots, AreOfKey, AreSlots, rows_at, rows_in, rows_of_slot, slot_at}
 use Rattle.mv_keyspace.specs.Table.{Cell, Table, cell_at, with_cell}
 use Rattle.mv_keyspace.specs.Versions.{ends_some, rows_ended, with_rows}
 use Rattle.mv_keyspace.proofs.TableLemmas.{cell_at-where, cell_at-with_cell}
@@ -22,6 +24,7 @@ use Rattle.mv_keyspace.proofs.TableMembers.{IsSortedTable, is_sorted-records, mi
 use Rattle.mv_keyspace.proofs.PlacingLemmas.{not_tied_greater, not_tied_less}
 use Rattle.mv_keyspace.proofs.PuttingLemmas.{where_none}
 use Rattle.mv_keyspace.proofs.ReadingLemmas.{other_record}
+use Rattle.mv_keyspace.proofs.StringLemmas.{slot-ordered}
 use Rattle.mv_keyspace.proofs.SlotLemmas.{AllStand, around, later-stand, slots-tail, table_of-append}
 
 -- ---- rows put into a table
@@ -113,8 +116,8 @@ append-ordered key (row ∷ rows) more of sorted less later =
 pub slots-ordered : (es : Slots) → AreSlots es → IsSortedTable (table_of (rows_in es))
 slots-ordered [] slots = refl
 slots-ordered (e ∷ es) slots =
-    subst IsSortedTable (sym (table_of-append e.1.rows.items (rows_in es)))
-    (append-ordered e.0 (table_of e.1.rows.items) (table_of (rows_in es)) slots.own.0 (rows-ordered e.1.rows.items e.1.in_order)
+    subst IsSortedTable (sym (table_of-append (rows_of e.0 e.1) (rows_in es)))
+    (append-ordered e.0 (table_of (rows_of e.0 e.1)) (table_of (rows_in es)) slots.own.0 (rows-ordered (rows_of e.0 e.1) (slot-ordered e.0 e.1))
     (later-stand e.0 es (sorted_head bytes_cmp e.0 (keys_of es) slots.sorted) slots.own.1) (slots-ordered es (slots-tail e es slots)))
 
 -- ---- what is found among the rows of all slots
@@ -138,3 +141,9 @@ cell_at_own id es slots =
     ∙ ap (λ t. cell_at t id) (table_of-append a.before (rows_at (key_of id) es ++ a.after) ∙ ap (λ t. table_of a.before ++ t) (table_of-append (rows_at (key_of id) es) a.after))
     ∙ cell-skip Greater not_tied_greater id (table_of a.before) (table_of (rows_at (key_of id) es) ++ table_of a.after) a.lower
     ∙ cell-stop id (table_of (rows_at (key_of id) es)) (table_of a.after) a.upper
+
+pub cell-found : (id : RecordId) (es : Slots) → AreSlots es → (slot : Slot) → slot_at (key_of id) es ≡ Some slot → cell_at (table_of (rows_of (key_of id) slot)) id ≡ cell_at (table_of (rows_in es)) id
+cell-found id es slots slot found = sym (cell_at_own id es slots ∙ ap (λ s. cell_at (table_of (rows_of_slot (key_of id) s)) id) found)
+
+pub cell-missing : (id : RecordId) (es : Slots) → AreSlots es → slot_at (key_of id) es ≡ None → cell_at (table_of (rows_in es)) id ≡ None
+cell-missing id es slots missing = cell_at_own id es slots ∙ ap (λ s. cell_at (table_of (rows_of_slot (key_of id) s)) id) missing

@@ -104,7 +104,7 @@ module _ (before rows after : Table) where
   placed-between (Field key field) cell lower upper =
       ap (with_cell (Field key field) cell) (without_row-between (Str key) lower upper) ∙ put-between (Field key field) cell before (without_row (Str key) rows) after lower upper
 
-same_Some : (x y : List ℕ) → Some x ≡ Some y → x ≡ y
+pub same_Some : (x y : List ℕ) → Some x ≡ Some y → x ≡ y
 same_Some x y e = cc
 
 -- a change of the key is made on the rows of the key

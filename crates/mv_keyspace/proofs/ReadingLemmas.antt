@@ -12,10 +12,11 @@ use Rattle.kv_types.proofs.OrderLemmas.{key_itself, same_record}
 use Rattle.kv_types.proofs.LookUpLemmas.{is_same}
 use Rattle.cmd_core.specs.Contents.{fields_of, has_key, keys_of, same_bytes}
 use Rattle.cmd_core.specs.Record.{field_at}
-use Rattle.cmd_core.proofs.RecordsLemmas.{fields_more, has_more, has_none, keys_more, keys_none, with_field}
+use Rattle.cmd_core.proofs.RecordsLemmas.{fields_more, fields_none, has_more, has_none, keys_more, keys_none, with_field}
 use Rattle.mv_keyspace.specs.declared.row.Row.{Row}
 use Rattle.mv_keyspace.specs.declared.slot.Slot.{Slot}
 use Rattle.mv_keyspace.specs.Row.{records_of, table_of}
+use Rattle.mv_keyspace.specs.Slot.{rows_of}
 use Rattle.mv_keyspace.specs.Slots.{Slots, rows_at, rows_in, rows_of_slot, slot_at, AreOfKey, AreSlots}
 use Rattle.mv_keyspace.proofs.SlotLemmas.{AllStand, around, slots-tail}
 use Rattle.mv_keyspace.proofs.PlacingLemmas.{apart-keys, not_tied_greater, not_tied_less}
@@ -67,12 +68,27 @@ fields_of_own key es slots =
     no_field order apart (Str own) at = refl
     no_field order apart (Field own field) at = ap (λ b. cond b (Some field) None) (apart-keys order key own at apart)
 
+-- ---- what is read in the slot of the key
+
+module _ (key : List ℕ) (es : Slots) (slots : AreSlots es) where
+  pub value-found : (id : RecordId) (slot : Slot) → key_of id ≡ key → slot_at key es ≡ Some slot → value_at (records_of (rows_of key slot)) id ≡ value_at (records_of (rows_in es)) id
+  value-found id slot own found = sym (value_at_own id es slots ∙ ap (λ k. value_at (records_of (rows_at k es)) id) own ∙ ap (λ s. value_at (records_of (rows_of_slot key s)) id) found)
+
+  pub value-missing : (id : RecordId) → key_of id ≡ key → slot_at key es ≡ None → None ≡ value_at (records_of (rows_in es)) id
+  value-missing id own missing = sym (value_at_own id es slots ∙ ap (λ k. value_at (records_of (rows_at k es)) id) own ∙ ap (λ s. value_at (records_of (rows_of_slot key s)) id) missing)
+
+  pub fields-found : (slot : Slot) → slot_at key es ≡ Some slot → fields_of (records_of (rows_of key slot)) key ≡ fields_of (records_of (rows_in es)) key
+  fields-found slot found = sym (fields_of_own key es slots ∙ ap (λ s. fields_of (records_of (rows_of_slot key s)) key) found)
+
+  pub fields-missing : slot_at key es ≡ None → [] ≡ fields_of (records_of (rows_in es)) key
+  fields-missing missing = sym (fields_of_own key es slots ∙ ap (λ s. fields_of (records_of (rows_of_slot key s)) key) missing ∙ fields_none key)
+
 -- the key has records where its slot has some of it
-pub has-found : (key : List ℕ) (es : Slots) (slot : Slot) → AreSlots es → slot_at key es ≡ Some slot → has_key (records_of slot.rows.items) key ≡ has_key (records_of (rows_in es)) key
-has-found key es slot slots found = ap (λ s. has_key (records_of (rows_of_slot s)) key) (sym found) ∙ sym (has_key_own key es slots)
+pub has-found : (key : List ℕ) (es : Slots) (slot : Slot) → AreSlots es → slot_at key es ≡ Some slot → has_key (records_of (rows_of key slot)) key ≡ has_key (records_of (rows_in es)) key
+has-found key es slot slots found = ap (λ s. has_key (records_of (rows_of_slot key s)) key) (sym found) ∙ sym (has_key_own key es slots)
 
 pub has-missing : (key : List ℕ) (es : Slots) → AreSlots es → slot_at key es ≡ None → false ≡ has_key (records_of (rows_in es)) key
-has-missing key es slots missing = sym (has_key_own key es slots ∙ ap (λ s. has_key (records_of (rows_of_slot s)) key) missing ∙ has_none key)
+has-missing key es slots missing = sym (has_key_own key es slots ∙ ap (λ s. has_key (records_of (rows_of_slot key s)) key) missing ∙ has_none key)
 
 -- ---- how many keys there are
 
@@ -84,4 +100,4 @@ key-once key (row ∷ next ∷ rows) others own =
 
 pub keys_few_slots : (es : Slots) → AreSlots es → length (keys_of (records_of (rows_in es))) ≤ length es
 keys_few_slots [] slots = omega (arith, ap (λ keys. length keys) keys_none)
-keys_few_slots (e ∷ es) slots = omega (arith, key-once e.0 e.1.rows.items (rows_in es) slots.own.0, keys_few_slots es (slots-tail e es slots))
+keys_few_slots (e ∷ es) slots = omega (arith, key-once e.0 (rows_of e.0 e.1) (rows_in es) slots.own.0, keys_few_slots es (slots-tail e es slots))

@@ -16,6 +16,7 @@ use Rattle.mv_keyspace.specs.declared.row.Row.{Row}
 use Rattle.mv_keyspace.specs.declared.slot.Slot.{Slot}
 use Rattle.mv_keyspace.specs.Row.{table_of}
 use Rattle.mv_keyspace.specs.Table.{Table}
+use Rattle.mv_keyspace.specs.Slot.{rows_of}
 use Rattle.mv_keyspace.specs.Slots.{Slots, rows_in, slot_at, rows_of_slot, rows_at, AreOfKey, AreSlots}
 use Rattle.mv_keyspace.proofs.AllLemmas.{All-append}
 use Rattle.mv_keyspace.proofs.ListLemmas.{entry_of}
@@ -46,13 +47,13 @@ slots-tail e es slots = record { sorted = sorted_tail bytes_cmp e.0 (keys_of es)
 
 -- no slots are in order
 pub slots-none : (es : Slots) → es ≡ [] → IsStrictlySortedBy bytes_cmp (keys_of es) → AreSlots es
-slots-none es none sorted = record { sorted = sorted; own = subst (AllByRecursion (λ (e : List ℕ × Slot). AreOfKey e.0 (table_of e.1.rows.items))) (sym none) tt }
+slots-none es none sorted = record { sorted = sorted; own = subst (AllByRecursion (λ (e : List ℕ × Slot). AreOfKey e.0 (table_of (rows_of e.0 e.1)))) (sym none) tt }
 
-pub later-stand : (key : List ℕ) (es : Slots) → AllByRecursion (λ k. bytes_cmp key k ≡ Less) (keys_of es) → AllByRecursion (λ (e : List ℕ × Slot). AreOfKey e.0 (table_of e.1.rows.items)) es → AllStand Less key (table_of (rows_in es))
+pub later-stand : (key : List ℕ) (es : Slots) → AllByRecursion (λ k. bytes_cmp key k ≡ Less) (keys_of es) → AllByRecursion (λ (e : List ℕ × Slot). AreOfKey e.0 (table_of (rows_of e.0 e.1))) es → AllStand Less key (table_of (rows_in es))
 later-stand key [] less own = tt
 later-stand key (e ∷ es) less own =
-    subst (AllStand Less key) (sym (table_of-append e.1.rows.items (rows_in es)))
-    (All-append (λ row. bytes_cmp key (key_of row.0) ≡ Less) (table_of e.1.rows.items) (table_of (rows_in es)) (own-stand Less key e.0 (table_of e.1.rows.items) less.0 own.0) (later-stand key es less.1 own.1))
+    subst (AllStand Less key) (sym (table_of-append (rows_of e.0 e.1) (rows_in es)))
+    (All-append (λ row. bytes_cmp key (key_of row.0) ≡ Less) (table_of (rows_of e.0 e.1)) (table_of (rows_in es)) (own-stand Less key e.0 (table_of (rows_of e.0 e.1)) less.0 own.0) (later-stand key es less.1 own.1))
 
 none-later : (key : List ℕ) (es : Slots) → AllByRecursion (λ k. bytes_cmp key k ≡ Less) (keys_of es) → slot_at key es ≡ None
 none-later key [] less = refl
@@ -69,7 +70,7 @@ pub record Around (key : List ℕ) (es : Slots) : Type 0 where
   pub upper : AllStand Less key (table_of after)
   pub rows : rows_in es ≡ before ++ (rows_at key es ++ after)
   -- and so once the slot of the key is another
-  pub written : (slot : Slot) → IsSome (slot_at key es) → rows_in (set_value (is_at (bytes_cmp key)) es slot) ≡ before ++ (slot.rows.items ++ after)
+  pub written : (slot : Slot) → IsSome (slot_at key es) → rows_in (set_value (is_at (bytes_cmp key)) es slot) ≡ before ++ (rows_of key slot ++ after)
 
 pub around : (key : List ℕ) (es : Slots) → AreSlots es → Around key es
 around key [] slots = record { before = []; after = []; lower = tt; upper = tt; rows = refl; written = λ slot some. absurd (none_some some) }
@@ -84,7 +85,7 @@ around key (e ∷ es) slots = step (around key es (slots-tail e es slots)) (byte
           after = rows_in (e ∷ es);
           lower = tt;
           upper = later-stand key (e ∷ es) less slots.own;
-          rows = sym (ap (λ slot. rows_of_slot slot ++ rows_in (e ∷ es)) none);
+          rows = sym (ap (λ slot. rows_of_slot key slot ++ rows_in (e ∷ es)) none);
           written = λ slot some. absurd (none_some (subst IsSome none some));
         }
     step rest Equal is =
@@ -94,31 +95,33 @@ around key (e ∷ es) slots = step (around key es (slots-tail e es slots)) (byte
           after = rows_in es;
           lower = tt;
           upper = later-stand key es (tied_later key e.0 (keys_of es) is (sorted_head bytes_cmp e.0 (keys_of es) slots.sorted)) slots.own.1;
-          rows = sym (ap (λ slot. rows_of_slot slot ++ rows_in es) found);
-          written = λ slot some. ap (λ o. rows_in (cond (is_eq o) ((e.0, slot) ∷ es) (e ∷ set_value (is_at (bytes_cmp key)) es slot))) is;
+          rows = sym (ap (λ slot. rows_of_slot key slot ++ rows_in es) found ∙ ap (λ k. rows_of k e.1 ++ rows_in es) (bytes_cmp_equal key e.0 is));
+          written = λ slot some.
+              ap (λ o. rows_in (cond (is_eq o) ((e.0, slot) ∷ es) (e ∷ set_value (is_at (bytes_cmp key)) es slot))) is
+              ∙ ap (λ k. rows_of k slot ++ rows_in es) (sym (bytes_cmp_equal key e.0 is));
         }
     step rest Greater is =
         let found = ap (λ o. cond (is_eq o) (Some e.1) (slot_at key es)) is in
         record {
-          before = e.1.rows.items ++ rest.before;
+          before = rows_of e.0 e.1 ++ rest.before;
           after = rest.after;
           lower =
-              subst (AllStand Greater key) (sym (table_of-append e.1.rows.items rest.before))
-              (All-append (λ row. bytes_cmp key (key_of row.0) ≡ Greater) (table_of e.1.rows.items) (table_of rest.before) (own-stand Greater key e.0 (table_of e.1.rows.items) is slots.own.0) rest.lower);
+              subst (AllStand Greater key) (sym (table_of-append (rows_of e.0 e.1) rest.before))
+              (All-append (λ row. bytes_cmp key (key_of row.0) ≡ Greater) (table_of (rows_of e.0 e.1)) (table_of rest.before) (own-stand Greater key e.0 (table_of (rows_of e.0 e.1)) is slots.own.0) rest.lower);
           upper = rest.upper;
           rows =
-              ap (λ rows. e.1.rows.items ++ rows) rest.rows
-              ∙ sym (append_assoc e.1.rows.items rest.before (rows_at key es ++ rest.after))
-              ∙ ap (λ slot. (e.1.rows.items ++ rest.before) ++ (rows_of_slot slot ++ rest.after)) (sym found);
+              ap (λ rows. rows_of e.0 e.1 ++ rows) rest.rows
+              ∙ sym (append_assoc (rows_of e.0 e.1) rest.before (rows_at key es ++ rest.after))
+              ∙ ap (λ slot. (rows_of e.0 e.1 ++ rest.before) ++ (rows_of_slot key slot ++ rest.after)) (sym found);
           written = λ slot some.
               ap (λ o. rows_in (cond (is_eq o) ((e.0, slot) ∷ es) (e ∷ set_value (is_at (bytes_cmp key)) es slot))) is
-              ∙ ap (λ rows. e.1.rows.items ++ rows) (rest.written slot (subst IsSome found some))
-              ∙ sym (append_assoc e.1.rows.items rest.before (slot.rows.items ++ rest.after));
+              ∙ ap (λ rows. rows_of e.0 e.1 ++ rows) (rest.written slot (subst IsSome found some))
+              ∙ sym (append_assoc (rows_of e.0 e.1) rest.before (rows_of key slot ++ rest.after));
         }
 
 -- ---- slots that come and go without rows
 
-pub rows_in-inserted : (key : List ℕ) (slot : Slot) (es : Slots) → slot.rows.items ≡ [] → slot_at key es ≡ None → rows_in (insert_entry bytes_cmp es key slot) ≡ rows_in es
+pub rows_in-inserted : (key : List ℕ) (slot : Slot) (es : Slots) → rows_of key slot ≡ [] → slot_at key es ≡ None → rows_in (insert_entry bytes_cmp es key slot) ≡ rows_in es
 rows_in-inserted key slot [] empty none = ap (λ rows. rows ++ []) empty
 rows_in-inserted key slot (e ∷ es) empty none = grind (arith, rows_in-inserted key slot es empty)
 
@@ -127,29 +130,29 @@ rows_in-removed key [] empty = refl
 rows_in-removed key (e ∷ es) empty = grind (arith, rows_in-removed key es)
 
 abbrev OwnRows : List ℕ × Slot → Type 0
-OwnRows e = AreOfKey e.0 (table_of e.1.rows.items)
+OwnRows e = AreOfKey e.0 (table_of (rows_of e.0 e.1))
 
-own-inserted : (key : List ℕ) (slot : Slot) (es : Slots) → AreOfKey key (table_of slot.rows.items) → AllByRecursion OwnRows es → AllByRecursion OwnRows (insert_entry bytes_cmp es key slot)
+own-inserted : (key : List ℕ) (slot : Slot) (es : Slots) → AreOfKey key (table_of (rows_of key slot)) → AllByRecursion OwnRows es → AllByRecursion OwnRows (insert_entry bytes_cmp es key slot)
 own-inserted key slot [] of own = (of, tt)
 own-inserted key slot (e ∷ es) of own =
-    grind (arith, own-inserted key slot es of own.1, λ (is : bytes_cmp key e.0 ≡ Equal). subst (λ k. AreOfKey k (table_of slot.rows.items)) (bytes_cmp_equal key e.0 is) of)
+    grind (arith, own-inserted key slot es of own.1, λ (is : bytes_cmp key e.0 ≡ Equal). subst (λ k. AreOfKey k (table_of (rows_of k slot))) (bytes_cmp_equal key e.0 is) of)
 
 own-removed : (key : List ℕ) (es : Slots) → AllByRecursion OwnRows es → AllByRecursion OwnRows (remove_entry (is_at (bytes_cmp key)) es)
 own-removed key [] own = tt
 own-removed key (e ∷ es) own = grind (arith, own-removed key es own.1)
 
-own-written : (key : List ℕ) (slot : Slot) (es : Slots) → AreOfKey key (table_of slot.rows.items) → AllByRecursion OwnRows es → AllByRecursion OwnRows (set_value (is_at (bytes_cmp key)) es slot)
+own-written : (key : List ℕ) (slot : Slot) (es : Slots) → AreOfKey key (table_of (rows_of key slot)) → AllByRecursion OwnRows es → AllByRecursion OwnRows (set_value (is_at (bytes_cmp key)) es slot)
 own-written key slot [] of own = tt
 own-written key slot (e ∷ es) of own =
-    grind (arith, own-written key slot es of own.1, λ (is : bytes_cmp key e.0 ≡ Equal). subst (λ k. AreOfKey k (table_of slot.rows.items)) (bytes_cmp_equal key e.0 is) of)
+    grind (arith, own-written key slot es of own.1, λ (is : bytes_cmp key e.0 ≡ Equal). subst (λ k. AreOfKey k (table_of (rows_of k slot))) (bytes_cmp_equal key e.0 is) of)
 
-pub slots-inserted : (key : List ℕ) (slot : Slot) (es after : Slots) → after ≡ insert_entry bytes_cmp es key slot → IsStrictlySortedBy bytes_cmp (keys_of after) → AreOfKey key (table_of slot.rows.items) → AreSlots es → AreSlots after
+pub slots-inserted : (key : List ℕ) (slot : Slot) (es after : Slots) → after ≡ insert_entry bytes_cmp es key slot → IsStrictlySortedBy bytes_cmp (keys_of after) → AreOfKey key (table_of (rows_of key slot)) → AreSlots es → AreSlots after
 slots-inserted key slot es after is sorted of slots = record { sorted = sorted; own = subst (AllByRecursion OwnRows) (sym is) (own-inserted key slot es of slots.own) }
 
 pub slots-removed : (key : List ℕ) (es after : Slots) → after ≡ remove_entry (is_at (bytes_cmp key)) es → IsStrictlySortedBy bytes_cmp (keys_of after) → AreSlots es → AreSlots after
 slots-removed key es after is sorted slots = record { sorted = sorted; own = subst (AllByRecursion OwnRows) (sym is) (own-removed key es slots.own) }
 
-pub slots-written : (key : List ℕ) (slot : Slot) (es after : Slots) → after ≡ set_value (is_at (bytes_cmp key)) es slot → IsStrictlySortedBy bytes_cmp (keys_of after) → AreOfKey key (table_of slot.rows.items) → AreSlots es → AreSlots after
+pub slots-written : (key : List ℕ) (slot : Slot) (es after : Slots) → after ≡ set_value (is_at (bytes_cmp key)) es slot → IsStrictlySortedBy bytes_cmp (keys_of after) → AreOfKey key (table_of (rows_of key slot)) → AreSlots es → AreSlots after
 slots-written key slot es after is sorted of slots = record { sorted = sorted; own = subst (AllByRecursion OwnRows) (sym is) (own-written key slot es of slots.own) }
 
 -- the rows of the slot of a key are of the key
@@ -157,7 +160,7 @@ pub own-at : (key : List ℕ) (es : Slots) → AllByRecursion OwnRows es → Are
 own-at key [] own = tt
 own-at key (e ∷ es) own = step (own-at key es own.1) (bytes_cmp key e.0) refl
   where
-    step : AreOfKey key (table_of (rows_at key es)) → (o : Ordering) → bytes_cmp key e.0 ≡ o → AreOfKey key (table_of (rows_of_slot (cond (is_eq o) (Some e.1) (slot_at key es))))
+    step : AreOfKey key (table_of (rows_at key es)) → (o : Ordering) → bytes_cmp key e.0 ≡ o → AreOfKey key (table_of (rows_of_slot key (cond (is_eq o) (Some e.1) (slot_at key es))))
     step rest Less is = rest
-    step rest Equal is = subst (λ k. AreOfKey k (table_of e.1.rows.items)) (sym (bytes_cmp_equal key e.0 is)) own.0
+    step rest Equal is = subst (λ k. AreOfKey k (table_of (rows_of k e.1))) (sym (bytes_cmp_equal key e.0 is)) own.0
     step rest Greater is = rest

@@ -9,13 +9,13 @@ ghost use Rattle.model.specs.declared.group.Put.{Put};
 ghost use Rattle.mv_keyspace.specs.Keys.{changed_key};
 ghost use Rattle.mv_keyspace.specs.Table.{entries_of, place, place_all, puts_of, AreEnded, AreFresh, IsLawful};
 ghost use Rattle.mv_keyspace.specs.Row.{ended_rows, numbers_of, records_of, rows_of_puts, table_of};
-ghost use Rattle.mv_keyspace.specs.Slots.{AreKeyed, AreSlots, awaited_at, awaits, awaits_of, ends, ends_at_once, rows_in};
+ghost use Rattle.mv_keyspace.specs.Slots.{AreKeyed, AreSlots, awaited_at, awaits, awaits_of, ends, ends_at_once, is_list_at, makes_field_of, makes_fields, rows_in};
 
 use crate::counting::key_changed;
 use crate::making::stage;
 use crate::row::Row;
 use crate::slot::Slot;
-use crate::slots::{change_slot, expect_row, rows_at, settle};
+use crate::slots::{change_slot, count_at, expect_row, settle};
 use kv_types::{EntryNo, Key, RecordId, Refusal};
 use model::PlacedChange;
 use std::alloc::Global;
@@ -51,8 +51,9 @@ pub(crate) fn change_keys(
     ended.reserve(room_for_ended(slots, changes, staged.len())?)?;
     match expect_rows(alloc, slots, changes) {
         Ok(()) => {
+            let named = ended.len();
             let count = play(slots, keys, changes, staged, ended);
-            settle_dropped(slots, changes);
+            settle_changed(slots, changes, ended.len() > named + changes.len());
             Ok(count)
         }
         Err(refusal) => {
@@ -62,7 +63,7 @@ pub(crate) fn change_keys(
     }
 }
 
-/// Makes room for the rows of all puts.
+/// Awaits all puts, for which room is made.
 fn expect_rows(
     alloc: Global,
     slots: &mut BTreeMap<Key, Slot>,
@@ -72,17 +73,18 @@ fn expect_rows(
     ensures slots { AreSlots slots.new.entries }
     ensures rows { rows_in slots.new.entries ≡ rows_in slots.old.entries }
     ensures awaited { OnOk result ((q : List ℕ) → awaits q changes.now ≤ awaited_at q slots.new.entries) }
+    ensures lists { OnOk result ((q : List ℕ) → IsTrue (makes_fields q changes.now) → IsTrue (is_list_at q slots.new.entries)) }
     ensures cause { IfErr result (λ refusal. refusal ≡ Memory) }
 {
     for change in changes {
         if let PlacedChange::Put(put) = change {
-            expect_row(alloc, slots, put.id.key())?;
+            expect_row(alloc, slots, &put.id)?;
         }
     }
     Ok(())
 }
 
-/// Lets the slots of the changes await no row any more, and takes those out that have none.
+/// Lets the slots of the changes await no put any more, and takes those out that have no row.
 fn settle_all(slots: &mut BTreeMap<Key, Slot>, changes: &[PlacedChange])
     requires { AreSlots slots.old.entries }
     ensures slots { AreSlots slots.new.entries }
@@ -95,7 +97,22 @@ fn settle_all(slots: &mut BTreeMap<Key, Slot>, changes: &[PlacedChange])
     }
 }
 
-/// Takes the slots out that the changes left without a row. A put leaves none so, and what its slot awaited has come.
+/// Settles the slots that the changes left otherwise than they need be. Where more rows ended than there are changes, a string may have
+/// taken the place of a hash, and would keep its list.
+fn settle_changed(slots: &mut BTreeMap<Key, Slot>, changes: &[PlacedChange], many_ended: bool)
+    requires { AreSlots slots.old.entries }
+    ensures slots { AreSlots slots.new.entries }
+    ensures rows { rows_in slots.new.entries ≡ rows_in slots.old.entries }
+{
+    if many_ended {
+        settle_all(slots, changes);
+    } else {
+        settle_dropped(slots, changes);
+    }
+}
+
+/// Takes the slots out that the changes left without a row, and gives up lists that have a string only. A put leaves a slot as it is, and what
+/// it awaited has come.
 fn settle_dropped(slots: &mut BTreeMap<Key, Slot>, changes: &[PlacedChange])
     requires { AreSlots slots.old.entries }
     ensures slots { AreSlots slots.new.entries }
@@ -141,11 +158,11 @@ fn most_ended(slots: &BTreeMap<Key, Slot>, change: &PlacedChange) -> usize
 {
     match change {
         PlacedChange::Put(put) => match &put.id {
-            RecordId::Str(key) => rows_at(slots, key.as_slice()).len(),
+            RecordId::Str(key) => count_at(slots, key),
             RecordId::Field(..) => 2,
         },
         PlacedChange::Drop(_) => 1,
-        PlacedChange::DropKey(key) => rows_at(slots, key.as_slice()).len(),
+        PlacedChange::DropKey(key) => count_at(slots, key),
         PlacedChange::Clear => 0,
     }
 }
@@ -165,6 +182,7 @@ fn play(
     requires staged { (position : ℕ) × (table_of staged.items ≡ rows_of_puts position (puts_of changes.now)) }
     requires counted { keys ≡ length (keys_of (records_of (rows_in slots.old.entries))) }
     requires awaited { (q : List ℕ) → awaits q changes.now ≤ awaited_at q slots.old.entries }
+    requires lists { (q : List ℕ) → IsTrue (makes_fields q changes.now) → IsTrue (is_list_at q slots.old.entries) }
     requires room_for_ended { (position : ℕ) → vec_len ended.old + ends position (table_of (rows_in slots.old.entries)) changes.now ≤ vec_capacity ended.old }
     ensures slots { AreSlots slots.new.entries }
     ensures table { (position : ℕ) → table_of staged.items ≡ rows_of_puts position (puts_of changes.now)
@@ -194,6 +212,7 @@ fn make_one(
     requires staged { (position : ℕ) × (later : List Put) × (table_of (into_iter_items staged.old) ≡ rows_of_puts position (put_of change.now ++ later)) }
     requires counted { keys ≡ length (keys_of (records_of (rows_in slots.old.entries))) }
     requires awaited { (q : List ℕ) → awaits_of q change.now ≤ awaited_at q slots.old.entries }
+    requires lists { (q : List ℕ) → IsTrue (makes_field_of q change.now) → IsTrue (is_list_at q slots.old.entries) }
     requires room_for_ended { vec_len ended.old + length (ended_rows (change_of change.now) (table_of (rows_in slots.old.entries))) ≤ vec_capacity ended.old }
     ensures slots { AreSlots slots.new.entries }
     ensures table { (position : ℕ) (later : List Put) → table_of (into_iter_items staged.old) ≡ rows_of_puts position (put_of change.now ++ later)
@@ -201,6 +220,7 @@ fn make_one(
     ensures ended { numbers_of ended.new.items ≡ numbers_of ended.old.items ++ entries_of (ended_rows (change_of change.now) (table_of (rows_in slots.old.entries))) }
     ensures counted { result ≡ length (keys_of (records_of (rows_in slots.new.entries))) }
     ensures awaited { (q : List ℕ) → awaited_at q slots.new.entries + awaits_of q change.now ≡ awaited_at q slots.old.entries }
+    ensures lists { (q : List ℕ) → is_list_at q slots.new.entries ≡ is_list_at q slots.old.entries }
     ensures capacity_for_ended { vec_capacity ended.old ≤ vec_capacity ended.new }
 {
     match key_changed(change) {

@@ -1,10 +1,11 @@
 //! The changes of a command or of a frame that ends the records of all keys.
-ghost use Rattle.std.specs.Prelude.{◌≡◌, ◌++◌, ◌∷◌, List, length, map, IfSome, IfNone, IfOk, IfErr, OnOk, OnErr};
+ghost use Rattle.std.specs.Prelude.{◌≡◌, ℕ, ◌++◌, ◌∷◌, List, length, map, IfSome, IfNone, IfOk, IfErr, OnOk, OnErr};
 ghost use Rattle.kv_types.specs.declared.place.EntryNo.{EntryNo};
 ghost use Rattle.kv_types.specs.declared.refusal.Refusal.TheVariants.{Memory};
 ghost use Rattle.cmd_core.specs.Contents.{keys_of};
 ghost use Rattle.model.specs.declared.group.PlacedChange.TheVariants as placed;
 ghost use Rattle.mv_keyspace.specs.Row.{numbers_of, records_of, table_of};
+ghost use Rattle.mv_keyspace.specs.Slot.{rows_of};
 ghost use Rattle.mv_keyspace.specs.Slots.{AreKeyed, AreSlots, rows_in};
 ghost use Rattle.mv_keyspace.specs.Table.{entries_of, place_all, puts_of, AreEnded, AreFresh, IsLawful};
 
@@ -68,9 +69,20 @@ fn name_rows_in(slots: &BTreeMap<Key, Slot>, named: &mut Vec<EntryNo>) -> Result
     ensures { OnOk result (numbers_of named.new.items ≡ numbers_of named.old.items ++ entries_of (table_of (rows_in slots.now.entries))) }
 {
     for entry in slots {
-        name_rows(entry.1.rows(), named)?;
+        name_slot(entry.1, named)?;
     }
     Ok(())
+}
+
+/// Names the entries of the rows of a slot.
+fn name_slot(slot: &Slot, named: &mut Vec<EntryNo>) -> Result<(), AllocError>
+    ensures { OnOk result ((key : List ℕ) → numbers_of named.new.items ≡ numbers_of named.old.items ++ entries_of (table_of (rows_of key slot.now))) }
+{
+    match slot {
+        Slot::Vacant(_) => Ok(()),
+        Slot::Str(_, version) => Ok(named.push(version.entry)?),
+        Slot::Rows(list) => name_rows(list.rows(), named),
+    }
 }
 
 /// Names the entries of these rows.

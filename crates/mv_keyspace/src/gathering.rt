@@ -7,7 +7,9 @@ ghost use Rattle.kv_types.specs.declared.change.Change.TheVariants as kinds;
 ghost use Rattle.kv_types.specs.Keyspace.{key_of, record_cmp};
 ghost use Rattle.model.specs.Group.{change_of};
 ghost use Rattle.mv_keyspace.specs.Row.{cell_of_row, ended_rows, is_string_of, records_of, table_of};
+ghost use Rattle.mv_keyspace.specs.Slot.{rows_of};
 ghost use Rattle.mv_keyspace.specs.Slots.{AreSlots, rows_in};
+ghost use Rattle.mv_keyspace.specs.Version.{cell_of_shown};
 ghost use Rattle.mv_keyspace.specs.Table.{cell_at, with_cell};
 ghost use Rattle.mv_keyspace.specs.Versions.{begun_at, table_in, with_rows};
 
@@ -15,8 +17,8 @@ use crate::counting::key_changed;
 use crate::putting::range_of;
 use crate::row::Row;
 use crate::sharing::shared;
+use crate::shown::Shown;
 use crate::slot::Slot;
-use crate::slots::rows_at;
 use cmd_core::{end_of_field, end_of_key, start_of_field, start_of_fields, start_of_key};
 use kv_types::{Key, RecordId};
 use model::PlacedChange;
@@ -120,6 +122,57 @@ fn put_string_of(
     }
 }
 
+/// Puts those rows of the slot of a key in that a change ends.
+fn put_ended_of(
+    gathered: &mut BTreeMap<RecordId, Row>,
+    key: &Key,
+    slot: &Slot,
+    change: &PlacedChange,
+) -> Result<(), AllocError>
+    ensures { OnOk result (table_in gathered.new.entries ≡ with_rows (ended_rows (change_of change.now) (table_of (rows_of key.now slot.now))) (table_in gathered.old.entries)) }
+{
+    match slot {
+        Slot::Vacant(_) => Ok(()),
+        Slot::Str(_, version) => put_ended(gathered, &[version.row(key)?], change),
+        Slot::Rows(list) => put_ended(gathered, list.rows(), change),
+    }
+}
+
+/// Puts the rows of the slot of a key in.
+fn put_slot(
+    gathered: &mut BTreeMap<RecordId, Row>,
+    key: &Key,
+    slot: &Slot,
+) -> Result<(), AllocError>
+    ensures { OnOk result (table_in gathered.new.entries ≡ with_rows (table_of (rows_of key.now slot.now)) (table_in gathered.old.entries)) }
+{
+    match slot {
+        Slot::Vacant(_) => Ok(()),
+        Slot::Str(_, version) => put_shared(gathered, &version.row(key)?),
+        Slot::Rows(list) => put_all(gathered, list.rows()),
+    }
+}
+
+/// Puts those rows of the slot of a key in that had begun at a position.
+pub(crate) fn put_begun_of(
+    gathered: &mut BTreeMap<RecordId, Row>,
+    key: &Key,
+    slot: &Slot,
+    position: u64,
+) -> Result<(), AllocError>
+    ensures { OnOk result (table_in gathered.new.entries ≡ with_rows (begun_at position (table_of (rows_of key.now slot.now))) (table_in gathered.old.entries)) }
+{
+    match slot {
+        Slot::Vacant(_) => Ok(()),
+        Slot::Str(_, version) => if version.position <= position {
+            put_shared(gathered, &version.row(key)?)
+        } else {
+            Ok(())
+        },
+        Slot::Rows(list) => put_begun(gathered, list.rows(), position),
+    }
+}
+
 /// Puts those rows of all slots in that a change ends.
 pub(crate) fn put_ended_in(
     gathered: &mut BTreeMap<RecordId, Row>,
@@ -130,7 +183,10 @@ pub(crate) fn put_ended_in(
     ensures { OnOk result (table_in gathered.new.entries ≡ with_rows (ended_rows (change_of change.now) (table_of (rows_in slots.now.entries))) (table_in gathered.old.entries)) }
 {
     match key_changed(change) {
-        Some(key) => put_ended(gathered, rows_at(slots, key.as_slice()), change),
+        Some(key) => match slots.get(key) {
+            Some(slot) => put_ended_of(gathered, key, slot, change),
+            None => Ok(()),
+        },
         None => put_all_slots(gathered, slots),
     }
 }
@@ -143,19 +199,19 @@ fn put_all_slots(
     ensures { OnOk result (table_in gathered.new.entries ≡ with_rows (table_of (rows_in slots.now.entries)) (table_in gathered.old.entries)) }
 {
     for entry in slots {
-        put_all(gathered, entry.1.rows())?;
+        put_slot(gathered, entry.0, entry.1)?;
     }
     Ok(())
 }
 
-/// The row of a record.
-pub(crate) fn find_row<'a>(rows: &'a [Row], id: &RecordId) -> Option<&'a Row>
+/// What the row of a record holds.
+pub(crate) fn find_row<'a>(rows: &'a [Row], id: &RecordId) -> Option<Shown<'a>>
     requires order { IsTrue (is_sorted record_cmp (records_of rows.now)) }
-    ensures { MatchOption result (cell_at (table_of rows.now) id.now ≡ None) (λ row. (row.now.id ≡ id.now) × (cell_at (table_of rows.now) id.now ≡ Some (cell_of_row row.now))) }
+    ensures { MatchOption result (cell_at (table_of rows.now) id.now ≡ None) (λ shown. cell_at (table_of rows.now) id.now ≡ Some (cell_of_shown shown)) }
 {
     let (start, end) = range_of_record(rows, id);
     if start < end {
-        Some(&rows[start])
+        Some(rows[start].shown())
     } else {
         None
     }

@@ -3,7 +3,7 @@ ghost use Rattle.std.specs.Ordering.{nat_cmp};
 ghost use Rattle.std.specs.Cmp.Lexicographic.{nat_list_cmp_total, slice_cmp};
 ghost use Rattle.std.specs.BTreeMap.Comparable.{le_lt_trans};
 
-use kv_types::Key;
+use kv_types::{Key, compare_bytes};
 use std::cmp::Ordering;
 use std::collections::btree_map::Comparable;
 
@@ -19,6 +19,6 @@ impl<'a> Comparable<Key> for KeyBytes<'a> {
     ghost below_greater = { λ bytes x y. le_lt_trans nat_list_cmp_total bytes.0.now x y };
 
     fn compare(&self, key: &Key) -> Ordering {
-        self.0.cmp(key.as_slice())
+        compare_bytes(self.0, key.as_slice())
     }
 }

@@ -3,12 +3,14 @@ ghost use Rattle.std.specs.Prelude.{◌≡◌, ℕ, ◌+◌, ◌-◌, ◌^◌, �
 ghost use Rattle.kv_types.specs.declared.place.EntryNo.{EntryNo};
 ghost use Rattle.kv_types.specs.declared.refusal.Refusal.TheVariants.{Memory};
 ghost use Rattle.mv_keyspace.specs.Loading.{AreCompatible, HasRows};
-ghost use Rattle.mv_keyspace.specs.Row.{cell_of_row, table_of};
+ghost use Rattle.mv_keyspace.specs.Row.{table_of};
 ghost use Rattle.mv_keyspace.specs.Table.{Table, cell_at, records, place_all, puts_of, since, AreEnded, AreFresh, IsLawful};
+ghost use Rattle.mv_keyspace.specs.Version.{cell_of_shown};
 ghost use Rattle.mv_keyspace.specs.Versions.{Versions, kept, reclaimed, shown, without_pin};
 
 use crate::pin::Pin;
 use crate::row::Row;
+use crate::shown::Shown;
 use cmd_core::Lookup;
 use kv_types::{EntryNo, RecordId, Refusal};
 use model::PlacedChange;
@@ -83,9 +85,9 @@ pub trait Keyspace: Lookup {
         ensures cause { IfErr result (λ refusal. refusal ≡ Memory) };
 
     /// The version of a record that a pin shows: the newest that had begun by its position and had not ended.
-    fn view(&self, pin: &Pin, id: &RecordId) -> Option<&Row>
+    fn view(&self, pin: &Pin, id: &RecordId) -> Option<Shown<'_>>
         ensures { MatchOption result (cell_at (shown pin.now.position (table self.now) (past self.now)) id.now ≡ None)
-            (λ row. (row.now.id ≡ id.now) × (cell_at (shown pin.now.position (table self.now) (past self.now)) id.now ≡ Some (cell_of_row row.now))) };
+            (λ version. cell_at (shown pin.now.position (table self.now) (past self.now)) id.now ≡ Some (cell_of_shown version)) };
 
     /// The versions that a pin shows and whose change came after the position `from`, in the order of records. They share their bytes with the
     /// keyspace. Refused with `Memory` where a growth was refused.

@@ -17,6 +17,7 @@ use crate::loading::sort_rows;
 use crate::making::{make_change, stage};
 use crate::row::Row;
 use crate::sharing::rows_since;
+use crate::shown::Shown;
 use cmd_core::{
     Lookup, count_fields_in_order, count_keys_in, field_in_order, fields_in_order, has_in_order,
     string_in_order,
@@ -133,7 +134,7 @@ impl Live for ListRows {
         Ok(noted)
     }
 
-    fn find(&self, id: &RecordId) -> Option<&Row> {
+    fn find(&self, id: &RecordId) -> Option<Shown<'_>> {
         find_row(&self.rows, id)
     }
 

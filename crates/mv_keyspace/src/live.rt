@@ -3,11 +3,13 @@ ghost use Rattle.std.specs.Prelude.{◌≡◌, None, Some, ◌++◌, ◌-◌, �
 ghost use Rattle.kv_types.specs.declared.place.EntryNo.{EntryNo};
 ghost use Rattle.kv_types.specs.declared.refusal.Refusal.TheVariants.{Memory};
 ghost use Rattle.mv_keyspace.specs.Loading.{AreCompatible, HasRows};
-ghost use Rattle.mv_keyspace.specs.Row.{cell_of_row, table_of};
+ghost use Rattle.mv_keyspace.specs.Row.{table_of};
 ghost use Rattle.mv_keyspace.specs.Table.{Table, cell_at, records, place_all, puts_of, since, AreEnded, AreFresh, IsLawful};
+ghost use Rattle.mv_keyspace.specs.Version.{cell_of_shown};
 ghost use Rattle.mv_keyspace.specs.Versions.{begun_at, rows_ended, table_in, with_rows};
 
 use crate::row::Row;
+use crate::shown::Shown;
 use cmd_core::Lookup;
 use kv_types::{EntryNo, RecordId, Refusal};
 use model::PlacedChange;
@@ -65,9 +67,9 @@ pub trait Live: Lookup {
         ensures ok { IfOk result (λ noted. table_in noted.entries ≡ rows_ended changes.now (table self.now)) }
         ensures cause { IfErr result (λ refusal. refusal ≡ Memory) };
 
-    /// The live row of a record.
-    fn find(&self, id: &RecordId) -> Option<&Row>
-        ensures { MatchOption result (cell_at (table self.now) id.now ≡ None) (λ row. (row.now.id ≡ id.now) × (cell_at (table self.now) id.now ≡ Some (cell_of_row row.now))) };
+    /// What a live record holds.
+    fn find(&self, id: &RecordId) -> Option<Shown<'_>>
+        ensures { MatchOption result (cell_at (table self.now) id.now ≡ None) (λ shown. cell_at (table self.now) id.now ≡ Some (cell_of_shown shown)) };
 
     /// Puts the live rows in that had begun at a position, each in the place of one of its record. Refused with `Memory` where a growth was refused.
     fn put_begun(&self, position: u64, rows: &mut BTreeMap<RecordId, Row>) -> Result<(), Refusal>

@@ -1,13 +1,15 @@
 //! The versions that ended while a position was pinned.
 ghost use Rattle.std.specs.Prelude.{◌≡◌, false, None, Some, ℕ, ◌+◌, ◌<◌, ◌≤◌, ◌++◌, [], ◌∷◌, List, map, length, IsTrue, OnOk, OnErr, IfOk, MatchOption, vec_len, vec_capacity};
 ghost use Rattle.std.specs.List.{AllByRecursion, remove};
-ghost use Rattle.mv_keyspace.specs.Row.{cell_of_row, table_of};
+ghost use Rattle.mv_keyspace.specs.Row.{table_of};
 ghost use Rattle.mv_keyspace.specs.Table.{cell_at};
+ghost use Rattle.mv_keyspace.specs.Version.{cell_of_shown};
 ghost use Rattle.mv_keyspace.specs.Versions.{ended_at, is_pinned, is_shown, past_of, pins_of, reclaimed, table_in, version_of, with_past, without_pin};
 
 use crate::gathering::put_shared;
 use crate::pin::Pin;
 use crate::row::Row;
+use crate::shown::Shown;
 use kv_types::RecordId;
 use std::alloc::{AllocError, Global};
 use std::collections::BTreeMap;
@@ -130,11 +132,23 @@ impl Past {
         ensures pins { pins_of self.new ≡ pins_of self.old }
         ensures position { (self.old.position ≤ self.new.position) × (position ≤ self.new.position) }
     {
+        if !rows.is_empty() {
+            self.keep_all(rows, position);
+        }
+        self.reach(position);
+    }
+
+    /// Takes each of these rows as one that ended at this position.
+    fn keep_all(&mut self, rows: BTreeMap<RecordId, Row>, position: u64)
+        requires room { vec_len self.old.ended + length rows.entries ≤ vec_capacity self.old.ended }
+        ensures versions { past_of self.new ≡ past_of self.old ++ map (ended_at position) (table_in rows.entries) }
+        ensures pins { pins_of self.new ≡ pins_of self.old }
+        ensures position { self.new.position ≡ self.old.position }
+    {
         for (id, row) in rows {
             let row = Row { id, ..row };
             self.ended.push(Ended { row, end: position }).unwrap();
         }
-        self.reach(position);
     }
 
     /// Takes note of a change at this position.
@@ -159,14 +173,14 @@ impl Past {
     }
 
     /// The newest of the versions of a record that are shown at this position.
-    pub(crate) fn get(&self, position: u64, id: &RecordId) -> Option<&Row>
+    pub(crate) fn get(&self, position: u64, id: &RecordId) -> Option<Shown<'_>>
         ensures { MatchOption result (cell_at (with_past position (past_of self.now) []) id.now ≡ None)
-            (λ row. (row.now.id ≡ id.now) × (cell_at (with_past position (past_of self.now) []) id.now ≡ Some (cell_of_row row.now))) }
+            (λ shown. cell_at (with_past position (past_of self.now) []) id.now ≡ Some (cell_of_shown shown)) }
     {
         let mut found = None;
         for ended in &self.ended {
             if ended.is_shown(position) && ended.row.id == *id {
-                found = Some(&ended.row);
+                found = Some(ended.row.shown());
             }
         }
         found

@@ -2,7 +2,9 @@
 ghost use Rattle.std.specs.Prelude.{◌≡◌, IfOk};
 ghost use Rattle.mv_keyspace.specs.Table.{cell_of_put};
 ghost use Rattle.mv_keyspace.specs.Row.{cell_of_row};
+ghost use Rattle.mv_keyspace.specs.Version.{cell_of_shown};
 
+use crate::shown::Shown;
 use cmd_core::KeptRecord;
 use kv_types::{EntryNo, RecordId, Value};
 use model::Put;
@@ -28,6 +30,19 @@ impl KeptRecord for Row {
 
     fn value(&self) -> &Value {
         &self.value
+    }
+}
+
+impl Row {
+    /// What it shows of its record.
+    pub(crate) fn shown(&self) -> Shown<'_>
+        ensures { cell_of_shown result ≡ cell_of_row self.now }
+    {
+        Shown {
+            value: &self.value,
+            entry: self.entry,
+            position: self.position,
+        }
     }
 }
 

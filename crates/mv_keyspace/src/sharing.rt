@@ -1,6 +1,7 @@
 //! Rows that are given to a caller, and share their bytes with those of the keyspace.
 ghost use Rattle.std.specs.Prelude.{◌≡◌, ◌++◌, IfOk, OnOk};
 ghost use Rattle.mv_keyspace.specs.Row.{table_of};
+ghost use Rattle.mv_keyspace.specs.Slot.{rows_of};
 ghost use Rattle.mv_keyspace.specs.Slots.{rows_in};
 ghost use Rattle.mv_keyspace.specs.Table.{since};
 
@@ -29,9 +30,29 @@ pub(crate) fn rows_in_since(
 {
     let mut later = Vec::new(alloc);
     for entry in slots {
-        share_since(&mut later, entry.1.rows(), from)?;
+        share_slot_since(&mut later, entry.0, entry.1, from)?;
     }
     Ok(later)
+}
+
+/// Appends those rows of the slot of a key whose change came after the position `from`, in their order.
+fn share_slot_since(
+    later: &mut Vec<Row>,
+    key: &Key,
+    slot: &Slot,
+    from: u64,
+) -> Result<(), AllocError>
+    ensures { OnOk result (table_of later.new.items ≡ table_of later.old.items ++ since from (table_of (rows_of key.now slot.now))) }
+{
+    match slot {
+        Slot::Vacant(_) => Ok(()),
+        Slot::Str(_, version) => if version.position > from {
+            Ok(later.push(version.row(key)?)?)
+        } else {
+            Ok(())
+        },
+        Slot::Rows(list) => share_since(later, list.rows(), from),
+    }
 }
 
 /// Appends those rows whose change came after the position `from`, in their order.

@@ -8,17 +8,16 @@ ghost use Rattle.mv_keyspace.specs.Slots.{AreSlots, rows_in};
 use crate::by_key::change_keys;
 use crate::clearing::{around_clear, change_after_clear};
 use crate::filling::slots_of;
-use crate::gathering::{find_row, put_begun, put_ended_in};
+use crate::gathering::{put_begun_of, put_ended_in};
+use crate::key_bytes::KeyBytes;
 use crate::live::Live;
 use crate::loading::sort_rows;
+use crate::reading::{count_fields_in, count_in, field_in, fields_in, find_in, has_in, string_in};
 use crate::row::Row;
 use crate::sharing::rows_in_since;
+use crate::shown::Shown;
 use crate::slot::Slot;
-use crate::slots::rows_at;
-use cmd_core::{
-    Lookup, count_fields_in_order, count_keys_in, field_in_order, fields_in_order, has_in_order,
-    string_in_order,
-};
+use cmd_core::{Lookup, count_keys_in};
 use kv_types::{EntryNo, Field, Key, RecordId, Refusal, Value};
 use model::PlacedChange;
 use std::alloc::{AllocError, Global};
@@ -58,19 +57,25 @@ impl Lookup for SlotRows {
 
     ghost keyspace = { λ keyspace. records_of (rows_in keyspace.slots.entries) };
 
-    #[tactic(auto, using(crate::proofs::ReadingLemmas::value_at_own))]
     fn string(&self, key: &[u8]) -> Option<&Value> {
-        string_in_order(rows_at(&self.slots, key), key)
+        match self.slots.get(KeyBytes(key)) {
+            Some(slot) => string_in(slot, key),
+            None => None,
+        }
     }
 
-    #[tactic(auto, using(crate::proofs::ReadingLemmas::value_at_own))]
     fn field(&self, key: &[u8], field: &[u8]) -> Option<&Value> {
-        field_in_order(rows_at(&self.slots, key), key, field)
+        match self.slots.get(KeyBytes(key)) {
+            Some(slot) => field_in(slot, key, field),
+            None => None,
+        }
     }
 
-    #[tactic(auto, using(crate::proofs::ReadingLemmas::has_key_own))]
     fn has(&self, key: &[u8]) -> bool {
-        has_in_order(rows_at(&self.slots, key), key)
+        match self.slots.get(KeyBytes(key)) {
+            Some(slot) => has_in(slot, key),
+            None => false,
+        }
     }
 
     #[tactic(auto, using(crate::proofs::ReadingLemmas::keys_few_slots))]
@@ -79,14 +84,18 @@ impl Lookup for SlotRows {
         self.keys
     }
 
-    #[tactic(auto, using(crate::proofs::ReadingLemmas::fields_of_own))]
     fn count_fields(&self, key: &[u8]) -> u64 {
-        count_fields_in_order(rows_at(&self.slots, key), key)
+        match self.slots.get(KeyBytes(key)) {
+            Some(slot) => count_fields_in(slot, key),
+            None => 0,
+        }
     }
 
-    #[tactic(auto, using(crate::proofs::ReadingLemmas::fields_of_own))]
     fn fields(&self, alloc: Global, key: &[u8]) -> Result<Vec<(Field, Value)>, AllocError> {
-        fields_in_order(alloc, rows_at(&self.slots, key), key)
+        match self.slots.get(KeyBytes(key)) {
+            Some(slot) => fields_in(alloc, slot, key),
+            None => Ok(Vec::new(alloc)),
+        }
     }
 }
 
@@ -160,13 +169,16 @@ impl Live for SlotRows {
         Ok(noted)
     }
 
-    fn find(&self, id: &RecordId) -> Option<&Row> {
-        find_row(rows_at(&self.slots, id.key().as_slice()), id)
+    fn find(&self, id: &RecordId) -> Option<Shown<'_>> {
+        match self.slots.get(id.key()) {
+            Some(slot) => find_in(slot, id),
+            None => None,
+        }
     }
 
     fn put_begun(&self, position: u64, rows: &mut BTreeMap<RecordId, Row>) -> Result<(), Refusal> {
         for entry in &self.slots {
-            put_begun(rows, entry.1.rows(), position)?;
+            put_begun_of(rows, entry.0, entry.1, position)?;
         }
         Ok(())
     }
@@ -174,7 +186,7 @@ impl Live for SlotRows {
     fn count(&self) -> u64 {
         let mut count = 0u64;
         for entry in &self.slots {
-            count = count.saturating_add(entry.1.rows().len() as u64);
+            count = count.saturating_add(count_in(entry.1) as u64);
         }
         count
     }

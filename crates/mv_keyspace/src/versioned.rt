@@ -11,6 +11,7 @@ use crate::live::Live;
 use crate::past::Past;
 use crate::pin::Pin;
 use crate::row::Row;
+use crate::shown::Shown;
 use crate::slot_rows::SlotRows;
 use cmd_core::Lookup;
 use kv_types::{EntryNo, Field, RecordId, Refusal, Value};
@@ -133,9 +134,9 @@ impl<L: Live> Keyspace for Versioned<L> {
         Ok(self.past.pin()?)
     }
 
-    fn view(&self, pin: &Pin, id: &RecordId) -> Option<&Row> {
+    fn view(&self, pin: &Pin, id: &RecordId) -> Option<Shown<'_>> {
         match self.live.find(id) {
-            Some(row) if row.position <= pin.position => Some(row),
+            Some(shown) if shown.position <= pin.position => Some(shown),
             _ => self.past.get(pin.position, id),
         }
     }

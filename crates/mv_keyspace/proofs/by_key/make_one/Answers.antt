@@ -1,16 +1,21 @@
-use Rattle.std.proofs.Common.{length, sym, ap, ◌∙◌, arith}
+use Rattle.std.proofs.Common.{length, IsTrue, sym, ap, subst, ◌∙◌, arith}
 use Rattle.std.specs.Option.{option_copied}
 use Rattle.model.specs.Group.{change_of}
 use Rattle.mv_keyspace.specs.Row.{records_of}
 use Rattle.mv_keyspace.specs.Slots.{rows_in}
 use Rattle.mv_keyspace.proofs.KeyCountLemmas.{keys_beside-placed, keys_counted}
 use Rattle.mv_keyspace.proofs.ReadingLemmas.{keys_few_slots}
-use Rattle.mv_keyspace.proofs.WritingLemmas.{awaits-at, awaits-own}
+use Rattle.mv_keyspace.proofs.WritingLemmas.{awaits-at, awaits-own, fields-own}
 use Rattle.mv_keyspace.proofs.by_key.make_one.Goals as goal
 
 pub change_slot-had-requires-clause-awaited : goal.change_slot-had-requires-clause-awaited
 change_slot-had-requires-clause-awaited c =
     omega (arith, awaits-own c.in-Some.key.now c.args.change.now (sym c.key_changed.ensures ∙ ap option_copied c.in-Some.is), c.requires.awaited c.in-Some.key.now)
+
+pub change_slot-had-requires-clause-lists : goal.change_slot-had-requires-clause-lists
+change_slot-had-requires-clause-lists c = λ field.
+    let key = c.in-Some.key.now in
+    c.requires.lists key (subst (λ b. IsTrue b) (fields-own key c.args.change.now (sym c.key_changed.ensures ∙ ap option_copied c.in-Some.is)) field)
 
 pub count_after-requires-clause-some : goal.count_after-requires-clause-some
 count_after-requires-clause-some c = λ had. grind (arith, keys_counted (change_of c.args.change.now) (records_of (rows_in c.args.slots.now.entries)))

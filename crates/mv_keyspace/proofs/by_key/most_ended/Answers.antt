@@ -5,7 +5,7 @@ use Rattle.kv_types.specs.Keyspace.{key_of}
 use Rattle.model.specs.Group.{change_of}
 use Rattle.mv_keyspace.specs.Keys.{changed_key}
 use Rattle.mv_keyspace.specs.Row.{ended_rows, table_of}
-use Rattle.mv_keyspace.specs.Slots.{rows_at, rows_in}
+use Rattle.mv_keyspace.specs.Slots.{rows_in}
 use Rattle.mv_keyspace.proofs.EndingLemmas.{order-lawful, order-table}
 use Rattle.mv_keyspace.proofs.RoomLemmas.{one-record, two-records}
 use Rattle.mv_keyspace.proofs.WritingLemmas.{ended-few_at}
@@ -16,8 +16,7 @@ returns-in-Str c =
     let es = c.args.slots.now.entries in
     let changed = ap (λ change. changed_key (change_of change)) c.in-Put.is ∙ ap (λ id. Some (key_of id)) c.in-Str.is in
     let few = ended-few_at c.in-Str.key es c.args.change.now c.requires.slots changed in
-    let read = ap (λ rows. length rows) (c.rows_at.ensures.rows ∙ ap (λ key. rows_at key es) c.as_slice.ensures) in
-    omega (arith, few, read)
+    omega (arith, few, c.count_at.ensures)
 
 pub returns-in-Field : goal.returns-in-Field
 returns-in-Field c =
@@ -42,5 +41,4 @@ returns-in-DropKey c =
     let es = c.args.slots.now.entries in
     let changed = ap (λ change. changed_key (change_of change)) c.in-DropKey.is in
     let few = ended-few_at c.in-DropKey.key es c.args.change.now c.requires.slots changed in
-    let read = ap (λ rows. length rows) (c.rows_at-in-DropKey.ensures.rows ∙ ap (λ key. rows_at key es) c.as_slice-in-DropKey.ensures) in
-    omega (arith, few, read)
+    omega (arith, few, c.count_at-in-DropKey.ensures)

@@ -1,15 +1,17 @@
-use Rattle.std.proofs.Common.{◌≡◌, ap, sym, subst, ◌∙◌, None, Some}
+use Rattle.std.proofs.Common.{◌≡◌, None, Some, sym, ap, subst, ◌∙◌}
 use Rattle.std.specs.Prelude.{MatchOption}
-use Rattle.mv_keyspace.specs.Row.{cell_of_row, table_of}
-use Rattle.mv_keyspace.specs.Slots.{rows_at}
-use Rattle.mv_keyspace.specs.Table.{cell_at}
-use Rattle.mv_keyspace.proofs.NotedLemmas.{cell_at_own}
+use Rattle.mv_keyspace.specs.Slots.{slot_at}
+use Rattle.mv_keyspace.specs.Version.{cell_of_shown}
+use Rattle.mv_keyspace.proofs.NotedLemmas.{cell-found, cell-missing}
 use Rattle.mv_keyspace.proofs.slot_rows.SlotRowsLive.find.Goals as goal
 
-pub returns : goal.returns
-returns c =
+pub returns-in-Some : goal.returns-in-Some
+returns-in-Some c =
     let es = c.args.self.now.slots.entries in
-    let id = c.args.id.now in
-    let own = c.rows_at.ensures.rows ∙ ap (λ key. rows_at key es) (c.as_slice.ensures ∙ c.key.ensures) in
-    let same = ap (λ rows. cell_at (table_of rows) id) own ∙ sym (cell_at_own id es c.args.self.now.slotted) in
-    subst (λ cell. MatchOption c.find_row.result (cell ≡ None) (λ row. (row.now.id ≡ id) × (cell ≡ Some (cell_of_row row.now)))) same c.find_row.ensures
+    let found = ap (λ key. slot_at key es) (sym c.key.ensures) ∙ sym c.in-Some.ensures.value in
+    subst (λ cell. MatchOption c.find_in.result (cell ≡ None) (λ shown. cell ≡ Some (cell_of_shown shown))) (cell-found c.args.id.now es c.args.self.now.slotted c.in-Some.slot.now found) c.find_in.ensures
+
+pub returns-in-None : goal.returns-in-None
+returns-in-None c =
+    let es = c.args.self.now.slots.entries in
+    cell-missing c.args.id.now es c.args.self.now.slotted (ap (λ key. slot_at key es) (sym c.key.ensures) ∙ sym c.in-None.ensures.value)

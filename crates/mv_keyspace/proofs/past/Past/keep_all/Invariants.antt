@@ -1,6 +1,6 @@
 use Rattle.std.proofs.Common.{◌≡◌, ◌+◌, ◌≤◌, ◌++◌, length, map, vec_len, vec_capacity}
 use Rattle.mv_keyspace.specs.Versions.{ended_at, past_of, pins_of, table_in}
-use Rattle.mv_keyspace.proofs.past.Past.keep.Given as goal
+use Rattle.mv_keyspace.proofs.past.Past.keep_all.Given as goal
 
 abbrev pub invariant-loop-id : goal.invariant-loop-id
 invariant-loop-id l = record {

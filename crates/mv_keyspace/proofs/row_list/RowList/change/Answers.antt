@@ -1,6 +1,6 @@
 use Rattle.std.proofs.Common.{[], ◌∷◌, arith}
 use Rattle.mv_keyspace.proofs.ListLemmas.{in_order-placed}
-use Rattle.mv_keyspace.proofs.slot.Slot.change.Goals as goal
+use Rattle.mv_keyspace.proofs.row_list.RowList.change.Goals as goal
 
 pub invariant_of-self : goal.invariant_of-self
 invariant_of-self c =
