@@ -1,5 +1,5 @@
 -- What a standby's answer to one frame says of a run.
-use Rattle.std.proofs.Common.{◌≡◌, ◌≢◌, ℕ, ◌<◌, ◌⊎◌, inl, inr, List, [], ◌∷◌, ◌++◌, Result, Ok, Err, IfErr, IsErrOf, OnOk, refl, sym, ap, subst, ◌∙◌, take, length, get_or, ◌+◌, append-nil, append_assoc, Option, Some, None}
+use Rattle.std.proofs.Common.{◌≡◌, ◌≢◌, ℕ, ◌<◌, ◌⊎◌, inl, inr, List, [], ◌∷◌, ◌++◌, Result, Ok, Err, IfErr, IsErrOf, OnOk, refl, sym, ap, subst, ◌∙◌, append-nil, append_assoc, Option, Some, None}
 use Rattle.kv_types.specs.declared.refusal.Refusal.{Refusal}
 use Rattle.kv_types.specs.declared.refusal.Refusal.TheVariants.{Fault, Memory}
 use Rattle.frames.specs.declared.frame.Frame.{Frame}
@@ -9,7 +9,7 @@ use Rattle.mv_keyspace.specs.Table.{records}
 use Rattle.standby.specs.Following.{IsHeld, IsTakenNext, HasTaken}
 use Rattle.links.specs.declared.link_end.LinkEnd.{LinkEnd}
 use Rattle.links.specs.declared.link_end.LinkEnd.TheVariants.{Stops}
-use Rattle.std.proofs.lemmas.List.{flat_map_more, map_more}
+use Rattle.std.proofs.lemmas.List.{flat_map_more, map-append}
 use Rattle.stream_codec.specs.declared.message.Message.{Message}
 use Rattle.stream_codec.specs.Message.{Sent, sent_of, sent_of_frame}
 use Rattle.stream_codec.specs.Scanning.{sent_of_all}
@@ -170,13 +170,13 @@ one_more first middle last messages message ack before between after so_far answ
   written = subst (λ (text : List ℕ). Appends before after text) (flat_map_more ack_text [] so_far.acks ack) (Appends-join before between after (acks_text so_far.acks) (ack_text ack) so_far.written written);
 }
 
--- the messages up to the next one
-pub one_more-taken : (first middle last : Held) (messages : List Message) (i : ℕ) (item : Message) (ack : Ack) (before between after : Option (List ℕ)) → i < length messages → item ≡ get_or messages i item
-    → HasRun first (sent_of_all (take i messages)) before middle between → Answers middle (sent_of item) ack last → Appends between after (ack_text ack)
-    → HasRun first (sent_of_all (take (i + 1) messages)) before last after
-one_more-taken first middle last messages i item ack before between after within is so_far answers written =
-    subst (λ (sent : List Sent). HasRun first sent before last after) (sym (map_more sent_of messages i item within ∙ ap (λ (m : Message). sent_of_all (take i messages) ++ sent_of m ∷ []) (sym is)))
-    (one_more first middle last (sent_of_all (take i messages)) (sent_of item) ack before between after so_far answers written)
+-- the messages so far and the next one
+pub one_more-message : (first middle last : Held) (messages : List Message) (message : Message) (ack : Ack) (before between after : Option (List ℕ))
+    → HasRun first (sent_of_all messages) before middle between → Answers middle (sent_of message) ack last → Appends between after (ack_text ack)
+    → HasRun first (sent_of_all (messages ++ message ∷ [])) before last after
+one_more-message first middle last messages message ack before between after so_far answers written =
+    subst (λ (sent : List Sent). HasRun first sent before last after) (sym (map-append sent_of messages (message ∷ [])))
+    (one_more first middle last (sent_of_all messages) (sent_of message) ack before between after so_far answers written)
 
 -- a link that has just begun
 pub Served-begun : (first : Held) (bytes before : Option (List ℕ)) → Served first bytes before first bytes before (Some [])

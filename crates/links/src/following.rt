@@ -177,7 +177,7 @@ fn answer_piece<E: Durable, K: Keyspace, O: Write>(
         Ok(messages) => messages,
         Err(refusal) => return Err(LinkEnd::Refused(refusal)),
     };
-    answer_all(alloc, node, &messages, out, to)?;
+    answer_all(alloc, node, messages, out, to)?;
     if decoder.is_broken() {
         return Err(LinkEnd::Refused(Refusal::FrameFault));
     }
@@ -188,14 +188,14 @@ fn answer_piece<E: Durable, K: Keyspace, O: Write>(
 fn answer_all<E: Durable, K: Keyspace, O: Write>(
     alloc: Global,
     node: &mut Standby<E, K>,
-    messages: &[Message],
+    messages: Vec<Message>,
     out: &mut Vec<u8>,
     to: &mut O,
 ) -> Result<(), LinkEnd>
     requires stands { Stands (E.is_faulted node.old.engine) (E.device node.old.engine) (E.contents node.old.engine) (K.table node.old.keyspace) node.old.heap node.old.ended.items }
     requires empty { out.old.items ≡ [] }
     ensures stands { ¬ IsErrOf result (Stops Fault) → Stands (E.is_faulted node.new.engine) (E.device node.new.engine) (E.contents node.new.engine) (K.table node.new.keyspace) node.new.heap node.new.ended.items }
-    ensures all { OnOk result (HasRun (held (E.contents node.old.engine) (K.table node.old.keyspace)) (sent_of_all messages.now) (O.contents to.old)
+    ensures all { OnOk result (HasRun (held (E.contents node.old.engine) (K.table node.old.keyspace)) (sent_of_all messages.items) (O.contents to.old)
         (held (E.contents node.new.engine) (K.table node.new.keyspace)) (O.contents to.new)) }
     ensures emptied { OnOk result (out.new.items ≡ []) }
     ensures says { ¬ IsErrOf result Closed → Says (held (E.contents node.old.engine) (K.table node.old.keyspace)) (O.contents to.old) (O.contents to.new) }
@@ -211,23 +211,23 @@ fn answer_all<E: Durable, K: Keyspace, O: Write>(
 fn answer<E: Durable, K: Keyspace, O: Write>(
     alloc: Global,
     node: &mut Standby<E, K>,
-    message: &Message,
+    message: Message,
     out: &mut Vec<u8>,
     to: &mut O,
 ) -> Result<(), LinkEnd>
     requires stands { Stands (E.is_faulted node.old.engine) (E.device node.old.engine) (E.contents node.old.engine) (K.table node.old.keyspace) node.old.heap node.old.ended.items }
     requires empty { out.old.items ≡ [] }
     ensures stands { ¬ IsErrOf result (Stops Fault) → Stands (E.is_faulted node.new.engine) (E.device node.new.engine) (E.contents node.new.engine) (K.table node.new.keyspace) node.new.heap node.new.ended.items }
-    ensures answered { OnOk result ((ack : Told) × Answers (held (E.contents node.old.engine) (K.table node.old.keyspace)) (sent_of message.now) ack (held (E.contents node.new.engine) (K.table node.new.keyspace))
+    ensures answered { OnOk result ((ack : Told) × Answers (held (E.contents node.old.engine) (K.table node.old.keyspace)) (sent_of message) ack (held (E.contents node.new.engine) (K.table node.new.keyspace))
         × Appends (O.contents to.old) (O.contents to.new) (ack_text ack)) }
     ensures emptied { OnOk result (out.new.items ≡ []) }
     ensures says { ¬ IsErrOf result Closed → Says (held (E.contents node.old.engine) (K.table node.old.keyspace)) (O.contents to.old) (O.contents to.new) }
-    ensures misplaced { (ack : Told) → message.now ≡ AckMessage ack
+    ensures misplaced { (ack : Told) → message ≡ AckMessage ack
         → (result ≡ Err (Refused (refusal_of_ack (E.contents node.old.engine).current.epoch ack))) × (node.new ≡ node.old) × (to.new ≡ to.old) }
 {
     match message {
         Message::Group(frame) => answer_frame(alloc, node, frame, out, to),
-        Message::Ack(ack) => Err(LinkEnd::Refused(refusal_of_ack(node.epoch(), ack))),
+        Message::Ack(ack) => Err(LinkEnd::Refused(refusal_of_ack(node.epoch(), &ack))),
     }
 }
 
@@ -235,14 +235,14 @@ fn answer<E: Durable, K: Keyspace, O: Write>(
 fn answer_frame<E: Durable, K: Keyspace, O: Write>(
     alloc: Global,
     node: &mut Standby<E, K>,
-    frame: &Frame,
+    frame: Frame,
     out: &mut Vec<u8>,
     to: &mut O,
 ) -> Result<(), LinkEnd>
     requires stands { Stands (E.is_faulted node.old.engine) (E.device node.old.engine) (E.contents node.old.engine) (K.table node.old.keyspace) node.old.heap node.old.ended.items }
     requires empty { out.old.items ≡ [] }
     ensures stands { ¬ IsErrOf result (Stops Fault) → Stands (E.is_faulted node.new.engine) (E.device node.new.engine) (E.contents node.new.engine) (K.table node.new.keyspace) node.new.heap node.new.ended.items }
-    ensures answered { OnOk result ((ack : Told) × Acknowledges (held (E.contents node.old.engine) (K.table node.old.keyspace)) frame.now ack (held (E.contents node.new.engine) (K.table node.new.keyspace))
+    ensures answered { OnOk result ((ack : Told) × Acknowledges (held (E.contents node.old.engine) (K.table node.old.keyspace)) frame ack (held (E.contents node.new.engine) (K.table node.new.keyspace))
         × Appends (O.contents to.old) (O.contents to.new) (ack_text ack)) }
     ensures emptied { OnOk result (out.new.items ≡ []) }
     ensures says { ¬ IsErrOf result Closed → Says (held (E.contents node.old.engine) (K.table node.old.keyspace)) (O.contents to.old) (O.contents to.new) }
@@ -262,11 +262,11 @@ fn answer_frame<E: Durable, K: Keyspace, O: Write>(
 fn take_frame<E: Durable, K: Keyspace>(
     alloc: Global,
     node: &mut Standby<E, K>,
-    frame: &Frame,
+    frame: Frame,
 ) -> Result<Ack, LinkEnd>
     requires stands { Stands (E.is_faulted node.old.engine) (E.device node.old.engine) (E.contents node.old.engine) (K.table node.old.keyspace) node.old.heap node.old.ended.items }
     ensures stands { ¬ IsErrOf result (Stops Fault) → Stands (E.is_faulted node.new.engine) (E.device node.new.engine) (E.contents node.new.engine) (K.table node.new.keyspace) node.new.heap node.new.ended.items }
-    ensures acknowledges { IfOk result (λ ack. Acknowledges (held (E.contents node.old.engine) (K.table node.old.keyspace)) frame.now ack (held (E.contents node.new.engine) (K.table node.new.keyspace))) }
+    ensures acknowledges { IfOk result (λ ack. Acknowledges (held (E.contents node.old.engine) (K.table node.old.keyspace)) frame ack (held (E.contents node.new.engine) (K.table node.new.keyspace))) }
 {
     match node.take_frame(alloc, frame) {
         Ok(ack) => Ok(ack),

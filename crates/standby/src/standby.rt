@@ -62,9 +62,9 @@ impl<E: Durable, K: Keyspace> Standby<E, K> {
     ///
     /// Those of `take_frame`, with the same after them; and `Fault` if a fence failed while what the frame ended was freed: the engine then holds the
     /// whole frame, and the image has to be reopened.
-    pub fn on_frame(&mut self, alloc: Global, frame: &Frame) -> Result<Ack, Refusal>
+    pub fn on_frame(&mut self, alloc: Global, frame: Frame) -> Result<Ack, Refusal>
         requires { Stands E.device E.contents E.is_faulted K.table self.old }
-        ensures { TakesFrame E.device E.contents E.is_faulted K.table frame.now self.old result self.new }
+        ensures { TakesFrame E.device E.contents E.is_faulted K.table frame self.old result self.new }
     {
         let position = self.position();
         let ack = self.take_frame(alloc, frame)?;

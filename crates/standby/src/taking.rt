@@ -23,7 +23,7 @@ impl<E: Durable, K: Keyspace> Standby<E, K> {
     /// Takes a frame of its epoch, or, at position 0, of a higher one. One of its epoch that ends at its position or below it is acknowledged again. One
     /// that begins at its position moves the standby by all the frame's changes under one record, which bears the frame's epoch, and is acknowledged:
     /// it is durable then. What the frame ended is listed and not freed: `free_ended` does that, and so does the next call that takes a frame, which
-    /// first frees all that is listed.
+    /// first frees all that is listed. A frame that is refused is gone, and has to be sent again.
     ///
     /// It can be called on a standby that was opened or restarted, and again after each of its calls that did not answer `Fault`. After `Fault` it can
     /// be called once the standby was restarted.
@@ -35,9 +35,9 @@ impl<E: Durable, K: Keyspace> Standby<E, K> {
     /// is freed: that is freed, and nothing else changed. `Memory` if an allocation was refused: nothing changed, or what had ended is freed and
     /// nothing else changed. `Fault` if a fence failed: the engine holds what it held, perhaps without what had ended, or the whole frame, but the
     /// keyspace and the heap may be ahead of it or behind it, so the image has to be reopened.
-    pub fn take_frame(&mut self, alloc: Global, frame: &Frame) -> Result<Ack, Refusal>
+    pub fn take_frame(&mut self, alloc: Global, frame: Frame) -> Result<Ack, Refusal>
         requires { Stands E.device E.contents E.is_faulted K.table self.old }
-        ensures { TakesFrame E.device E.contents E.is_faulted K.table frame.now self.old result self.new }
+        ensures { TakesFrame E.device E.contents E.is_faulted K.table frame self.old result self.new }
     {
         if !self.takes_epoch(frame.epoch) {
             return Err(Refusal::WrongEpoch);
@@ -45,10 +45,10 @@ impl<E: Durable, K: Keyspace> Standby<E, K> {
         if frame.epoch == self.epoch() && frame.after <= self.position() {
             return Ok(self.ack());
         }
-        if !is_next(self.position(), frame) {
+        if !is_next(self.position(), &frame) {
             return Err(Refusal::PositionGap);
         }
-        if would_exhaust(self.engine.record(), frame) {
+        if would_exhaust(self.engine.record(), &frame) {
             return Err(Refusal::Exhausted);
         }
         self.free_ended(alloc)?;
@@ -94,18 +94,18 @@ impl<E: Durable, K: Keyspace> Standby<E, K> {
 
     /// Makes the frame's changes and commits them, as one part, and lists what they ended. Nothing that ended earlier is left. Where it is refused
     /// for room or memory, nothing changed. After `Fault` the keyspace and the heap are ahead of the engine.
-    fn commit_frame(&mut self, alloc: Global, frame: &Frame) -> Result<(), Refusal>
+    fn commit_frame(&mut self, alloc: Global, frame: Frame) -> Result<(), Refusal>
         requires follows { Follows (E.contents self.old.engine) (K.table self.old.keyspace) self.old.heap [] }
         requires none { self.old.ended.items ≡ [] }
         requires sound { E.is_faulted self.old.engine ≡ false }
         requires durable { IsDurable (E.device self.old.engine) (E.contents self.old.engine) }
-        requires next { IsTakenNext (E.contents self.old.engine).current frame.now }
-        requires counters { ¬ WouldExhaust (E.contents self.old.engine).current frame.now }
-        ensures taken { OnOk result (HasTaken frame.now (E.contents self.old.engine) (E.contents self.new.engine) (K.table self.old.keyspace) (K.table self.new.keyspace)) }
-        ensures made { OnOk result (IsMadeAt frame.now.after (E.contents self.old.engine).versions (E.contents self.new.engine).versions) }
-        ensures fits { OnOk result (HasRoomFor self.old.heap frame.now.changes.items) }
+        requires next { IsTakenNext (E.contents self.old.engine).current frame }
+        requires counters { ¬ WouldExhaust (E.contents self.old.engine).current frame }
+        ensures taken { OnOk result (HasTaken frame (E.contents self.old.engine) (E.contents self.new.engine) (K.table self.old.keyspace) (K.table self.new.keyspace)) }
+        ensures made { OnOk result (IsMadeAt frame.after (E.contents self.old.engine).versions (E.contents self.new.engine).versions) }
+        ensures fits { OnOk result (HasRoomFor self.old.heap frame.changes.items) }
         ensures causes { IfErr result (λ refusal. (refusal ≡ Full) ⊎ (refusal ≡ Memory) ⊎ (refusal ≡ Fault)) }
-        ensures full { IsErrOf result Full → ¬ HasRoomFor self.old.heap frame.now.changes.items }
+        ensures full { IsErrOf result Full → ¬ HasRoomFor self.old.heap frame.changes.items }
         ensures fault { IsErrOf result Fault
             → (E.is_faulted self.new.engine ≡ true) × ((E.device self.old.engine).failures < (E.device self.new.engine).failures) }
         ensures refused { ¬ IsErrOf result Fault → OnErr result ((self.new.engine ≡ self.old.engine)
@@ -116,18 +116,19 @@ impl<E: Durable, K: Keyspace> Standby<E, K> {
         ensures durable { ¬ IsErrOf result Fault → IsDurable (E.device self.new.engine) (E.contents self.new.engine) }
         ensures lawful { AreLawful (E.contents self.old.engine) → ¬ IsErrOf result Fault → AreLawful (E.contents self.new.engine) }
         ensures stays { OnErr result (Same (E.contents self.old.engine) (E.contents self.new.engine)) }
-        ensures own_epoch { frame.now.epoch ≡ (E.contents self.old.engine).current.epoch
+        ensures own_epoch { frame.epoch ≡ (E.contents self.old.engine).current.epoch
             → (E.contents self.new.engine).current.epoch ≡ (E.contents self.old.engine).current.epoch }
         ensures moments { LeavesOnly (E.device self.old.engine) (E.device self.new.engine)
-            (IsBeforeOrWhole frame.now [] (E.contents self.old.engine) (K.table self.old.keyspace)) }
+            (IsBeforeOrWhole frame [] (E.contents self.old.engine) (K.table self.old.keyspace)) }
     {
         let mut parts = Vec::with_capacity(alloc, 1)?;
+        let epoch = frame.epoch;
+        let before = frame.before;
         let part = make_part(alloc, &mut self.keyspace, &mut self.heap, frame)?;
         parts.push_reserved(part);
-        let epoch = frame.epoch;
         let mut group = Group {
             epoch,
-            before: frame.before,
+            before,
             parts,
         };
         self.engine.commit(&group)?;

@@ -1,5 +1,5 @@
 -- What came to the standby, and what it acknowledged, still refine the machine's after each step.
-use Rattle.std.proofs.Common.{◌≡◌, ℕ, ◌<◌, ◌≤◌, true, false, nat_lt, List, [], ◌∷◌, ◌++◌, length, take, drop, get_or, slice_get, Option, Some, Vec, Global, refl, sym, ap, subst, ◌∙◌, arith}
+use Rattle.std.proofs.Common.{◌≡◌, ℕ, ◌<◌, ◌≤◌, true, false, nat_lt, List, [], ◌∷◌, ◌++◌, length, take, drop, slice_get, Option, Some, Vec, Global, refl, sym, ap, subst, ◌∙◌, arith}
 use Rattle.std.proofs.lemmas.Option.{slice_get_within}
 use Rattle.std.proofs.lemmas.Bool.{lt-ltb, le-ltb}
 use Rattle.model.specs.declared.call.Call.{Call}
@@ -80,30 +80,34 @@ first_of : (epoch : ℕ) (calls : List Call) (frame : Frame) (others : List Fram
 first_of epoch calls frame others [] are = absurd are
 first_of epoch calls frame others (span ∷ spans) are = record { span = span; spans = spans; all = refl; epoch_is = are.0.epoch_is; is = are.0.has; rest = are.1 }
 
-pub starts_with : (items : List Frame) (frame : Frame) → 0 < length items → frame ≡ get_or items 0 frame → items ≡ frame ∷ drop 1 items
-starts_with [] frame some e = absurd (omega arith)
-starts_with (first ∷ rest) frame some e = ap (λ f. f ∷ rest) (sym e)
+pub first-frame : (epoch : ℕ) (w : World) (arrivals : Arrived) (frame : Frame) (others : List Frame) → arrivals.delivered.items ≡ frame ∷ others
+    → ArrivalsRefine epoch w.primary.calls arrivals w.standby.waiting w.wire.acknowledgements → FirstFrame epoch w.primary.calls frame others w.standby.waiting
+first-frame epoch w arrivals frame others are stands =
+    first_of epoch w.primary.calls frame others w.standby.waiting (subst (λ (frames : List Frame). AreFramesRead epoch w.primary.calls frames w.standby.waiting) are stands.delivered)
 
-pub first-frame : (epoch : ℕ) (w : World) (arrivals : Arrived) (frame : Frame) → 0 < length arrivals.delivered.items → frame ≡ get_or arrivals.delivered.items 0 frame
-    → ArrivalsRefine epoch w.primary.calls arrivals w.standby.waiting w.wire.acknowledgements → FirstFrame epoch w.primary.calls frame (drop 1 arrivals.delivered.items) w.standby.waiting
-first-frame epoch w arrivals frame some e stands =
-    first_of epoch w.primary.calls frame (drop 1 arrivals.delivered.items) w.standby.waiting
-    (subst (λ (frames : List Frame). AreFramesRead epoch w.primary.calls frames w.standby.waiting) (starts_with arrivals.delivered.items frame some e) stands.delivered)
+some_of : (epoch : ℕ) (calls : List Call) (frames : List Frame) (waiting : List Sent) → 0 < length frames → AreFramesRead epoch calls frames waiting → is_nonempty waiting ≡ true
+some_of epoch calls [] waiting some are = absurd (omega arith)
+some_of epoch calls (frame ∷ frames) [] some are = absurd are
+some_of epoch calls (frame ∷ frames) (span ∷ spans) some are = refl
+
+-- the machine has a span where a frame came
+pub some-wait : (epoch : ℕ) (w : World) (arrivals : Arrived) → 0 < length arrivals.delivered.items → ArrivalsRefine epoch w.primary.calls arrivals w.standby.waiting w.wire.acknowledgements
+    → is_nonempty w.standby.waiting ≡ true
+some-wait epoch w arrivals some stands = some_of epoch w.primary.calls arrivals.delivered.items w.standby.waiting some stands.delivered
 
 -- the standby took the first frame
-pub applies : (holder : Holder) (epoch : ℕ) (w : World) (frame : Frame) (acks : List Acknowledgement) (old new : Arrived) (before after : Node)
-    → new.delivered.items ≡ drop 1 old.delivered.items → AreAcksSent new.acknowledgements.items (w.wire.acknowledgements ++ acks)
-    → (first : FirstFrame epoch w.primary.calls frame (drop 1 old.delivered.items) w.standby.waiting)
+pub applies : (holder : Holder) (epoch : ℕ) (w : World) (frame : Frame) (acks : List Acknowledgement) (new : Arrived) (before after : Node)
+    → AreAcksSent new.acknowledgements.items (w.wire.acknowledgements ++ acks)
+    → (first : FirstFrame epoch w.primary.calls frame new.delivered.items w.standby.waiting)
     → Took holder epoch w.primary.calls first.span (without_first w.standby) acks before after → AppliesFirst holder epoch w true new before after
-applies holder epoch w frame acks old new before after items told first took =
+applies holder epoch w frame acks new before after told first took =
     record {
       done = sym (ap is_nonempty first.all);
       goes = λ did. (
         with_acknowledged acks (with_standby took.standby w),
         record { frame = first.span; first = ap (take 1) first.all; standby = took.standby; told = acks; takes = took.takes; now = refl },
         record {
-          delivered = subst (λ waiting. AreFramesRead epoch w.primary.calls new.delivered.items waiting) (sym (took.waiting ∙ ap (drop 1) first.all))
-              (subst (λ (frames : List Frame). AreFramesRead epoch w.primary.calls frames first.spans) (sym items) first.rest);
+          delivered = subst (λ waiting. AreFramesRead epoch w.primary.calls new.delivered.items waiting) (sym (took.waiting ∙ ap (drop 1) first.all)) first.rest;
           acknowledged = told;
         },
         took.stands,

@@ -78,7 +78,7 @@ impl Arrivals {
 
     /// The standby takes the first frame that came. Returns whether there was one.
     ///
-    /// `Memory` where a growth was refused, `Fault` where a fence failed, `Exhausted` where a counter would reach 2^62.
+    /// `Memory` where a growth was refused, `Fault` where a fence failed, `Exhausted` where a counter would reach 2^62: the frame may be gone then.
     pub(crate) fn apply<E: Durable, K: Keyspace>(
         &mut self,
         alloc: Global,
@@ -113,18 +113,18 @@ impl Arrivals {
             → StandbyStands holder (E.contents standby.old.engine).current.epoch w.primary.calls w.standby.position (node_at (E.device standby.old.engine) (E.contents standby.old.engine) (E.is_faulted standby.old.engine) (K.table standby.old.keyspace) standby.old.heap standby.old.ended.items)
             → NearOnly holder w.primary.calls w.standby.position (next_standby w) (E.device standby.old.engine) (E.device standby.new.engine) }
     {
-        let Some(frame) = self.delivered.front() else {
+        if self.delivered.is_empty() {
             return Ok(false);
-        };
-        // An acknowledgement that is owed takes no more memory.
+        }
+        // An acknowledgement that is owed takes no more memory; where there is none for it, the frame stays.
         let room = Vec::with_capacity(alloc, ACK_BYTES)?;
         acknowledgements.reserve(1)?;
+        let frame = self.delivered.pop_front().unwrap();
         match standby.on_frame(alloc, frame) {
             Ok(ack) => acknowledgements.push_reserved(encode_ack_in(ack, room)),
             Err(refusal) if goes_on(refusal) => {}
             Err(refusal) => return Err(refusal),
         }
-        let _ = self.delivered.pop_front();
         Ok(true)
     }
 }

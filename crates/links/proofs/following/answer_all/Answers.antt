@@ -1,10 +1,12 @@
-use Rattle.std.proofs.Common.{Err, ap, ◌∙◌}
+use Rattle.std.proofs.Common.{Err, List, [], ◌∷◌, ◌++◌, sym, ap, ◌∙◌, append_assoc}
 use Rattle.std.proofs.lemmas.Result.{err_from_is_err_and}
-use Rattle.links.proofs.Serving.{begun, one_more-taken, not_stopped, says-run, says-then, same_end}
+use Rattle.std.specs.Vec.Iter.{into_iter_items}
+use Rattle.stream_codec.specs.declared.message.Message.{Message}
+use Rattle.links.proofs.Serving.{begun, one_more-message, not_stopped, says-run, says-then, same_end}
 use Rattle.links.proofs.following.answer_all.Goals as goal
 
 pub loop-message-init : goal.loop-message-init
-loop-message-init g c = record { stands = c.requires.stands; emptied = c.requires.empty; so_far = begun _ _ }
+loop-message-init g c = record { stands = c.requires.stands; emptied = c.requires.empty; so_far = begun _ _; left = sym c.into_iter-message-iterator.ensures.into_iter_gives.0 }
 
 pub loop-message-preserved : goal.loop-message-preserved
 loop-message-preserved g c =
@@ -12,8 +14,9 @@ loop-message-preserved g c =
     record {
       stands = c.in_ok-answer.ensures.stands (not_stopped _);
       emptied = c.in_ok-answer.ensures.emptied;
-      so_far = one_more-taken _ _ _ c.args.messages.now c.loop-message.message-index c.message-item.result answered.0 _ _ _ c.loop-message-test.true c.message-item.is
-          c.loop-message.invariant.so_far answered.1 answered.2;
+      so_far = one_more-message _ _ _ c.loop-message.yielded c.in-Some.message answered.0 _ _ _ c.loop-message.invariant.so_far answered.1 answered.2;
+      left = c.loop-message.invariant.left ∙ ap (λ (rest : List Message). c.loop-message.yielded ++ rest) c.in-Some.ensures.steps.0
+          ∙ sym (append_assoc c.loop-message.yielded (c.in-Some.message ∷ []) (into_iter_items c.next.new.self));
     }
 
 pub returns-in_err-answer-clause-says : goal.returns-in_err-answer-clause-says

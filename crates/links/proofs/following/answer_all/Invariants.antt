@@ -1,4 +1,5 @@
-use Rattle.std.proofs.Common.{◌≡◌, [], take}
+use Rattle.std.proofs.Common.{◌≡◌, [], ◌++◌}
+use Rattle.std.specs.Vec.Iter.{into_iter_items}
 use Rattle.stream_codec.specs.Scanning.{sent_of_all}
 use Rattle.links.specs.Serving.{Stands, HasRun, held}
 use Rattle.links.proofs.following.answer_all.Given as goal
@@ -7,6 +8,7 @@ abbrev pub invariant-loop-message : goal.invariant-loop-message
 invariant-loop-message g l = record {
   stands : Stands (g.E.Durable.is_faulted l.node.engine) (g.E.Durable.device l.node.engine) (g.E.Durable.contents l.node.engine) (g.K.Keyspace.table l.node.keyspace) l.node.heap l.node.ended.items;
   emptied : l.out.items ≡ [];
-  so_far : HasRun (held (g.E.Durable.contents l.initial.node.engine) (g.K.Keyspace.table l.initial.node.keyspace)) (sent_of_all (take l.message-index l.messages)) (g.O.Write.contents l.initial.to)
+  so_far : HasRun (held (g.E.Durable.contents l.initial.node.engine) (g.K.Keyspace.table l.initial.node.keyspace)) (sent_of_all l.yielded) (g.O.Write.contents l.initial.to)
       (held (g.E.Durable.contents l.node.engine) (g.K.Keyspace.table l.node.keyspace)) (g.O.Write.contents l.to);
+  left : l.fn.messages.items ≡ l.yielded ++ into_iter_items l.message-iterator;
 }

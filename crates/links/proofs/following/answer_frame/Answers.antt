@@ -27,13 +27,13 @@ returns-then-position-clause-answered g c = (
 
 pub returns-then-position-clause-says : goal.returns-then-position-clause-says
 returns-then-position-clause-says g c = λ _.
-    says-frame (holds g c.args.node.now) (holds g c.take_frame.new.node) c.args.frame.now c.in_ok-ack.ack _ _
+    says-frame (holds g c.args.node.now) (holds g c.take_frame.new.node) c.args.frame c.in_ok-ack.ack _ _
     c.in_ok-ack.ensures.acknowledges (sent-alone (g.O.Write.contents c.args.to.now) (g.O.Write.contents c.send.new.to) c.args.out.now.items c.put_ack.new.out.items (ack_text c.in_ok-ack.ack)
     c.requires.empty c.in_ok-put_ack.ensures.put c.in_ok-send.ensures.written)
 
 pub returns-in_err-free_ended-clause-says : goal.returns-in_err-free_ended-clause-says
 returns-in_err-free_ended-clause-says g c = λ _.
-    says-frame (holds g c.args.node.now) (holds g c.take_frame.new.node) c.args.frame.now c.in_ok-ack.ack _ _
+    says-frame (holds g c.args.node.now) (holds g c.take_frame.new.node) c.args.frame c.in_ok-ack.ack _ _
     c.in_ok-ack.ensures.acknowledges (sent-alone (g.O.Write.contents c.args.to.now) (g.O.Write.contents c.send.new.to) c.args.out.now.items c.put_ack.new.out.items (ack_text c.in_ok-ack.ack)
     c.requires.empty c.in_ok-put_ack.ensures.put c.in_ok-send.ensures.written)
 
@@ -42,7 +42,7 @@ returns-in_err-free_ended-clause-says g c = λ _.
 pub returns-clause-answered : goal.returns-clause-answered
 returns-clause-answered g c = (
   c.in_ok-ack.ack,
-  acknowledges-freed (holds g c.args.node.now) c.args.frame.now c.in_ok-ack.ack (holds g c.take_frame.new.node) (holds g c.free_ended.new.node)
+  acknowledges-freed (holds g c.args.node.now) c.args.frame c.in_ok-ack.ack (holds g c.take_frame.new.node) (holds g c.free_ended.new.node)
       (moved-by c.position-position.ensures c.position.ensures c.if-position.false) c.in_ok-ack.ensures.acknowledges c.in_ok-free_ended.ensures.frees,
   sent-alone (g.O.Write.contents c.args.to.now) (g.O.Write.contents c.send.new.to) c.args.out.now.items c.put_ack.new.out.items (ack_text c.in_ok-ack.ack)
       c.requires.empty c.in_ok-put_ack.ensures.put c.in_ok-send.ensures.written,
@@ -50,6 +50,6 @@ returns-clause-answered g c = (
 
 pub returns-clause-says : goal.returns-clause-says
 returns-clause-says g c = λ _.
-    says-frame (holds g c.args.node.now) (holds g c.take_frame.new.node) c.args.frame.now c.in_ok-ack.ack _ _
+    says-frame (holds g c.args.node.now) (holds g c.take_frame.new.node) c.args.frame c.in_ok-ack.ack _ _
     c.in_ok-ack.ensures.acknowledges (sent-alone (g.O.Write.contents c.args.to.now) (g.O.Write.contents c.send.new.to) c.args.out.now.items c.put_ack.new.out.items (ack_text c.in_ok-ack.ack)
     c.requires.empty c.in_ok-put_ack.ensures.put c.in_ok-send.ensures.written)

@@ -14,7 +14,7 @@ returns-in-Ok-clause-stands g c = λ _.
 
 pub returns-in-Ok-clause-acknowledges : goal.returns-in-Ok-clause-acknowledges
 returns-in-Ok-clause-acknowledges g c =
-    acknowledges (holds g c.args.node.now) c.args.frame.now c.in-Ok.ack (holds g c.take_frame.new.self) c.in-Ok.ensures.one_epoch.0 c.in-Ok.ensures.one_epoch.2
+    acknowledges (holds g c.args.node.now) c.args.frame c.in-Ok.ack (holds g c.take_frame.new.self) c.in-Ok.ensures.one_epoch.0 c.in-Ok.ensures.one_epoch.2
     (known (holds g) c.in-Ok.ensures.answers) c.in-Ok.ensures.taken
 
 pub returns-in-Err-clause-stands : goal.returns-in-Err-clause-stands

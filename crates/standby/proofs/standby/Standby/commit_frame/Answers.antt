@@ -18,7 +18,7 @@ use Rattle.standby.proofs.standby.Standby.commit_frame.Goals.{After-push_reserve
 
 -- the group that is committed
 abbrev the_group : (g : Over) (c : After-push_reserved g) → Group
-the_group g c = record { epoch = c.args.frame.now.epoch; before = c.args.frame.now.before; parts = c.push_reserved.new.self }
+the_group g c = record { epoch = c.args.frame.epoch; before = c.args.frame.before; parts = c.push_reserved.new.self }
 
 one : (g : Over) (c : After-push_reserved g) → c.push_reserved.new.self.items ≡ c.in_ok-part.part ∷ []
 one g c = c.push_reserved.ensures.items ∙ ap (λ (parts : List Part). parts ++ c.in_ok-part.part ∷ []) c.in_ok-parts.ensures.items
@@ -49,27 +49,27 @@ returns-in_err-part-clause-moments g c = none_leaves _ _ (λ image is. inl (Keep
 pub returns-in_err-commit-clause-moments : goal.returns-in_err-commit-clause-moments
 returns-in_err-commit-clause-moments g c =
     let prefix = (goal.at.returns-in_err-commit-clause-moments g c).After-push_reserved in
-    LeavesOnly-group (g.E.Durable.contents c.args.self.now.engine) (g.K.Keyspace.table c.args.self.now.keyspace) c.args.frame.now c.in_ok-part.part c.in_ok-part.ensures.ok.changes_are c.in_ok-part.ensures.ok.position_is
+    LeavesOnly-group (g.E.Durable.contents c.args.self.now.engine) (g.K.Keyspace.table c.args.self.now.keyspace) c.args.frame c.in_ok-part.part c.in_ok-part.ensures.ok.changes_are c.in_ok-part.ensures.ok.position_is
     (the_group g prefix) (one g prefix) refl c.make_part.new.heap c.in_ok-part.part.ended.items (follows_after g prefix) (is_group g prefix) c.requires.counters
     (g.E.Durable.device c.args.self.now.engine) (g.E.Durable.device c.commit.new.self) (c.commit.ensures.moments c.requires.sound)
 
 pub returns-clause-moments : goal.returns-clause-moments
 returns-clause-moments g c =
     let prefix = (goal.at.returns-clause-moments g c).After-push_reserved in
-    LeavesOnly-group (g.E.Durable.contents c.args.self.now.engine) (g.K.Keyspace.table c.args.self.now.keyspace) c.args.frame.now c.in_ok-part.part c.in_ok-part.ensures.ok.changes_are c.in_ok-part.ensures.ok.position_is
+    LeavesOnly-group (g.E.Durable.contents c.args.self.now.engine) (g.K.Keyspace.table c.args.self.now.keyspace) c.args.frame c.in_ok-part.part c.in_ok-part.ensures.ok.changes_are c.in_ok-part.ensures.ok.position_is
     (the_group g prefix) (one g prefix) refl c.make_part.new.heap c.in_ok-part.part.ended.items (follows_after g prefix) (is_group g prefix) c.requires.counters
     (g.E.Durable.device c.args.self.now.engine) (g.E.Durable.device c.commit.new.self) (c.commit.ensures.moments c.requires.sound)
 
 pub returns-clause-taken : goal.returns-clause-taken
 returns-clause-taken g c =
     let prefix = (goal.at.returns-clause-taken g c).After-push_reserved in
-    HasTaken-group (g.E.Durable.contents c.args.self.now.engine) (g.K.Keyspace.table c.args.self.now.keyspace) c.args.frame.now c.in_ok-part.part c.in_ok-part.ensures.ok.changes_are c.in_ok-part.ensures.ok.position_is
+    HasTaken-group (g.E.Durable.contents c.args.self.now.engine) (g.K.Keyspace.table c.args.self.now.keyspace) c.args.frame c.in_ok-part.part c.in_ok-part.ensures.ok.changes_are c.in_ok-part.ensures.ok.position_is
     (the_group g prefix) (one g prefix) refl (g.E.Durable.contents c.commit.new.self) (g.K.Keyspace.table c.make_part.new.keyspace) c.in_ok-commit.ensures.moved c.in_ok-part.ensures.ok.table_is
 
 pub returns-clause-made : goal.returns-clause-made
 returns-clause-made g c =
     let prefix = (goal.at.returns-clause-made g c).After-push_reserved in
-    made-group (g.E.Durable.contents c.args.self.now.engine) (the_group g prefix) c.in_ok-part.part c.args.frame.now.after (one g prefix) c.in_ok-part.ensures.ok.position_is
+    made-group (g.E.Durable.contents c.args.self.now.engine) (the_group g prefix) c.in_ok-part.part c.args.frame.after (one g prefix) c.in_ok-part.ensures.ok.position_is
     (g.E.Durable.contents c.commit.new.self) c.in_ok-commit.ensures.moved
 
 pub returns-in_err-commit-clause-durable : goal.returns-in_err-commit-clause-durable

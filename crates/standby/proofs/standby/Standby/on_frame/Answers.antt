@@ -22,12 +22,12 @@ pub returns-in_err-only_fault : goal.returns-in_err-only_fault
 returns-in_err-only_fault g c =
     let exit = err_from_is_err_and c.from_residual-in_err-only_fault.result c.from_residual-in_err-only_fault.ensures.1 in
     rw (exit.1 ∙ ap Err (exit.2 ∙ c.in_err-only_fault.ensures.cause))
-    (TakesFrame-stopped _ _ _ _ c.args.frame.now c.args.self.now c.take_frame.new.self c.free_ended.new.self c.in_ok-ack.ack c.in_ok-ack.ensures
+    (TakesFrame-stopped _ _ _ _ c.args.frame c.args.self.now c.take_frame.new.self c.free_ended.new.self c.in_ok-ack.ack c.in_ok-ack.ensures
     (λ is. c.if-position.false (c.position.ensures ∙ is ∙ sym c.position-position.ensures)) c.free_ended.result
     (frees g (goal.at.returns-in_err-only_fault g c).After-only_fault) (c.in_err-only_fault.ensures.fault.0 (ap Err c.in_err-only_fault.ensures.cause)))
 
 pub returns : goal.returns
 returns g c =
-    TakesFrame-freed _ _ _ _ c.args.frame.now c.args.self.now c.take_frame.new.self c.free_ended.new.self c.in_ok-ack.ack c.in_ok-ack.ensures
+    TakesFrame-freed _ _ _ _ c.args.frame c.args.self.now c.take_frame.new.self c.free_ended.new.self c.in_ok-ack.ack c.in_ok-ack.ensures
     (λ is. c.if-position.false (c.position.ensures ∙ is ∙ sym c.position-position.ensures)) c.free_ended.result (frees g (goal.at.returns g c).After-only_fault)
     (λ is. let told = c.in_ok-only_fault.ensures.fault.1 is in cc)

@@ -16,14 +16,14 @@ returns-then-would_exhaust g c =
     let contents = g.E.Durable.contents c.args.self.now.engine in
     let rests : LeavesOnly device device (KeepsWithoutSome c.args.self.now.ended.items contents) =
     none_leaves _ _ (λ image is. KeepsWithoutSome-none c.args.self.now.ended.items contents image (c.requires.durable image is)) in
-    let moments : LeavesOnly device device (IsBeforeOrWhole c.args.frame.now c.args.self.now.ended.items contents (g.K.Keyspace.table c.args.self.now.keyspace)) =
+    let moments : LeavesOnly device device (IsBeforeOrWhole c.args.frame c.args.self.now.ended.items contents (g.K.Keyspace.table c.args.self.now.keyspace)) =
     LeavesOnly-weaken _ (λ image some. inl some) rests in
     search rules
 
-next : (g : Over) (c : After-free_ended g) → IsTakenNext (g.E.Durable.contents c.args.self.now.engine).current c.args.frame.now
+next : (g : Over) (c : After-free_ended g) → IsTakenNext (g.E.Durable.contents c.args.self.now.engine).current c.args.frame
 next g c = search rules
 
-fits : (g : Over) (c : After-free_ended g) → ¬ WouldExhaust (g.E.Durable.contents c.args.self.now.engine).current c.args.frame.now
+fits : (g : Over) (c : After-free_ended g) → ¬ WouldExhaust (g.E.Durable.contents c.args.self.now.engine).current c.args.frame
 fits g c = search rules
 
 pub returns-in_err-free_ended : goal.returns-in_err-free_ended
@@ -31,7 +31,7 @@ returns-in_err-free_ended g c =
     let exit = err_from_is_err_and c.from_residual.result c.from_residual.ensures.1 in
     let prefix = (goal.at.returns-in_err-free_ended g c).After-free_ended in
     rw (exit.1 ∙ ap Err exit.2)
-    (TakesFrame-unfreed g.E.Durable.device g.E.Durable.contents g.E.Durable.is_faulted g.K.Keyspace.table c.args.frame.now c.args.self.now c.requires (next g prefix) (fits g prefix)
+    (TakesFrame-unfreed g.E.Durable.device g.E.Durable.contents g.E.Durable.is_faulted g.K.Keyspace.table c.args.frame c.args.self.now c.requires (next g prefix) (fits g prefix)
     c.in_err-free_ended.field-0.0 c.free_ended.new.self (search (rules, c.in_err-free_ended.ensures)))
 
 pub commit_frame-requires-clause-durable : goal.commit_frame-requires-clause-durable
@@ -42,11 +42,11 @@ returns-in_err-commit_frame g c =
     let exit = err_from_is_err_and c.from_residual-in_err-commit_frame.result c.from_residual-in_err-commit_frame.ensures.1 in
     let prefix = (goal.at.returns-in_err-commit_frame g c).After-free_ended in
     rw (exit.1 ∙ ap Err exit.2)
-    (TakesFrame-refused g.E.Durable.device g.E.Durable.contents g.E.Durable.is_faulted g.K.Keyspace.table c.args.frame.now c.args.self.now c.requires (next g prefix) (fits g prefix)
+    (TakesFrame-refused g.E.Durable.device g.E.Durable.contents g.E.Durable.is_faulted g.K.Keyspace.table c.args.frame c.args.self.now c.requires (next g prefix) (fits g prefix)
     c.free_ended.new.self c.commit_frame.new.self c.in_ok-free_ended.field-0 (search (rules, c.in_ok-free_ended.ensures)) c.in_err-commit_frame.field-0.0 (search (rules, c.in_err-commit_frame.ensures)))
 
 pub returns : goal.returns
 returns g c =
     let prefix = (goal.at.returns g c).After-free_ended in
-    TakesFrame-taken g.E.Durable.device g.E.Durable.contents g.E.Durable.is_faulted g.K.Keyspace.table c.args.frame.now c.args.self.now c.requires (next g prefix) (fits g prefix)
+    TakesFrame-taken g.E.Durable.device g.E.Durable.contents g.E.Durable.is_faulted g.K.Keyspace.table c.args.frame c.args.self.now c.requires (next g prefix) (fits g prefix)
     c.free_ended.new.self c.commit_frame.new.self c.in_ok-free_ended.field-0 (search (rules, c.in_ok-free_ended.ensures)) c.in_ok-commit_frame.field-0 _ (search (rules, c.in_ok-commit_frame.ensures)) c.ack-2.ensures

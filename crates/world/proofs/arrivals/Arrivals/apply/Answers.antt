@@ -1,6 +1,8 @@
-use Rattle.std.proofs.Common.{◌≡◌, ◌⊎◌, inl, inr, ℕ, Vec, Global, ◌++◌, [], ◌∷◌, drop, List, Result, Ok, Err, refl, sym, ap, subst, ◌∙◌, append-nil, arith, true≢false}
+use Rattle.std.proofs.Common.{◌≡◌, ◌⊎◌, inl, inr, ℕ, Vec, Global, ◌++◌, [], ◌∷◌, List, Option, Result, Ok, Err, refl, sym, ap, subst, ◌∙◌, append-nil, arith, true≢false}
 use Rattle.model.specs.Standing.{Holder}
+use Rattle.std.proofs.lemmas.Bool.{eqb-false}
 use Rattle.std.proofs.lemmas.Result.{err_from_is_err_and}
+use Rattle.std.specs.Option.{option_to_list}
 use Rattle.kv_types.specs.declared.refusal.Refusal.{Refusal}
 use Rattle.kv_types.specs.declared.refusal.Refusal.TheVariants.{Memory}
 use Rattle.model.specs.Call.{is_nonempty}
@@ -19,10 +21,10 @@ use Rattle.world.proofs.EngineLemmas.{Opens-engine, rests-same}
 use Rattle.world.specs.Link.{AreAcksSent}
 use Rattle.world.proofs.FrameLemmas.{AreAcksSent-push}
 use Rattle.world.specs.Effect.{AnswersFirst}
-use Rattle.world.proofs.ArrivalLemmas.{FirstFrame, first-frame, applies, starts_with}
+use Rattle.world.proofs.ArrivalLemmas.{FirstFrame, first-frame, some-wait, applies}
 use Rattle.world.proofs.arrivals.Arrivals.apply.Given.{Over}
 use Rattle.world.proofs.arrivals.Arrivals.apply.Goals as goal
-use Rattle.world.proofs.arrivals.Arrivals.apply.Goals.{After-on_frame, in-Ok, in-Err}
+use Rattle.world.proofs.arrivals.Arrivals.apply.Goals.{After-on_frame}
 
 abbrev node : (g : Over) → Standby g.row.E.Denot g.row.K.Denot g.row.E-Device.Denot → Node
 node g standby = record {
@@ -43,7 +45,7 @@ kept : (g : Over) (old new : Standby g.row.E.Denot g.row.K.Denot g.row.E-Device.
 kept g old new (table, inl same) = IsKept-same (node g old) (node g new) (ap (node g) same)
 kept g old new (table, inr freed) = IsKept-freed (node g old) (node g new) table freed
 
-answers : (g : Over) (c : After-on_frame g) → Answers c.in-Some.frame.now (node g c.args.standby.now) c.on_frame.result (node g c.on_frame.new.self)
+answers : (g : Over) (c : After-on_frame g) → Answers c.unwrap-frame.result (node g c.args.standby.now) c.on_frame.result (node g c.on_frame.new.self)
 answers g c = record {
   again = λ epoch le. let told = c.on_frame.ensures.again epoch le in (told.0, ap (node g) told.1);
   gap = λ epoch lt ne.
@@ -64,12 +66,17 @@ answers g c = record {
   rests = λ epoch next. c.on_frame.ensures.rests (record { epoch = inl epoch; next = next });
 }
 
-told : (g : Over) (c : After-on_frame g) (result : Result Ack Refusal) → c.on_frame.result ≡ result → Answers c.in-Some.frame.now (node g c.args.standby.now) result (node g c.on_frame.new.self)
-told g c result is = subst (λ (r : Result Ack Refusal). Answers c.in-Some.frame.now (node g c.args.standby.now) r (node g c.on_frame.new.self)) is (answers g c)
+told : (g : Over) (c : After-on_frame g) (result : Result Ack Refusal) → c.on_frame.result ≡ result → Answers c.unwrap-frame.result (node g c.args.standby.now) result (node g c.on_frame.new.self)
+told g c result is = subst (λ (r : Result Ack Refusal). Answers c.unwrap-frame.result (node g c.args.standby.now) r (node g c.on_frame.new.self)) is (answers g c)
+
+-- the frame stood first
+stood_first : (g : Over) (c : After-on_frame g) → c.args.self.now.delivered.items ≡ c.unwrap-frame.result ∷ c.pop_front.new.self.items
+stood_first g c = c.pop_front.ensures.items ∙ ap (λ (taken : Option Frame). option_to_list taken ++ c.pop_front.new.self.items) c.unwrap-frame.ensures
 
 first : (g : Over) (c : After-on_frame g) (w : World) → ArrivalsRefine (g.E.Durable.contents c.args.standby.now.engine).current.epoch w.primary.calls (arrived_with c.args.self.now c.args.acknowledgements.now) w.standby.waiting w.wire.acknowledgements
-    → FirstFrame (g.E.Durable.contents c.args.standby.now.engine).current.epoch w.primary.calls c.in-Some.frame.now (drop 1 c.args.self.now.delivered.items) w.standby.waiting
-first g c w stands = first-frame (g.E.Durable.contents c.args.standby.now.engine).current.epoch w (arrived_with c.args.self.now c.args.acknowledgements.now) c.in-Some.frame.now c.in-Some.ensures.item.3.0 c.in-Some.ensures.lookup stands
+    → FirstFrame (g.E.Durable.contents c.args.standby.now.engine).current.epoch w.primary.calls c.unwrap-frame.result c.pop_front.new.self.items w.standby.waiting
+first g c w stands =
+    first-frame (g.E.Durable.contents c.args.standby.now.engine).current.epoch w (arrived_with c.args.self.now c.args.acknowledgements.now) c.unwrap-frame.result c.pop_front.new.self.items (stood_first g c) stands
 
 -- at any moment of the call
 moments : (g : Over) (c : After-on_frame g) (holder : Holder) (w : World) → Sound w → (g.E.Durable.contents c.args.standby.now.engine).current.epoch ≡ w.standby.epoch → ArrivalsRefine (g.E.Durable.contents c.args.standby.now.engine).current.epoch w.primary.calls (arrived_with c.args.self.now c.args.acknowledgements.now) w.standby.waiting w.wire.acknowledgements
@@ -77,43 +84,43 @@ moments : (g : Over) (c : After-on_frame g) (holder : Holder) (w : World) → So
     → NearOnly holder w.primary.calls w.standby.position (next_standby w) (g.E.Durable.device c.args.standby.now.engine) (g.E.Durable.device c.on_frame.new.self.engine)
 moments g c holder w sound epochs arrives stands =
     let epoch = (g.E.Durable.contents c.args.standby.now.engine).current.epoch in
-    let frame = c.in-Some.frame.now in
+    let frame = c.unwrap-frame.result in
     let one = first g c w arrives in
     subst (λ (frames : List Sent). NearOnly holder w.primary.calls w.standby.position (next_from w.standby.position frames) (g.E.Durable.device c.args.standby.now.engine) (g.E.Durable.device c.on_frame.new.self.engine)) (sym one.all)
     (frame-moments holder epoch w.primary.calls w.standby frame one.span (node g c.args.standby.now) (node g c.on_frame.new.self) one.epoch_is epochs one.is stands c.on_frame.result (answers g c))
 
-pub returns-clause-applies : goal.returns-clause-applies
-returns-clause-applies g c =
-    let prefix = (goal.at.returns-clause-applies g c).After-on_frame in
+pub returns-in-Ok-clause-applies : goal.returns-in-Ok-clause-applies
+returns-in-Ok-clause-applies g c = λ holder w sound epochs arrives stands.
+    let prefix = (goal.at.returns-in-Ok-clause-applies g c).After-on_frame in
     let epoch = (g.E.Durable.contents c.args.standby.now.engine).current.epoch in
-    let frame = c.in-Some.frame.now in
-    let new : Arrived = record { delivered = c.pop_front.new.self; acknowledgements = c.match-on_frame.acknowledgements } in
-    elim c.match-on_frame.branch [
-      | in-Ok w ↦ λ holder w' sound epochs arrives stands.
-          let one = first g prefix w' arrives in
-          let ack = w.in-Ok.ack in
-          let acks = w'.wire.acknowledgements in
-          let written : new.acknowledgements.items ≡ c.args.acknowledgements.now.items ++ w.encode_ack_in.result ∷ [] =
-          ap (λ (v : Vec (Vec ℕ Global) Global). v.items) w.acknowledgements-is ∙ w.push_reserved.ensures.items ∙ ap (λ (texts : List (Vec ℕ Global)). texts ++ w.encode_ack_in.result ∷ []) c.in_ok-reserve.ensures.items in
-          applies holder epoch w' frame (told_by ack ∷ []) (arrived_with c.args.self.now c.args.acknowledgements.now) new (node g c.args.standby.now) (node g c.on_frame.new.self)
-          c.pop_front.ensures.rest
-          (subst (λ (texts : List (Vec ℕ Global)). AreAcksSent texts (acks ++ told_by ack ∷ [])) (sym written)
-          (AreAcksSent-push c.args.acknowledgements.now.items acks w.encode_ack_in.result (told_by ack) arrives.acknowledged (record { text = w.encode_ack_in.ensures.text; may = w.encode_ack_in.ensures.may }))) one
-          (takes_ok holder epoch w'.primary.calls (without_first w'.standby) frame one.span (node g c.args.standby.now) (node g c.on_frame.new.self) one.epoch_is epochs one.is stands ack (told g prefix (Ok ack) w.in-Ok.is))
-      | in-Err w ↦ λ holder w' sound epochs arrives stands.
-          let one = first g prefix w' arrives in
-          let acks = w'.wire.acknowledgements in
-          let same : new.acknowledgements.items ≡ c.args.acknowledgements.now.items = ap (λ (v : Vec (Vec ℕ Global) Global). v.items) w.acknowledgements-is ∙ c.in_ok-reserve.ensures.items in
-          applies holder epoch w' frame [] (arrived_with c.args.self.now c.args.acknowledgements.now) new (node g c.args.standby.now) (node g c.on_frame.new.self)
-          c.pop_front.ensures.rest
-          (subst (λ (texts : List (Vec ℕ Global)). AreAcksSent texts (acks ++ [])) (sym same)
-          (subst (λ (told : List Acknowledgement). AreAcksSent c.args.acknowledgements.now.items told) (sym (append-nil acks)) arrives.acknowledged)) one
-          (takes_refused holder epoch w'.primary.calls (without_first w'.standby) frame one.span (node g c.args.standby.now) (node g c.on_frame.new.self) one.epoch_is epochs one.is stands w.in-Err.refusal (w.goes_on.ensures.0 w.if-goes_on.true)
-          (told g prefix (Err w.in-Err.refusal) w.in-Err.is))
-    ]
+    let frame = c.unwrap-frame.result in
+    let new : Arrived = record { delivered = c.pop_front.new.self; acknowledgements = c.push_reserved.new.self } in
+    let one = first g prefix w arrives in
+    let ack = c.in-Ok.ack in
+    let acks = w.wire.acknowledgements in
+    let written : new.acknowledgements.items ≡ c.args.acknowledgements.now.items ++ c.encode_ack_in.result ∷ [] =
+    c.push_reserved.ensures.items ∙ ap (λ (texts : List (Vec ℕ Global)). texts ++ c.encode_ack_in.result ∷ []) c.in_ok-reserve.ensures.items in
+    applies holder epoch w frame (told_by ack ∷ []) new (node g c.args.standby.now) (node g c.on_frame.new.self)
+    (subst (λ (texts : List (Vec ℕ Global)). AreAcksSent texts (acks ++ told_by ack ∷ [])) (sym written)
+    (AreAcksSent-push c.args.acknowledgements.now.items acks c.encode_ack_in.result (told_by ack) arrives.acknowledged (record { text = c.encode_ack_in.ensures.text; may = c.encode_ack_in.ensures.may }))) one
+    (takes_ok holder epoch w.primary.calls (without_first w.standby) frame one.span (node g c.args.standby.now) (node g c.on_frame.new.self) one.epoch_is epochs one.is stands ack (told g prefix (Ok ack) c.in-Ok.is))
 
-pub returns-in_default-clause-moments : goal.returns-in_default-clause-moments
-returns-in_default-clause-moments g c = λ holder w sound epochs arrives stands. StandbyStands-still holder (g.E.Durable.contents c.args.standby.now.engine).current.epoch w.primary.calls w.standby.position (next_standby w) (node g c.args.standby.now) stands
+pub returns-in-Err-clause-applies : goal.returns-in-Err-clause-applies
+returns-in-Err-clause-applies g c = λ holder w sound epochs arrives stands.
+    let prefix = (goal.at.returns-in-Err-clause-applies g c).After-on_frame in
+    let epoch = (g.E.Durable.contents c.args.standby.now.engine).current.epoch in
+    let frame = c.unwrap-frame.result in
+    let new : Arrived = record { delivered = c.pop_front.new.self; acknowledgements = c.reserve.new.self } in
+    let one = first g prefix w arrives in
+    let acks = w.wire.acknowledgements in
+    applies holder epoch w frame [] new (node g c.args.standby.now) (node g c.on_frame.new.self)
+    (subst (λ (texts : List (Vec ℕ Global)). AreAcksSent texts (acks ++ [])) (sym c.in_ok-reserve.ensures.items)
+    (subst (λ (told : List Acknowledgement). AreAcksSent c.args.acknowledgements.now.items told) (sym (append-nil acks)) arrives.acknowledged)) one
+    (takes_refused holder epoch w.primary.calls (without_first w.standby) frame one.span (node g c.args.standby.now) (node g c.on_frame.new.self) one.epoch_is epochs one.is stands c.in-Err.refusal (c.goes_on.ensures.0 c.if-goes_on.true)
+    (told g prefix (Err c.in-Err.refusal) c.in-Err.is))
+
+pub returns-then-is_empty-clause-moments : goal.returns-then-is_empty-clause-moments
+returns-then-is_empty-clause-moments g c = λ holder w sound epochs arrives stands. StandbyStands-still holder (g.E.Durable.contents c.args.standby.now.engine).current.epoch w.primary.calls w.standby.position (next_standby w) (node g c.args.standby.now) stands
 
 pub returns-in_err-room-clause-moments : goal.returns-in_err-room-clause-moments
 returns-in_err-room-clause-moments g c = λ holder w sound epochs arrives stands. StandbyStands-still holder (g.E.Durable.contents c.args.standby.now.engine).current.epoch w.primary.calls w.standby.position (next_standby w) (node g c.args.standby.now) stands
@@ -124,16 +131,20 @@ returns-in_err-reserve-clause-moments g c = λ holder w sound epochs arrives sta
 pub returns-in-Err-2-clause-moments : goal.returns-in-Err-2-clause-moments
 returns-in-Err-2-clause-moments g c = moments g (goal.at.returns-in-Err-2-clause-moments g c).After-on_frame
 
-pub returns-clause-moments : goal.returns-clause-moments
-returns-clause-moments g c = moments g (goal.at.returns-clause-moments g c).After-on_frame
+pub returns-in-Ok-clause-moments : goal.returns-in-Ok-clause-moments
+returns-in-Ok-clause-moments g c = moments g (goal.at.returns-in-Ok-clause-moments g c).After-on_frame
+
+pub returns-in-Err-clause-moments : goal.returns-in-Err-clause-moments
+returns-in-Err-clause-moments g c = moments g (goal.at.returns-in-Err-clause-moments g c).After-on_frame
 
 pub returns-in_err-room-clause-cut : goal.returns-in_err-room-clause-cut
 returns-in_err-room-clause-cut g c =
     let exit = err_from_is_err_and c.from_residual.result c.from_residual.ensures.1 in
     let memory : exit.0 ≡ Memory = cc in
     let device = g.E.Durable.device c.args.standby.now.engine in
+    let some = eqb-false _ 0 (sym c.is_empty.ensures ∙ c.if-is_empty.false) in
     rw exit.1 (λ holder w sound epochs arrives stands. (
-      ap is_nonempty (first-frame (g.E.Durable.contents c.args.standby.now.engine).current.epoch w (arrived_with c.args.self.now c.args.acknowledgements.now) c.in-Some.frame.now c.in-Some.ensures.item.3.0 c.in-Some.ensures.lookup arrives).all,
+      some-wait (g.E.Durable.contents c.args.standby.now.engine).current.epoch w (arrived_with c.args.self.now c.args.acknowledgements.now) (omega (arith, some, c.args.self.now.delivered.ok.0)) arrives,
       subst (λ (r : Refusal). EndsBy r Apply (λ _ last. last holder w.primary.calls w.standby.position (next_standby w) device device)) (sym memory)
           (refl, rests-same holder w.primary.calls w.standby.position device device refl (Opens-engine _ _ _ _ _ _ stands.engine)),
     ))
@@ -143,8 +154,9 @@ returns-in_err-reserve-clause-cut g c =
     let exit = err_from_is_err_and c.from_residual-in_err-reserve.result c.from_residual-in_err-reserve.ensures.1 in
     let memory : exit.0 ≡ Memory = cc in
     let device = g.E.Durable.device c.args.standby.now.engine in
+    let some = eqb-false _ 0 (sym c.is_empty.ensures ∙ c.if-is_empty.false) in
     rw exit.1 (λ holder w sound epochs arrives stands. (
-      ap is_nonempty (first-frame (g.E.Durable.contents c.args.standby.now.engine).current.epoch w (arrived_with c.args.self.now c.args.acknowledgements.now) c.in-Some.frame.now c.in-Some.ensures.item.3.0 c.in-Some.ensures.lookup arrives).all,
+      some-wait (g.E.Durable.contents c.args.standby.now.engine).current.epoch w (arrived_with c.args.self.now c.args.acknowledgements.now) (omega (arith, some, c.args.self.now.delivered.ok.0)) arrives,
       subst (λ (r : Refusal). EndsBy r Apply (λ _ last. last holder w.primary.calls w.standby.position (next_standby w) device device)) (sym memory)
           (refl, rests-same holder w.primary.calls w.standby.position device device refl (Opens-engine _ _ _ _ _ _ stands.engine)),
     ))
@@ -153,7 +165,7 @@ pub returns-in-Err-2-clause-cut : goal.returns-in-Err-2-clause-cut
 returns-in-Err-2-clause-cut g c = λ holder w sound epochs arrives stands.
     let prefix = (goal.at.returns-in-Err-2-clause-cut g c).After-on_frame in
     let epoch = (g.E.Durable.contents c.args.standby.now.engine).current.epoch in
-    let frame = c.in-Some.frame.now in
+    let frame = c.unwrap-frame.result in
     let one = first g prefix w arrives in (
       ap is_nonempty one.all,
       subst (λ (frames : List Sent). EndsBy c.in-Err.refusal Apply (λ _ last. last holder w.primary.calls w.standby.position (next_from w.standby.position frames) (g.E.Durable.device c.args.standby.now.engine) (g.E.Durable.device c.on_frame.new.self.engine))) (sym one.all)
@@ -161,24 +173,23 @@ returns-in-Err-2-clause-cut g c = λ holder w sound epochs arrives stands.
           (λ goes. true≢false (sym (c.goes_on.ensures.1 goes) ∙ c.if-goes_on.false)) (told g prefix (Err c.in-Err.refusal) c.in-Err.is)),
     )
 
-pub returns-clause-acknowledged : goal.returns-clause-acknowledged
-returns-clause-acknowledged g c =
-    elim c.match-on_frame.branch [
-      | in-Ok w ↦ inl (w.encode_ack_in.result, cc (w.acknowledgements-is, w.push_reserved.ensures.items, c.in_ok-reserve.ensures.items))
-      | in-Err w ↦ inr (cc (w.acknowledgements-is, c.in_ok-reserve.ensures.items))
-    ]
+pub returns-in-Ok-clause-acknowledged : goal.returns-in-Ok-clause-acknowledged
+returns-in-Ok-clause-acknowledged g c = inl (c.encode_ack_in.result, cc (c.push_reserved.ensures.items, c.in_ok-reserve.ensures.items))
 
-pub returns-clause-answered : goal.returns-clause-answered
-returns-clause-answered g c =
-    let frame = c.in-Some.frame.now in
-    let items = c.args.self.now.delivered.items in
+pub returns-in-Ok-clause-answered : goal.returns-in-Ok-clause-answered
+returns-in-Ok-clause-answered g c =
     let old = c.args.acknowledgements.now.items in
-    let new = c.match-on_frame.acknowledgements.items in
+    let new = c.push_reserved.new.self.items in
     subst (λ (frames : List Frame). AnswersFirst frames old new (node g c.args.standby.now) (node g c.on_frame.new.self))
-    (sym (starts_with items frame c.in-Some.ensures.item.3.0 c.in-Some.ensures.lookup))
-    (λ next. elim c.match-on_frame.branch [
-      | in-Ok w ↦ inl (w.encode_ack_in.result, cc (w.acknowledgements-is, w.push_reserved.ensures.items, c.in_ok-reserve.ensures.items))
-      | in-Err w ↦
-          refused-full c.on_frame.result w.in-Err.refusal w.in-Err.is (w.goes_on.ensures.0 w.if-goes_on.true) (c.on_frame.ensures.causes next)
-          (λ full. let told = c.on_frame.ensures.full full in inr (record { room = told.0; freed = told.1.none }))
-    ])
+    (sym (stood_first g (goal.at.returns-in-Ok-clause-answered g c).After-on_frame))
+    (λ next. inl (c.encode_ack_in.result, cc (c.push_reserved.ensures.items, c.in_ok-reserve.ensures.items)))
+
+pub returns-in-Err-clause-answered : goal.returns-in-Err-clause-answered
+returns-in-Err-clause-answered g c =
+    let old = c.args.acknowledgements.now.items in
+    let new = c.reserve.new.self.items in
+    subst (λ (frames : List Frame). AnswersFirst frames old new (node g c.args.standby.now) (node g c.on_frame.new.self))
+    (sym (stood_first g (goal.at.returns-in-Err-clause-answered g c).After-on_frame))
+    (λ next.
+    refused-full c.on_frame.result c.in-Err.refusal c.in-Err.is (c.goes_on.ensures.0 c.if-goes_on.true) (c.on_frame.ensures.causes next)
+    (λ full. let told = c.on_frame.ensures.full full in inr (record { room = told.0; freed = told.1.none })))
