@@ -3,7 +3,7 @@ ghost use Rattle.std.specs.Prelude.{◌≡◌, ◌≤◌, [], ◌∷◌, length,
 
 use crate::sets::{VALUE, key_of, value_of};
 use bytes::Bytes;
-use kv_types::{Key, Reply, Request};
+use kv_types::{BoundedBytes, Key, Reply, Request};
 use std::alloc::{AllocError, Global};
 
 /// How many fields the hash has, and how many counters there are.
@@ -121,21 +121,33 @@ fn of_key(alloc: Global, name: &'static [u8], key: Key) -> Result<Request, Alloc
     requires { length name.now ≤ 6 }
     ensures { IfOk result (λ request. request ≡ name.now ∷ key ∷ []) }
 {
-    let words = vec![in alloc; Bytes::from_static(name), key.into_bytes()]?;
+    let words = vec![in alloc; Bytes::from_static(name), word_of(alloc, &key)?]?;
     Ok(Request::new(words))
 }
 
 /// The request of a SET.
 fn of_value(alloc: Global, key: Key) -> Result<Request, AllocError> {
-    let value = value_of(alloc)?.into_bytes();
-    let words = vec![in alloc; Bytes::from_static(b"SET"), key.into_bytes(), value]?;
+    let value = word_of(alloc, &value_of(alloc)?)?;
+    let words = vec![in alloc; Bytes::from_static(b"SET"), word_of(alloc, &key)?, value]?;
     Ok(Request::new(words))
 }
 
 /// The request of an HSET of the field of this number.
 fn of_field(alloc: Global, key: Key, number: u64) -> Result<Request, AllocError> {
-    let field = key_of(alloc, number)?.into_bytes();
-    let value = value_of(alloc)?.into_bytes();
-    let words = vec![in alloc; Bytes::from_static(b"HSET"), key.into_bytes(), field, value]?;
+    let field = word_of(alloc, &key_of(alloc, number)?)?;
+    let value = word_of(alloc, &value_of(alloc)?)?;
+    let words = vec![in alloc;
+        Bytes::from_static(b"HSET"),
+        word_of(alloc, &key)?,
+        field,
+        value,
+    ]?;
     Ok(Request::new(words))
+}
+
+/// A word of a request, as it would come from a connection.
+fn word_of<const MAX: usize>(alloc: Global, bytes: &BoundedBytes<MAX>) -> Result<Bytes, AllocError>
+    ensures { IfOk result (λ word. word ≡ bytes.now) }
+{
+    Bytes::copy_from_slice(alloc, bytes.as_slice())
 }

@@ -78,7 +78,7 @@ fn commit_rounds<E: Durable, K: Keyspace>(
 {
     for _ in 0..rounds {
         let frame = frame_of(alloc, node.epoch(), node.position(), 0, sets)?;
-        node.on_frame(alloc, &frame)?;
+        node.on_frame(alloc, frame)?;
     }
     Ok(())
 }

@@ -57,7 +57,7 @@ fn make_versions<K: Keyspace>(alloc: Global, keyspace: &mut K) -> Result<Pin, Re
 fn is_first_shown<K: Keyspace>(alloc: Global, keyspace: &K, pin: &Pin) -> Result<bool, AllocError> {
     let id = RecordId::Str(stored(alloc, &KEY)?);
     match keyspace.view(pin, &id) {
-        Some(row) => Ok(row.position == 1 && row.value.as_slice() == b"1".as_slice()),
+        Some(shown) => Ok(shown.position == 1 && shown.value.as_slice() == b"1".as_slice()),
         None => Ok(false),
     }
 }
