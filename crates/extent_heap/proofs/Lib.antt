@@ -5,6 +5,7 @@ pub mod CutLemmas
 pub mod FitLemmas
 pub mod HeapLemmas
 pub mod JoinLemmas
+pub mod PartLemmas
 pub mod Pools
 pub mod Rooms
 pub mod RunsLemmas

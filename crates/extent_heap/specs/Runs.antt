@@ -48,6 +48,11 @@ IsApart runs extent = (line : ℕ) → IsTrue (is_line_of extent line) → has_l
 abbrev pub IsPart : List Extent → Extent → Type 0
 IsPart runs extent = (line : ℕ) → IsTrue (is_line_of extent line) → IsTrue (has_line runs line)
 
+-- The answer is whether each line of the extent is in a run, where the runs are in order.
+pub record TellsPart (runs : List Extent) (extent : Extent) (holds : Bool) : Type 0 where
+  pub is : IsTrue holds → IsPart runs extent
+  pub only : (low high : ℕ) → AreRuns low high runs → IsPart runs extent → IsTrue holds
+
 -- runs between bounds that a `u64` can be
 pub record AreInOrder (runs : List Extent) : Type 0 where
   pub low : ℕ

@@ -1,7 +1,7 @@
 //! The free lines and entries of an image.
 ghost use Rattle.std.specs.Prelude.{◌≡◌, ℕ, ◌+◌, ◌^◌, ◌<◌, ◌≤◌, ◌↔◌, ◌⊎◌, false, IsTrue, IfOk, IfErr, OnOk, OnErr, IsErrOf, length, vec_len};
 ghost use Rattle.std.specs.Vec.{vec_capacity};
-ghost use Rattle.extent_heap.specs.Runs.{some_run};
+ghost use Rattle.extent_heap.specs.Runs.{longest, some_run};
 ghost use Rattle.extent_heap.specs.Room.{Room, fresh_room, has_room, is_free_line, is_free_entry, IsFreeRun, free_lines_below, ClaimsExtent, TakesExtent, GivesExtent, IsOut, ClaimsEntry, TakesEntry, GivesEntry, IsOutEntry};
 
 use crate::entries::EntrySet;
@@ -16,7 +16,7 @@ use std::mem;
 /// The free lines and entries of an image. A clause sees which they are, as a `Room`.
 ///
 /// Finding the lowest run that is long enough, and taking, claiming and giving back, each go a few times down a tree of the free runs. The free
-/// entries are bits. `new`, `take` and `claim` ask for memory: they make the room that the other calls will want, which ask for none.
+/// entries are bits. `new`, `take`, `claim` and `claim_if_free` ask for memory: they make the room that the other calls will want, which ask for none.
 #[derive(Drop)]
 pub struct ExtentHeap {
     lines: Tree,
@@ -106,6 +106,23 @@ impl ExtentHeap {
         Ok(())
     }
 
+    /// Hands out this extent where all its lines are free, and says whether they were. Where they were not, nothing changed.
+    ///
+    /// `AllocError` where a growth was refused, and then nothing changed either.
+    pub fn claim_if_free(&mut self, extent: Extent) -> Result<bool, AllocError>
+        requires some { 0 < extent.lines }
+        ensures free { IfOk result (λ is_free. IsTrue is_free ↔ IsFreeRun self.old extent.first_line extent.lines) }
+        ensures claims { IfOk result (λ is_free. IsTrue is_free → ClaimsExtent self.old extent self.new) }
+        ensures taken { IfOk result (λ is_free. is_free ≡ false → self.new ≡ self.old) }
+        ensures err { OnErr result (self.new ≡ self.old) }
+    {
+        if !self.lines.holds(extent) {
+            return Ok(false);
+        }
+        self.claim(extent)?;
+        Ok(true)
+    }
+
     /// Gives an extent back, which may be a part of what was handed out, or more than one. Free runs that touch become one.
     pub fn give(&mut self, extent: Extent)
         requires { IsOut self.old extent }
@@ -123,6 +140,14 @@ impl ExtentHeap {
         ensures { result ≡ free_lines_below self.now (self.now).end_line }
     {
         self.free
+    }
+
+    /// How many lines the longest run of free lines has: 0 if no line is free.
+    pub fn longest_run(&self) -> u64
+        ensures longest { result ≡ longest (self.now).lines }
+        ensures none_longer { (first lines : ℕ) → result < lines → ¬ IsFreeRun self.now first lines }
+    {
+        self.lines.longest()
     }
 
     /// Whether so many entries are free, and so many extents of this many lines can be cut from the free runs.

@@ -4,7 +4,7 @@
 //! the line where its run begins, so that it takes no memory, and the ranks are spread as if by chance. So the tree is some 2 log2(runs) deep. Nothing
 //! but the time that a call takes rests on the ranks.
 ghost use Rattle.std.specs.Prelude.{◌≡◌, ◌-◌, ◌<◌, [], ◌∷◌, ◌++◌, MatchOption};
-ghost use Rattle.extent_heap.specs.Runs.{longest, pieces, IsFirstFit};
+ghost use Rattle.extent_heap.specs.Runs.{longest, pieces, IsFirstFit, TellsPart};
 ghost use Rattle.extent_heap.specs.Split.{IsSplit};
 
 use kv_types::Extent;
@@ -204,6 +204,27 @@ impl Tree {
                     Some(fork.run)
                 } else {
                     fork.right.first_fit(lines)
+                }
+            }
+        }
+    }
+
+    /// Whether one run holds all lines of the extent.
+    pub(crate) fn holds(&self, extent: Extent) -> bool
+        requires { 0 < extent.lines }
+        ensures { TellsPart self.now extent result }
+    {
+        match &self.root {
+            None => false,
+            Some(fork) => {
+                if extent.first_line < fork.run.first_line {
+                    return fork.left.holds(extent);
+                }
+                let offset = extent.first_line - fork.run.first_line;
+                if offset < fork.run.lines {
+                    extent.lines <= fork.run.lines - offset
+                } else {
+                    fork.right.holds(extent)
                 }
             }
         }
