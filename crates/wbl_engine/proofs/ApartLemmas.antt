@@ -77,7 +77,7 @@ puts_apart (first ∷ puts) put other apart (inr among) (inl here) differ =
 puts_apart (first ∷ puts) put other apart (inr among) (inr later) differ = puts_apart puts put other apart.1 among later differ
 
 -- after a part the versions are apart
-part_apart : (versions : Versions) (part : Part) → AreVersionsApart versions → AllByRecursion (IsFresh versions) (puts_of_part part)
+pub part_apart : (versions : Versions) (part : Part) → AreVersionsApart versions → AllByRecursion (IsFresh versions) (puts_of_part part)
     → AreAllApart (puts_of_part part) → AreVersionsApart (part_versions versions part)
 part_apart versions part apart fresh puts_are i j v w differ is_v is_w =
     let puts : List Put = puts_of_part part in

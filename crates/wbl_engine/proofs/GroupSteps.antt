@@ -8,7 +8,8 @@ use Rattle.model.specs.declared.record.Record.{Record}
 use Rattle.model.specs.declared.group.Part.{Part}
 use Rattle.model.specs.declared.group.Put.{Put}
 use Rattle.model.specs.Image.{Image, Version}
-use Rattle.model.specs.Group.{Versions, IsPlaced, HasItsLines, AreApart, IsApartFrom, AreAllApart, AreParts, is_put_at, puts_of_part, part_versions, parts_versions, version_of_put}
+use Rattle.model.specs.Group.{Versions, IsPlaced, HasItsLines, AreApart, IsApartFrom, AreAllApart, is_put_at, puts_of_part, part_versions, parts_versions, version_of_put}
+use Rattle.wbl_engine.specs.Committing.{AreNamed}
 use Rattle.wbl_engine.specs.Stage.{IsWritable, part_pairs, parts_pairs, puts_of_parts}
 use Rattle.wbl_engine.proofs.CountLemmas.{with_cp}
 use Rattle.wbl_engine.proofs.PartEffects.{IsAmong, end_if, end_if_begun, changes_kept, changes_made, is_put_at-among}
@@ -128,20 +129,20 @@ rest_stored lines stamp versions image part parts stored =
     }
 
 -- The versions after the stores of all parts, under the record with one more stamp for each part, are those after their changes.
-pub parts_fit : (lines : ℕ) (parts : List Part) (before : ℕ) (r : Record) (image : Image) (versions : Versions) → Fits r lines image versions
-    → AreStored lines versions image (puts_of_parts parts) → AreParts before versions parts
+pub parts_fit : (lines : ℕ) (parts : List Part) (r : Record) (image : Image) (versions : Versions) → Fits r lines image versions
+    → AreStored lines versions image (puts_of_parts parts) → AreNamed versions parts
     → Fits (with_cp r (r.cp + length parts)) lines (written (parts_pairs (r.cp + 1) parts) image) (parts_versions versions parts)
-parts_fit lines [] before r image versions fits stored follow =
+parts_fit lines [] r image versions fits stored follow =
     let e : r.cp ≡ r.cp + 0 = omega arith in
     subst (λ (n : ℕ). Fits (with_cp r n) lines image versions) e fits
-parts_fit lines (part ∷ parts) before r image versions fits stored follow =
+parts_fit lines (part ∷ parts) r image versions fits stored follow =
     let r' : Record = with_cp r (r.cp + 1) in
     let image' : Image = written (part_pairs (r.cp + 1) part) image in
     let first : Fits r' lines image' (part_versions versions part) =
-    part_fits part fits (part_stored lines versions image part parts stored) follow.1 in
+    part_fits part fits (part_stored lines versions image part parts stored) follow.0 in
     let rest : Fits (with_cp r ((r.cp + 1) + length parts)) lines (written (parts_pairs ((r.cp + 1) + 1) parts) image') (parts_versions versions (part ∷ parts)) =
-    parts_fit lines parts part.position r' image' (part_versions versions part) first
-    (rest_stored lines (r.cp + 1) versions image part parts stored) follow.2 in
+    parts_fit lines parts r' image' (part_versions versions part) first
+    (rest_stored lines (r.cp + 1) versions image part parts stored) follow.1 in
     let e : (r.cp + 1) + length parts ≡ r.cp + suc (length parts) = omega arith in
     subst (λ (n : ℕ). Fits (with_cp r n) lines (written (parts_pairs (r.cp + 1) (part ∷ parts)) image) (parts_versions versions (part ∷ parts))) e
     (subst (λ (f : ℕ → ℕ). Fits (with_cp r ((r.cp + 1) + length parts)) lines f (parts_versions versions (part ∷ parts)))

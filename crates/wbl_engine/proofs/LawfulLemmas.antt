@@ -73,7 +73,7 @@ group_current contents group lawful asked room =
     refl
 
 -- no two live versions clash
-lawful_distinct : (contents : Contents) → AreLawful contents → AreDistinct contents.versions (entries_of_lines contents.lines)
+pub lawful_distinct : (contents : Contents) → AreLawful contents → AreDistinct contents.versions (entries_of_lines contents.lines)
 lawful_distinct contents are = map_distinct contents.versions (entries_of_lines contents.lines) are.keyspace are.lawful are.map
 
 pub group_lawful : (contents : Contents) (group : Group) → AreLawful contents → IsGroup contents group

@@ -11,10 +11,12 @@ pub mod Erased
 pub mod ErasedGap
 pub mod ErasedStamps
 pub mod ErasingRuns
+pub mod ExtentLemmas
 pub mod FormatLemmas
 pub mod FormatRuns
 pub mod FreeingLemmas
 pub mod GapLemmas
+pub mod GroupParts
 pub mod GroupSteps
 pub mod LawfulLemmas
 pub mod ListedEntries
@@ -30,6 +32,7 @@ pub mod PutPairs
 pub mod ReadBack
 pub mod Readable
 pub mod ReadingLemmas
+pub mod RelocatingLemmas
 pub mod Reopened
 pub mod ReopenedContents
 pub mod ReopeningLaws

@@ -1,12 +1,12 @@
 -- At which positions the versions were made.
 use Rattle.std.proofs.Common.{◌≡◌, ℕ, ◌≤◌, Bool, true, false, cond, List, [], ◌∷◌, Option, None, Some, nat_eq, refl, subst, arith}
+use Rattle.std.specs.List.{AllByRecursion}
 use Rattle.kv_types.specs.declared.change.Change.{Change}
-use Rattle.model.specs.declared.group.Group.{Group}
 use Rattle.model.specs.declared.group.Part.{Part}
 use Rattle.model.specs.declared.group.PlacedChange.{PlacedChange}
 use Rattle.model.specs.declared.group.Put.{Put}
 use Rattle.model.specs.Image.{Version}
-use Rattle.model.specs.Group.{Versions, Contents, IsGroup, AreParts, change_of, put_of, ended_by, ended_where_begun, version_of_put, with_puts, change_versions, changes_versions, part_versions, parts_versions, last_position, after_group}
+use Rattle.model.specs.Group.{Versions, change_of, put_of, ended_by, ended_where_begun, version_of_put, with_puts, change_versions, changes_versions, part_versions, parts_versions}
 
 -- each version was made at this position or an earlier one
 abbrev pub AreMadeUpTo : ℕ → Versions → Type 0
@@ -40,18 +40,8 @@ changes_made top position low (change ∷ changes) versions made =
     changes_made top position low changes (change_versions position versions change)
     (puts_made top position low (put_of change) (λ i. ended_where_begun (change_of change) (versions i)) (ended_made top (change_of change) versions made))
 
-parts_made : (parts : List Part) (before : ℕ) (versions : Versions) → AreMadeUpTo before versions → AreParts before versions parts
-    → AreMadeUpTo (last_position before parts) (parts_versions versions parts)
-parts_made [] before versions made follow = made
-parts_made (part ∷ parts) before versions made follow =
-    parts_made parts part.position (part_versions versions part)
-    (changes_made part.position part.position (omega arith) part.changes.items versions
-    (λ i version is. omega (arith, made i version is, follow.0)))
-    follow.2
-
--- After a group the record has the position of each version.
-pub group_made : (contents : Contents) (group : Group) → IsGroup contents group → AreMadeUpTo contents.current.position contents.versions
-    → AreMadeUpTo (after_group contents group).current.position (after_group contents group).versions
-group_made contents group asked made =
-    parts_made group.parts.items contents.current.position contents.versions made
-    (subst (λ (before : ℕ). AreParts before contents.versions group.parts.items) asked.before asked.parts)
+pub parts_made : (parts : List Part) (top : ℕ) (versions : Versions) → AreMadeUpTo top versions → AllByRecursion (λ (part : Part). part.position ≤ top) parts
+    → AreMadeUpTo top (parts_versions versions parts)
+parts_made [] top versions made low = made
+parts_made (part ∷ parts) top versions made low =
+    parts_made parts top (part_versions versions part) (changes_made top part.position low.0 part.changes.items versions made) low.1

@@ -1,4 +1,4 @@
--- What a group stores before the record changes no version under the old record, whatever part of it a crash leaves.
+-- What parts store before the record changes no version under the old record, whatever part of it a crash leaves.
 use Rattle.std.proofs.Common.{◌≡◌, ℕ, zero, suc, ◌+◌, ◌-◌, ◌<◌, ◌≤◌, false, true, not, ◌||◌, ◌==◌, IsTrue, List, ◌⊎◌, inl, inr, Some, length, get_or, refl, sym, ap, subst, ◌∙◌, arith}
 use Rattle.std.specs.Prelude.{nat_lt}
 use Rattle.std.specs.List.{AllByRecursion}
@@ -7,12 +7,13 @@ use Rattle.pmem.specs.Device.{State}
 use Rattle.pmem.specs.Crash.{image_of}
 use Rattle.pmem.specs.Runs.{IsStored}
 use Rattle.model.specs.declared.record.Record.{Record}
-use Rattle.model.specs.declared.group.Group.{Group}
+use Rattle.model.specs.declared.group.Part.{Part}
 use Rattle.model.specs.declared.group.Put.{Put}
 use Rattle.model.specs.Image.{Image, Version, entry_word, entries_of_lines, version_in, counts}
-use Rattle.model.specs.Group.{IsGroup, IsPlaced, IsUnused, is_put_at, is_live_version}
+use Rattle.model.specs.Group.{IsPlaced, IsUnused, is_put_at, is_live_version}
 use Rattle.heap_layout.specs.Put.{entry_words}
 use Rattle.wbl_engine.specs.AtRest.{contents_of, IsAtRest, Matters}
+use Rattle.wbl_engine.specs.Committing.{AreCommittable}
 use Rattle.wbl_engine.specs.Stage.{IsWritable, puts_of_parts, parts_pairs}
 use Rattle.wbl_engine.proofs.CountLemmas.{counts-above, counts-below, no_gap_above}
 use Rattle.wbl_engine.proofs.Erased.{AreBelow, IsErased, IsHarmless, directory_matters, nothing, stored_erased, versions-beyond, versions-within, whole_sound}
@@ -58,10 +59,10 @@ free_begin r d rest i free =
     ]
 
 -- what is live, or is put, is of the directory
-pub live_within : (r : Record) (d : State) (group : Group) → IsGroup (contents_of r d) group → (i : ℕ)
-    → IsTrue (is_live_version ((contents_of r d).versions i) || is_put_at i (puts_of_parts group.parts.items)) → i < entries_of_lines d.lines
-live_within r d group asked i live =
-    elim (or_cases (is_live_version ((contents_of r d).versions i)) (is_put_at i (puts_of_parts group.parts.items)) live) [
+pub live_within : (r : Record) (d : State) (parts : List Part) → AllByRecursion (IsPlaced d.lines) (puts_of_parts parts) → (i : ℕ)
+    → IsTrue (is_live_version ((contents_of r d).versions i) || is_put_at i (puts_of_parts parts)) → i < entries_of_lines d.lines
+live_within r d parts placed i live =
+    elim (or_cases (is_live_version ((contents_of r d).versions i)) (is_put_at i (puts_of_parts parts)) live) [
       | inl now ↦
           elim (cases_lt i (entries_of_lines d.lines)) [
             | inl below ↦ below
@@ -69,61 +70,61 @@ live_within r d group asked i live =
                 absurd (both_ways (is_live_version ((contents_of r d).versions i)) (ap is_live_version (versions-beyond r d i beyond)) now)
           ]
       | inr put ↦
-          let at = is_put_at-among i (puts_of_parts group.parts.items) put in
-          omega (arith, at.2, (among-all (IsPlaced d.lines) (puts_of_parts group.parts.items) at.0 at.1 asked.placed).entry)
+          let at = is_put_at-among i (puts_of_parts parts) put in
+          omega (arith, at.2, (among-all (IsPlaced d.lines) (puts_of_parts parts) at.0 at.1 placed).entry)
     ]
 
--- ---- a group that is being committed
+-- ---- parts that are being committed, under a record of this position and this epoch
 
-pub record IsCommitting (r : Record) (d : State) (group : Group) : Type 0 where
+pub record IsCommitting (r : Record) (d : State) (parts : List Part) (position epoch : ℕ) : Type 0 where
   pub rest : IsAtRest r d
-  pub asked : IsGroup (contents_of r d) group
-  pub writable : AllByRecursion IsWritable (puts_of_parts group.parts.items)
+  pub asked : AreCommittable (contents_of r d) parts position
+  pub writable : AllByRecursion IsWritable (puts_of_parts parts)
 
--- what it stores
-abbrev pub group_pairs : Record → Group → List (ℕ × ℕ)
-group_pairs r group = parts_pairs (r.cp + 1) group.parts.items
+-- what they store
+abbrev pub group_pairs : Record → List Part → List (ℕ × ℕ)
+group_pairs r parts = parts_pairs (r.cp + 1) parts
 
 -- a put stores this at word k of entry i, which was free
-pub record PutsAt (r : Record) (d : State) (group : Group) (i k x : ℕ) : Type 0 where
+pub record PutsAt (r : Record) (d : State) (parts : List Part) (i k x : ℕ) : Type 0 where
   pub free : image_of d.words (entry_word i 0) ≡ 0
-  pub begin : k ≡ 0 → (r.cp < x) × (x ≤ r.cp + length group.parts.items)
+  pub begin : k ≡ 0 → (r.cp < x) × (x ≤ r.cp + length parts)
   pub end : k ≡ 1 → x ≡ 0
 
 -- or it is the end of what was live
-pub record EndsAt (r : Record) (d : State) (group : Group) (i k x : ℕ) : Type 0 where
+pub record EndsAt (r : Record) (d : State) (parts : List Part) (i k x : ℕ) : Type 0 where
   pub only_end : k ≡ 1
   pub low : r.cp < x
-  pub high : x ≤ r.cp + length group.parts.items
-  pub live : IsTrue (is_live_version ((contents_of r d).versions i) || is_put_at i (puts_of_parts group.parts.items))
+  pub high : x ≤ r.cp + length parts
+  pub live : IsTrue (is_live_version ((contents_of r d).versions i) || is_put_at i (puts_of_parts parts))
 
-module _ {r : Record} {d : State} {group : Group} (begun : IsCommitting r d group) where
+module _ {r : Record} {d : State} {parts : List Part} {position epoch : ℕ} (begun : IsCommitting r d parts position epoch) where
   -- its puts may be stored
-  pub group_stored : AreStored d.lines (contents_of r d).versions (image_of d.words) (puts_of_parts group.parts.items)
+  pub group_stored : AreStored d.lines (contents_of r d).versions (image_of d.words) (puts_of_parts parts)
   group_stored =
       record {
         placed = begun.asked.placed;
         fitting = begun.asked.fitting;
         writable = begun.writable;
-        ready = all-from (IsReady (contents_of r d).versions (image_of d.words)) (puts_of_parts group.parts.items)
+        ready = all-from (IsReady (contents_of r d).versions (image_of d.words)) (puts_of_parts parts)
             (λ put among.
-            let unused = among-all (IsUnused (contents_of r d).versions (contents_of r d).is_free) (puts_of_parts group.parts.items) put among begun.asked.unused in
+            let unused = among-all (IsUnused (contents_of r d).versions (contents_of r d).is_free) (puts_of_parts parts) put among begun.asked.unused in
             record { free = free_begin r d begun.rest put.entry.0 unused.entry; lines = unused.lines });
         apart = begun.asked.apart;
       }
 
-  pub placed_at : (put : Put) → IsAmong put (puts_of_parts group.parts.items) → IsPlaced d.lines put
-  placed_at put among = among-all (IsPlaced d.lines) (puts_of_parts group.parts.items) put among begun.asked.placed
+  pub placed_at : (put : Put) → IsAmong put (puts_of_parts parts) → IsPlaced d.lines put
+  placed_at put among = among-all (IsPlaced d.lines) (puts_of_parts parts) put among begun.asked.placed
 
-  ready_at : (put : Put) → IsAmong put (puts_of_parts group.parts.items) → IsReady (contents_of r d).versions (image_of d.words) put
+  ready_at : (put : Put) → IsAmong put (puts_of_parts parts) → IsReady (contents_of r d).versions (image_of d.words) put
   ready_at put among =
-      among-all (IsReady (contents_of r d).versions (image_of d.words)) (puts_of_parts group.parts.items) put among group_stored.ready
+      among-all (IsReady (contents_of r d).versions (image_of d.words)) (puts_of_parts parts) put among group_stored.ready
 
-  pub stored_by : (word x : ℕ) → IsStored (group_pairs r group) word x
-      → IsStoredBy (contents_of r d).versions (r.cp + 1) (length group.parts.items) (puts_of_parts group.parts.items) word x
-  stored_by word x stored = parts_by group.parts.items group.before (contents_of r d).versions (r.cp + 1) word x begun.asked.parts stored
+  pub stored_by : (word x : ℕ) → IsStored (group_pairs r parts) word x
+      → IsStoredBy (contents_of r d).versions (r.cp + 1) (length parts) (puts_of_parts parts) word x
+  stored_by word x stored = parts_by parts (contents_of r d).versions (r.cp + 1) word x begun.asked.names stored
 
-  pub group_behind : AreBehind (group_pairs r group)
+  pub group_behind : AreBehind (group_pairs r parts)
   group_behind word x stored =
       elim (stored_by word x stored) [
         | inl extent ↦ omega (arith, extent.of.low, (placed_at extent.put extent.among).above)
@@ -131,8 +132,8 @@ module _ {r : Record} {d : State} {group : Group} (begun : IsCommitting r d grou
         | inr (inr end) ↦ omega (arith, end.word_is)
       ]
 
-  pub stored_at : (i k x : ℕ) → i < entries_of_lines d.lines → k < 8 → IsStored (group_pairs r group) (entry_word i k) x
-      → PutsAt r d group i k x ⊎ EndsAt r d group i k x
+  pub stored_at : (i k x : ℕ) → i < entries_of_lines d.lines → k < 8 → IsStored (group_pairs r parts) (entry_word i k) x
+      → PutsAt r d parts i k x ⊎ EndsAt r d parts i k x
   stored_at i k x within below stored =
       elim (stored_by (entry_word i k) x stored) [
         | inl extent ↦ absurd (omega (arith, extent.of.low, within, below, (placed_at extent.put extent.among).above))
@@ -154,16 +155,16 @@ module _ {r : Record} {d : State} {group : Group} (begun : IsCommitting r d grou
               only_end = omega (arith, end.word_is, below);
               low = omega (arith, end.low);
               high = omega (arith, end.high);
-              live = subst (λ (n : ℕ). IsTrue (is_live_version ((contents_of r d).versions n) || is_put_at n (puts_of_parts group.parts.items))) same end.live;
+              live = subst (λ (n : ℕ). IsTrue (is_live_version ((contents_of r d).versions n) || is_put_at n (puts_of_parts parts))) same end.live;
             })
       ]
 
   -- a begun entry is not that of a put
-  begun_no_put : (i : ℕ) → IsTrue (counts r (image_of d.words (entry_word i 0))) → is_put_at i (puts_of_parts group.parts.items) ≡ false
+  begun_no_put : (i : ℕ) → IsTrue (counts r (image_of d.words (entry_word i 0))) → is_put_at i (puts_of_parts parts) ≡ false
   begun_no_put i counted =
-      elim (cases_Bool (is_put_at i (puts_of_parts group.parts.items))) [
+      elim (cases_Bool (is_put_at i (puts_of_parts parts))) [
         | inl put ↦
-            let at = is_put_at-among i (puts_of_parts group.parts.items) put in
+            let at = is_put_at-among i (puts_of_parts parts) put in
             let free : image_of d.words (entry_word i 0) ≡ 0 = ap (λ (n : ℕ). image_of d.words (entry_word n 0)) at.2 ∙ (ready_at at.0 at.1).free in
             absurd (omega (arith, free, (counts-below r (image_of d.words (entry_word i 0)) counted).0))
         | inr none ↦ none
@@ -174,7 +175,7 @@ module _ {r : Record} {d : State} {group : Group} (begun : IsCommitting r d grou
   version_begun i within counted = versions-within r d i within ∙ cond-true (counts r (image_of d.words (entry_word i 0))) _ _ counted
 
   -- a new end does not count yet, and nothing else of a begun entry is touched
-  harmless : IsHarmless r d.lines (image_of d.words) (group_pairs r group)
+  harmless : IsHarmless r d.lines (image_of d.words) (group_pairs r parts)
   harmless =
       record {
         behind = group_behind;
@@ -183,9 +184,9 @@ module _ {r : Record} {d : State} {group : Group} (begun : IsCommitting r d grou
               | inl put ↦ absurd (omega (arith, put.free, (counts-below r (image_of d.words (entry_word i 0)) counted).0))
               | inr end ↦
                   let live : not (counts r (image_of d.words (entry_word i 1))) ≡ true =
-                  elim (or_cases (is_live_version ((contents_of r d).versions i)) (is_put_at i (puts_of_parts group.parts.items)) end.live) [
+                  elim (or_cases (is_live_version ((contents_of r d).versions i)) (is_put_at i (puts_of_parts parts)) end.live) [
                     | inl now ↦ sym (ap is_live_version (version_begun i within counted)) ∙ now
-                    | inr put ↦ absurd (both_ways (is_put_at i (puts_of_parts group.parts.items)) (begun_no_put i counted) put)
+                    | inr put ↦ absurd (both_ways (is_put_at i (puts_of_parts parts)) (begun_no_put i counted) put)
                   ] in
                   counts-above r x end.low ∙ sym (not-true (counts r (image_of d.words (entry_word i 1))) live)
             ];
@@ -203,16 +204,16 @@ module _ {r : Record} {d : State} {group : Group} (begun : IsCommitting r d grou
                     | inr second ↦ omega (arith, second, extent.of.low, at.high)
                   ]
               | inr (inl entry) ↦ omega (arith, entry.of.high, at.low, place.above, (placed_at entry.put entry.among).entry)
-              | inr (inr end) ↦ omega (arith, end.word_is, at.low, place.above, live_within r d group begun.asked end.entry end.live)
+              | inr (inr end) ↦ omega (arith, end.word_is, at.low, place.above, live_within r d parts begun.asked.placed end.entry end.live)
             ];
       }
 
-  -- ---- an image of which each word that matters is as before or as the group stores it
+  -- ---- an image of which each word that matters is as before or as the parts store it
 
   -- the begin of an entry is as before, or that of a put at a free entry
-  pub group_begin : (image : Image) → IsStoredOver (Matters r d.lines (image_of d.words)) (image_of d.words) (group_pairs r group) image
+  pub group_begin : (image : Image) → IsStoredOver (Matters r d.lines (image_of d.words)) (image_of d.words) (group_pairs r parts) image
       → (i : ℕ) → i < entries_of_lines d.lines → (image (entry_word i 0) ≡ image_of d.words (entry_word i 0))
-      ⊎ ((image_of d.words (entry_word i 0) ≡ 0) × (r.cp < image (entry_word i 0)) × (image (entry_word i 0) ≤ r.cp + length group.parts.items))
+      ⊎ ((image_of d.words (entry_word i 0) ≡ 0) × (r.cp < image (entry_word i 0)) × (image (entry_word i 0) ≤ r.cp + length parts))
   group_begin image over i within =
       elim (over (entry_word i 0) (directory_matters r d.lines (image_of d.words) i 0 within (omega arith))) [
         | inl same ↦ inl same
@@ -224,7 +225,7 @@ module _ {r : Record} {d : State} {group : Group} (begun : IsCommitting r d grou
       ]
 
   -- nothing is lost
-  pub group_erased : (image : Image) → IsStoredOver (Matters r d.lines (image_of d.words)) (image_of d.words) (group_pairs r group) image
+  pub group_erased : (image : Image) → IsStoredOver (Matters r d.lines (image_of d.words)) (image_of d.words) (group_pairs r parts) image
       → IsErased r r d.lines nothing (image_of d.words) image
   group_erased image over =
       stored_erased nothing (whole_sound begun.rest.whole) harmless over
@@ -235,8 +236,8 @@ module _ {r : Record} {d : State} {group : Group} (begun : IsCommitting r d grou
       ])
 
   -- and the stamps that were stored are new ones
-  pub group_below : (image : Image) → IsStoredOver (Matters r d.lines (image_of d.words)) (image_of d.words) (group_pairs r group) image
-      → AreBelow d.lines image (r.cp + length group.parts.items + 1)
+  pub group_below : (image : Image) → IsStoredOver (Matters r d.lines (image_of d.words)) (image_of d.words) (group_pairs r parts) image
+      → AreBelow d.lines image (r.cp + length parts + 1)
   group_below image over i zero within low =
       elim (group_begin image over i within) [ inl same ↦ omega (arith, same, begun.rest.whole.begins i within) | inr put ↦ omega (arith, put.2) ]
   group_below image over i (suc zero) within low =

@@ -6,8 +6,9 @@ use Rattle.pmem.proofs.Staging.{IsStored-append}
 use Rattle.model.specs.declared.group.Part.{Part}
 use Rattle.model.specs.declared.group.Put.{Put}
 use Rattle.model.specs.Image.{Version, entry_word}
-use Rattle.model.specs.Group.{Versions, AreParts, NamesEnded, is_put_at, is_live_version, puts_of_part, part_versions}
+use Rattle.model.specs.Group.{Versions, NamesEnded, is_put_at, is_live_version, puts_of_part, part_versions}
 use Rattle.heap_layout.specs.Put.{entry_words, put_pairs}
+use Rattle.wbl_engine.specs.Committing.{AreNamed}
 use Rattle.wbl_engine.specs.Stage.{puts_pairs, end_pairs, part_pairs, parts_pairs, puts_of_parts}
 use Rattle.wbl_engine.proofs.PartEffects.{IsAmong, end_if_begun, changes_kept, is_put_at-among, among-is_put_at}
 use Rattle.wbl_engine.proofs.PartWords.{named-contains}
@@ -156,13 +157,13 @@ part_by versions stamp count part rest word x some names stored =
     ]
 
 -- Every store of the parts.
-pub parts_by : (parts : List Part) (before : ℕ) (versions : Versions) (stamp word x : ℕ) → AreParts before versions parts
+pub parts_by : (parts : List Part) (versions : Versions) (stamp word x : ℕ) → AreNamed versions parts
     → IsStored (parts_pairs stamp parts) word x → IsStoredBy versions stamp (length parts) (puts_of_parts parts) word x
-parts_by [] before versions stamp word x follow stored = absurd stored
-parts_by (part ∷ parts) before versions stamp word x follow stored =
+parts_by [] versions stamp word x follow stored = absurd stored
+parts_by (part ∷ parts) versions stamp word x follow stored =
     elim (IsStored-append (part_pairs stamp part) (parts_pairs (stamp + 1) parts) word x stored) [
-      | inl here ↦ part_by versions stamp (suc (length parts)) part (puts_of_parts parts) word x (omega arith) follow.1 here
+      | inl here ↦ part_by versions stamp (suc (length parts)) part (puts_of_parts parts) word x (omega arith) follow.0 here
       | inr later ↦
           widen (among-back (puts_of_part part) (puts_of_parts parts)) (omega arith) (omega arith) (live_then versions part (puts_of_parts parts))
-          (parts_by parts part.position (part_versions versions part) (stamp + 1) word x follow.2 later)
+          (parts_by parts (part_versions versions part) (stamp + 1) word x follow.1 later)
     ]

@@ -1,4 +1,5 @@
 pub mod AtRest
+pub mod Committing
 pub mod Contents
 pub mod Erasing
 pub mod Formatting
@@ -6,5 +7,6 @@ pub mod Freeing
 pub mod Inspecting
 pub mod Lawful
 pub mod Promoting
+pub mod Relocating
 pub mod Reopening
 pub mod Stage

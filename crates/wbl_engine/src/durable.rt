@@ -1,18 +1,20 @@
 //! What the layers above know of an engine.
-ghost use Rattle.std.specs.Prelude.{◌≡◌, ◌⊎◌, ◌+◌, ◌<◌, ◌≤◌, ◌↔◌, ℕ, [], length, Bool, true, false, Ok, Err, IsOk, IsErr, IsErrOf, IfOk, IfErr, OnOk, OnErr};
+ghost use Rattle.std.specs.Prelude.{◌≡◌, ◌⊎◌, ◌+◌, ◌<◌, ◌≤◌, ◌↔◌, ℕ, [], length, Bool, true, false, Some, Ok, Err, IsOk, IsErr, IsErrOf, IfOk, IfErr, OnOk, OnErr};
 ghost use Rattle.pmem.specs.Device.{State};
 ghost use Rattle.pmem.specs.Runs.{LeavesOnly};
 ghost use Rattle.model.specs.declared.group.Group.{Group};
+ghost use Rattle.model.specs.Image.{Version, entries_of_lines};
 ghost use Rattle.model.specs.Group.{Contents, IsGroup, after_group};
 ghost use Rattle.model.specs.declared.image.TheConstants.{COUNTER_LIMIT};
 ghost use Rattle.wbl_engine.specs.Contents.{Keeps, IsDurable, Same, Exhausts};
 ghost use Rattle.wbl_engine.specs.Freeing.{AreEnded, Clears, KeepsMap, KeepsVersions, KeepsWithoutSome, after_free, cleared_contents, extents_of};
 ghost use Rattle.wbl_engine.specs.Promoting.{ExhaustsPromotion, promoted};
+ghost use Rattle.wbl_engine.specs.Relocating.{ExhaustsRelocation, IsRelocation, KeepsKeyspace, after_relocation};
 
 use crate::committed::Committed;
 use crate::freeing::Freed;
-use kv_types::{EntryNo, Refusal};
-use model::{Group, Record};
+use kv_types::{EntryNo, Extent, Refusal};
+use model::{Group, Part, Record};
 use pmem::Pmem;
 use std::alloc::Global;
 
@@ -47,6 +49,27 @@ pub trait Durable {
         // whole or not at all, at any moment of the call
         ensures moments { is_faulted self.old ≡ false → LeavesOnly (device self.old) (device self.new)
             (λ image. Keeps (contents self.old) image ⊎ Keeps (after_group (contents self.old) group.now) image) };
+
+    /// Moves a live version to another place: commits the part under one record and one stamp, at the position that the record has. The part's one
+    /// put makes the version again, with the same record, value and position, and the part names the entry that this ends. The map stays what it
+    /// was. `Fault` if a fence failed, in this call or an earlier one; `Exhausted` if a counter would reach 2^62, with nothing changed. It allocates
+    /// no memory.
+    fn relocate(&mut self, part: &Part) -> Result<(), Refusal>
+        requires { IsRelocation (contents self.old) part.now }
+        ensures moved { OnOk result (Same (after_relocation (contents self.old) part.now) (contents self.new)) }
+        ensures map { OnOk result (KeepsKeyspace (contents self.old) (contents self.new)) }
+        ensures durable { OnOk result (IsDurable (device self.new) (contents self.new)) }
+        ensures sound { OnOk result ((is_faulted self.new ≡ false) × ((device self.new).failures ≡ (device self.old).failures)) }
+        ensures causes { IfErr result (λ refusal. (refusal ≡ Refusal.Fault) ⊎ (refusal ≡ Refusal.Exhausted)) }
+        ensures fault { IsErrOf result Refusal.Fault → (is_faulted self.old ≡ true) ⊎ ((device self.old).failures < (device self.new).failures) }
+        ensures stopped { IsErrOf result Refusal.Fault → is_faulted self.new ≡ true }
+        ensures exhausted { IsErrOf result Refusal.Exhausted → ExhaustsRelocation (contents self.old).current × (self.new ≡ self.old) }
+        ensures exhausts { is_faulted self.old ≡ false → ExhaustsRelocation (contents self.old).current → result ≡ Err Refusal.Exhausted }
+        ensures stays { OnErr result (Same (contents self.old) (contents self.new)) }
+        ensures faulted { is_faulted self.old ≡ true → (result ≡ Err Refusal.Fault) × (self.new ≡ self.old) }
+        // the version lies in its old place or in the new one, at any moment of the call
+        ensures moments { is_faulted self.old ≡ false → LeavesOnly (device self.old) (device self.new)
+            (λ image. Keeps (contents self.old) image ⊎ Keeps (after_relocation (contents self.old) part.now) image) };
 
     /// Frees entries whose versions have ended: erases the begin of each. `Fault` if a fence failed, in this call or an earlier one; `Memory`
     /// if an allocation was refused, with nothing changed.
@@ -113,6 +136,13 @@ pub trait Durable {
         // the standby's image before or the primary's after, at any moment of the call
         ensures moments { is_faulted self.old ≡ false → LeavesOnly (device self.old) (device self.new)
             (λ image. Keeps (contents self.old) image ⊎ Keeps (promoted (contents self.old)) image) };
+
+    /// The lines that the version in this entry takes.
+    fn extent_of(&self, entry: EntryNo) -> Extent
+        requires sound { is_faulted self.now ≡ false }
+        requires within { entry.0 < entries_of_lines (contents self.now).lines }
+        ensures { (version : Version) → (contents self.now).versions entry.0 ≡ Some version
+            → (result.first_line ≡ version.first_line) × (result.lines ≡ version.lines) };
 
     /// The current record.
     fn record(&self) -> &Record

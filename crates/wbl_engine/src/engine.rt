@@ -8,14 +8,15 @@ use crate::committed::Committed;
 use crate::durable::Durable;
 use crate::erasing::erase_stamps;
 use crate::format::{first_record, format_device};
-use crate::freeing::{Freed, freed_by};
+use crate::freeing::{Freed, extent_of, freed_by};
 use crate::promoting::{promoted_record, write_promoted};
+use crate::relocating::{commit_relocation, relocated_record};
 use crate::reopening::reopen_device;
 use crate::restarting::Restarting;
 use crate::successor::next_record;
 use heap_layout::Versions;
-use kv_types::{EntryNo, Refusal};
-use model::{Group, MAX_LINES, MIN_LINES, Record, Role};
+use kv_types::{EntryNo, Extent, Refusal};
+use model::{Group, MAX_LINES, MIN_LINES, Part, Record, Role};
 use pmem::{Crashing, Fault, Pmem};
 use std::alloc::Global;
 
@@ -167,6 +168,21 @@ impl<P: Pmem> Durable for WblEngine<P> {
         }
     }
 
+    fn relocate(&mut self, part: &Part) -> Result<(), Refusal> {
+        if self.faulted {
+            return Err(Refusal::Fault);
+        }
+        let Some(next) = relocated_record(&self.current) else {
+            return Err(Refusal::Exhausted);
+        };
+        let Ok(()) = commit_relocation(&mut self.device, part, &self.current, &next) else {
+            self.faulted = true;
+            return Err(Refusal::Fault);
+        };
+        self.current = next;
+        Ok(())
+    }
+
     fn free(&mut self, alloc: Global, entries: &[EntryNo]) -> Result<Freed, Refusal> {
         if self.faulted {
             return Err(Refusal::Fault);
@@ -214,6 +230,10 @@ impl<P: Pmem> Durable for WblEngine<P> {
         };
         self.current = next;
         Ok(())
+    }
+
+    fn extent_of(&self, entry: EntryNo) -> Extent {
+        extent_of(&self.device, entry)
     }
 
     fn record(&self) -> &Record {

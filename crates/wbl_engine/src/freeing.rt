@@ -53,7 +53,7 @@ pub fn freed_by<P: Pmem>(
 }
 
 /// The extent that an entry names.
-fn extent_of<P: Pmem>(device: &P, entry: EntryNo) -> Extent
+pub(crate) fn extent_of<P: Pmem>(device: &P, entry: EntryNo) -> Extent
     requires { entry_line entry.0 < (P.state device.now).lines }
     ensures { result ≡ extent_in (image_of (P.state device.now).words) entry.0 }
 {

@@ -6,6 +6,7 @@ ghost use Rattle.kv_types.specs.declared.refusal.Refusal.TheVariants.{Exhausted,
 ghost use Rattle.kv_types.specs.Keyspace.{Keyspace};
 ghost use Rattle.heap_layout.specs.declared.entry.Entry.{Entry};
 ghost use Rattle.model.specs.declared.group.Group.{Group};
+ghost use Rattle.model.specs.declared.group.Part.{Part};
 ghost use Rattle.model.specs.declared.image.TheConstants.{COUNTER_LIMIT, MIN_LINES, MAX_LINES};
 ghost use Rattle.model.specs.declared.record.Role.{Role};
 ghost use Rattle.model.specs.declared.record.Role.TheVariants.{Primary};
@@ -15,6 +16,7 @@ ghost use Rattle.wbl_engine.specs.Contents.{Keeps, IsNew, Same, Exhausts};
 ghost use Rattle.wbl_engine.specs.Freeing.{Clears, without};
 ghost use Rattle.wbl_engine.specs.Lawful.{AreLawful, IsUndamaged};
 ghost use Rattle.wbl_engine.specs.Promoting.{ExhaustsPromotion, promoted, promoted_record};
+ghost use Rattle.wbl_engine.specs.Relocating.{ExhaustsRelocation, IsRelocation, KeepsKeyspace, after_relocation};
 ghost use Rattle.wbl_engine.specs.Reopening.{ExhaustsReopening, KeepsThrough, RefusesReopening, Reopens};
 
 /// The contents of a new image, of a size that an image may have, obey the rules.
@@ -51,6 +53,17 @@ pub fn cleared_contents_are_lawful()
     ensures lawful { (old new : Contents) (cleared : List EntryNo) → Clears old cleared new → old.current.number + 1 < COUNTER_LIMIT
         → AreLawful old → AreLawful new }
     ensures consistent { (old new : Contents) (cleared : List EntryNo) → Clears old cleared new → IsConsistent old → IsConsistent new }
+{}
+
+/// Contents that obey the rules do so once a version was moved to another place, unless a counter of the record would reach its limit, and the live
+/// versions make up the keyspace that they made up before. Free entries still have no version.
+pub fn relocated_contents_are_lawful()
+    ensures lawful { (contents : Contents) (part : Part) → AreLawful contents → IsRelocation contents part
+        → ¬ ExhaustsRelocation contents.current → AreLawful (after_relocation contents part) }
+    ensures map { (contents : Contents) (part : Part) → IsConsistent contents → IsRelocation contents part
+        → KeepsKeyspace contents (after_relocation contents part) }
+    ensures consistent { (contents : Contents) (part : Part) → IsConsistent contents → IsRelocation contents part
+        → IsConsistent (after_relocation contents part) }
 {}
 
 /// An image that holds contents that obey the rules breaks no rule of the format: it is never refused as damaged.

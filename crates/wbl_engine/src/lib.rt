@@ -12,6 +12,7 @@ mod freeing;
 mod inspecting;
 mod laws;
 mod promoting;
+mod relocating;
 mod reopening;
 mod restarting;
 mod staging;

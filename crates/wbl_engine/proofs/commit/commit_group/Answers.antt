@@ -1,50 +1,32 @@
-use Rattle.std.proofs.Common.{◌+◌, List, sym, subst}
-use Rattle.std.proofs.lemmas.Result.{on_ok_weaker, on_err_weaker}
-use Rattle.model.specs.declared.group.Part.{Part}
-use Rattle.wbl_engine.specs.Stage.{AreEndsWithin}
-use Rattle.wbl_engine.proofs.Committing.{committing, group_staged, group_failed, first_fault, stage_moments, later_fault, done_rest, done_same, done_moments}
-use Rattle.wbl_engine.proofs.EndsWithin.{ends_within}
-use Rattle.wbl_record.proofs.Results.{on_err_from}
+use Rattle.std.proofs.Common.{subst}
+use Rattle.std.specs.Prelude.{OnOk}
+use Rattle.pmem.specs.Runs.{LeavesOnly}
+use Rattle.model.specs.Group.{Contents}
+use Rattle.wbl_engine.specs.AtRest.{contents_of}
+use Rattle.wbl_engine.specs.Contents.{Same}
+use Rattle.wbl_engine.proofs.Committing.{KeepsEither}
+use Rattle.wbl_engine.proofs.GroupParts.{group_asked, group_contents, group_record}
 use Rattle.wbl_engine.proofs.commit.commit_group.Goals as goal
 
-pub stage_parts-requires-clause-ends : goal.stage_parts-requires-clause-ends
-stage_parts-requires-clause-ends g c =
-    let d = g.P.Pmem.state c.args.device.now in
-    subst (λ (parts : List Part). AreEndsWithin d.lines parts) (sym c.as_slice.ensures.value)
-    (ends_within c.args.current.now d c.args.group.now c.requires.rest c.requires.asked)
+pub commit_parts-requires-clause-asked : goal.commit_parts-requires-clause-asked
+commit_parts-requires-clause-asked g c =
+    group_asked (contents_of c.args.current.now (g.P.Pmem.state c.args.device.now)) c.args.group.now
+    c.as_slice.ensures.value c.requires.after c.requires.asked
 
-pub returns-in_err-stage_parts-clause-stays : goal.returns-in_err-stage_parts-clause-stays
-returns-in_err-stage_parts-clause-stays g c =
-    let begun = committing c.requires.rest c.requires.asked c.as_slice.ensures.value c.in_err-stage_parts.ensures.writable in
-    on_err_from c.from_residual.result
-    (first_fault begun (group_failed (c.args.current.now.cp + 1) c.args.group.now c.as_slice.ensures.value c.in_err-stage_parts.ensures.err))
-
-pub returns-in_err-stage_parts-clause-moments : goal.returns-in_err-stage_parts-clause-moments
-returns-in_err-stage_parts-clause-moments g c =
-    let begun = committing c.requires.rest c.requires.asked c.as_slice.ensures.value c.in_err-stage_parts.ensures.writable in
-    stage_moments begun (group_failed (c.args.current.now.cp + 1) c.args.group.now c.as_slice.ensures.value c.in_err-stage_parts.ensures.err).moments
-
-pub returns-clause-rest : goal.returns-clause-rest
-returns-clause-rest g c =
-    let begun = committing c.requires.rest c.requires.asked c.as_slice.ensures.value c.in_ok-stage_parts.ensures.writable in
-    let staged = group_staged (c.args.current.now.cp + 1) c.args.group.now c.as_slice.ensures.value c.in_ok-stage_parts.ensures.ok in
-    on_ok_weaker c.write_next.result (λ recorded. done_rest begun c.requires.after staged c.requires.lawful recorded)
-    c.write_next.ensures.ok
+pub commit_parts-requires-clause-after : goal.commit_parts-requires-clause-after
+commit_parts-requires-clause-after g c =
+    group_record (contents_of c.args.current.now (g.P.Pmem.state c.args.device.now)) c.args.group.now
+    c.as_slice.ensures.value c.requires.after
 
 pub returns-clause-moved : goal.returns-clause-moved
 returns-clause-moved g c =
-    let begun = committing c.requires.rest c.requires.asked c.as_slice.ensures.value c.in_ok-stage_parts.ensures.writable in
-    let staged = group_staged (c.args.current.now.cp + 1) c.args.group.now c.as_slice.ensures.value c.in_ok-stage_parts.ensures.ok in
-    on_ok_weaker c.write_next.result (λ recorded. done_same begun c.requires.after staged recorded) c.write_next.ensures.ok
-
-pub returns-clause-stays : goal.returns-clause-stays
-returns-clause-stays g c =
-    let begun = committing c.requires.rest c.requires.asked c.as_slice.ensures.value c.in_ok-stage_parts.ensures.writable in
-    let staged = group_staged (c.args.current.now.cp + 1) c.args.group.now c.as_slice.ensures.value c.in_ok-stage_parts.ensures.ok in
-    on_err_weaker c.write_next.result (λ fault. later_fault begun c.requires.after staged fault) c.write_next.ensures.err
+    let old = contents_of c.args.current.now (g.P.Pmem.state c.args.device.now) in
+    subst (λ (new : Contents). OnOk c.commit_parts.result (Same new (contents_of c.args.next.now (g.P.Pmem.state c.commit_parts.new.device))))
+    (group_contents old c.args.group.now c.as_slice.ensures.value c.requires.after) c.commit_parts.ensures.moved
 
 pub returns-clause-moments : goal.returns-clause-moments
 returns-clause-moments g c =
-    let begun = committing c.requires.rest c.requires.asked c.as_slice.ensures.value c.in_ok-stage_parts.ensures.writable in
-    let staged = group_staged (c.args.current.now.cp + 1) c.args.group.now c.as_slice.ensures.value c.in_ok-stage_parts.ensures.ok in
-    done_moments begun c.requires.after staged c.write_next.ensures.moments
+    let d = g.P.Pmem.state c.args.device.now in
+    let old = contents_of c.args.current.now d in
+    subst (λ (new : Contents). LeavesOnly d (g.P.Pmem.state c.commit_parts.new.device) (KeepsEither old new))
+    (group_contents old c.args.group.now c.as_slice.ensures.value c.requires.after) c.commit_parts.ensures.moments

@@ -1,6 +1,8 @@
 use Rattle.std.proofs.Common.{inl}
 use Rattle.pmem.proofs.Leaving.{none_leaves}
-use Rattle.wbl_engine.proofs.Committing.{IsBeforeOrAfter}
+use Rattle.model.specs.Group.{after_group}
+use Rattle.wbl_engine.specs.AtRest.{contents_of}
+use Rattle.wbl_engine.proofs.Committing.{KeepsEither}
 use Rattle.wbl_engine.proofs.Erased.{rest_keeps}
 use Rattle.wbl_engine.proofs.engine.WblEngineDurable.commit.Goals as goal
 
@@ -8,7 +10,8 @@ pub returns-in_default-clause-moments : goal.returns-in_default-clause-moments
 returns-in_default-clause-moments g c sound =
     let r = c.args.self.now.current in
     let d = g.P.Pmem.state c.args.self.now.device in
-    none_leaves d (IsBeforeOrAfter r d c.args.group.now) (λ image is. inl (rest_keeps r d (c.args.self.now.at_rest sound) image is))
+    none_leaves d (KeepsEither (contents_of r d) (after_group (contents_of r d) c.args.group.now))
+    (λ image is. inl (rest_keeps r d (c.args.self.now.at_rest sound) image is))
 
 pub returns-in-Ok-clause-durable : goal.returns-in-Ok-clause-durable
 returns-in-Ok-clause-durable g c = rest_keeps c.in-Some.next (g.P.Pmem.state c.commit_group.new.device) c.in-Ok.ensures.rest

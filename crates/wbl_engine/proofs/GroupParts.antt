@@ -1,0 +1,103 @@
+-- The parts of a group, and the one that moves a version, may commit under the record after them.
+use Rattle.std.proofs.Common.{◌≡◌, ℕ, ◌≤◌, not, ◌&&◌, List, [], ◌∷◌, ◌++◌, refl, sym, ap, subst, ◌∙◌, arith, append-nil}
+use Rattle.std.specs.List.{AllByRecursion}
+use Rattle.model.specs.declared.group.Group.{Group}
+use Rattle.model.specs.declared.group.Part.{Part}
+use Rattle.model.specs.declared.group.Put.{Put}
+use Rattle.model.specs.declared.record.Record.{Record}
+use Rattle.model.specs.Group.{AreAllApart, AreParts, Contents, HasItsLines, IsGroup, IsPlaced, IsUnused, Versions, after_group, is_put_at, last_position, next_record, part_versions, puts_of_part}
+use Rattle.wbl_engine.specs.Committing.{AreCommittable, AreNamed, after_parts, record_after}
+use Rattle.wbl_engine.specs.Relocating.{IsRelocation, after_relocation, relocated_record}
+use Rattle.wbl_engine.specs.Stage.{puts_of_parts}
+
+-- ---- a group
+
+named : (parts : List Part) (before : ℕ) (versions : Versions) → AreParts before versions parts → AreNamed versions parts
+named [] before versions follow = tt
+named (part ∷ parts) before versions follow = (follow.1, named parts part.position (part_versions versions part) follow.2)
+
+-- positions rise
+last_above : (parts : List Part) (before : ℕ) (versions : Versions) → AreParts before versions parts → before ≤ last_position before parts
+last_above [] before versions follow = omega arith
+last_above (part ∷ parts) before versions follow =
+    omega (arith, follow.0, last_above parts part.position (part_versions versions part) follow.2)
+
+all_below : (parts : List Part) (before : ℕ) (versions : Versions) → AreParts before versions parts
+    → AllByRecursion (λ (part : Part). part.position ≤ last_position before parts) parts
+all_below [] before versions follow = tt
+all_below (part ∷ parts) before versions follow = (
+  last_above parts part.position (part_versions versions part) follow.2,
+  all_below parts part.position (part_versions versions part) follow.2,
+)
+
+group_committable : (contents : Contents) (group : Group) → IsGroup contents group
+    → AreCommittable contents group.parts.items (next_record contents.current group).position
+group_committable contents group asked =
+    let parts : List Part = group.parts.items in
+    let follow : AreParts contents.current.position contents.versions parts =
+    subst (λ (before : ℕ). AreParts before contents.versions parts) asked.before asked.parts in
+    record {
+      up = last_above parts contents.current.position contents.versions follow;
+      made = all_below parts contents.current.position contents.versions follow;
+      few = asked.few;
+      names = named parts contents.current.position contents.versions follow;
+      placed = asked.placed;
+      fitting = asked.fitting;
+      unused = asked.unused;
+      apart = asked.apart;
+    }
+
+module _ (contents : Contents) (group : Group) {parts : List Part} {next : Record} (is_parts : parts ≡ group.parts.items)
+    (is_next : next ≡ next_record contents.current group) where
+  pub group_asked : IsGroup contents group → AreCommittable contents parts next.position
+  group_asked asked =
+      subst (λ (q : Record). AreCommittable contents parts q.position) (sym is_next)
+      (subst (λ (ps : List Part). AreCommittable contents ps (next_record contents.current group).position) (sym is_parts)
+      (group_committable contents group asked))
+
+  pub group_record : next ≡ record_after contents.current parts next.position next.epoch
+  group_record =
+      subst (λ (q : Record). q ≡ record_after contents.current parts q.position q.epoch) (sym is_next)
+      (ap (λ (ps : List Part). record_after contents.current ps (next_record contents.current group).position group.epoch) (sym is_parts))
+
+  pub group_contents : after_parts contents parts next.position next.epoch ≡ after_group contents group
+  group_contents =
+      ap (λ (q : Record). after_parts contents parts q.position q.epoch) is_next
+      ∙ ap (λ (ps : List Part). after_parts contents ps (next_record contents.current group).position group.epoch) is_parts
+
+-- ---- one part, at a position that the record has
+
+relocation_committable : (contents : Contents) (part : Part) → IsRelocation contents part
+    → AreCommittable contents (part ∷ []) contents.current.position
+relocation_committable contents part asked =
+    let same : puts_of_part part ≡ puts_of_parts (part ∷ []) = sym (append-nil (puts_of_part part)) in
+    record {
+      up = omega arith;
+      made = (asked.position, tt);
+      few = omega arith;
+      names = (asked.names, tt);
+      placed = subst (AllByRecursion (IsPlaced contents.lines)) same asked.placed;
+      fitting = subst (AllByRecursion HasItsLines) same asked.fitting;
+      unused = subst (AllByRecursion (IsUnused contents.versions contents.is_free)) same asked.unused;
+      apart = subst AreAllApart same asked.apart;
+    }
+
+module _ (contents : Contents) (part : Part) {parts : List Part} {next : Record} (is_parts : parts ≡ part ∷ [])
+    (is_next : next ≡ relocated_record contents.current) where
+  pub relocation_asked : IsRelocation contents part → AreCommittable contents parts next.position
+  relocation_asked asked =
+      subst (λ (q : Record). AreCommittable contents parts q.position) (sym is_next)
+      (subst (λ (ps : List Part). AreCommittable contents ps contents.current.position) (sym is_parts)
+      (relocation_committable contents part asked))
+
+  pub relocation_record : next ≡ record_after contents.current parts next.position next.epoch
+  relocation_record =
+      subst (λ (q : Record). q ≡ record_after contents.current parts q.position q.epoch) (sym is_next)
+      (ap (λ (ps : List Part). record_after contents.current ps contents.current.position contents.current.epoch) (sym is_parts))
+
+  pub relocation_contents : after_parts contents parts next.position next.epoch ≡ after_relocation contents part
+  relocation_contents =
+      ap (λ (q : Record). after_parts contents parts q.position q.epoch) is_next
+      ∙ ap (λ (ps : List Part). after_parts contents ps contents.current.position contents.current.epoch) is_parts
+      ∙ ap (λ (puts : List Put). record (after_relocation contents part) { is_free = λ i. contents.is_free i && not (is_put_at i puts) })
+      (append-nil (puts_of_part part))

@@ -1,0 +1,14 @@
+use Rattle.std.proofs.Common.{refl, ap, arith}
+use Rattle.wbl_engine.proofs.SuccessorLemmas.{lawful_later}
+use Rattle.wbl_engine.proofs.relocating.relocated_record.Goals as goal
+
+pub returns-then-number-lt-COUNTER_LIMIT-clause-lawful : goal.returns-then-number-lt-COUNTER_LIMIT-clause-lawful
+returns-then-number-lt-COUNTER_LIMIT-clause-lawful c =
+    lawful_later c.args.current.now _ c.requires.lawful
+    (record {
+      number = omega (arith, c.if-number-lt-COUNTER_LIMIT.true);
+      position = c.requires.lawful.position;
+      room = omega (arith, c.if-cd-lt-COUNTER_LIMIT.true);
+      epoch = c.requires.lawful.epoch;
+    })
+    refl refl (omega arith) (omega arith) (ap (λ gaps. gaps.items) c.copy_gaps.ensures)
