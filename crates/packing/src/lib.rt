@@ -1,0 +1,16 @@
+//! Which extents to move, in which order and where to, so that a run of free lines comes to be.
+#![tactic(auto)]
+
+mod choice;
+mod moves;
+mod placed;
+mod plan;
+mod pushing;
+mod windows;
+
+pub use moves::Move;
+pub use pushing::push_down;
+pub use windows::make_window;
+
+#[cfg(test)]
+mod tests;
