@@ -21,7 +21,7 @@ use Rattle.wbl_engine.specs.AtRest.{contents_of, IsAtRest, Matters}
 use Rattle.wbl_engine.specs.Committing.{AreCommittable, after_parts, record_after}
 use Rattle.wbl_engine.specs.Contents.{Keeps, Same}
 use Rattle.wbl_engine.specs.Reopening.{IsBesideRecords}
-use Rattle.wbl_engine.specs.Stage.{IsWritable, puts_of_parts, parts_pairs, parts_lines}
+use Rattle.wbl_engine.specs.Stage.{IsWritable, puts_of_parts, parts_lines}
 use Rattle.wbl_engine.proofs.AfterStage.{after_below, after_fits, after_sound, kept_word, made_image, stage_certain}
 use Rattle.wbl_engine.proofs.Covering.{IsStoredPut, parts_stored_put, entry_stored}
 use Rattle.wbl_engine.proofs.Erased.{agrees_below, agrees_erased, erased_free, erased_keeps, erased_rest, erased_versions, matters_beside, versions-beyond, versions-within, whole_sound}

@@ -1,5 +1,5 @@
 -- The lines that an entry names are those of its version.
-use Rattle.std.proofs.Common.{◌≡◌, ℕ, ◌+◌, ◌<◌, Some, ap, arith}
+use Rattle.std.proofs.Common.{◌≡◌, ℕ, ◌<◌, Some, ap, arith}
 use Rattle.kv_types.specs.declared.place.Extent.{Extent}
 use Rattle.pmem.specs.Device.{State}
 use Rattle.pmem.specs.Crash.{image_of}

@@ -1,5 +1,5 @@
 -- At which positions the versions were made.
-use Rattle.std.proofs.Common.{◌≡◌, ℕ, ◌≤◌, Bool, true, false, cond, List, [], ◌∷◌, Option, None, Some, nat_eq, refl, subst, arith}
+use Rattle.std.proofs.Common.{◌≡◌, ℕ, ◌≤◌, Bool, true, false, cond, List, [], ◌∷◌, Option, None, Some, nat_eq, refl, subst}
 use Rattle.std.specs.List.{AllByRecursion}
 use Rattle.kv_types.specs.declared.change.Change.{Change}
 use Rattle.model.specs.declared.group.Part.{Part}

@@ -3,7 +3,6 @@ use Rattle.std.proofs.Common.{◌≡◌, ℕ, ◌+◌, ◌<◌, ◌≤◌, Bool,
 use Rattle.std.specs.Prelude.{nat_lt}
 use Rattle.std.specs.List.{flat_map, AllByRecursion}
 use Rattle.std.proofs.lemmas.Bool.{and_parts, both_ways, cases_Bool, cases_lt, cond-false, eqb-true, ltb-true, not-true, or_cases}
-use Rattle.kv_types.specs.declared.change.Change.{Change}
 use Rattle.kv_types.specs.declared.change.Change.TheVariants as change
 use Rattle.kv_types.specs.declared.record_id.RecordId.{RecordId}
 use Rattle.kv_types.specs.declared.record_id.RecordId.TheVariants.{Str, Field}
@@ -15,7 +14,6 @@ use Rattle.pmem.specs.Device.{State}
 use Rattle.pmem.specs.Crash.{image_of}
 use Rattle.model.specs.declared.group.Part.{Part}
 use Rattle.model.specs.declared.group.PlacedChange.{PlacedChange}
-use Rattle.model.specs.declared.group.PlacedChange.TheVariants as placed
 use Rattle.model.specs.declared.group.Put.{Put}
 use Rattle.model.specs.declared.record.Record.{Record}
 use Rattle.model.specs.Group.{Contents, IsConsistent, IsPlaced, IsUnused, Versions, change_of, ends_record, is_put_at, part_versions, put_of, puts_of_part}
