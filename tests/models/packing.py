@@ -33,7 +33,7 @@ def make_window(extents, first, end, need):
     placed = in_order(extents)
     gaps = [(low, high) for low, high in gaps_of(placed, first, end) if low < high]
     for _, start in windows(placed, first, end, need)[:TRIES]:
-        moves = empty(placed, gaps, start, start + need)
+        moves = empty(placed, gaps, (first, end), (start, start + need))
         if moves is not None:
             return moves
     return None
@@ -50,10 +50,11 @@ def windows(placed, first, end, need):
         for start in starts if first <= start and start + need <= end)
 
 
-def empty(placed, gaps, start, behind):
+def empty(placed, gaps, bounds, window):
     """Moves of the extents that reach into the window, the longest first, each to the first hole outside that holds it."""
+    (first, end), (start, behind) = bounds, window
     within = [(line, lines, index) for line, lines, index in placed if line < behind and start < line + lines]
-    holes = [hole for gap in gaps for hole in outside(gap, start, behind)]
+    holes = [hole for gap in gaps for hole in outside(gap, window)]
     moves = []
     for line, lines, index in sorted(within, key=lambda one: -one[1]):
         at = next((at for at, (low, high) in enumerate(holes) if high - low >= lines), None)
@@ -62,13 +63,13 @@ def empty(placed, gaps, start, behind):
         low, high = holes[at]
         moves.append((index, low))
         holes[at] = (low + lines, high)
-        holes += outside((line, line + lines), start, behind)
+        holes += outside((max(line, first), min(line + lines, end)), window)
     return moves
 
 
-def outside(lines, start, behind):
+def outside(lines, window):
     """Those of the lines that lie below the window, and those behind it."""
-    low, high = lines
+    (low, high), (start, behind) = lines, window
     return [(a, b) for a, b in ((low, min(high, start)), (max(low, behind), high)) if a < b]
 
 

@@ -12,6 +12,11 @@ abbrev pub is_free : Extent → List Extent → Bool
 is_free wanted [] = true
 is_free wanted (extent ∷ extents) = are_apart wanted extent && is_free wanted extents
 
+-- no two of the extents have a line in common
+abbrev pub are_all_apart : List Extent → Bool
+are_all_apart [] = true
+are_all_apart (extent ∷ extents) = is_free extent extents && are_all_apart extents
+
 -- The move is of one of the extents. It goes to as many lines, from `first` up to but not including `end`, that no extent has: neither another nor itself.
 pub record IsMove (first end : ℕ) (extents : List Extent) (move : Move) : Type 0 where
   pub given : move.index < length extents
@@ -40,7 +45,9 @@ pub record HasRun (first end need : ℕ) (extents : List Extent) : Type 0 where
   pub within : start + need ≤ end
   pub free : IsTrue (is_free (record { first_line = start; lines = need }) extents)
 
--- The moves stay between `first` and `lines`, and leave a run of `need` free lines between `first` and `end`.
+-- The moves stay between `first` and `lines`, and leave a run of `need` free lines between `first` and `end`. Where no two extents had a line in common,
+-- none have afterwards.
 pub record MakesRun (first end lines need : ℕ) (extents : List Extent) (moves : List Move) : Type 0 where
   pub are : AreMoves first lines extents moves
   pub run : HasRun first end need (after_moves extents moves)
+  pub apart : IsTrue (are_all_apart extents) → IsTrue (are_all_apart (after_moves extents moves))

@@ -35,7 +35,7 @@ pub fn make_window(
             first_line: choice.line,
             lines: need,
         };
-        if let Some(moves) = emptied(alloc, placed.as_slice(), gaps.as_slice(), window)?
+        if let Some(moves) = emptied(alloc, placed.as_slice(), gaps.as_slice(), bounds, window)?
             && let Some(plan) = checked(alloc, bounds, extents, moves, window)?
         {
             return Ok(Some(plan));
@@ -99,6 +99,7 @@ fn emptied(
     alloc: Global,
     placed: &[Placed],
     gaps: &[Extent],
+    bounds: Bounds,
     window: Extent,
 ) -> Result<Option<Vec<Move>>, AllocError> {
     let within = reaching_into(alloc, placed, window)?;
@@ -106,7 +107,7 @@ fn emptied(
     for gap in gaps {
         push_outside(&mut holes, *gap, window)?;
     }
-    fit(alloc, within.as_slice(), &mut holes, window)
+    fit(alloc, within.as_slice(), &mut holes, bounds, window)
 }
 
 /// The extents that reach into the window, the longest first.
@@ -125,11 +126,12 @@ fn reaching_into(
     Ok(within)
 }
 
-/// Moves of these extents into the holes, first fit. What they leave outside the window is a hole for those after them.
+/// Moves of these extents into the holes, first fit. What they leave outside the window, within the bounds, is a hole for those after them.
 fn fit(
     alloc: Global,
     within: &[Placed],
     holes: &mut Vec<Extent>,
+    bounds: Bounds,
     window: Extent,
 ) -> Result<Option<Vec<Move>>, AllocError> {
     let mut moves = Vec::new(alloc);
@@ -138,7 +140,11 @@ fn fit(
             return Ok(None);
         };
         moves.push(one.to(line))?;
-        push_outside(holes, one.extent, window)?;
+        let left = lines_between(
+            one.first_line().max(bounds.first),
+            one.end().min(bounds.end),
+        );
+        push_outside(holes, left, window)?;
     }
     Ok(Some(moves))
 }

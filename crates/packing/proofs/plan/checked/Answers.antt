@@ -1,6 +1,7 @@
 use Rattle.std.proofs.Common.{◌≡◌, List, IsTrue, sym, subst, ◌∙◌}
 use Rattle.kv_types.specs.declared.place.Extent.{Extent}
 use Rattle.packing.specs.Moves.{is_free}
+use Rattle.packing.proofs.Apart.{moves_stay_apart}
 use Rattle.packing.proofs.plan.checked.Goals as goal
 
 pub returns-then-is_free : goal.returns-then-is_free
@@ -17,4 +18,5 @@ returns-then-is_free c =
         within = c.ends_by.ensures.0 c.if-not-ends_by.false;
         free = subst (λ (extents : List Extent). IsTrue (is_free c.args.run extents)) left (sym c.is_free.ensures ∙ c.if-is_free.true);
       };
+      apart = moves_stay_apart c.args.bounds.first c.args.bounds.lines c.args.extents.now c.args.moves.items are;
     }
