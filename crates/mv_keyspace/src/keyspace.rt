@@ -68,6 +68,10 @@ pub trait Keyspace: Lookup {
         ensures past { past self.new ≡ past self.old }
         ensures pins { pins self.new ≡ pins self.old };
 
+    /// What a live record holds.
+    fn version(&self, id: &RecordId) -> Option<Shown<'_>>
+        ensures { MatchOption result (cell_at (table self.now) id.now ≡ None) (λ version. cell_at (table self.now) id.now ≡ Some (cell_of_shown version)) };
+
     /// The live records whose change came after the position `from` of the list, in the order of records. They share their bytes with the keyspace.
     /// Refused with `Memory` where a growth was refused.
     fn since(&self, alloc: Global, from: u64) -> Result<Vec<Row>, Refusal>

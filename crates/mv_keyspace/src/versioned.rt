@@ -134,6 +134,10 @@ impl<L: Live> Keyspace for Versioned<L> {
         Ok(self.past.pin()?)
     }
 
+    fn version(&self, id: &RecordId) -> Option<Shown<'_>> {
+        self.live.find(id)
+    }
+
     fn view(&self, pin: &Pin, id: &RecordId) -> Option<Shown<'_>> {
         match self.live.find(id) {
             Some(shown) if shown.position <= pin.position => Some(shown),

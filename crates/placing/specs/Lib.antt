@@ -5,3 +5,4 @@ pub mod Read
 pub mod Out
 pub mod Rebuilt
 pub mod Back
+pub mod Fitting

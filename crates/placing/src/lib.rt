@@ -2,13 +2,16 @@
 //! versions of an image.
 #![tactic(auto)]
 
+mod fitting;
 mod giving;
 mod laws;
 mod performing;
 mod places;
 mod rebuilding;
 
+pub use fitting::{fits_surely, has_room_for};
 pub use giving::give_all;
 pub use laws::images_are_read_by_entries;
 pub use performing::{empty_part, perform};
+pub use places::lines_for;
 pub use rebuilding::{Rebuilt, rebuild};

@@ -112,7 +112,7 @@ fn give_place_back(heap: &mut ExtentHeap, change: PlacedChange)
 }
 
 /// How many lines a record takes: at least one.
-fn lines_for(id: &RecordId, value: &Value) -> u64
+pub fn lines_for(id: &RecordId, value: &Value) -> u64
     ensures { result ≡ lines_of_bytes (bytes_of_id id.now + length value.now) }
 {
     let name = id.key().len() + id.field().map_or(0, |field| field.len());

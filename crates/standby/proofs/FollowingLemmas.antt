@@ -1,5 +1,5 @@
 -- A standby that has taken a whole frame still follows, and the commit asked of its engine meets the engine's contract.
-use Rattle.std.proofs.Common.{◌≡◌, ℕ, ◌+◌, ◌<◌, ◌≤◌, ◌||◌, ◌⊎◌, inl, inr, ⊎_elim, Bool, true, false, not, IsTrue, List, [], ◌∷◌, length, map, Option, Some, None, refl, sym, ap, subst, ◌∙◌, rules}
+use Rattle.std.proofs.Common.{◌≡◌, ℕ, ◌+◌, ◌<◌, ◌≤◌, ◌||◌, ◌&&◌, ◌⊎◌, inl, inr, ⊎_elim, Bool, true, false, not, IsTrue, List, [], ◌∷◌, length, map, Option, Some, None, refl, sym, ap, subst, ◌∙◌, rules, append-nil, arith}
 use Rattle.std.proofs.lemmas.Bool.{cases_Bool, or_left, or_right, true≢false}
 use Rattle.std.specs.List.{AllByRecursion}
 use Rattle.kv_types.specs.declared.place.EntryNo.{EntryNo}
@@ -22,37 +22,39 @@ use Rattle.mv_keyspace.proofs.VersionTables.{AreEmpty}
 use Rattle.mv_keyspace.proofs.PartTables.{AreDistinct, IsTable-changes, names-ended, map-from_table}
 use Rattle.placing.specs.Back.{HasOut}
 use Rattle.placing.specs.Left.{IsTaken, IsLeftOf}
-use Rattle.placing.specs.Place.{TakesPlaces}
-use Rattle.placing.proofs.TakenLemmas.{All-map, IsFree, IsWithin, places_within, places_free, places_taken, places_fitting, places_apart, AreDistinct-from_apart}
+use Rattle.placing.proofs.CountLemmas.{AreBelow, changes_counted}
+use Rattle.placing.proofs.TakenLemmas.{All-map, IsFree, IsWithin, AreDistinct-from_apart}
 use Rattle.placing.proofs.LeftLemmas.{placed_of_free, unused_of_free, left_within, after_parts, left-after}
-use Rattle.placing.proofs.BackLemmas.{comes-back-taken}
 use Rattle.placing.proofs.PartsLemmas.{IsGroup-alone}
 use Rattle.wbl_engine.specs.Contents.{Exhausts, Keeps, Same}
-use Rattle.wbl_engine.proofs.ApartLemmas.{group_apart}
+use Rattle.wbl_engine.specs.Relocating.{IsRelocation, MakesAgain, after_relocation}
+use Rattle.wbl_engine.proofs.ApartLemmas.{IsFresh, group_apart, part_apart}
+use Rattle.wbl_engine.proofs.RelocatingLemmas.{relocated_consistent}
 use Rattle.wbl_engine.proofs.LawfulLemmas.{group_lawful}
 use Rattle.frames.specs.declared.frame.Frame.{Frame}
-use Rattle.standby.specs.Following.{Follows, HasTaken, IsBeforeOrWhole, IsWhole, TakesEpoch, WouldExhaust}
-use Rattle.standby.proofs.EndedLemmas.{AreEnded-from_members, KeepsWithoutSome-none, listed-from_member, Same-is, ended-directory, nothing-back}
+use Rattle.standby.specs.Following.{Follows, HasTaken, IsUnmovedOrWhole, IsWhole, TakesEpoch, WouldExhaust}
+use Rattle.standby.proofs.EndedLemmas.{AreEnded-from_members, KeepsWithoutSome-none, listed-from_member, Same-is, ended-directory}
+use Rattle.standby.proofs.PlacesTaken.{AreTaken}
 
 -- ---- the frame as a group of one part
 
 -- places were taken for the puts of a part, and its ended entries are those of the table
-module _ (contents : Contents) (table : Table) (room : Room) (follows : Follows contents table room []) (part : Part) (left : Room) (takes : TakesPlaces room (puts_of_part part) left)
+module _ (contents : Contents) (table : Table) (room : Room) (follows : Follows contents table room []) (part : Part) (left : Room) (takes : AreTaken room (puts_of_part part) left)
     (ended : AreEnded part.position table part.changes.items part.ended.items) where
   abbrev puts : List Put
   puts = puts_of_part part
 
   free : AllByRecursion (IsFree room) puts
-  free = places_free room puts left takes
+  free = takes.free
 
   taken : AllByRecursion (IsTaken left) puts
-  taken = places_taken room puts left takes
+  taken = takes.taken
 
   within : IsWithin left room
-  within = places_within room puts left takes
+  within = takes.within
 
   apart : AreAllApart puts
-  apart = places_apart room puts left takes
+  apart = takes.apart
 
   empty : AreEmpty contents.versions puts
   empty = All-map (IsFree room) (λ put. contents.versions put.entry.0 ≡ None) (λ put is. (follows.left.entries put.entry.0 is.entry).2) puts free
@@ -67,7 +69,7 @@ module _ (contents : Contents) (table : Table) (room : Room) (follows : Follows 
       let own : Contents = record contents { current = record contents.current { epoch = group.epoch } } in
       let is : IsGroup own group =
       IsGroup-alone own part group one before refl later (names-ended contents.versions table part empty distinct follows.table_is ended)
-      (All-map (IsFree room) (IsPlaced contents.lines) (λ put. placed_of_free contents room put follows.left) puts free) (places_fitting room puts left takes)
+      (All-map (IsFree room) (IsPlaced contents.lines) (λ put. placed_of_free contents room put follows.left) puts free) takes.fitting
       (All-map (IsFree room) (IsUnused contents.versions contents.is_free) (λ put. unused_of_free contents room put follows.left) puts free) apart in
       search rules
 
@@ -115,8 +117,15 @@ module _ (contents : Contents) (table : Table) (room : Room) (follows : Follows 
 
   out_after : (epoch : ℕ) → HasOut (after_parts epoch contents (part ∷ [])) left 0
   out_after epoch =
-      let out = (comes-back-taken contents part.position room left part.changes.items [] [] takes (λ i free. (follows.left.entries i free).2) (nothing-back contents room follows.out)).out in
-      record { end_line = out.end_line; end_entry = out.end_entry; held = out.held }
+      let n = entries_of_lines contents.lines in
+      let below = subst (λ m. AreBelow m puts) follows.out.end_entry takes.below in
+      let more = changes_counted part.position contents.versions part.changes.items n below empty distinct in
+      let held = takes.held in
+      record {
+        end_line = held.end_line ∙ follows.out.end_line;
+        end_entry = held.end_entry ∙ follows.out.end_entry;
+        held = omega (arith, more, held.held, follows.out.held);
+      }
 
   -- the tables follow what the commit makes of the contents
   pub Follows-after : (group : Group) → group.parts.items ≡ part ∷ [] → IsGroup contents group
@@ -133,6 +142,43 @@ module _ (contents : Contents) (table : Table) (room : Room) (follows : Follows 
         out = subst (λ items. HasOut (after_parts group.epoch contents items) left 0) (sym one) (out_after group.epoch);
         listed = ended_after (after_group contents group) versions_are consistent;
         all = λ i was. listed_after i (sym (ap (λ (versions : Versions). is_ended_version (versions i)) versions_are) ∙ was);
+      }
+
+  -- ---- the part as one that moves a version
+
+  pub IsRelocation-one : MakesAgain contents part → part.position ≤ contents.current.position → IsRelocation contents part
+  IsRelocation-one same position = record {
+    position = position;
+    same = same;
+    names = names;
+    placed = All-map (IsFree room) (IsPlaced contents.lines) (λ put. placed_of_free contents room put follows.left) puts free;
+    fitting = takes.fitting;
+    unused = All-map (IsFree room) (IsUnused contents.versions contents.is_free) (λ put. unused_of_free contents room put follows.left) puts free;
+    apart = apart;
+  }
+
+  fresh : AllByRecursion (IsFresh contents.versions) puts
+  fresh = All-map (IsFree room) (IsFresh contents.versions) (λ put is. (unused_of_free contents room put follows.left is).lines) puts free
+
+  pub Follows-relocated : IsRelocation contents part → Follows (after_relocation contents part) (place_all part.position table part.changes.items) left part.ended.items
+  Follows-relocated is =
+      let consistent = relocated_consistent follows.consistent is in
+      let was = left_after contents.current.epoch in
+      let out = out_after contents.current.epoch in
+      record {
+        consistent = consistent;
+        left = record {
+          entries = λ i free.
+              let before = was.entries i free in
+              (before.0, subst (λ (all : List Put). IsTrue (contents.is_free i && not (is_put_at i all))) (append-nil puts) before.1, before.2);
+          lines = was.lines;
+          apart = was.apart;
+        };
+        table_is = IsTable-changes part.position contents.versions table part.changes.items empty distinct follows.table_is;
+        apart = part_apart contents.versions part follows.apart fresh apart;
+        out = record { end_line = out.end_line; end_entry = out.end_entry; held = out.held };
+        listed = ended_after (after_relocation contents part) refl consistent;
+        all = λ i was_ended. listed_after i was_ended;
       }
 
 -- ---- contents that say the same
@@ -182,9 +228,9 @@ module _ (contents : Contents) (table : Table) (frame : Frame) (part : Part) (sa
 
     -- at each moment of the commit
     pub LeavesOnly-group : (device device' : State) → LeavesOnly device device' (λ image. Keeps contents image ⊎ Keeps (after_group contents group) image)
-        → LeavesOnly device device' (IsBeforeOrWhole frame [] contents table)
-    LeavesOnly-group device device' run = LeavesOnly-weaken (IsBeforeOrWhole frame [] contents table) (λ image. whole image) run
+        → LeavesOnly device device' (IsUnmovedOrWhole frame [] contents table)
+    LeavesOnly-group device device' run = LeavesOnly-weaken (IsUnmovedOrWhole frame [] contents table) (λ image. whole image) run
       where
-        whole : (image : Image) → Keeps contents image ⊎ Keeps (after_group contents group) image → IsBeforeOrWhole frame [] contents table image
+        whole : (image : Image) → Keeps contents image ⊎ Keeps (after_group contents group) image → IsUnmovedOrWhole frame [] contents table image
         whole image (inl before) = inl (KeepsWithoutSome-none [] contents image before)
-        whole image (inr keeps) = inr (after_group contents group, IsWhole-group, keeps)
+        whole image (inr keeps) = inr (record { after = after_group contents group; whole = IsWhole-group; keeps = keeps })

@@ -22,7 +22,7 @@ use Rattle.wbl_engine.specs.Lawful.{AreLawful}
 use Rattle.wbl_engine.proofs.LawfulLemmas.{same_lawful}
 use Rattle.wbl_engine.proofs.WithoutLemmas.{IsMapOf-contents_without, consistent_without, lawful_without, was_there, AllEnded, versions_without}
 use Rattle.frames.specs.declared.frame.Frame.{Frame}
-use Rattle.standby.specs.Following.{Follows, IsBeforeOrWhole, IsWhole}
+use Rattle.standby.specs.Following.{Follows, IsUnmovedOrWhole, IsWhole}
 use Rattle.standby.proofs.EndedLemmas.{inside-from_keeps, Same-is, nothing-back}
 use Rattle.placing.specs.Read.{LiesIn}
 use Rattle.placing.proofs.FreedPlaces.{comes-back-freed}
@@ -129,16 +129,16 @@ module _ (frame : Frame) (ended : List EntryNo) (before between : Contents) (tab
       let kept = subst₂ (λ gone (c : Contents). Keeps (without gone c) image) none (Same-is (after_free ended before) between freed) some.2 in
       record { superblock = kept.superblock; has_record = kept.has_record; versions = kept.versions; entries = kept.entries }
 
-  since : (image : Image) → IsBeforeOrWhole frame [] between table' image → IsBeforeOrWhole frame ended before table image
+  since : (image : Image) → IsUnmovedOrWhole frame [] between table' image → IsUnmovedOrWhole frame ended before table image
   since image (inl some) = inl ((λ i. is_listed i ended), λ i listed. listed, keeps_since image some)
-  since image (inr whole) = inr (whole.0, IsWhole-since whole.0 whole.1, whole.2)
+  since image (inr holds) = inr (record { after = holds.after; whole = IsWhole-since holds.after holds.whole; keeps = holds.keeps })
 
   -- what had ended is freed, and then the frame is taken
-  pub moments-committed : (first second third : State) → LeavesOnly first second (KeepsWithoutSome ended before) → LeavesOnly second third (IsBeforeOrWhole frame [] between table')
-      → LeavesOnly first third (IsBeforeOrWhole frame ended before table)
+  pub moments-committed : (first second third : State) → LeavesOnly first second (KeepsWithoutSome ended before) → LeavesOnly second third (IsUnmovedOrWhole frame [] between table')
+      → LeavesOnly first third (IsUnmovedOrWhole frame ended before table)
   moments-committed first second third freeing committing =
-      LeavesOnly-then (LeavesOnly-weaken (IsBeforeOrWhole frame ended before table) (λ image some. inl some) freeing)
-      (LeavesOnly-weaken (IsBeforeOrWhole frame ended before table) since committing)
+      LeavesOnly-then (LeavesOnly-weaken (IsUnmovedOrWhole frame ended before table) (λ image some. inl some) freeing)
+      (LeavesOnly-weaken (IsUnmovedOrWhole frame ended before table) since committing)
 
 -- a frame that was taken whole, and some of what it ended is freed
 pub IsWhole-without : (frame : Frame) (before : Contents) (old table : Table) (after : Contents) (room : Room) (ended : List EntryNo) (gone : ℕ → Bool)

@@ -5,3 +5,9 @@ pub mod GoneLemmas
 pub mod TakingLemmas
 pub mod NewLemmas
 pub mod Restarted
+pub mod RearrangedLemmas
+pub mod PlacesTaken
+pub mod MovedLemmas
+pub mod RoomLemmas
+pub mod ClearingLemmas
+pub mod MovingLemmas

@@ -1,7 +1,7 @@
 -- What a standby holds, and what a frame does to it.
-use Rattle.std.specs.Prelude.{◌≡◌, ◌≢◌, ℕ, ◌+◌, ◌<◌, ◌≤◌, ◌⊎◌, List, [], Option, None, Some, IsTrue}
+use Rattle.std.specs.Prelude.{◌≡◌, ◌≢◌, ℕ, ◌+◌, ◌<◌, ◌≤◌, ◌⊎◌, false, true, List, [], Some, IsTrue}
 use Rattle.kv_types.specs.declared.place.EntryNo.{EntryNo}
-use Rattle.kv_types.specs.Keyspace.{play_all}
+use Rattle.kv_types.specs.Keyspace.{IsKeyspace, Keyspace, play_all}
 use Rattle.extent_heap.specs.Room.{Room}
 use Rattle.model.specs.declared.image.TheConstants.{COUNTER_LIMIT, STAMP_WINDOW}
 use Rattle.model.specs.declared.record.Record.{Record}
@@ -9,6 +9,7 @@ use Rattle.model.specs.Image.{Image, IsMapOf, Version, entries_of_lines}
 use Rattle.model.specs.Group.{AreApart, Contents, IsConsistent, Versions, is_ended_version}
 use Rattle.mv_keyspace.specs.Table.{Table, IsTable, records}
 use Rattle.placing.specs.Back.{GivesAll, HasOut}
+use Rattle.placing.specs.Fitting.{fits_surely}
 use Rattle.placing.specs.Left.{IsLeftOf}
 use Rattle.placing.specs.Place.{HasRoomFor}
 use Rattle.wbl_engine.specs.Contents.{Keeps, Same}
@@ -67,23 +68,25 @@ pub record HasTaken (frame : Frame) (before after : Contents) (old new : Table) 
   pub role : after.current.role ≡ before.current.role
   pub epoch : after.current.epoch ≡ frame.epoch
 
--- the entry holds nothing, or a version that was made at this position
-abbrev pub HoldsNoneButOf : ℕ → Option Version → Type 0
-HoldsNoneButOf position held = (held ≡ None) ⊎ ((version : Version) × (held ≡ Some version) × (version.position ≡ position))
+-- a live version of this record, with this value and position, stood there
+pub record WasLive (before : Versions) (version : Version) : Type 0 where
+  pub i : ℕ
+  pub was : Version
+  pub begun : before i ≡ Some was
+  pub not_ended : was.is_ended ≡ false
+  pub id_is : was.id ≡ version.id
+  pub value_is : was.value ≡ version.value
+  pub position_is : was.position ≡ version.position
 
--- where there was no version before there is none, or one that was made at this position
-abbrev pub IsMadeAt : ℕ → Versions → Versions → Type 0
-IsMadeAt position old new = (i : ℕ) → old i ≡ None → HoldsNoneButOf position (new i)
-
--- Of the versions that had ended none is left: what their entries hold now, if anything, was made at this position.
+-- Of the versions that had ended none is left: what has ended now was live before, or was made at this position.
 abbrev pub AreGone : ℕ → Versions → Versions → Type 0
-AreGone position old new = (i : ℕ) → IsTrue (is_ended_version (old i)) → HoldsNoneButOf position (new i)
+AreGone position old new =
+    (i : ℕ) (version : Version) → new i ≡ Some version → version.is_ended ≡ true → (version.position ≡ position) ⊎ WasLive old version
 
 -- the heap has room for the puts of the frame, once what has ended is freed
-pub record HasRoomOnceFreed (room : Room) (ended : List EntryNo) (contents : Contents) (frame : Frame) : Type 0 where
-  pub freed : Room
-  pub given : GivesAll room ended (extents_of contents.versions ended) freed
-  pub has : HasRoomFor freed frame.changes.items
+abbrev pub HasRoomOnceFreed : Room → List EntryNo → Contents → Frame → Type 0
+HasRoomOnceFreed room ended contents frame =
+    (freed : Room) → GivesAll room ended (extents_of contents.versions ended) freed → HasRoomFor freed frame.changes.items
 
 -- After this record, a commit of the frame would bring the limit of the stamps, the position, the number of the record, or an epoch that
 -- rises to the limit of counters.
@@ -93,6 +96,51 @@ WouldExhaust current frame =
     ⊎ (COUNTER_LIMIT ≤ frame.after)
     ⊎ (COUNTER_LIMIT ≤ current.number + 1)
     ⊎ ((current.epoch < frame.epoch) × (COUNTER_LIMIT ≤ frame.epoch))
+
+-- After this record there is no step left to make room with that leaves the commit of the frame its counters: one more record, or one more stamp,
+-- would bring them to the limit.
+abbrev pub IsNearLimit : Record → Type 0
+IsNearLimit current = (COUNTER_LIMIT ≤ current.cp + 1 + 1 + 1 + STAMP_WINDOW) ⊎ (COUNTER_LIMIT ≤ current.number + 1 + 1)
+
+-- ---- room that is made
+
+-- A version of this record, with this value and position, stood there; and it was live if this one is.
+pub record Stood (before : Versions) (version : Version) : Type 0 where
+  pub i : ℕ
+  pub was : Version
+  pub begun : before i ≡ Some was
+  pub id_is : was.id ≡ version.id
+  pub value_is : was.value ≡ version.value
+  pub position_is : was.position ≡ version.position
+  pub live : version.is_ended ≡ false → was.is_ended ≡ false
+
+-- The same map stands, under a record of the same position, epoch and role. What had ended may be gone, versions may lie elsewhere, and gaps may have
+-- been cleared; but each version stood there before, with its record, its value and its position.
+pub record IsRearranged (before after : Contents) : Type 0 where
+  pub position : after.current.position ≡ before.current.position
+  pub epoch : after.current.epoch ≡ before.current.epoch
+  pub role : after.current.role ≡ before.current.role
+  pub line_count : after.lines ≡ before.lines
+  pub map : (s : Keyspace) → IsKeyspace s → IsMapOf before.versions (entries_of_lines before.lines) s → IsMapOf after.versions (entries_of_lines after.lines) s
+  pub lawful : AreLawful before → AreLawful after
+  pub stood : (i : ℕ) (version : Version) → after.versions i ≡ Some version → Stood before.versions version
+
+-- the image holds the same map, perhaps rearranged
+pub record HoldsRearranged (before : Contents) (image : Image) : Type 0 where
+  pub after : Contents
+  pub rearranged : IsRearranged before after
+  pub consistent : IsConsistent before → IsConsistent after
+  pub keeps : Keeps after image
+
+-- no gap is left to clear, as far as the counters allow it
+abbrev pub IsGapless : Record → Type 0
+IsGapless current = (current.gaps.items ≡ []) ⊎ IsNearLimit current
+
+-- No gap is left; or the heap has so many entries and runs that the frame fits whatever the order of its puts.
+abbrev pub NoGapIsLeft : Record → Room → Frame → Type 0
+NoGapIsLeft current room frame = IsGapless current ⊎ (fits_surely room frame.changes.items ≡ true)
+
+-- ---- a frame that was taken, or not
 
 -- The contents of a node that has taken the frame whole, and its epoch. They obey the rules of an image if those before did.
 pub record IsWhole (frame : Frame) (before : Contents) (table : Table) (after : Contents) : Type 0 where
@@ -104,11 +152,20 @@ pub record IsWhole (frame : Frame) (before : Contents) (table : Table) (after : 
   pub map : IsMapOf after.versions (entries_of_lines after.lines) (play_all (records table) frame.changes.items)
   pub lawful : AreLawful before → AreLawful after
 
--- The image holds what it held before the frame, perhaps without some of what had ended, or all of the frame.
-abbrev pub IsBeforeOrWhole : Frame → List EntryNo → Contents → Table → Image → Type 0
-IsBeforeOrWhole frame ended before table image =
-    KeepsWithoutSome ended before image ⊎ ((after : Contents) × IsWhole frame before table after × Keeps after image)
+-- the image holds all of the frame
+pub record HoldsWhole (frame : Frame) (before : Contents) (table : Table) (image : Image) : Type 0 where
+  pub after : Contents
+  pub whole : IsWhole frame before table after
+  pub keeps : Keeps after image
 
--- What is held after a frame that was not acknowledged: what was held before it, or that without what had ended, or the whole frame.
-abbrev pub EndsAs : Frame → List EntryNo → Contents → Table → Contents → Type 0
-EndsAs frame ended before table new = Same before new ⊎ Same (after_free ended before) new ⊎ IsWhole frame before table new
+-- The image holds what it held before the frame, perhaps rearranged, or all of the frame.
+abbrev pub IsBeforeOrWhole : Frame → Contents → Table → Image → Type 0
+IsBeforeOrWhole frame before table image = HoldsRearranged before image ⊎ HoldsWhole frame before table image
+
+-- The image holds what it held before the frame, each version in its place, perhaps without some of what had ended; or all of the frame.
+abbrev pub IsUnmovedOrWhole : Frame → List EntryNo → Contents → Table → Image → Type 0
+IsUnmovedOrWhole frame ended before table image = KeepsWithoutSome ended before image ⊎ HoldsWhole frame before table image
+
+-- What is held after a frame that was not acknowledged: what was held before it, perhaps rearranged, or the whole frame.
+abbrev pub EndsAs : Frame → Contents → Table → Contents → Type 0
+EndsAs frame before table new = IsRearranged before new ⊎ IsWhole frame before table new

@@ -1,9 +1,12 @@
 //! The standby: whole frames move its image, and what it acknowledges is durable.
 #![tactic(auto)]
 
+mod moving;
 mod opening;
 mod part;
+mod planning;
 mod restarting;
+mod room;
 mod standby;
 mod taking;
 

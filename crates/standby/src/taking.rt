@@ -6,7 +6,7 @@ ghost use Rattle.placing.specs.Place.{HasRoomFor};
 ghost use Rattle.wbl_engine.specs.Contents.{IsDurable, Same};
 ghost use Rattle.wbl_engine.specs.Freeing.{KeepsWithoutSome, after_free};
 ghost use Rattle.wbl_engine.specs.Lawful.{AreLawful};
-ghost use Rattle.standby.specs.Following.{Follows, TakesEpoch, IsNext, IsTakenNext, HasFreed, HasTaken, IsMadeAt, WouldExhaust, IsBeforeOrWhole};
+ghost use Rattle.standby.specs.Following.{Follows, TakesEpoch, IsNext, IsTakenNext, HasFreed, HasTaken, AreGone, WouldExhaust, IsUnmovedOrWhole};
 ghost use Rattle.standby.specs.Taking.{Stands, TakesFrame};
 
 use crate::part::make_part;
@@ -32,9 +32,9 @@ impl<E: Durable, K: Keyspace> Standby<E, K> {
     ///
     /// `WrongEpoch` for a frame of another epoch, `PositionGap` for one that begins elsewhere, or at position 0 for one of a higher epoch that ends
     /// there, `Exhausted` if a counter would reach 2^62: nothing changed. `Full` if the image has no room for its puts, also after all that had ended
-    /// is freed: that is freed, and nothing else changed. `Memory` if an allocation was refused: nothing changed, or what had ended is freed and
-    /// nothing else changed. `Fault` if a fence failed: the engine holds what it held, perhaps without what had ended, or the whole frame, but the
-    /// keyspace and the heap may be ahead of it or behind it, so the image has to be reopened.
+    /// is freed and the gaps of the record are cleared: that stands, and nothing else changed. `Memory` if an allocation was refused: nothing
+    /// changed but what was done to make room. `Fault` if a fence failed: the engine holds the map that it held, or the whole frame, but the keyspace
+    /// and the heap may be ahead of it or behind it, so the image has to be reopened.
     pub fn take_frame(&mut self, alloc: Global, frame: Frame) -> Result<Ack, Refusal>
         requires { Stands E.device E.contents E.is_faulted K.table self.old }
         ensures { TakesFrame E.device E.contents E.is_faulted K.table frame self.old result self.new }
@@ -52,6 +52,7 @@ impl<E: Durable, K: Keyspace> Standby<E, K> {
             return Err(Refusal::Exhausted);
         }
         self.free_ended(alloc)?;
+        self.make_room(alloc, &frame)?;
         self.commit_frame(alloc, frame)?;
         Ok(self.ack())
     }
@@ -102,7 +103,7 @@ impl<E: Durable, K: Keyspace> Standby<E, K> {
         requires next { IsTakenNext (E.contents self.old.engine).current frame }
         requires counters { ¬ WouldExhaust (E.contents self.old.engine).current frame }
         ensures taken { OnOk result (HasTaken frame (E.contents self.old.engine) (E.contents self.new.engine) (K.table self.old.keyspace) (K.table self.new.keyspace)) }
-        ensures made { OnOk result (IsMadeAt frame.after (E.contents self.old.engine).versions (E.contents self.new.engine).versions) }
+        ensures gone { OnOk result (AreGone frame.after (E.contents self.old.engine).versions (E.contents self.new.engine).versions) }
         ensures fits { OnOk result (HasRoomFor self.old.heap frame.changes.items) }
         ensures causes { IfErr result (λ refusal. (refusal ≡ Full) ⊎ (refusal ≡ Memory) ⊎ (refusal ≡ Fault)) }
         ensures full { IsErrOf result Full → ¬ HasRoomFor self.old.heap frame.changes.items }
@@ -119,7 +120,7 @@ impl<E: Durable, K: Keyspace> Standby<E, K> {
         ensures own_epoch { frame.epoch ≡ (E.contents self.old.engine).current.epoch
             → (E.contents self.new.engine).current.epoch ≡ (E.contents self.old.engine).current.epoch }
         ensures moments { LeavesOnly (E.device self.old.engine) (E.device self.new.engine)
-            (IsBeforeOrWhole frame [] (E.contents self.old.engine) (K.table self.old.keyspace)) }
+            (IsUnmovedOrWhole frame [] (E.contents self.old.engine) (K.table self.old.keyspace)) }
     {
         let mut parts = Vec::with_capacity(alloc, 1)?;
         let epoch = frame.epoch;

@@ -14,22 +14,18 @@ use Rattle.model.specs.declared.record.Record.{Record}
 use Rattle.model.specs.Call.{keyspace_after, cut_at, position_of}
 use Rattle.model.specs.Image.{Image, IsMapOf, entries_of_lines}
 use Rattle.model.proofs.RecordLemmas.{HasRecord-lines}
-use Rattle.kv_types.specs.declared.place.EntryNo.{EntryNo}
-use Rattle.model.specs.Group.{Contents, is_ended_version}
+use Rattle.model.specs.Group.{Contents}
 use Rattle.model.specs.Standing.{Holder}
-use Rattle.model.proofs.CallsLemmas.{keyspace_after-cut_at-append}
+use Rattle.model.proofs.CallsLemmas.{IsKeyspace-keyspace_after, keyspace_after-cut_at-append}
 use Rattle.mv_keyspace.specs.Table.{records}
 use Rattle.mv_keyspace.proofs.PartTables.{map-from_table}
 use Rattle.wbl_engine.specs.Contents.{IsDurable, Keeps}
-use Rattle.wbl_engine.specs.Freeing.{AreEnded, KeepsWithoutSome, without}
 use Rattle.wbl_engine.specs.Lawful.{AreLawful}
-use Rattle.wbl_engine.proofs.FreeingLemmas.{ended_within}
-use Rattle.wbl_engine.proofs.WithoutLemmas.{IsMapOf-contents_without, consistent_without, lawful_without}
 use Rattle.machine.specs.declared.event.Event.TheVariants.{Apply}
 use Rattle.machine.specs.Event.{Standby as Machine, Span, Frame as Sent, Acknowledgement, Takes, acknowledgement_of, moved_to}
 use Rattle.frames.specs.declared.ack.Ack.{Ack}
 use Rattle.frames.specs.declared.frame.Frame.{Frame}
-use Rattle.standby.specs.Following.{Follows, HasFreed, IsNext, HasTaken, IsWhole, IsBeforeOrWhole, WouldExhaust}
+use Rattle.standby.specs.Following.{Follows, HoldsRearranged, HoldsWhole, IsNext, IsRearranged, HasTaken, IsBeforeOrWhole, WouldExhaust}
 use Rattle.world.specs.Cause.{IsAtLimit, EndsBy}
 use Rattle.world.specs.Committing.{AreContentsAt, Moves, NearOnly, OpensAt, OpensAtEither, Rests, next_from}
 use Rattle.world.specs.Link.{IsFrameOf}
@@ -40,37 +36,19 @@ use Rattle.world.proofs.EngineLemmas.{Opens-engine, keeps-opens, moves-same, nea
 pub StandbyStands-still : (holder : Holder) (epoch : ℕ) (calls : List Call) (p q : ℕ) (node : Node) → StandbyStands holder epoch calls p node → NearOnly holder calls p q node.device node.device
 StandbyStands-still holder epoch calls p q node stands = near-still holder calls p q node.device node.contents node.is_faulted stands.engine
 
--- ---- without what had ended
-
--- contents that stand at a position do so without some of what has ended
-AreContentsAt-without : (holder : Holder) (calls : List Call) (p : ℕ) (contents : Contents) (gone : ℕ → Bool) → ((i : ℕ) → IsTrue (gone i) → IsTrue (is_ended_version (contents.versions i)))
-    → AreContentsAt holder calls p contents → AreContentsAt holder calls p (without gone contents)
-AreContentsAt-without holder calls p contents gone ended are =
-    search (rules, consistent_without contents gone are.consistent, IsMapOf-contents_without contents gone (keyspace_after (cut_at calls p)) ended are.map, are)
-
-pub without-opens : (holder : Holder) (calls : List Call) (p : ℕ) (contents : Contents) (entries : List EntryNo) (image : Image) → AreEnded contents entries → AreContentsAt holder calls p contents
-    → AreLawful contents → KeepsWithoutSome entries contents image → OpensAt holder calls p image
-without-opens holder calls p contents entries image ended are lawful keeps =
-    let gone = keeps.0 in
-    let had_ended : (i : ℕ) → IsTrue (gone i) → IsTrue (is_ended_version (contents.versions i)) = λ i is. (ended_within contents entries i ended (keeps.1 i is)).1 in
-    keeps-opens holder calls p (without gone contents) image
-    (AreContentsAt-without holder calls p contents gone had_ended are) (lawful_without contents gone had_ended lawful) keeps.2
-
 -- ---- what a standby answers to a frame
 
--- The record and the table are as they were, and the image has as many lines.
+-- The map, the position, the epoch and the role are as they were, and the image has as many lines.
 pub record IsKept (old new : Node) : Type 0 where
-  pub current : new.contents.current ≡ old.contents.current
+  pub position : new.contents.current.position ≡ old.contents.current.position
+  pub epoch : new.contents.current.epoch ≡ old.contents.current.epoch
+  pub role : new.contents.current.role ≡ old.contents.current.role
   pub line_count : new.contents.lines ≡ old.contents.lines
-  pub table : new.table ≡ old.table
+  pub map : records new.table ≡ records old.table
 
-pub IsKept-same : (old new : Node) → new ≡ old → IsKept old new
-IsKept-same old new same =
-    record { current = ap (λ (node : Node). node.contents.current) same; line_count = ap (λ (node : Node). node.contents.lines) same; table = ap (λ (node : Node). node.table) same }
-
--- what had ended is freed
-pub IsKept-freed : (old new : Node) → new.table ≡ old.table → HasFreed old.ended old.contents new.contents old.room new.room new.ended → IsKept old new
-IsKept-freed old new table freed = record { current = freed.contents_are.current; line_count = freed.contents_are.lines; table = table }
+-- perhaps rearranged
+pub IsKept-rearranged : (old new : Node) → (records new.table ≡ records old.table) × IsRearranged old.contents new.contents → IsKept old new
+IsKept-rearranged old new (map, is) = record { position = is.position; epoch = is.epoch; role = is.role; line_count = is.line_count; map = map }
 
 pub record Answers (frame : Frame) (old : Node) (result : Result Ack Refusal) (new : Node) : Type 0 where
   pub again : frame.epoch ≡ old.epoch → frame.after ≤ old.contents.current.position
@@ -88,9 +66,9 @@ pub record Answers (frame : Frame) (old : Node) (result : Result Ack Refusal) (n
   pub durable : ¬ IsErrOf result Fault → IsDurable new.device new.contents
   pub lawful : AreLawful old.contents → ¬ IsErrOf result Fault → AreLawful new.contents
   pub own_epoch : frame.epoch ≡ old.epoch → new.epoch ≡ old.epoch
-  pub moments : frame.epoch ≡ old.epoch → IsNext old.contents.current.position frame → LeavesOnly old.device new.device (IsBeforeOrWhole frame old.ended old.contents old.table)
+  pub moments : frame.epoch ≡ old.epoch → IsNext old.contents.current.position frame → LeavesOnly old.device new.device (IsBeforeOrWhole frame old.contents old.table)
   pub rests : frame.epoch ≡ old.epoch → IsNext old.contents.current.position frame → ¬ IsErrOf result Fault
-      → OnErr result (LeavesOnly old.device new.device (KeepsWithoutSome old.ended old.contents))
+      → OnErr result (LeavesOnly old.device new.device (HoldsRearranged old.contents))
 
 pub OnErr-weaken : {P Q : Type 0} (result : Result Ack Refusal) → (P → Q) → OnErr result P → OnErr result Q
 OnErr-weaken (Ok ack) into h = tt
@@ -184,22 +162,32 @@ module _ (holder : Holder) (epoch : ℕ) (calls : List Call) (machine : Machine)
       new_stands span.after (taken.position ∙ is.after) taken.role (taken.epoch ∙ is.epoch_is ∙ stands.epoch_held ∙ sym stands.engine.contents_at.epoch_is) taken.lines
       (taken.keyspace ∙ keyspace_next e)
 
-  -- nothing changed, but that what had ended may be freed
+  -- the map is as it was
   refused_stands : IsKept old new → Follows new.contents new.table new.room new.ended → new.is_faulted ≡ false → IsDurable new.device new.contents → AreLawful new.contents → new.epoch ≡ old.epoch
       → StandbyStands holder epoch calls machine.position new
   refused_stands kept =
-      new_stands machine.position (ap (λ (r : Record). r.position) kept.current ∙ at) (ap (λ (r : Record). r.role) kept.current) (ap (λ (r : Record). r.epoch) kept.current) kept.line_count
-      (ap records kept.table ∙ stands.table)
+      new_stands machine.position (kept.position ∙ at) kept.role kept.epoch kept.line_count (kept.map ∙ stands.table)
 
-  -- an image without some of what had ended stands where the standby stood
-  before_opens : (image : Image) → KeepsWithoutSome old.ended old.contents image → OpensAt holder calls machine.position image
-  before_opens image = without-opens holder calls machine.position old.contents old.ended image stands.follows.listed stands.engine.contents_at stands.engine.lawful
+  -- an image of the same map stands where the standby stood
+  before_opens : (image : Image) → HoldsRearranged old.contents image → OpensAt holder calls machine.position image
+  before_opens image held =
+      let is = held.rearranged in
+      let was = stands.engine.contents_at in
+      let contents_at : AreContentsAt holder calls machine.position held.after = record {
+        at = is.position ∙ was.at;
+        role_is = is.role ∙ was.role_is;
+        epoch_is = is.epoch ∙ was.epoch_is;
+        lines_are = is.line_count ∙ was.lines_are;
+        consistent = held.consistent was.consistent;
+        map = is.map (keyspace_after (cut_at calls machine.position)) (IsKeyspace-keyspace_after (cut_at calls machine.position)) was.map;
+      } in
+      keeps-opens holder calls machine.position held.after image contents_at (is.lawful stands.engine.lawful) held.keeps
 
   -- a frame was refused, and no fence failed
-  refused_rests : LeavesOnly old.device new.device (KeepsWithoutSome old.ended old.contents) → new.device.failures ≡ old.device.failures → Rests holder calls machine.position old.device new.device
+  refused_rests : LeavesOnly old.device new.device (HoldsRearranged old.contents) → new.device.failures ≡ old.device.failures → Rests holder calls machine.position old.device new.device
   refused_rests only failures = record { leaves = LeavesOnly-weaken (OpensAt holder calls machine.position) before_opens only; failures = failures }
 
-  refused_moves : LeavesOnly old.device new.device (KeepsWithoutSome old.ended old.contents) → new.device.failures ≡ old.device.failures
+  refused_moves : LeavesOnly old.device new.device (HoldsRearranged old.contents) → new.device.failures ≡ old.device.failures
       → Moves holder calls machine.position machine.position old.device new.device
   refused_moves only failures =
       record { leaves = LeavesOnly-weaken (OpensAtEither holder calls machine.position machine.position) (λ image held. inl (before_opens image held)) only; failures = failures }
@@ -212,21 +200,21 @@ module _ (holder : Holder) (epoch : ℕ) (calls : List Call) (machine : Machine)
   rests p same now = moves-same holder calls machine.position p old.device new.device same (Opens-engine _ _ _ _ _ _ now.engine)
 
   -- an image that holds the whole frame stands at its end
-  whole_opens : (image : Image) → span.before ≡ machine.position → (after : Contents) × IsWhole frame old.contents old.table after × Keeps after image → OpensAt holder calls span.after image
+  whole_opens : (image : Image) → span.before ≡ machine.position → HoldsWhole frame old.contents old.table image → OpensAt holder calls span.after image
   whole_opens image e held =
-      let after = held.0 in
+      let after = held.after in
       let contents_at : AreContentsAt holder calls span.after after = record {
-        at = held.1.position ∙ is.after;
-        role_is = held.1.role ∙ stands.engine.contents_at.role_is;
-        epoch_is = held.1.epoch ∙ is.epoch_is ∙ stands.epoch_held;
-        lines_are = held.1.line_count ∙ stands.engine.contents_at.lines_are;
-        consistent = held.1.consistent;
-        map = subst (IsMapOf after.versions (entries_of_lines after.lines)) (keyspace_next e) held.1.map;
+        at = held.whole.position ∙ is.after;
+        role_is = held.whole.role ∙ stands.engine.contents_at.role_is;
+        epoch_is = held.whole.epoch ∙ is.epoch_is ∙ stands.epoch_held;
+        lines_are = held.whole.line_count ∙ stands.engine.contents_at.lines_are;
+        consistent = held.whole.consistent;
+        map = subst (IsMapOf after.versions (entries_of_lines after.lines)) (keyspace_next e) held.whole.map;
       } in
-      keeps-opens holder calls span.after after image contents_at (held.1.lawful stands.engine.lawful) held.2
+      keeps-opens holder calls span.after after image contents_at (held.whole.lawful stands.engine.lawful) held.keeps
 
   -- the whole frame was taken: at any moment a crash leaves what was before it or all of it
-  taken_moves : span.before ≡ machine.position → LeavesOnly old.device new.device (IsBeforeOrWhole frame old.ended old.contents old.table) → new.device.failures ≡ old.device.failures
+  taken_moves : span.before ≡ machine.position → LeavesOnly old.device new.device (IsBeforeOrWhole frame old.contents old.table) → new.device.failures ≡ old.device.failures
       → Moves holder calls machine.position span.after old.device new.device
   taken_moves e only failures =
       record {
@@ -234,7 +222,7 @@ module _ (holder : Holder) (epoch : ℕ) (calls : List Call) (machine : Machine)
         failures = failures;
       }
     where
-      either : (image : Image) → IsBeforeOrWhole frame old.ended old.contents old.table image → OpensAt holder calls machine.position image ⊎ OpensAt holder calls span.after image
+      either : (image : Image) → IsBeforeOrWhole frame old.contents old.table image → OpensAt holder calls machine.position image ⊎ OpensAt holder calls span.after image
       either image (inl before) = inl (before_opens image before)
       either image (inr held) = inr (whole_opens image e held)
 
@@ -330,7 +318,7 @@ module _ (holder : Holder) (epoch : ℕ) (calls : List Call) (machine : Machine)
       below : span.after ≤ machine.position → NearOnly holder calls machine.position next old.device new.device
       below le = still (answers.again epoch_same (is_below le)).1
 
-      either : span.before ≡ machine.position → (image : Image) → IsBeforeOrWhole frame old.ended old.contents old.table image → OpensAtEither holder calls machine.position next image
+      either : span.before ≡ machine.position → (image : Image) → IsBeforeOrWhole frame old.contents old.table image → OpensAtEither holder calls machine.position next image
       either e image (inl before) = inl (before_opens image before)
       either e image (inr held) = inr (subst (λ p. OpensAt holder calls p image) (sym (next-joined e)) (whole_opens image e held))
 

@@ -4,13 +4,15 @@ use Rattle.std.specs.Option.{option_to_list}
 use Rattle.pmem.proofs.Leaving.{none_leaves}
 use Rattle.model.specs.declared.group.Group.{Group}
 use Rattle.model.specs.declared.group.Part.{Part}
-use Rattle.model.specs.Group.{IsGroup, after_group}
+use Rattle.model.specs.Group.{IsGroup, after_group, puts_of_part}
 use Rattle.mv_keyspace.specs.Table.{place_all}
 use Rattle.wbl_engine.specs.Contents.{Exhausts, IsDurable}
 use Rattle.wbl_engine.proofs.LawfulLemmas.{group_lawful, same_lawful}
 use Rattle.standby.specs.Following.{Follows}
 use Rattle.standby.proofs.EndedLemmas.{KeepsWithoutSome-none}
-use Rattle.standby.proofs.GoneLemmas.{made-group}
+use Rattle.std.proofs.lemmas.Bool.{true≢false}
+use Rattle.standby.proofs.GoneLemmas.{gone-group}
+use Rattle.standby.proofs.PlacesTaken.{AreTaken-places}
 use Rattle.standby.proofs.FollowingLemmas.{IsGroup-one, Follows-after, Follows-same, HasTaken-group, LeavesOnly-group}
 use Rattle.standby.proofs.standby.Standby.commit_frame.Given.{Over}
 use Rattle.standby.proofs.standby.Standby.commit_frame.Goals as goal
@@ -28,14 +30,14 @@ is_group g c =
     let contents = g.E.Durable.contents c.args.self.now.engine in
     let later : contents.current.position < c.in_ok-part.part.position = subst (λ n. contents.current.position < n) (sym c.in_ok-part.ensures.ok.position_is) c.requires.next.next.later in
     IsGroup-one contents (g.K.Keyspace.table c.args.self.now.keyspace) c.args.self.now.heap c.requires.follows c.in_ok-part.part c.make_part.new.heap
-    c.in_ok-part.ensures.ok.places c.in_ok-part.ensures.ok.ended (the_group g c) (one g c) c.requires.next.next.joined c.requires.next.epoch later
+    (AreTaken-places c.args.self.now.heap (puts_of_part c.in_ok-part.part) c.make_part.new.heap c.in_ok-part.ensures.ok.places) c.in_ok-part.ensures.ok.ended (the_group g c) (one g c) c.requires.next.next.joined c.requires.next.epoch later
 
 -- the tables after the part are those of the contents after the group
 follows_after : (g : Over) (c : After-push_reserved g)
     → Follows (after_group (g.E.Durable.contents c.args.self.now.engine) (the_group g c)) (place_all c.in_ok-part.part.position (g.K.Keyspace.table c.args.self.now.keyspace) c.in_ok-part.part.changes.items) c.make_part.new.heap c.in_ok-part.part.ended.items
 follows_after g c =
     Follows-after (g.E.Durable.contents c.args.self.now.engine) (g.K.Keyspace.table c.args.self.now.keyspace) c.args.self.now.heap c.requires.follows c.in_ok-part.part c.make_part.new.heap
-    c.in_ok-part.ensures.ok.places c.in_ok-part.ensures.ok.ended (the_group g c) (one g c) (is_group g c)
+    (AreTaken-places c.args.self.now.heap (puts_of_part c.in_ok-part.part) c.make_part.new.heap c.in_ok-part.ensures.ok.places) c.in_ok-part.ensures.ok.ended (the_group g c) (one g c) (is_group g c)
 
 pub commit-requires : goal.commit-requires
 commit-requires g c = is_group g (goal.at.commit-requires g c).After-push_reserved
@@ -66,11 +68,11 @@ returns-clause-taken g c =
     HasTaken-group (g.E.Durable.contents c.args.self.now.engine) (g.K.Keyspace.table c.args.self.now.keyspace) c.args.frame c.in_ok-part.part c.in_ok-part.ensures.ok.changes_are c.in_ok-part.ensures.ok.position_is
     (the_group g prefix) (one g prefix) refl (g.E.Durable.contents c.commit.new.self) (g.K.Keyspace.table c.make_part.new.keyspace) c.in_ok-commit.ensures.moved c.in_ok-part.ensures.ok.table_is
 
-pub returns-clause-made : goal.returns-clause-made
-returns-clause-made g c =
-    let prefix = (goal.at.returns-clause-made g c).After-push_reserved in
-    made-group (g.E.Durable.contents c.args.self.now.engine) (the_group g prefix) c.in_ok-part.part c.args.frame.after (one g prefix) c.in_ok-part.ensures.ok.position_is
-    (g.E.Durable.contents c.commit.new.self) c.in_ok-commit.ensures.moved
+pub returns-clause-gone : goal.returns-clause-gone
+returns-clause-gone g c =
+    let prefix = (goal.at.returns-clause-gone g c).After-push_reserved in
+    gone-group (g.E.Durable.contents c.args.self.now.engine) (the_group g prefix) c.in_ok-part.part c.args.frame.after (one g prefix) c.in_ok-part.ensures.ok.position_is
+    (λ i ended. true≢false (sym (c.requires.follows.all i ended))) (g.E.Durable.contents c.commit.new.self) c.in_ok-commit.ensures.moved
 
 pub returns-in_err-commit-clause-durable : goal.returns-in_err-commit-clause-durable
 returns-in_err-commit-clause-durable g c = λ no_fault.

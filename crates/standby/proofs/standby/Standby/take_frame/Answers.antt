@@ -1,24 +1,14 @@
-use Rattle.std.proofs.Common.{rules, inl, Err, ap, ◌∙◌}
+use Rattle.std.proofs.Common.{rules, Err, ap, subst, ◌∙◌}
 use Rattle.std.proofs.lemmas.Result.{err_from_is_err_and}
-use Rattle.pmem.specs.Runs.{LeavesOnly}
-use Rattle.pmem.proofs.Leaving.{LeavesOnly-weaken, none_leaves}
-use Rattle.wbl_engine.specs.Freeing.{KeepsWithoutSome}
-use Rattle.standby.specs.Following.{IsBeforeOrWhole, IsTakenNext, WouldExhaust}
-use Rattle.standby.proofs.EndedLemmas.{KeepsWithoutSome-none}
-use Rattle.standby.proofs.TakingLemmas.{TakesFrame-refused, TakesFrame-taken, TakesFrame-unfreed}
+use Rattle.standby.specs.Following.{Follows, IsTakenNext, WouldExhaust}
+use Rattle.standby.proofs.TakingLemmas.{TakesFrame-refused, TakesFrame-taken, TakesFrame-unfreed, TakesFrame-unroomed, exhausted-next}
 use Rattle.standby.proofs.standby.Standby.take_frame.Given.{Over}
 use Rattle.standby.proofs.standby.Standby.take_frame.Goals as goal
 use Rattle.standby.proofs.standby.Standby.take_frame.Goals.{After-free_ended}
 
 pub returns-then-would_exhaust : goal.returns-then-would_exhaust
 returns-then-would_exhaust g c =
-    let device = g.E.Durable.device c.args.self.now.engine in
-    let contents = g.E.Durable.contents c.args.self.now.engine in
-    let rests : LeavesOnly device device (KeepsWithoutSome c.args.self.now.ended.items contents) =
-    none_leaves _ _ (λ image is. KeepsWithoutSome-none c.args.self.now.ended.items contents image (c.requires.durable image is)) in
-    let moments : LeavesOnly device device (IsBeforeOrWhole c.args.frame c.args.self.now.ended.items contents (g.K.Keyspace.table c.args.self.now.keyspace)) =
-    LeavesOnly-weaken _ (λ image some. inl some) rests in
-    search rules
+    exhausted-next g.E.Durable.device g.E.Durable.contents g.E.Durable.is_faulted g.K.Keyspace.table c.args.frame c.args.self.now c.requires (search rules) (search rules)
 
 next : (g : Over) (c : After-free_ended g) → IsTakenNext (g.E.Durable.contents c.args.self.now.engine).current c.args.frame
 next g c = search rules
@@ -34,8 +24,25 @@ returns-in_err-free_ended g c =
     (TakesFrame-unfreed g.E.Durable.device g.E.Durable.contents g.E.Durable.is_faulted g.K.Keyspace.table c.args.frame c.args.self.now c.requires (next g prefix) (fits g prefix)
     c.in_err-free_ended.field-0.0 c.free_ended.new.self (search (rules, c.in_err-free_ended.ensures)))
 
+pub make_room-requires-clause-durable : goal.make_room-requires-clause-durable
+make_room-requires-clause-durable g c = c.in_ok-free_ended.ensures.durable (λ is. cc)
+
+pub returns-in_err-make_room : goal.returns-in_err-make_room
+returns-in_err-make_room g c =
+    let exit = err_from_is_err_and c.from_residual-in_err-make_room.result c.from_residual-in_err-make_room.ensures.1 in
+    let prefix = (goal.at.returns-in_err-make_room g c).After-free_ended in
+    rw (exit.1 ∙ ap Err exit.2)
+    (TakesFrame-unroomed g.E.Durable.device g.E.Durable.contents g.E.Durable.is_faulted g.K.Keyspace.table c.args.frame c.args.self.now c.requires (next g prefix) (fits g prefix)
+    c.free_ended.new.self c.make_room.new.self c.in_ok-free_ended.field-0 (search (rules, c.in_ok-free_ended.ensures)) c.in_err-make_room.field-0.0
+    (record { rearranges = c.in_err-make_room.ensures.rearranges; unmoved = c.in_err-make_room.ensures.unmoved; done = tt }))
+
+pub commit_frame-requires-clause-follows : goal.commit_frame-requires-clause-follows
+commit_frame-requires-clause-follows g c =
+    let is = c.in_ok-make_room.ensures.rearranges in
+    subst (Follows (g.E.Durable.contents c.make_room.new.self.engine) (g.K.Keyspace.table c.make_room.new.self.keyspace) c.make_room.new.self.heap) is.none (is.still (λ fault. cc))
+
 pub commit_frame-requires-clause-durable : goal.commit_frame-requires-clause-durable
-commit_frame-requires-clause-durable g c = c.in_ok-free_ended.ensures.durable (λ is. cc)
+commit_frame-requires-clause-durable g c = c.in_ok-make_room.ensures.rearranges.durable (λ is. cc)
 
 pub returns-in_err-commit_frame : goal.returns-in_err-commit_frame
 returns-in_err-commit_frame g c =
@@ -43,10 +50,14 @@ returns-in_err-commit_frame g c =
     let prefix = (goal.at.returns-in_err-commit_frame g c).After-free_ended in
     rw (exit.1 ∙ ap Err exit.2)
     (TakesFrame-refused g.E.Durable.device g.E.Durable.contents g.E.Durable.is_faulted g.K.Keyspace.table c.args.frame c.args.self.now c.requires (next g prefix) (fits g prefix)
-    c.free_ended.new.self c.commit_frame.new.self c.in_ok-free_ended.field-0 (search (rules, c.in_ok-free_ended.ensures)) c.in_err-commit_frame.field-0.0 (search (rules, c.in_err-commit_frame.ensures)))
+    c.free_ended.new.self c.make_room.new.self c.in_ok-free_ended.field-0 (search (rules, c.in_ok-free_ended.ensures)) c.commit_frame.new.self c.in_ok-make_room.field-0
+    (record { rearranges = c.in_ok-make_room.ensures.rearranges; unmoved = c.in_ok-make_room.ensures.unmoved; done = c.in_ok-make_room.ensures.done })
+    c.in_err-commit_frame.field-0.0 (search (rules, c.in_err-commit_frame.ensures)))
 
 pub returns : goal.returns
 returns g c =
     let prefix = (goal.at.returns g c).After-free_ended in
     TakesFrame-taken g.E.Durable.device g.E.Durable.contents g.E.Durable.is_faulted g.K.Keyspace.table c.args.frame c.args.self.now c.requires (next g prefix) (fits g prefix)
-    c.free_ended.new.self c.commit_frame.new.self c.in_ok-free_ended.field-0 (search (rules, c.in_ok-free_ended.ensures)) c.in_ok-commit_frame.field-0 _ (search (rules, c.in_ok-commit_frame.ensures)) c.ack-2.ensures
+    c.free_ended.new.self c.make_room.new.self c.in_ok-free_ended.field-0 (search (rules, c.in_ok-free_ended.ensures)) c.commit_frame.new.self c.in_ok-make_room.field-0
+    (record { rearranges = c.in_ok-make_room.ensures.rearranges; unmoved = c.in_ok-make_room.ensures.unmoved; done = c.in_ok-make_room.ensures.done })
+    c.in_ok-commit_frame.field-0 _ (search (rules, c.in_ok-commit_frame.ensures)) c.ack-2.ensures

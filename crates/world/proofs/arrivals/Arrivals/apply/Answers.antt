@@ -12,11 +12,10 @@ use Rattle.machine.specs.Sound.{Sound}
 use Rattle.frames.specs.declared.ack.Ack.{Ack}
 use Rattle.frames.specs.declared.frame.Frame.{Frame}
 use Rattle.standby.specs.declared.standby.Standby.{Standby}
-use Rattle.standby.specs.Following.{HasFreed}
 use Rattle.world.specs.Cause.{EndsBy}
 use Rattle.world.specs.Committing.{NearOnly, next_from, next_standby}
 use Rattle.world.specs.Standby.{Arrived, Node, ArrivalsRefine, StandbyStands, arrived_with, told_by}
-use Rattle.world.proofs.StandbyLemmas.{Answers, IsKept, IsKept-freed, IsKept-same, OnErr-weaken, takes_ok, takes_refused, refused-full, frame-ends, frame-moments, StandbyStands-still}
+use Rattle.world.proofs.StandbyLemmas.{Answers, IsKept-rearranged, OnErr-weaken, takes_ok, takes_refused, refused-full, frame-ends, frame-moments, StandbyStands-still}
 use Rattle.world.proofs.EngineLemmas.{Opens-engine, rests-same}
 use Rattle.world.specs.Link.{AreAcksSent}
 use Rattle.world.proofs.FrameLemmas.{AreAcksSent-push}
@@ -37,14 +36,6 @@ node g standby = record {
   epoch = (g.E.Durable.contents standby.engine).current.epoch;
 }
 
--- nothing changed, or what had ended is freed
-kept : (g : Over) (old new : Standby g.row.E.Denot g.row.K.Denot g.row.E-Device.Denot)
-    → (g.K.Keyspace.table new.keyspace ≡ g.K.Keyspace.table old.keyspace)
-    × ((new ≡ old) ⊎ HasFreed old.ended.items (g.E.Durable.contents old.engine) (g.E.Durable.contents new.engine) old.heap new.heap new.ended.items)
-    → IsKept (node g old) (node g new)
-kept g old new (table, inl same) = IsKept-same (node g old) (node g new) (ap (node g) same)
-kept g old new (table, inr freed) = IsKept-freed (node g old) (node g new) table freed
-
 answers : (g : Over) (c : After-on_frame g) → Answers c.unwrap-frame.result (node g c.args.standby.now) c.on_frame.result (node g c.on_frame.new.self)
 answers g c = record {
   again = λ epoch le. let told = c.on_frame.ensures.again epoch le in (told.0, ap (node g) told.1);
@@ -54,7 +45,7 @@ answers g c = record {
   ack = λ epoch next. c.on_frame.ensures.ack (record { epoch = inl epoch; next = next });
   taken = λ epoch next. c.on_frame.ensures.taken (record { epoch = inl epoch; next = next });
   causes = λ epoch next. c.on_frame.ensures.causes (record { epoch = inl epoch; next = next });
-  refused = λ no_fault. OnErr-weaken c.on_frame.result (kept g c.args.standby.now c.on_frame.new.self) (c.on_frame.ensures.refused no_fault);
+  refused = λ no_fault. OnErr-weaken c.on_frame.result (IsKept-rearranged (node g c.args.standby.now) (node g c.on_frame.new.self)) (c.on_frame.ensures.refused no_fault);
   fault = λ cause. (c.on_frame.ensures.fault cause).1;
   exhausted = λ cause. let told = c.on_frame.ensures.exhausted cause in (told.0, ap (λ (s : Standby g.row.E.Denot g.row.K.Denot g.row.E-Device.Denot). g.E.Durable.device s.engine) told.1);
   still = c.on_frame.ensures.still;
@@ -192,4 +183,4 @@ returns-in-Err-clause-answered g c =
     (sym (stood_first g (goal.at.returns-in-Err-clause-answered g c).After-on_frame))
     (λ next.
     refused-full c.on_frame.result c.in-Err.refusal c.in-Err.is (c.goes_on.ensures.0 c.if-goes_on.true) (c.on_frame.ensures.causes next)
-    (λ full. let told = c.on_frame.ensures.full full in inr (record { room = told.0; freed = told.1.none })))
+    (λ full. let told = c.on_frame.ensures.full full in inr (record { room = told.0; freed = told.1 })))

@@ -1,0 +1,52 @@
+//! Whether changes find room, before any is made.
+ghost use Rattle.std.specs.Prelude.{◌≡◌, ◌↔◌, ◌++◌, ◌+◌, IsTrue, length, max, IfOk, IfErr};
+ghost use Rattle.extent_heap.specs.Room.{has_room};
+ghost use Rattle.placing.specs.Fitting.{fits_surely, lines_wanted, most};
+ghost use Rattle.placing.specs.Place.{HasRoomFor};
+
+use crate::places::{give_back, lines_for, place_all};
+use extent_heap::ExtentHeap;
+use kv_types::{Change, Refusal};
+use std::alloc::Global;
+
+/// Whether the heap has room for all puts among these changes, in turn, as `perform` would place them. It tries, and gives all back.
+///
+/// # Errors
+///
+/// Only `Memory`.
+pub fn has_room_for(
+    alloc: Global,
+    heap: &mut ExtentHeap,
+    changes: &Vec<Change>,
+) -> Result<bool, Refusal>
+    ensures room { IfOk result (λ has. IsTrue has ↔ HasRoomFor heap.old changes.now.items) }
+    ensures heap { heap.new ≡ heap.old }
+    ensures cause { IfErr result (λ refusal. refusal ≡ Refusal.Memory) }
+{
+    let copy = changes.clone()?;
+    let mut placed = Vec::new(alloc);
+    match place_all(heap, copy, &mut placed) {
+        Ok(()) => {
+            give_back(heap, &mut placed, 0);
+            Ok(true)
+        }
+        Err(Refusal::Full) => Ok(false),
+        Err(refusal) => Err(refusal),
+    }
+}
+
+/// Whether the puts among these changes find room whatever their order: there are as many free entries, and so many extents of the longest of
+/// them can be cut from the free runs. It takes no memory, and changes may fit without it.
+pub fn fits_surely(heap: &ExtentHeap, changes: &[Change]) -> bool
+    ensures { result ≡ fits_surely heap.now changes.now }
+{
+    let mut count: u64 = 0;
+    let mut longest: u64 = 1;
+    for change in changes {
+        if let Change::Put(id, value) = change {
+            count = count.saturating_add(1);
+            longest = longest.max(lines_for(id, value));
+        }
+    }
+    heap.has_room(count, longest)
+}

@@ -1,0 +1,213 @@
+-- A gap that a standby clears to make room.
+use Rattle.std.proofs.Common.{◌≡◌, ℕ, ◌+◌, ◌<◌, ◌≤◌, ◌||◌, ◌⊎◌, inl, inr, Bool, true, false, IsTrue, List, [], ◌∷◌, Ok, Err, length, nat_eq, refl, sym, ap, subst, ◌∙◌, arith, eq-eqb}
+use Rattle.std.proofs.lemmas.Bool.{false_from_ne_true, or_cases, or_left, or_right, true≢false}
+use Rattle.std.specs.List.{AllByRecursion}
+use Rattle.kv_types.specs.declared.place.EntryNo.{EntryNo}
+use Rattle.kv_types.specs.declared.refusal.Refusal.{Refusal}
+use Rattle.kv_types.specs.declared.refusal.Refusal.TheVariants.{Exhausted, Fault, Memory}
+use Rattle.pmem.specs.Device.{State}
+use Rattle.pmem.specs.Runs.{LeavesOnly}
+use Rattle.pmem.proofs.Leaving.{LeavesOnly-weaken}
+use Rattle.extent_heap.specs.Room.{IsOutEntry, Room, is_free_entry, is_free_line}
+use Rattle.model.specs.declared.image.TheConstants.{COUNTER_LIMIT}
+use Rattle.model.specs.declared.record.Record.{Record}
+use Rattle.model.specs.Group.{Contents, Versions, is_ended_version, is_listed}
+use Rattle.model.specs.Image.{Image, entries_of_lines}
+use Rattle.mv_keyspace.specs.Table.{IsTable, Table}
+use Rattle.placing.specs.Back.{CanGiveAll, GivesAll}
+use Rattle.placing.proofs.MemberLemmas.{distinct_none}
+use Rattle.wbl_engine.specs.Contents.{IsDurable, Keeps}
+use Rattle.wbl_engine.specs.Freeing.{Clears, KeepsVersions, cleared_contents, record_after_clearing}
+use Rattle.wbl_engine.specs.Lawful.{AreLawful}
+use Rattle.wbl_engine.proofs.LawfulLemmas.{lawful_from}
+use Rattle.wbl_engine.proofs.WithoutLemmas.{consistent_cleared, lawful_cleared}
+use Rattle.frames.specs.declared.frame.Frame.{Frame}
+use Rattle.standby.specs.declared.standby.Standby.{Standby}
+use Rattle.standby.specs.Following.{Follows, HoldsRearranged, IsNearLimit, IsRearranged, WouldExhaust}
+use Rattle.standby.specs.Taking.{Rearranges}
+use Rattle.standby.proofs.RearrangedLemmas.{HoldsRearranged-keeps, IsRearranged-recorded}
+use Rattle.standby.proofs.RoomLemmas.{IsReady, Rearranges-refused}
+
+-- ---- entries that are listed
+
+all-listed : (P : ℕ → Type 0) (entries : List EntryNo) → ((i : ℕ) → IsTrue (is_listed i entries) → P i) → AllByRecursion (λ entry. P entry.0) entries
+all-listed P [] each = tt
+all-listed P (entry ∷ entries) each =
+    (each entry.0 (or_left (nat_eq entry.0 entry.0) (is_listed entry.0 entries) (eq-eqb entry.0 entry.0 refl)), all-listed P entries (λ i listed. each i (or_right (nat_eq i entry.0) (is_listed i entries) listed)))
+
+or_false : (b : Bool) → (b || false) ≡ b
+or_false true = refl
+or_false false = refl
+
+module _ (old new : Contents) (table : Table) (room : Room) (follows : Follows old table room []) (entries : List EntryNo) (clears : Clears old entries new) where
+  -- the entries that were begun in the gap can be given back
+  out : (i : ℕ) → IsTrue (is_listed i entries) → (i < room.end_entry) × (is_free_entry room i ≡ false)
+  out i listed = (
+    subst (λ n. i < n) (sym follows.out.end_entry) (clears.within i listed),
+    false_from_ne_true (is_free_entry room i) (λ free. true≢false (sym (follows.left.entries i free).1 ∙ clears.were_not_free i listed)),
+  )
+
+  pub CanGiveAll-cleared : CanGiveAll room entries []
+  CanGiveAll-cleared = record {
+    once = clears.once;
+    entries_out = all-listed (λ i. IsOutEntry room (record { 0 = i })) entries (λ i listed. let is = out i listed in record { within = is.0; taken = is.1 });
+    apart = tt;
+    extents_out = tt;
+    held = omega arith;
+  }
+
+  same : new.versions ≡ old.versions
+  same = λ p i. clears.versions i p
+
+  -- and the tables follow
+  pub Follows-cleared : (room' : Room) → GivesAll room entries [] room' → Follows new table room' []
+  Follows-cleared room' given =
+      let lines : (line : ℕ) → is_free_line room' line ≡ is_free_line room line = λ line. given.lines_given line ∙ or_false (is_free_line room line) in
+      record {
+        consistent = consistent_cleared old new entries clears follows.consistent;
+        left = record {
+          entries = λ i free. elim (or_cases (is_free_entry room i) (is_listed i entries) (sym (given.entries_given i) ∙ free)) [
+            | inl was ↦
+                let before = follows.left.entries i was in (
+                  subst (λ n. i < entries_of_lines n) (sym clears.lines_are) before.0,
+                  clears.is_free i ∙ or_left (old.is_free i) (is_listed i entries) before.1,
+                  clears.versions i ∙ before.2,
+                )
+            | inr listed ↦ (
+              subst (λ n. i < entries_of_lines n) (sym clears.lines_are) (clears.within i listed),
+              clears.is_free i ∙ or_right (old.is_free i) (is_listed i entries) listed,
+              clears.versions i ∙ clears.held_none i listed,
+            )
+          ];
+          lines = λ line free.
+              let before = follows.left.lines line (sym (lines line) ∙ free) in
+              rw clears.lines_are before;
+          apart = λ i version begun.
+              let was = follows.left.apart i version (sym (clears.versions i) ∙ begun) in
+              record { some = was.some; none = λ line low high. lines line ∙ was.none line low high };
+        };
+        table_is = subst (λ (versions : Versions). IsTable versions table) (sym same) follows.table_is;
+        apart = λ i j v w differ is_v is_w. follows.apart i j v w differ (sym (clears.versions i) ∙ is_v) (sym (clears.versions j) ∙ is_w);
+        out = record {
+          end_line = given.end_line ∙ follows.out.end_line ∙ sym clears.lines_are;
+          end_entry = given.end_entry ∙ follows.out.end_entry ∙ ap entries_of_lines (sym clears.lines_are);
+          held =
+              let was = follows.out.held in
+              let held = given.held in
+              rw (same, clears.lines_are) (omega (arith, was, held));
+        };
+        listed = tt;
+        all = λ i is. follows.all i (sym (ap is_ended_version (clears.versions i)) ∙ is);
+      }
+
+-- ---- the map
+
+lawful_next : (a : Contents) → a.current.number + 1 < COUNTER_LIMIT → AreLawful a → AreLawful (cleared_contents a)
+lawful_next a room are =
+    lawful_cleared a (cleared_contents a) [] (record {
+      current = refl;
+      lines_are = refl;
+      versions = λ i. refl;
+      is_free = λ i. sym (or_false (a.is_free i));
+      within = λ i listed. cc;
+      were_not_free = λ i listed. cc;
+      held_none = λ i listed. cc;
+      once = distinct_none nat_eq;
+    }) room are
+
+module _ {E K D : Type 0} (device : E → State) (contents : E → Contents) (is_faulted : E → Bool) (table : K → Table) (frame : Frame) (old : Standby E K D)
+    (ready : IsReady device contents is_faulted table frame old) (far : ¬ IsNearLimit (contents old.engine).current) where
+  below : (contents old.engine).current.number + 1 < COUNTER_LIMIT
+  below = grind (arith, far)
+
+  cleared : IsRearranged (contents old.engine) (cleared_contents (contents old.engine))
+  cleared = IsRearranged-recorded (contents old.engine) (cleared_contents (contents old.engine)) refl refl refl refl (λ i. refl)
+      (λ are. lawful_next (contents old.engine) below are)
+
+  run : (device' : State) → LeavesOnly (device old.engine) device' (λ image. Keeps (contents old.engine) image ⊎ Keeps (cleared_contents (contents old.engine)) image)
+      → LeavesOnly (device old.engine) device' (HoldsRearranged (contents old.engine))
+  run device' moments = LeavesOnly-weaken (HoldsRearranged (contents old.engine)) (λ image either. holds image either) moments
+    where
+      holds : (image : Image) → Keeps (contents old.engine) image ⊎ Keeps (cleared_contents (contents old.engine)) image → HoldsRearranged (contents old.engine) image
+      holds image (inl keeps) = HoldsRearranged-keeps (contents old.engine) image keeps
+      holds image (inr keeps) = record {
+        after = cleared_contents (contents old.engine);
+        rearranged = cleared;
+        consistent = λ consistent. record { free = consistent.free; beyond = consistent.beyond };
+        keeps = keeps;
+      }
+
+  not_exhausting : (r : Record) → ¬ IsNearLimit r → ¬ WouldExhaust r frame → ¬ WouldExhaust (record_after_clearing r) frame
+  not_exhausting r far fits (inl stamps) = fits (inl stamps)
+  not_exhausting r far fits (inr (inl position)) = fits (inr (inl position))
+  not_exhausting r far fits (inr (inr (inl number))) = far (inr number)
+  not_exhausting r far fits (inr (inr (inr epoch))) = fits (inr (inr (inr epoch)))
+
+  -- the gap was cleared
+  pub Rearranges-cleared : (engine : E) (entries : List EntryNo) (room' : Room) (new : Standby E K D) → new.engine ≡ engine → new.keyspace ≡ old.keyspace → new.heap ≡ room' → new.ended ≡ old.ended
+      → Clears (contents old.engine) entries (contents engine) → GivesAll old.heap entries [] room'
+      → IsDurable (device engine) (contents engine) → (is_faulted engine ≡ false) × ((device engine).failures ≡ (device old.engine).failures)
+      → LeavesOnly (device old.engine) (device engine) (λ image. Keeps (contents old.engine) image ⊎ Keeps (cleared_contents (contents old.engine)) image)
+      → Rearranges device contents is_faulted table frame old (Ok true) new
+  Rearranges-cleared engine entries room' new engine_is keyspace_is heap_is ended_is clears given durable sound moments =
+      let follows = Follows-cleared (contents old.engine) (contents engine) (table old.keyspace) old.heap ready.follows entries clears room' given in
+      let none : new.ended.items ≡ [] = ap (λ ended. ended.items) ended_is ∙ ready.none in
+      let current = clears.current in
+      record {
+        causes = tt;
+        map = rw keyspace_is refl;
+        rearranged = rw engine_is (IsRearranged-recorded (contents old.engine) (contents engine) (ap (λ (r : Record). r.position) current) (ap (λ (r : Record). r.epoch) current)
+            (ap (λ (r : Record). r.role) current) clears.lines_are clears.versions (λ are. lawful_cleared (contents old.engine) (contents engine) entries clears below are));
+        none = none;
+        still = λ _. rw (engine_is, keyspace_is, heap_is, none) follows;
+        sound = λ _. rw engine_is sound;
+        durable = λ _. rw engine_is durable;
+        fault = λ is. cc;
+        counters = λ _. rw (engine_is, current) (not_exhausting (contents old.engine).current far ready.counters);
+        moments = rw engine_is (run (device engine) moments);
+      }
+
+  three : (refusal : Refusal) → (refusal ≡ Fault) ⊎ ((refusal ≡ Exhausted) ⊎ (refusal ≡ Memory)) → (refusal ≡ Exhausted → ⊥) → (refusal ≡ Memory) ⊎ (refusal ≡ Fault)
+  three refusal (inl fault) none = inr fault
+  three refusal (inr (inl exhausted)) none = absurd (none exhausted)
+  three refusal (inr (inr memory)) none = inl memory
+
+  -- that was refused
+  pub Rearranges-uncleared : (engine : E) (refusal : Refusal) (new : Standby E K D) → new.engine ≡ engine → new.keyspace ≡ old.keyspace → new.heap ≡ old.heap → new.ended ≡ old.ended
+      → (refusal ≡ Fault) ⊎ ((refusal ≡ Exhausted) ⊎ (refusal ≡ Memory)) → (refusal ≡ Exhausted → COUNTER_LIMIT ≤ (contents old.engine).current.number + 1) → (refusal ≡ Memory → engine ≡ old.engine)
+      → (refusal ≡ Fault → KeepsVersions (contents old.engine) (contents engine)) → (refusal ≡ Fault → (is_faulted engine ≡ true) × ((device old.engine).failures < (device engine).failures))
+      → LeavesOnly (device old.engine) (device engine) (λ image. Keeps (contents old.engine) image ⊎ Keeps (cleared_contents (contents old.engine)) image)
+      → Rearranges device contents is_faulted table {X = Bool} frame old (Err refusal) new
+  Rearranges-uncleared engine refusal new engine_is keyspace_is heap_is ended_is causes limit memory stays fault moments =
+      elim (three refusal causes (λ exhausted. let reached = limit exhausted in omega (arith, reached, below))) [
+        | inl is_memory ↦
+            let same : new ≡ old = λ p. record { engine = (engine_is ∙ memory is_memory) p; keyspace = keyspace_is p; heap = heap_is p; ended = ended_is p } in
+            rw (same, is_memory) (Rearranges-refused device contents is_faulted table {X = Bool} frame old ready)
+        | inr is_fault ↦
+            let kept = stays is_fault in
+            let told = fault is_fault in
+            record {
+              causes = inr is_fault;
+              map = rw keyspace_is refl;
+              rearranged = rw engine_is (IsRearranged-recorded (contents old.engine) (contents engine) (ap (λ (r : Record). r.position) kept.current) (ap (λ (r : Record). r.epoch) kept.current)
+                  (ap (λ (r : Record). r.role) kept.current) kept.lines_are kept.versions
+                  (λ are. lawful_from (contents old.engine) (contents engine) (rw kept.current are.current) kept.lines_are kept.versions are));
+              none = tt;
+              still = λ sound. absurd (sound (ap Err is_fault));
+              sound = λ sound. absurd (sound (ap Err is_fault));
+              durable = λ sound. absurd (sound (ap Err is_fault));
+              fault = λ _. rw engine_is told;
+              counters = λ sound. absurd (sound (ap Err is_fault));
+              moments = rw engine_is (run (device engine) moments);
+            }
+      ]
+
+-- a record that has a gap
+pub some_gap : {A : Type 0} (xs : List A) → (xs ≡ [] → ⊥) → 0 < length xs
+some_gap [] none = absurd (none refl)
+some_gap (x ∷ xs) none = omega arith
+
+-- a fence that fails now did not fail before
+pub failed_now : {A : Type 0} (before : Bool) → (before ≡ true) ⊎ A → before ≡ false → A
+failed_now before (inl was) sound = absurd (true≢false (sym was ∙ sound))
+failed_now before (inr now) sound = now

@@ -1,0 +1,182 @@
+//! Which versions are moved, so that a frame finds room.
+ghost use Rattle.std.specs.Prelude.{◌≡◌, [], false, IfErr, OnOk};
+ghost use Rattle.wbl_engine.specs.Contents.{IsDurable};
+ghost use Rattle.standby.specs.Following.{Follows, IsGapless, WouldExhaust};
+ghost use Rattle.standby.specs.Taking.{Rearranges};
+
+use crate::standby::Standby;
+use frames::Frame;
+use kv_types::{Change, Extent, Refusal};
+use model::LAYOUT;
+use mv_keyspace::{Keyspace, Row};
+use packing::{Move, make_window, push_down};
+use placing::lines_for;
+use std::alloc::{AllocError, Global};
+use wbl_engine::Durable;
+
+/// How a run of free lines is made.
+#[derive(Clone, Copy, Debug)]
+enum Way {
+    /// The run with the fewest live lines is emptied.
+    Window,
+    /// Versions are pushed down, one behind another.
+    Down,
+}
+
+/// How many lines the puts of a frame want.
+#[derive(Clone, Copy, Debug)]
+struct Wanted {
+    /// The longest of them, and at least one.
+    longest: u64,
+    /// All together, and at least one.
+    total: u64,
+}
+
+impl<E: Durable, K: Keyspace> Standby<E, K> {
+    /// Moves versions until the frame fits, or no plan is found for it: few moves for its longest put at first, then for all of them, and at last as many
+    /// as it takes.
+    ///
+    /// # Errors
+    ///
+    /// `Memory` if an allocation was refused, `Fault` if a fence failed.
+    pub(crate) fn move_for(&mut self, alloc: Global, frame: &Frame) -> Result<(), Refusal>
+        requires follows { Follows (E.contents self.old.engine) (K.table self.old.keyspace) self.old.heap [] }
+        requires none { self.old.ended.items ≡ [] }
+        requires sound { E.is_faulted self.old.engine ≡ false }
+        requires durable { IsDurable (E.device self.old.engine) (E.contents self.old.engine) }
+        requires counters { ¬ WouldExhaust (E.contents self.old.engine).current frame.now }
+        ensures rearranges { Rearranges E.device E.contents E.is_faulted K.table frame.now self.old result self.new }
+        ensures gapless { IsGapless (E.contents self.old.engine).current → OnOk result (IsGapless (E.contents self.new.engine).current) }
+    {
+        let wanted = wanted_by(&frame.changes);
+        if self.move_by(alloc, frame, Way::Window, wanted.longest)? {
+            return Ok(());
+        }
+        if self.move_by(alloc, frame, Way::Window, wanted.total)? {
+            return Ok(());
+        }
+        self.move_by(alloc, frame, Way::Down, wanted.total)?;
+        Ok(())
+    }
+
+    /// Makes the moves of one plan, for a run of so many lines, if there is one. Answers whether the frame fits then.
+    ///
+    /// # Errors
+    ///
+    /// `Memory` if an allocation was refused, `Fault` if a fence failed.
+    fn move_by(
+        &mut self,
+        alloc: Global,
+        frame: &Frame,
+        way: Way,
+        need: u64,
+    ) -> Result<bool, Refusal>
+        requires follows { Follows (E.contents self.old.engine) (K.table self.old.keyspace) self.old.heap [] }
+        requires none { self.old.ended.items ≡ [] }
+        requires sound { E.is_faulted self.old.engine ≡ false }
+        requires durable { IsDurable (E.device self.old.engine) (E.contents self.old.engine) }
+        requires counters { ¬ WouldExhaust (E.contents self.old.engine).current frame.now }
+        ensures rearranges { Rearranges E.device E.contents E.is_faulted K.table frame.now self.old result self.new }
+        ensures gapless { IsGapless (E.contents self.old.engine).current → OnOk result (IsGapless (E.contents self.new.engine).current) }
+    {
+        let rows = self.keyspace.since(alloc, 0)?;
+        let extents = extents_of(alloc, &self.engine, &rows)?;
+        let Some(moves) = plan(alloc, way, &extents, self.engine.lines(), need)? else {
+            return Ok(false);
+        };
+        self.make_moves(alloc, frame, &rows, &moves)?;
+        self.fits(alloc, frame)
+    }
+
+    /// Makes these moves of rows in turn, up to one that cannot be made.
+    ///
+    /// # Errors
+    ///
+    /// `Memory` if an allocation was refused, `Fault` if a fence failed.
+    fn make_moves(
+        &mut self,
+        alloc: Global,
+        frame: &Frame,
+        rows: &[Row],
+        moves: &[Move],
+    ) -> Result<(), Refusal>
+        requires follows { Follows (E.contents self.old.engine) (K.table self.old.keyspace) self.old.heap [] }
+        requires none { self.old.ended.items ≡ [] }
+        requires sound { E.is_faulted self.old.engine ≡ false }
+        requires durable { IsDurable (E.device self.old.engine) (E.contents self.old.engine) }
+        requires counters { ¬ WouldExhaust (E.contents self.old.engine).current frame.now }
+        ensures rearranges { Rearranges E.device E.contents E.is_faulted K.table frame.now self.old result self.new }
+        ensures gapless { IsGapless (E.contents self.old.engine).current → OnOk result (IsGapless (E.contents self.new.engine).current) }
+    {
+        for step in moves {
+            let Some(row) = rows.get(step.index) else {
+                return Ok(());
+            };
+            if !self.move_version(alloc, frame, &row.id, step.to.first_line)? {
+                return Ok(());
+            }
+        }
+        Ok(())
+    }
+}
+
+/// Moves that leave a run of so many free lines in an image of `lines` lines, if some are found.
+///
+/// # Errors
+///
+/// A growth was refused.
+fn plan(
+    alloc: Global,
+    way: Way,
+    extents: &[Extent],
+    lines: u64,
+    need: u64,
+) -> Result<Option<Vec<Move>>, AllocError> {
+    let first = LAYOUT.directory_line + LAYOUT.directory_room(lines);
+    match way {
+        Way::Window => make_window(alloc, extents, first, lines, need),
+        Way::Down => push_down(alloc, extents, first, lines, lines, need),
+    }
+}
+
+/// The places of these rows, one for each.
+///
+/// # Errors
+///
+/// Only `Memory`.
+fn extents_of<E: Durable>(alloc: Global, engine: &E, rows: &[Row]) -> Result<Vec<Extent>, Refusal>
+    requires sound { E.is_faulted engine.now ≡ false }
+    ensures cause { IfErr result (λ refusal. refusal ≡ Refusal.Memory) }
+{
+    let entries = LAYOUT.entries_of_lines(engine.lines());
+    let mut extents = Vec::with_capacity(alloc, rows.len())?;
+    for row in rows {
+        let extent = if row.entry.0 < entries {
+            engine.extent_of(row.entry)
+        } else {
+            Extent {
+                first_line: 0,
+                lines: 0,
+            }
+        };
+        extents.push(extent)?;
+    }
+    Ok(extents)
+}
+
+/// How many lines the puts among these changes want.
+fn wanted_by(changes: &[Change]) -> Wanted {
+    let mut longest: u64 = 1;
+    let mut total: u64 = 0;
+    for change in changes {
+        if let Change::Put(id, value) = change {
+            let lines = lines_for(id, value);
+            longest = longest.max(lines);
+            total = total.saturating_add(lines);
+        }
+    }
+    Wanted {
+        longest,
+        total: total.max(1),
+    }
+}
