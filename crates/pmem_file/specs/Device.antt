@@ -9,7 +9,7 @@ use Rattle.pmem.specs.History.{words_of, past_of, failures_of}
 use Rattle.pmem_file.specs.Call.{Call, Measured, Synced, read_of, calls_of}
 use Rattle.pmem_file.specs.Line.{has_line, runs_of, with_writes}
 use Rattle.pmem_file.specs.Noted.{is_noted}
-use Rattle.pmem_file.specs.Opening.{Step, Opened, Locked, FileSynced, FolderSynced, Found, IsBegun, with_reads, steps_of}
+use Rattle.pmem_file.specs.Opening.{Step, Opened, Locked, FileSynced, FolderSynced, Found, DataSynced, IsBegun, with_blocks, steps_of}
 use Rattle.pmem_file.specs.declared.run.TheConstants.{LINES_A_WRITE}
 
 -- Each fence may fail. The device takes no memory once it is open, so it is never starved of any
@@ -41,16 +41,17 @@ asked_by device = calls_of device.file.calls
 abbrev pub opening_by : FilePmem → List Step
 opening_by device = steps_of device.opening
 
--- after these calls the whole file was read, block by block in order, which gave its words, and nothing else was asked before the device was there
+-- after these calls the whole file was read, block by block in order, which gave its words; each block was written back as it was read; then the
+-- data were synced, with success; and nothing else was asked before the device was there
 pub record IsReadAfter (device : FilePmem) (before : List Step) : Type 0 where
   pub words : length (read_by device) ≡ 8 * (state_of device).lines
-  pub calls : opening_by device ≡ with_reads (read_by device) (div_ceil (state_of device).lines LINES_A_WRITE) before
+  pub calls : opening_by device ≡ DataSynced true ∷ with_blocks (read_by device) (div_ceil (state_of device).lines LINES_A_WRITE) before
 
--- a device that was opened: its file was opened and locked, found as long as its words, and read
+-- a device that was opened: its file was opened and locked, found as long as its words, read, written back and synced
 abbrev pub IsOpened : FilePmem → Type 0
 IsOpened device = IsReadAfter device (Found (Some (64 * (state_of device).lines)) ∷ Locked true ∷ Opened true ∷ [])
 
--- a device that was created: its file was begun, synced, its folder synced, found as long as its words, and read
+-- a device that was created: its file was begun, synced, its folder synced, found as long as its words, read, written back and synced
 pub record IsCreated (device : FilePmem) : Type 0 where
   pub begun : List Step
   pub begins : IsBegun (64 * (state_of device).lines) begun

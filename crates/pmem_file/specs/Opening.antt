@@ -1,7 +1,7 @@
 -- What was asked of a file before the device over it was there.
 use Rattle.std.specs.Prelude.{◌≡◌, ◌⊎◌, ℕ, zero, suc, ◌*◌, Bool, true, false, Option, List, [], ◌∷◌}
 use Rattle.pmem_file.specs.declared.opening_calls.OpeningCall.{OpeningCall}
-use Rattle.pmem_file.specs.declared.opening_calls.OpeningCall.TheVariants.{Make, Open, Lock, Resize, SyncFile, SyncFolder, Measure, Read}
+use Rattle.pmem_file.specs.declared.opening_calls.OpeningCall.TheVariants.{Make, Open, Lock, Resize, SyncFile, SyncFolder, Measure, Read, WriteBack, SyncData}
 use Rattle.pmem_file.specs.declared.opening_calls.OpeningCalls.{OpeningCalls}
 use Rattle.pmem_file.specs.declared.opening_calls.OpeningCalls.TheVariants.{Nothing, Then'}
 use Rattle.pmem_file.specs.declared.run.TheConstants.{LINES_A_WRITE}
@@ -25,17 +25,24 @@ pub data Step : Type 0 where
   Found : (bytes : Option ℕ) → Step
   -- a read from this byte of the file on, which gave these bytes. Where it failed they may be others
   ReadAt : (offset : ℕ) (bytes : List ℕ) (done : Bool) → Step
+  -- a write of these bytes from this byte of the file on, which were read there
+  WroteBack : (offset : ℕ) (bytes : List ℕ) (done : Bool) → Step
+  -- its data are synced
+  DataSynced : (done : Bool) → Step
 
 -- how the file of a device that is created begins: it is made, locked and given its length in bytes; or one is there, and it is opened and locked
 abbrev pub IsBegun : ℕ → List Step → Type 0
 IsBegun bytes steps =
     (steps ≡ Resized bytes true ∷ Locked true ∷ Made true ∷ []) ⊎ (steps ≡ Locked true ∷ Opened true ∷ Made false ∷ [])
 
--- the calls after the first blocks of a file were read, in order, which gave these words. The last block may be shorter than the others
-abbrev pub with_reads : List ℕ → ℕ → List Step → List Step
-with_reads words zero steps = steps
-with_reads words (suc blocks) steps =
-    ReadAt (64 * (LINES_A_WRITE * blocks)) (run_bytes words (LINES_A_WRITE * blocks, LINES_A_WRITE)) true ∷ with_reads words blocks steps
+-- the calls after the first blocks of a file were read, in order, which gave these words, and each was written back as it was read. The last block
+-- may be shorter than the others
+abbrev pub with_blocks : List ℕ → ℕ → List Step → List Step
+with_blocks words zero steps = steps
+with_blocks words (suc blocks) steps =
+    WroteBack (64 * (LINES_A_WRITE * blocks)) (run_bytes words (LINES_A_WRITE * blocks, LINES_A_WRITE)) true
+    ∷ ReadAt (64 * (LINES_A_WRITE * blocks)) (run_bytes words (LINES_A_WRITE * blocks, LINES_A_WRITE)) true
+    ∷ with_blocks words blocks steps
 
 abbrev pub step_of : OpeningCall → Step
 step_of (Make done) = Made done
@@ -46,6 +53,8 @@ step_of (SyncFile done) = FileSynced done
 step_of (SyncFolder done) = FolderSynced done
 step_of (Measure found) = Found found
 step_of (Read offset bytes done) = ReadAt offset bytes.value.items done
+step_of (WriteBack offset bytes done) = WroteBack offset bytes.value.items done
+step_of (SyncData done) = DataSynced done
 
 -- the calls so far, the newest first
 abbrev pub steps_of : OpeningCalls → List Step

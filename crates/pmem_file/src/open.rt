@@ -1,11 +1,11 @@
 // Opening and making the file of a device.
-ghost use Rattle.std.specs.Prelude.{◌≡◌, ◌⊎◌, ℕ, ◌+◌, ◌*◌, ◌^◌, ◌<◌, ◌≤◌, ◌-◌, ◌∷◌, true, Some, min, length, vec_len, Err, IfOk, IfErr};
+ghost use Rattle.std.specs.Prelude.{◌≡◌, ◌⊎◌, ℕ, ◌+◌, ◌*◌, ◌^◌, ◌<◌, ◌≤◌, ◌-◌, [], ◌∷◌, true, false, if◌then◌else◌, Some, min, length, vec_len, vec_capacity, Err, IfOk, IfErr};
 ghost use Rattle.std.specs.Int.{div_ceil};
 ghost use Rattle.kv_types.specs.declared.refusal.Refusal;
 ghost use Rattle.model.specs.declared.image.TheConstants.{MIN_LINES, MAX_LINES};
 ghost use Rattle.pmem_file.specs.declared.run.TheConstants.{LINES_A_WRITE};
 ghost use Rattle.pmem_file.specs.Device.{state_of, IsFresh, IsReadAfter, IsOpened, IsCreated};
-ghost use Rattle.pmem_file.specs.Opening.{steps_of, Locked, Resized, FileSynced, FolderSynced, Found, IsBegun, with_reads};
+ghost use Rattle.pmem_file.specs.Opening.{steps_of, Made, Opened, Locked, Resized, FileSynced, FolderSynced, Found, DataSynced, IsBegun, with_blocks};
 
 use crate::bytes::decode;
 use crate::device::FilePmem;
@@ -22,12 +22,13 @@ const LINE_BYTES: u64 = 64;
 const BLOCK_BYTES: usize = 65_536;
 
 impl FilePmem {
-    /// Opens the device in a file, which stays locked until the device is dropped.
+    /// Opens the device in a file, which stays locked until the device is dropped. A system may hold in memory what it failed to bring to the
+    /// disk, or has not brought there yet: so each block is written back as it was read, and the file is synced.
     ///
     /// # Errors
     ///
-    /// `Fault` where the file cannot be opened, locked or read; `WrongSize` where it has not 4,096 to 2^31 whole lines of 64 bytes; `Memory`
-    /// where memory for its words was refused. The file is as it was.
+    /// `Fault` where the file cannot be opened, locked, read, written or synced; `WrongSize` where it has not 4,096 to 2^31 whole lines of
+    /// 64 bytes, and then nothing was written; `Memory` where memory for its words was refused. Its bytes are as they were.
     pub fn open<R: Files<File = File> + Alloc<A = Global>>(
         rt: &R,
         path: &str,
@@ -40,17 +41,19 @@ impl FilePmem {
     {
         let mut opening = locked(Opening::open(rt, path)?)?;
         let lines = count_lines(&mut opening)?;
-        read_device(rt.alloc(), opening, lines)
+        let loaded = load(rt.alloc(), &mut opening, lines)?;
+        Ok(FilePmem::new(loaded.words, loaded.notes, loaded.buffer, opening))
     }
 
     /// Opens the device of `lines` lines in a file, which stays locked until the device is dropped. Where there is no file it makes one of
-    /// zeros. Either way the file and its name in its folder are synced before it is read.
+    /// zeros, which its owner alone may read and write. Either way the file and its name in its folder are synced before it is read, and each
+    /// block is written back and synced, as `open` does: so the disk has room for all of it.
     ///
     /// # Errors
     ///
     /// `WrongSize` where `lines` is not 4,096 to 2^31, and then no file was touched, or where a file that is there has another size;
-    /// `Fault` where the file cannot be made, opened, locked, synced or read; `Memory` where memory for its words was refused. A file that was
-    /// being made may stay in part; another one is as it was.
+    /// `Fault` where the file cannot be made, opened, locked, read, written or synced; `Memory` where memory for its words was refused. A file
+    /// that was made and locked is removed again, where that can be done; the bytes of another one are as they were.
     pub fn create<R: Files<File = File> + Alloc<A = Global>>(
         rt: &R,
         path: &str,
@@ -65,32 +68,56 @@ impl FilePmem {
         if lines < MIN_LINES || MAX_LINES < lines {
             return Err(Refusal::WrongSize);
         }
-        // (also where the file was there: whoever made it may have ended before it was durable)
-        let mut opening = settled(rt, path, begun(rt, path, lines)?)?;
-        if count_lines(&mut opening)? != lines {
-            return Err(Refusal::WrongSize);
+        let (opening, is_new) = Opening::make_or_open(rt, path)?;
+        let mut opening = locked(opening)?;
+        match load_settled(rt, path, &mut opening, is_new, lines) {
+            Ok(loaded) => Ok(FilePmem::new(loaded.words, loaded.notes, loaded.buffer, opening)),
+            Err(refusal) => {
+                if is_new {
+                    opening.remove(rt, path);
+                }
+                Err(refusal)
+            }
         }
-        read_device(rt.alloc(), opening, lines)
     }
 }
 
-/// The file of a device of `lines` lines, locked: a new one of zeros, or the one that is there.
-fn begun<R: Files<File = File> + Alloc<A = Global>>(
+/// What a device over a file has in memory.
+#[derive(Drop)]
+struct Loaded {
+    words: Vec<u64>,
+    notes: Notes,
+    /// Room for the bytes of one write.
+    buffer: Vec<u8>,
+}
+
+/// What a device has in memory of a locked file, which was made or was there, once its length and its name are durable.
+fn load_settled<R: Files<File = File> + Alloc<A = Global>>(
     rt: &R,
     path: &str,
+    opening: &mut Opening,
+    is_new: bool,
     lines: u64,
-) -> Result<Opening, Refusal>
+) -> Result<Loaded, Refusal>
     requires { lines ≤ MAX_LINES }
-    ensures begun { IfOk result (λ opening. IsBegun (64 * lines) (steps_of opening.calls)) }
-    ensures causes { IfErr result (λ refusal. refusal ≡ Refusal.Fault) }
+    ensures words { IfOk result (λ loaded. vec_len loaded.words ≡ 8 * lines) }
+    ensures marks { IfOk result (λ loaded. vec_len loaded.notes.marks ≡ lines) }
+    ensures room { IfOk result (λ loaded. 64 * LINES_A_WRITE ≤ vec_capacity loaded.buffer) }
+    ensures noted { IfOk result (λ loaded. steps_of opening.new.calls
+        ≡ DataSynced true ∷ with_blocks loaded.words.items (div_ceil lines LINES_A_WRITE)
+        (Found (Some (64 * lines)) ∷ FolderSynced true ∷ FileSynced true
+        ∷ (if is_new then Resized (64 * lines) true ∷ steps_of opening.old.calls else steps_of opening.old.calls))) }
+    ensures causes { IfErr result (λ refusal. (refusal ≡ Refusal.Fault) ⊎ ((refusal ≡ Refusal.WrongSize) ⊎ (refusal ≡ Refusal.Memory))) }
 {
-    let (opening, is_new) = Opening::make_or_open(rt, path)?;
-    let opening = locked(opening)?;
-    if is_new {
-        resized(opening, LINE_BYTES * lines)
-    } else {
-        Ok(opening)
+    if is_new && !opening.resize(LINE_BYTES * lines) {
+        return Err(Refusal::Fault);
     }
+    // (also where the file was there: whoever made it may have ended before it was durable)
+    settle(rt, path, opening)?;
+    if count_lines(opening)? != lines {
+        return Err(Refusal::WrongSize);
+    }
+    load(rt.alloc(), opening, lines)
 }
 
 /// The file, once it is locked.
@@ -105,25 +132,13 @@ fn locked(mut opening: Opening) -> Result<Opening, Refusal>
     }
 }
 
-/// The file, once it is so many bytes long.
-fn resized(mut opening: Opening, bytes: u64) -> Result<Opening, Refusal>
-    ensures noted { IfOk result (λ resized. steps_of resized.calls ≡ Resized bytes true ∷ steps_of opening.calls) }
-    ensures causes { IfErr result (λ refusal. refusal ≡ Refusal.Fault) }
-{
-    if opening.resize(bytes) {
-        Ok(opening)
-    } else {
-        Err(Refusal::Fault)
-    }
-}
-
-/// The file, once its length and its name in its folder are durable.
-fn settled<R: Files<File = File> + Alloc<A = Global>>(
+/// Makes the file's length and its name in its folder durable.
+fn settle<R: Files<File = File> + Alloc<A = Global>>(
     rt: &R,
     path: &str,
-    mut opening: Opening,
-) -> Result<Opening, Refusal>
-    ensures noted { IfOk result (λ settled. steps_of settled.calls ≡ FolderSynced true ∷ FileSynced true ∷ steps_of opening.calls) }
+    opening: &mut Opening,
+) -> Result<(), Refusal>
+    ensures noted { IfOk result (λ _. steps_of opening.new.calls ≡ FolderSynced true ∷ FileSynced true ∷ steps_of opening.old.calls) }
     ensures causes { IfErr result (λ refusal. refusal ≡ Refusal.Fault) }
 {
     if !opening.sync_file() {
@@ -132,7 +147,7 @@ fn settled<R: Files<File = File> + Alloc<A = Global>>(
     if !opening.sync_folder(rt, path) {
         return Err(Refusal::Fault);
     }
-    Ok(opening)
+    Ok(())
 }
 
 /// How many lines a file has.
@@ -152,26 +167,35 @@ fn count_lines(opening: &mut Opening) -> Result<u64, Refusal>
     Ok(lines)
 }
 
-/// The device of a locked file of `lines` lines.
-fn read_device(alloc: Global, mut opening: Opening, lines: u64) -> Result<FilePmem, Refusal>
+/// What a device has in memory of a locked file of `lines` lines, which the disk has too.
+fn load(alloc: Global, opening: &mut Opening, lines: u64) -> Result<Loaded, Refusal>
     requires { lines ≤ MAX_LINES }
-    ensures fresh { IfOk result (λ device. IsFresh device) }
-    ensures lines { IfOk result (λ device. (state_of device).lines ≡ lines) }
-    ensures read { IfOk result (λ device. IsReadAfter device (steps_of opening.calls)) }
+    ensures words { IfOk result (λ loaded. vec_len loaded.words ≡ 8 * lines) }
+    ensures marks { IfOk result (λ loaded. vec_len loaded.notes.marks ≡ lines) }
+    ensures room { IfOk result (λ loaded. 64 * LINES_A_WRITE ≤ vec_capacity loaded.buffer) }
+    ensures noted { IfOk result (λ loaded. steps_of opening.new.calls
+        ≡ DataSynced true ∷ with_blocks loaded.words.items (div_ceil lines LINES_A_WRITE) (steps_of opening.old.calls)) }
     ensures causes { IfErr result (λ refusal. (refusal ≡ Refusal.Fault) ⊎ (refusal ≡ Refusal.Memory)) }
 {
-    let words = read_words(alloc, &mut opening, lines)?;
     let notes = Notes::new(alloc, lines as usize)?;
     let buffer = Vec::with_capacity(alloc, BLOCK_BYTES)?;
-    Ok(FilePmem::new(words, notes, buffer, opening))
+    let words = read_words(alloc, opening, lines)?;
+    if !opening.sync_data() {
+        return Err(Refusal::Fault);
+    }
+    Ok(Loaded {
+        words,
+        notes,
+        buffer,
+    })
 }
 
-/// The words of a file of `lines` lines, read in blocks.
+/// The words of a file of `lines` lines, read in blocks, each of which is written back as it was read.
 fn read_words(alloc: Global, opening: &mut Opening, lines: u64) -> Result<Vec<u64>, Refusal>
     requires { lines ≤ MAX_LINES }
     ensures count { IfOk result (λ words. vec_len words ≡ 8 * lines) }
     ensures noted { IfOk result (λ words. steps_of opening.new.calls
-        ≡ with_reads words.items (div_ceil lines LINES_A_WRITE) (steps_of opening.old.calls)) }
+        ≡ with_blocks words.items (div_ceil lines LINES_A_WRITE) (steps_of opening.old.calls)) }
     ensures causes { IfErr result (λ refusal. (refusal ≡ Refusal.Fault) ⊎ (refusal ≡ Refusal.Memory)) }
 {
     let mut words = Vec::with_capacity(alloc, 8 * lines as usize)?;
@@ -182,6 +206,9 @@ fn read_words(alloc: Global, opening: &mut Opening, lines: u64) -> Result<Vec<u6
         // (only the last block may be shorter)
         block.truncate((LINE_BYTES * count) as usize);
         if !opening.read(LINE_BYTES * first, &mut block) {
+            return Err(Refusal::Fault);
+        }
+        if !opening.write_back(LINE_BYTES * first, &block) {
             return Err(Refusal::Fault);
         }
         decode(&block, &mut words)?;

@@ -1,14 +1,14 @@
 // A file that is to become a device, with the list of what was asked of it.
 ghost use Rattle.std.specs.Prelude.{◌≡◌, [], ◌∷◌, true, false, is_some, if◌then◌else◌, vec_len, IfOk, IfErr};
 ghost use Rattle.kv_types.specs.declared.refusal.Refusal;
-ghost use Rattle.pmem_file.specs.Opening.{steps_of, Made, Opened, Locked, Resized, FileSynced, FolderSynced, Found, ReadAt};
+ghost use Rattle.pmem_file.specs.Opening.{steps_of, Made, Opened, Locked, Resized, FileSynced, FolderSynced, Found, ReadAt, WroteBack, DataSynced};
 
 use crate::opening_calls::{OpeningCall, OpeningCalls};
 use kv_types::Refusal;
 use std::alloc::Global;
 use std::fs::{self, File, Files, OpenOptions};
 use std::io::{self, ErrorKind};
-use std::os::unix::fs::FileExt;
+use std::os::unix::fs::{FileExt, OpenOptionsExt};
 use std::snapshot::Snapshot;
 
 /// An open file. Each call of the system stands in a function of its own, which notes it with what came of it.
@@ -54,6 +54,12 @@ impl Opening {
         ensures { result.1 ≡ self.calls }
     {
         (self.file, self.calls)
+    }
+
+    /// Takes away the file that this one made, where that can be done, and lets it go.
+    pub fn remove<R: Files<File = File> + Alloc<A = Global>>(self, rt: &R, path: &str) {
+        // (a file that stays is refused at its next opening, or is an image of zeros)
+        let _removed = fs::remove_file(rt, path);
     }
 
     /// Locks the file against every other device.
@@ -118,6 +124,25 @@ impl Opening {
             .note(&OpeningCall::Read(offset, Snapshot::of(block), done));
         done
     }
+
+    /// Writes a block from the byte `offset` on, where it was read.
+    pub fn write_back(&mut self, offset: u64, block: &Vec<u8>) -> bool
+        ensures { steps_of self.new.calls ≡ WroteBack offset block.now.items result ∷ steps_of self.old.calls }
+    {
+        let done = self.file.write_all_at(block, offset).is_ok();
+        self.calls
+            .note(&OpeningCall::WriteBack(offset, Snapshot::of(block), done));
+        done
+    }
+
+    /// Makes the file's data durable.
+    pub fn sync_data(&mut self) -> bool
+        ensures { steps_of self.new.calls ≡ DataSynced result ∷ steps_of self.old.calls }
+    {
+        let done = self.file.sync_data().is_ok();
+        self.calls.note(&OpeningCall::SyncData(done));
+        done
+    }
 }
 
 /// Opens a file that is there.
@@ -137,7 +162,7 @@ fn open_file<R: Files<File = File> + Alloc<A = Global>>(
     }
 }
 
-/// Makes a file where none is there.
+/// Makes a file where none is there, which its owner alone may read and write.
 fn make_file<R: Files<File = File> + Alloc<A = Global>>(
     rt: &R,
     path: &str,
@@ -150,6 +175,7 @@ fn make_file<R: Files<File = File> + Alloc<A = Global>>(
         .read(true)
         .write(true)
         .create_new(true)
+        .mode(0o600)
         .open(rt, path);
     calls.note(&OpeningCall::Make(made.is_ok()));
     match made {

@@ -23,6 +23,10 @@ pub enum OpeningCall {
     Measure(Option<u64>),
     /// A read of as many bytes as these from this byte of the file on, and what the block held then.
     Read(u64, Snapshot<Vec<u8>>, bool),
+    /// A write of these bytes, which were read there, from this byte of the file on.
+    WriteBack(u64, Snapshot<Vec<u8>>, bool),
+    /// A sync of the file's data.
+    SyncData(bool),
 }
 
 /// What was asked of a file, the newest call outermost. It takes no memory but its tag: a snapshot has no bytes.

@@ -2,8 +2,8 @@ use Rattle.std.proofs.Common.{◌≡◌, ℕ, ◌+◌, ◌*◌, ◌/◌, ◌%◌
 use Rattle.std.specs.Int.{div_ceil}
 use Rattle.pmem_file.specs.declared.run.TheConstants.{LINES_A_WRITE}
 use Rattle.pmem_file.specs.Byte.{words_in}
-use Rattle.pmem_file.specs.Opening.{ReadAt, steps_of, with_reads}
-use Rattle.pmem_file.proofs.OpeningLemmas.{with_reads-next}
+use Rattle.pmem_file.specs.Opening.{Step, ReadAt, WroteBack, steps_of, with_blocks}
+use Rattle.pmem_file.proofs.OpeningLemmas.{with_blocks-next}
 use Rattle.pmem_file.proofs.open.read_words.Goals as goal
 
 pub loop-number-preserved : goal.loop-number-preserved
@@ -27,13 +27,17 @@ loop-number-preserved c =
     let asked : steps_of c.read.new.self.calls ≡ ReadAt offset bytes true ∷ steps =
     c.read.ensures.noted ∙ ap (λ (done : Bool). ReadAt offset c.read.new.block.items done ∷ steps) c.if-not-read.false
     ∙ ap (λ (held : List ℕ). ReadAt offset held true ∷ steps) (sym c.deref.ensures.value) in
+    let back : steps_of c.write_back.new.self.calls ≡ WroteBack offset bytes true ∷ ReadAt offset bytes true ∷ steps =
+    c.write_back.ensures ∙ ap (λ (done : Bool). WroteBack offset c.read.new.block.items done ∷ steps_of c.read.new.self.calls) c.if-not-write_back.false
+    ∙ ap (λ (held : List ℕ). WroteBack offset held true ∷ steps_of c.read.new.self.calls) (sym c.deref.ensures.value)
+    ∙ ap (λ (earlier : List Step). WroteBack offset bytes true ∷ earlier) asked in
     record {
       count = omega (arith, below, c.in_ok-decode.ensures.count, size, c.min-count.ensures, c.loop-number.invariant.count);
       block = omega (arith, block, c.min-count.ensures);
       read =
-          asked
-          ∙ with_reads-next words bytes number before steps is short (c.in_ok-decode.ensures.whole whole) c.loop-number.invariant.read
-          ∙ ap (λ (now : List ℕ). with_reads now (number + 1) before) (sym c.in_ok-decode.ensures.words);
+          back
+          ∙ with_blocks-next words bytes number before steps is short (c.in_ok-decode.ensures.whole whole) c.loop-number.invariant.read
+          ∙ ap (λ (now : List ℕ). with_blocks now (number + 1) before) (sym c.in_ok-decode.ensures.words);
     }
 
 pub returns-clause-noted : goal.returns-clause-noted
@@ -41,4 +45,4 @@ returns-clause-noted c =
     let end : c.loop-number.number ≡ div_ceil c.args.lines LINES_A_WRITE =
     omega (arith, c.loop-number-test.false, c.loop-number.auto.number-end, c.div_ceil-number-end.ensures) in
     c.loop-number.invariant.read
-    ∙ ap (λ (blocks : ℕ). with_reads c.loop-number.words.items blocks (steps_of c.args.opening.now.calls)) end
+    ∙ ap (λ (blocks : ℕ). with_blocks c.loop-number.words.items blocks (steps_of c.args.opening.now.calls)) end
