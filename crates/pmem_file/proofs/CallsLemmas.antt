@@ -26,7 +26,7 @@ run_words words first count fit =
 first_word : (first : ℕ) → 64 * first / 8 ≡ 8 * first
 first_word first = omega arith
 
-reaches-run : (words : List ℕ) (first count word : ℕ) → Fit words
+pub reaches-run : (words : List ℕ) (first count word : ℕ) → Fit words
     → reaches (64 * first) (run_bytes words (first, count)) word
     ≡ (nat_le (8 * first) word && nat_lt word (8 * first + length (take (8 * count) (drop (8 * first) words))))
 reaches-run words first count word fit =
@@ -34,7 +34,7 @@ reaches-run words first count word fit =
     ∙ ap (λ (xs : List ℕ). nat_le (8 * first) word && nat_lt word (8 * first + length xs)) (run_words words first count fit)
 
 -- what the write of a run brings to a word is the word's value
-brought-run : (words : List ℕ) (first count word : ℕ) → Fit words → reaches (64 * first) (run_bytes words (first, count)) word ≡ true
+pub brought-run : (words : List ℕ) (first count word : ℕ) → Fit words → reaches (64 * first) (run_bytes words (first, count)) word ≡ true
     → brought (64 * first) (run_bytes words (first, count)) word ≡ get_or words word 0
 brought-run words first count word fit e =
     let part = take (8 * count) (drop (8 * first) words) in

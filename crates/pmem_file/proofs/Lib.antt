@@ -3,3 +3,5 @@ pub mod CallsLemmas
 pub mod HoldingLemmas
 pub mod LinesLemmas
 pub mod OpeningLemmas
+pub mod PageCacheLemmas
+pub mod WrittenBackLemmas

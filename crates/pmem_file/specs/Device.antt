@@ -45,6 +45,7 @@ opening_by device = steps_of device.opening
 -- data were synced, with success; and nothing else was asked before the device was there
 pub record IsReadAfter (device : FilePmem) (before : List Step) : Type 0 where
   pub words : length (read_by device) ≡ 8 * (state_of device).lines
+  pub fit : (word : ℕ) → slice_index (read_by device) word < 2 ^ 64
   pub calls : opening_by device ≡ DataSynced true ∷ with_blocks (read_by device) (div_ceil (state_of device).lines LINES_A_WRITE) before
 
 -- a device that was opened: its file was opened and locked, found as long as its words, read, written back and synced

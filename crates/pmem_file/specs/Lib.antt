@@ -6,3 +6,4 @@ pub mod Known
 pub mod Line
 pub mod Noted
 pub mod Opening
+pub mod PageCache

@@ -38,7 +38,7 @@ pub struct FilePmem {
 }
 
 impl FilePmem {
-    ghost use Rattle.std.specs.Prelude.{ℕ, ◌≡◌};
+    ghost use Rattle.std.specs.Prelude.{ℕ, ◌≡◌, slice_index};
     ghost use Rattle.pmem.specs.Device.{moment};
     ghost use Rattle.pmem.specs.Crash.{MayLeave};
     ghost use Rattle.pmem_file.specs.Call.{IsFileImage};
@@ -53,6 +53,7 @@ impl FilePmem {
         ensures fresh { IsFresh result }
         ensures lines { (state_of result).lines ≡ vec_len notes.marks }
         ensures read { read_by result ≡ words.items }
+        ensures fit { (word : ℕ) → slice_index words.items word < 2 ^ 64 }
         ensures opening { opening_by result ≡ steps_of opening.calls }
     {
         let (file, opening) = opening.into_parts();

@@ -4,6 +4,7 @@
 mod bytes;
 mod device;
 mod file_calls;
+mod laws;
 mod logged_file;
 mod notes;
 mod open;
@@ -12,3 +13,4 @@ mod opening_calls;
 mod run;
 
 pub use device::FilePmem;
+pub use laws::reading_is_not_enough;

@@ -1,11 +1,11 @@
 // Opening and making the file of a device.
-ghost use Rattle.std.specs.Prelude.{◌≡◌, ◌⊎◌, ℕ, ◌+◌, ◌*◌, ◌^◌, ◌<◌, ◌≤◌, ◌-◌, [], ◌∷◌, true, false, if◌then◌else◌, Some, min, length, vec_len, vec_capacity, Err, IfOk, IfErr};
+ghost use Rattle.std.specs.Prelude.{◌≡◌, ◌⊎◌, ◌+◌, ◌*◌, ◌^◌, ◌<◌, ◌≤◌, ◌-◌, ◌∷◌, true, if◌then◌else◌, Some, min, length, vec_len, vec_capacity, Err, IfOk, IfErr};
 ghost use Rattle.std.specs.Int.{div_ceil};
 ghost use Rattle.kv_types.specs.declared.refusal.Refusal;
 ghost use Rattle.model.specs.declared.image.TheConstants.{MIN_LINES, MAX_LINES};
 ghost use Rattle.pmem_file.specs.declared.run.TheConstants.{LINES_A_WRITE};
-ghost use Rattle.pmem_file.specs.Device.{state_of, IsFresh, IsReadAfter, IsOpened, IsCreated};
-ghost use Rattle.pmem_file.specs.Opening.{steps_of, Made, Opened, Locked, Resized, FileSynced, FolderSynced, Found, DataSynced, IsBegun, with_blocks};
+ghost use Rattle.pmem_file.specs.Device.{state_of, IsFresh, IsOpened, IsCreated};
+ghost use Rattle.pmem_file.specs.Opening.{steps_of, Locked, Resized, FileSynced, FolderSynced, Found, DataSynced, with_blocks};
 
 use crate::bytes::decode;
 use crate::device::FilePmem;
