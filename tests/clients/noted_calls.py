@@ -31,14 +31,16 @@ def library(folder):
 
 class Noting:
     """How a program is started so that its calls are noted, and what was noted. `fails` is which of its syncs fails, and `torn` which of its
-    writes, 0 for none; `synced` is where what is durable of the image is kept: a copy of the image when this is made."""
+    writes, 0 for none; `synced` is where what is durable of the image is kept: a copy of the image when this is made, or what the run before left there,
+    where this one goes on behind it."""
 
-    def __init__(self, loaded, image, fails=0, torn=0, keeps=True):
+    def __init__(self, loaded, image, fails=0, torn=0, keeps=True, goes_on=False):
         self.image, self.log, self.synced = image, image.with_suffix(".calls"), image.with_suffix(".synced")
         self.log.unlink(missing_ok=True)
         settings = {"LD_PRELOAD": loaded, "NOTED_LOG": self.log, "NOTED_FAILS": fails, "NOTED_TORN": torn}
         if keeps:
-            shutil.copyfile(image, self.synced)
+            if not goes_on:
+                shutil.copyfile(image, self.synced)
             settings |= {"NOTED_IMAGE": image, "NOTED_SYNCED": self.synced}
         self.words = ["/usr/bin/env", *(f"{name}={value}" for name, value in settings.items())]
 

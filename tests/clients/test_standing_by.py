@@ -4,6 +4,7 @@ import contextlib
 import copy
 import os
 import random
+import resource
 import signal
 
 import plain_image
@@ -253,7 +254,9 @@ class Following(StandingBy):
             writer = Writer(LINES, STANDBY)
             path = self.made(folder, writer.words)
             writer.reopen()
-            with Node(path, preexec_fn=limited(600 * LINE_BYTES)) as node:
+            # (the opening writes all of the file back)
+            with Node(path, preexec_fn=limited(LINES * LINE_BYTES)) as node:
+                resource.prlimit(node.child.pid, resource.RLIMIT_FSIZE, (600 * LINE_BYTES, 600 * LINE_BYTES))
                 take(writer, Group(1, 0, 1, (Put((b"a",), b"1"),)))
                 self.assertEqual(node.exchange(SET_A), b"".join(text(Acknowledgement(1, at)) for at in (0, 1)))
                 self.assert_holds(path, writer)

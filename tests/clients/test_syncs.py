@@ -56,9 +56,10 @@ class Failing(NotedCases):
     """A sync of a node fails, or a write after its first half. It catches a node that goes on behind it: one that syncs once more is told that all
     is well, where the system has dropped what it could not write."""
 
-    # Two open an image; those that clear gaps and free what has ended follow, and three are of each commit: so several of each.
-    SYNCS = [{"fails": number} for number in range(1, 13)]
-    WRITES = [{"torn": number} for number in range(1, 9)]
+    # One is behind what is written back of an image, in four writes, and two open it; those that clear gaps and free what has ended follow, and three are
+    # of each commit: so several of each.
+    SYNCS = [{"fails": number} for number in range(1, 14)]
+    WRITES = [{"torn": number} for number in range(1, 13)]
 
     def setUp(self):
         super().setUp()
@@ -273,7 +274,8 @@ class Formatting(NotedCases):
     """What `format` asks of its files. It catches one after which a crash takes the file, its length or its name away."""
 
     MADE = ["made file", "length file", "sync file", "sync folder"]
-    WRITES = [("write", 0), ("data", None), ("write", 0), ("data", None), ("write", 0), ("data", None)]
+    WRITTEN_BACK = [*(("write", 65_536 * block) for block in range(LINES // 1_024)), ("data", None)]
+    WRITES = [*WRITTEN_BACK, *3 * [("write", 0), ("data", None)]]
 
     def format(self, image, role, keeps):
         noting = Noting(self.loaded, image, keeps=keeps)
@@ -283,7 +285,7 @@ class Formatting(NotedCases):
         return noting
 
     def assert_writes(self, noting):
-        """Three writes from the first byte on, each with a sync behind it, and nothing more."""
+        """The file is written back, with a sync behind it; then three writes from the first byte on, each with a sync, and nothing more."""
         calls = [call for call in noting.calls() if call.word in ("write", "data")]
         self.assertEqual([(call.word, call.numbers[0] if call.numbers else None) for call in calls], self.WRITES)
         self.assertEqual({call.path for call in calls}, {str(noting.image)})
@@ -314,10 +316,10 @@ class Formatting(NotedCases):
                 self.assert_bytes(noting.synced.read_bytes(), image.read_bytes())
 
     def test_each_sync_fails(self):
-        """Status 1 and the text of a fault, and nothing is written behind it."""
+        """Status 1 and the text of a fault, and nothing is written behind it. A file that is not whole yet is not there any more."""
         if not self.loaded:
             return
-        for fails in range(1, 6):
+        for fails in range(1, 7):
             with self.case("sync", number=fails):
                 image = self.folder / f"fails{fails}.img"
                 noting = Noting(self.loaded, image, fails=fails, keeps=False)
@@ -327,6 +329,26 @@ class Formatting(NotedCases):
                 calls = noting.calls()
                 self.assertEqual([at for at, call in enumerate(calls) if call.failed], [len(calls) - 1])
                 self.assertIn(calls[-1].word, ("sync", "data"))
+                self.assertEqual(image.exists(), fails > 3)
+
+    def test_what_is_read_is_durable(self):
+        """An image of which a sync failed, so that the system has in memory what the disk has not, is opened again: then all of it is durable."""
+        if not self.loaded:
+            return
+        lacking = 0
+        for fails in range(1, 7):
+            with self.case("sync", number=fails):
+                image = self.folder / f"read{fails}.img"
+                self.format(image, "standby", keeps=False)
+                for goes_on, number, statuses in [(False, fails, (0, 1)), (True, 0, (0, 1))]:
+                    noting = Noting(self.loaded, image, fails=number, goes_on=goes_on)
+                    lacking += goes_on and noting.synced.read_bytes() != image.read_bytes()
+                    words = [common.program("server"), "promote", "--image", image, "--old-primary-stopped"]
+                    ran = subprocess.run([*noting.words, *words], capture_output=True, timeout=PATIENCE)
+                    self.assertIn(ran.returncode, statuses)
+                self.assertNotEqual(ran.stderr, FAULT)
+                self.assert_bytes(noting.synced.read_bytes(), image.read_bytes())
+        self.assertTrue(lacking)
 
     def test_what_is_left_out_is_seen(self):
         """Of a format that left out one of them."""

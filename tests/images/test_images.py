@@ -134,21 +134,22 @@ class Formatting(Images):
         with self.folder() as folder:
             for size in (0, 64, LINES * LINE_BYTES // 2, LINES * LINE_BYTES - 1):
                 with self.case("size", size=size):
-                    self.assert_refused(format_words(folder / f"{size}.img"), 1, preexec_fn=limited(size))
+                    path = folder / f"{size}.img"
+                    self.assert_refused(format_words(path), 1, preexec_fn=limited(size))
+                    self.assertFalse(path.exists())
 
     def test_a_full_disk(self):
-        """A file system of 16 pages, where one may be mounted."""
+        """A file system of 128 pages, where one may be mounted: an image that it has no room for leaves no file behind."""
         apart = ["unshare", "--mount", "--map-root-user", "sh", "-c"]
         with self.folder() as folder:
-            mount = f'mount -t tmpfs -o size=64k none {folder} && exec "$0" "$@"'
+            mount = f'mount -t tmpfs -o size=512k none {folder} && {{ "$0" "$@"; status=$?; ls {folder}; exit $status; }}'
             if subprocess.run([*apart, mount, "true"], stderr=subprocess.DEVNULL, check=False).returncode:
                 return
             for lines in (4_096, 40_000):
                 with self.case("lines", lines=lines):
                     words = [*apart, mount, program("server"), *format_words(folder / "p.img", lines)]
                     ran = subprocess.run(words, capture_output=True, check=False)
-                    # (a file of zeros takes no page, and an image of 4,096 lines writes less than 16)
-                    wanted = (DONE, b"formatted 4096 lines, 512 entries\n", b"") if lines == LINES else (FAILED, b"", refusal(1))
+                    wanted = (DONE, b"formatted 4096 lines, 512 entries\np.img\n", b"") if lines == LINES else (FAILED, b"", refusal(1))
                     self.assertEqual((ran.returncode, ran.stdout, ran.stderr), wanted)
 
     def test_output_that_fails(self):
