@@ -1,7 +1,6 @@
--- What was asked of a file since it was read, and what a crash may leave of it. That the file is one of these images is the premise:
--- a word, eight bytes at a multiple of eight, is written whole; what was written before a sync that succeeded is on the disk; and what
--- was written since may be there or not, each word by itself (POSIX.1-2017, pwrite and fdatasync, which promise the second alone; the
--- others are this project's profile).
+-- What was asked of a file since it was opened, and what a crash, or the end of the process, may leave of it: what was written before a sync that
+-- succeeded, and each value written since, each word by itself. The list begins anew at each opening, which has brought to the disk what it read. That a
+-- file is one of these images follows from the premise, the model of a page cache (PageCache): `FilePmem::leaves_what_is_allowed`.
 use Rattle.std.specs.Prelude.{◌≡◌, ℕ, ◌+◌, ◌/◌, ◌-◌, Bool, true, false, not, ◌&&◌, ◌||◌, ◌==◌, nat_lt, nat_le, if◌then◌else◌, List, [], ◌∷◌, length, slice_index}
 use Rattle.pmem_file.specs.declared.file_calls.FileCalls.{FileCalls}
 use Rattle.pmem_file.specs.declared.file_calls.FileCalls.TheVariants.{Read, Wrote', Measured', Synced'}
