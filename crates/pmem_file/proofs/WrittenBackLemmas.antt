@@ -27,9 +27,9 @@ reaches-block words first count word fit low high inside =
 
 -- none of these writes failed
 unfailed : (words : List ℕ) (blocks : ℕ) (before : List Step) → has_failed (changes_in before) ≡ false
-    → has_failed (changes_in (with_blocks words blocks before)) ≡ false
+    → has_failed (changes_in (with_blocks true words blocks before)) ≡ false
 unfailed words zero before fine = fine
-unfailed words (suc blocks) before fine = or-false (has_failed (changes_in (with_blocks words blocks before))) ∙ unfailed words blocks before fine
+unfailed words (suc blocks) before fine = or-false (has_failed (changes_in (with_blocks true words blocks before))) ∙ unfailed words blocks before fine
 
 -- a word of the last block, or one of the earlier ones
 last_or_earlier : (word blocks : ℕ) → word < 8 * (LINES_A_WRITE * suc blocks)
@@ -38,12 +38,12 @@ last_or_earlier word blocks below = grind (arith, below)
 
 -- each word of these blocks was written
 known : (words : List ℕ) (blocks : ℕ) (before : List Step) (word : ℕ) → Fit words → word < length words → word < 8 * (LINES_A_WRITE * blocks)
-    → is_known false (changes_in (with_blocks words blocks before)) word ≡ true
+    → is_known false (changes_in (with_blocks true words blocks before)) word ≡ true
 known words zero before word fit inside below = absurd (omega (arith, below))
 known words (suc blocks) before word fit inside below =
     let first = LINES_A_WRITE * blocks in
     let here = reaches (64 * first) (run_bytes words (first, LINES_A_WRITE)) word in
-    let earlier = is_known false (changes_in (with_blocks words blocks before)) word in
+    let earlier = is_known false (changes_in (with_blocks true words blocks before)) word in
     elim (last_or_earlier word blocks below) [
       | inl last ↦ or_left here earlier (reaches-block words first LINES_A_WRITE word fit last.0 last.1 inside)
       | inr less ↦ or_right here earlier (known words blocks before word fit inside less)
@@ -51,12 +51,12 @@ known words (suc blocks) before word fit inside below =
 
 -- and it was its own value that was written last
 last_written : (read words : List ℕ) (blocks : ℕ) (before : List Step) (word : ℕ) → Fit words → word < length words → word < 8 * (LINES_A_WRITE * blocks)
-    → written read (changes_in (with_blocks words blocks before)) word ≡ get_or words word 0
+    → written read (changes_in (with_blocks true words blocks before)) word ≡ get_or words word 0
 last_written read words zero before word fit inside below = absurd (omega (arith, below))
 last_written read words (suc blocks) before word fit inside below =
     let first = LINES_A_WRITE * blocks in
     let bytes = run_bytes words (first, LINES_A_WRITE) in
-    let earlier = written read (changes_in (with_blocks words blocks before)) word in
+    let earlier = written read (changes_in (with_blocks true words blocks before)) word in
     elim (last_or_earlier word blocks below) [
       | inl last ↦
           let there = reaches-block words first LINES_A_WRITE word fit last.0 last.1 inside in
@@ -69,9 +69,9 @@ last_written read words (suc blocks) before word fit inside below =
 -- after a sync that succeeded a word may have its own value alone
 only : (words : List ℕ) (blocks : ℕ) (before : List Step) (word x : ℕ) → Fit words → has_failed (changes_in before) ≡ false
     → word < length words → word < 8 * (LINES_A_WRITE * blocks)
-    → may_have false words (Synced true ∷ changes_in (with_blocks words blocks before)) word x ≡ true → x ≡ get_or words word 0
+    → may_have false words (Synced true ∷ changes_in (with_blocks true words blocks before)) word x ≡ true → x ≡ get_or words word 0
 only words blocks before word x fit fine inside below may =
-    let calls = changes_in (with_blocks words blocks before) in
+    let calls = changes_in (with_blocks true words blocks before) in
     let sure : ((true && not (has_failed calls)) && is_known false calls word) ≡ true =
     and_from (not (has_failed calls)) (is_known false calls word) (ap not (unfailed words blocks before fine)) (known words blocks before word fit inside below) in
     eqb-true x (written words calls word)
@@ -84,13 +84,13 @@ within_blocks lines word below = omega (arith, below, (div_ceil_times lines LINE
 
 -- the disk has what was read, and so has the cache
 pub settles : (words : List ℕ) (lines : ℕ) (before steps : List Step) (start : Pages) (events : List Event) → Fit words → length words ≡ 8 * lines
-    → has_failed (changes_in before) ≡ false → changes_in steps ≡ Synced true ∷ changes_in (with_blocks words (div_ceil lines LINES_A_WRITE) before)
+    → has_failed (changes_in before) ≡ false → changes_in steps ≡ Synced true ∷ changes_in (with_blocks true words (div_ceil lines LINES_A_WRITE) before)
     → tells events ≡ true → calls_in events ≡ changes_in steps → HasOnly words (pages_after events start)
 settles words lines before steps start events fit long fine are told asked word inside =
     let blocks = div_ceil lines LINES_A_WRITE in
     let pages = pages_after events start in
     let below : word < 8 * (LINES_A_WRITE * blocks) = within_blocks lines word (omega (arith, inside, long)) in
-    let calls : calls_in events ≡ Synced true ∷ changes_in (with_blocks words blocks before) = asked ∙ are in
+    let calls : calls_in events ≡ Synced true ∷ changes_in (with_blocks true words blocks before) = asked ∙ are in
     let so = after false words events start word told (λ e. absurd (let h : false ≡ true = e in cc)) in (
       only words blocks before word (pages.disk word) fit fine inside below
           (subst (λ (cs : List Call). may_have false words cs word (pages.disk word) ≡ true) calls so.on_disk),

@@ -46,7 +46,7 @@ opening_by device = steps_of device.opening
 pub record IsReadAfter (device : FilePmem) (before : List Step) : Type 0 where
   pub words : length (read_by device) ≡ 8 * (state_of device).lines
   pub fit : (word : ℕ) → slice_index (read_by device) word < 2 ^ 64
-  pub calls : opening_by device ≡ DataSynced true ∷ with_blocks (read_by device) (div_ceil (state_of device).lines LINES_A_WRITE) before
+  pub calls : opening_by device ≡ DataSynced true ∷ with_blocks true (read_by device) (div_ceil (state_of device).lines LINES_A_WRITE) before
 
 -- a device that was opened: its file was opened and locked, found as long as its words, read, written back and synced
 abbrev pub IsOpened : FilePmem → Type 0
@@ -57,6 +57,12 @@ pub record IsCreated (device : FilePmem) : Type 0 where
   pub begun : List Step
   pub begins : IsBegun (64 * (state_of device).lines) begun
   pub read : IsReadAfter device (Found (Some (64 * (state_of device).lines)) ∷ FolderSynced true ∷ FileSynced true ∷ begun)
+
+-- a device that was opened to be read alone: its file was opened, found as long as its words, and read
+pub record IsRead (device : FilePmem) : Type 0 where
+  pub words : length (read_by device) ≡ 8 * (state_of device).lines
+  pub calls : opening_by device
+      ≡ with_blocks false (read_by device) (div_ceil (state_of device).lines LINES_A_WRITE) (Found (Some (64 * (state_of device).lines)) ∷ Opened true ∷ [])
 
 -- a device that was just opened: nothing was asked of it or of its file, and a crash leaves what was read
 pub record IsFresh (device : FilePmem) : Type 0 where

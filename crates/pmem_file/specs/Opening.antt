@@ -35,14 +35,17 @@ abbrev pub IsBegun : ℕ → List Step → Type 0
 IsBegun bytes steps =
     (steps ≡ Resized bytes true ∷ Locked true ∷ Made true ∷ []) ⊎ (steps ≡ Locked true ∷ Opened true ∷ Made false ∷ [])
 
--- the calls after the first blocks of a file were read, in order, which gave these words, and each was written back as it was read. The last block
+-- a block was read, and it may be that it was then written back as it was read
+abbrev pub with_block : Bool → ℕ → List ℕ → List Step → List Step
+with_block false offset bytes steps = ReadAt offset bytes true ∷ steps
+with_block true offset bytes steps = WroteBack offset bytes true ∷ ReadAt offset bytes true ∷ steps
+
+-- the calls after the first blocks of a file were read, in order, which gave these words, and it may be that each was written back. The last block
 -- may be shorter than the others
-abbrev pub with_blocks : List ℕ → ℕ → List Step → List Step
-with_blocks words zero steps = steps
-with_blocks words (suc blocks) steps =
-    WroteBack (64 * (LINES_A_WRITE * blocks)) (run_bytes words (LINES_A_WRITE * blocks, LINES_A_WRITE)) true
-    ∷ ReadAt (64 * (LINES_A_WRITE * blocks)) (run_bytes words (LINES_A_WRITE * blocks, LINES_A_WRITE)) true
-    ∷ with_blocks words blocks steps
+abbrev pub with_blocks : Bool → List ℕ → ℕ → List Step → List Step
+with_blocks back words zero steps = steps
+with_blocks back words (suc blocks) steps =
+    with_block back (64 * (LINES_A_WRITE * blocks)) (run_bytes words (LINES_A_WRITE * blocks, LINES_A_WRITE)) (with_blocks back words blocks steps)
 
 abbrev pub step_of : OpeningCall → Step
 step_of (Make done) = Made done

@@ -4,7 +4,7 @@ ghost use Rattle.std.specs.Int.{div_ceil};
 ghost use Rattle.kv_types.specs.declared.refusal.Refusal;
 ghost use Rattle.model.specs.declared.image.TheConstants.{MIN_LINES, MAX_LINES};
 ghost use Rattle.pmem_file.specs.declared.run.TheConstants.{LINES_A_WRITE};
-ghost use Rattle.pmem_file.specs.Device.{state_of, IsFresh, IsOpened, IsCreated};
+ghost use Rattle.pmem_file.specs.Device.{state_of, IsFresh, IsRead, IsOpened, IsCreated};
 ghost use Rattle.pmem_file.specs.Opening.{steps_of, Locked, Resized, FileSynced, FolderSynced, Found, DataSynced, with_blocks};
 
 use crate::bytes::decode;
@@ -43,6 +43,31 @@ impl FilePmem {
         let lines = count_lines(&mut opening)?;
         let loaded = load(rt.alloc(), &mut opening, lines)?;
         Ok(FilePmem::new(loaded.words, loaded.notes, loaded.buffer, opening))
+    }
+
+    /// The device in a file that is to be read alone: it is not locked, nothing is written to it, and a fence that has something to write fails.
+    /// Where another program writes the file meanwhile, what was read may be older in one place than in another.
+    ///
+    /// # Errors
+    ///
+    /// `Fault` where the file cannot be opened or read; `WrongSize` where it has not 4,096 to 2^31 whole lines of 64 bytes; `Memory` where
+    /// memory for its words was refused. The file is as it was.
+    pub fn read_only<R: Files<File = File> + Alloc<A = Global>>(
+        rt: &R,
+        path: &str,
+    ) -> Result<FilePmem, Refusal>
+        ensures fresh { IfOk result (λ device. IsFresh device) }
+        ensures many { IfOk result (λ device. MIN_LINES ≤ (state_of device).lines) }
+        ensures few { IfOk result (λ device. (state_of device).lines ≤ MAX_LINES) }
+        ensures read { IfOk result (λ device. IsRead device) }
+        ensures causes { IfErr result (λ refusal. (refusal ≡ Refusal.Fault) ⊎ ((refusal ≡ Refusal.WrongSize) ⊎ (refusal ≡ Refusal.Memory))) }
+    {
+        let mut opening = Opening::open_to_read(rt, path)?;
+        let lines = count_lines(&mut opening)?;
+        let notes = Notes::new(rt.alloc(), lines as usize)?;
+        let buffer = Vec::with_capacity(rt.alloc(), BLOCK_BYTES)?;
+        let words = read_words(rt.alloc(), &mut opening, lines, false)?;
+        Ok(FilePmem::new(words, notes, buffer, opening))
     }
 
     /// Opens the device of `lines` lines in a file, which stays locked until the device is dropped. Where there is no file it makes one of
@@ -104,7 +129,7 @@ fn load_settled<R: Files<File = File> + Alloc<A = Global>>(
     ensures marks { IfOk result (λ loaded. vec_len loaded.notes.marks ≡ lines) }
     ensures room { IfOk result (λ loaded. 64 * LINES_A_WRITE ≤ vec_capacity loaded.buffer) }
     ensures noted { IfOk result (λ loaded. steps_of opening.new.calls
-        ≡ DataSynced true ∷ with_blocks loaded.words.items (div_ceil lines LINES_A_WRITE)
+        ≡ DataSynced true ∷ with_blocks true loaded.words.items (div_ceil lines LINES_A_WRITE)
         (Found (Some (64 * lines)) ∷ FolderSynced true ∷ FileSynced true
         ∷ (if is_new then Resized (64 * lines) true ∷ steps_of opening.old.calls else steps_of opening.old.calls))) }
     ensures causes { IfErr result (λ refusal. (refusal ≡ Refusal.Fault) ⊎ ((refusal ≡ Refusal.WrongSize) ⊎ (refusal ≡ Refusal.Memory))) }
@@ -174,12 +199,12 @@ fn load(alloc: Global, opening: &mut Opening, lines: u64) -> Result<Loaded, Refu
     ensures marks { IfOk result (λ loaded. vec_len loaded.notes.marks ≡ lines) }
     ensures room { IfOk result (λ loaded. 64 * LINES_A_WRITE ≤ vec_capacity loaded.buffer) }
     ensures noted { IfOk result (λ loaded. steps_of opening.new.calls
-        ≡ DataSynced true ∷ with_blocks loaded.words.items (div_ceil lines LINES_A_WRITE) (steps_of opening.old.calls)) }
+        ≡ DataSynced true ∷ with_blocks true loaded.words.items (div_ceil lines LINES_A_WRITE) (steps_of opening.old.calls)) }
     ensures causes { IfErr result (λ refusal. (refusal ≡ Refusal.Fault) ⊎ (refusal ≡ Refusal.Memory)) }
 {
     let notes = Notes::new(alloc, lines as usize)?;
     let buffer = Vec::with_capacity(alloc, BLOCK_BYTES)?;
-    let words = read_words(alloc, opening, lines)?;
+    let words = read_words(alloc, opening, lines, true)?;
     if !opening.sync_data() {
         return Err(Refusal::Fault);
     }
@@ -190,12 +215,17 @@ fn load(alloc: Global, opening: &mut Opening, lines: u64) -> Result<Loaded, Refu
     })
 }
 
-/// The words of a file of `lines` lines, read in blocks, each of which is written back as it was read.
-fn read_words(alloc: Global, opening: &mut Opening, lines: u64) -> Result<Vec<u64>, Refusal>
+/// The words of a file of `lines` lines, read in blocks, each of which is written back as it was read where that is asked for.
+fn read_words(
+    alloc: Global,
+    opening: &mut Opening,
+    lines: u64,
+    writes_back: bool,
+) -> Result<Vec<u64>, Refusal>
     requires { lines ≤ MAX_LINES }
     ensures count { IfOk result (λ words. vec_len words ≡ 8 * lines) }
     ensures noted { IfOk result (λ words. steps_of opening.new.calls
-        ≡ with_blocks words.items (div_ceil lines LINES_A_WRITE) (steps_of opening.old.calls)) }
+        ≡ with_blocks writes_back words.items (div_ceil lines LINES_A_WRITE) (steps_of opening.old.calls)) }
     ensures causes { IfErr result (λ refusal. (refusal ≡ Refusal.Fault) ⊎ (refusal ≡ Refusal.Memory)) }
 {
     let mut words = Vec::with_capacity(alloc, 8 * lines as usize)?;
@@ -205,10 +235,7 @@ fn read_words(alloc: Global, opening: &mut Opening, lines: u64) -> Result<Vec<u6
         let count = (lines - first).min(LINES_A_WRITE);
         // (only the last block may be shorter)
         block.truncate((LINE_BYTES * count) as usize);
-        if !opening.read(LINE_BYTES * first, &mut block) {
-            return Err(Refusal::Fault);
-        }
-        if !opening.write_back(LINE_BYTES * first, &block) {
+        if !opening.read_block(LINE_BYTES * first, &mut block, writes_back) {
             return Err(Refusal::Fault);
         }
         decode(&block, &mut words)?;

@@ -1,7 +1,7 @@
 // A file that is to become a device, with the list of what was asked of it.
 ghost use Rattle.std.specs.Prelude.{◌≡◌, [], ◌∷◌, true, false, is_some, if◌then◌else◌, vec_len, IfOk, IfErr};
 ghost use Rattle.kv_types.specs.declared.refusal.Refusal;
-ghost use Rattle.pmem_file.specs.Opening.{steps_of, Made, Opened, Locked, Resized, FileSynced, FolderSynced, Found, ReadAt, WroteBack, DataSynced};
+ghost use Rattle.pmem_file.specs.Opening.{steps_of, Made, Opened, Locked, Resized, FileSynced, FolderSynced, Found, ReadAt, WroteBack, DataSynced, with_block};
 
 use crate::opening_calls::{OpeningCall, OpeningCalls};
 use kv_types::Refusal;
@@ -30,6 +30,23 @@ impl Opening {
         let mut calls = OpeningCalls::none();
         let file = open_file(rt, path, &mut calls)?;
         Ok(Opening { file, calls })
+    }
+
+    /// Opens a file that is there, for reading alone.
+    pub fn open_to_read<R: Files<File = File> + Alloc<A = Global>>(
+        rt: &R,
+        path: &str,
+    ) -> Result<Opening, Refusal>
+        ensures noted { IfOk result (λ opening. steps_of opening.calls ≡ Opened true ∷ []) }
+        ensures causes { IfErr result (λ refusal. refusal ≡ Refusal.Fault) }
+    {
+        let mut calls = OpeningCalls::none();
+        let opened = File::open(rt, path);
+        calls.note(&OpeningCall::Open(opened.is_ok()));
+        match opened {
+            Ok(file) => Ok(Opening { file, calls }),
+            Err(_) => Err(Refusal::Fault),
+        }
     }
 
     /// Makes a file of no bytes or opens the one that is there, for reading and writing, and says whether it made it.
@@ -107,15 +124,16 @@ impl Opening {
         ensures { steps_of self.new.calls ≡ Found result ∷ steps_of self.old.calls }
     {
         let found = match self.file.metadata() {
-            Ok(data) => Some(data.len()),
-            Err(_) => None,
+            // (a folder can be opened for reading)
+            Ok(data) if !data.is_dir() => Some(data.len()),
+            _ => None,
         };
         self.calls.note(&OpeningCall::Measure(found));
         found
     }
 
     /// Fills a block with the bytes from the byte `offset` on.
-    pub fn read(&mut self, offset: u64, block: &mut Vec<u8>) -> bool
+    fn read(&mut self, offset: u64, block: &mut Vec<u8>) -> bool
         ensures noted { steps_of self.new.calls ≡ ReadAt offset block.new.items result ∷ steps_of self.old.calls }
         ensures length { vec_len block.new ≡ vec_len block.old }
     {
@@ -125,8 +143,23 @@ impl Opening {
         done
     }
 
+    /// Fills a block with the bytes from the byte `offset` on, and writes it back where that is asked for.
+    pub fn read_block(&mut self, offset: u64, block: &mut Vec<u8>, writes_back: bool) -> bool
+        ensures noted { result ≡ true → steps_of self.new.calls ≡ with_block writes_back offset block.new.items (steps_of self.old.calls) }
+        ensures length { vec_len block.new ≡ vec_len block.old }
+    {
+        if !self.read(offset, block) {
+            return false;
+        }
+        if writes_back {
+            self.write_back(offset, block)
+        } else {
+            true
+        }
+    }
+
     /// Writes a block from the byte `offset` on, where it was read.
-    pub fn write_back(&mut self, offset: u64, block: &Vec<u8>) -> bool
+    fn write_back(&mut self, offset: u64, block: &Vec<u8>) -> bool
         ensures { steps_of self.new.calls ≡ WroteBack offset block.now.items result ∷ steps_of self.old.calls }
     {
         let done = self.file.write_all_at(block, offset).is_ok();

@@ -1,8 +1,8 @@
-use Rattle.std.proofs.Common.{◌≡◌, ℕ, ◌+◌, ◌*◌, ◌/◌, ◌%◌, ◌≤◌, Bool, true, List, ◌∷◌, length, vec_len, sym, ap, ◌∙◌, arith, length-append}
+use Rattle.std.proofs.Common.{◌≡◌, ℕ, ◌+◌, ◌*◌, ◌/◌, ◌%◌, ◌≤◌, List, length, vec_len, sym, ap, ◌∙◌, arith, length-append}
 use Rattle.std.specs.Int.{div_ceil}
 use Rattle.pmem_file.specs.declared.run.TheConstants.{LINES_A_WRITE}
 use Rattle.pmem_file.specs.Byte.{words_in}
-use Rattle.pmem_file.specs.Opening.{Step, ReadAt, WroteBack, steps_of, with_blocks}
+use Rattle.pmem_file.specs.Opening.{steps_of, with_block, with_blocks}
 use Rattle.pmem_file.proofs.OpeningLemmas.{with_blocks-next}
 use Rattle.pmem_file.proofs.open.read_words.Goals as goal
 
@@ -15,29 +15,25 @@ loop-number-preserved c =
     let steps = steps_of c.loop-number.opening.calls in
     let offset = 64 * (LINES_A_WRITE * number) in
     let below : 1024 * number + 1 ≤ c.args.lines = omega (arith, c.loop-number-test.true, c.div_ceil-number-end.ensures) in
-    let block : vec_len c.read.new.block ≡ 64 * c.min-count.result =
-    omega (arith, c.read.ensures.length, c.truncate.ensures.len, c.min-count.ensures, c.loop-number.invariant.block) in
-    let size : length bytes ≡ 64 * c.min-count.result = ap length c.deref.ensures.value ∙ omega (arith, block, c.read.new.block.ok.0) in
+    let block : vec_len c.read_block.new.block ≡ 64 * c.min-count.result =
+    omega (arith, c.read_block.ensures.length, c.truncate.ensures.len, c.min-count.ensures, c.loop-number.invariant.block) in
+    let size : length bytes ≡ 64 * c.min-count.result = ap length c.deref.ensures.value ∙ omega (arith, block, c.read_block.new.block.ok.0) in
     let is : length words ≡ 8 * (LINES_A_WRITE * number) = omega (arith, below, c.loop-number.invariant.count, c.loop-number.words.ok.0) in
     let grown : length words + length (words_in bytes) ≡ length words + length bytes / 8 =
     sym (length-append words (words_in bytes)) ∙ sym (ap length c.in_ok-decode.ensures.words)
     ∙ omega (arith, c.in_ok-decode.ensures.count, c.decode.new.words.ok.0, c.loop-number.words.ok.0) in
     let short : length (words_in bytes) ≤ 8 * LINES_A_WRITE = omega (arith, grown, size, c.min-count.ensures) in
     let whole : length bytes % 8 ≡ 0 = omega (arith, size) in
-    let asked : steps_of c.read.new.self.calls ≡ ReadAt offset bytes true ∷ steps =
-    c.read.ensures.noted ∙ ap (λ (done : Bool). ReadAt offset c.read.new.block.items done ∷ steps) c.if-not-read.false
-    ∙ ap (λ (held : List ℕ). ReadAt offset held true ∷ steps) (sym c.deref.ensures.value) in
-    let back : steps_of c.write_back.new.self.calls ≡ WroteBack offset bytes true ∷ ReadAt offset bytes true ∷ steps =
-    c.write_back.ensures ∙ ap (λ (done : Bool). WroteBack offset c.read.new.block.items done ∷ steps_of c.read.new.self.calls) c.if-not-write_back.false
-    ∙ ap (λ (held : List ℕ). WroteBack offset held true ∷ steps_of c.read.new.self.calls) (sym c.deref.ensures.value)
-    ∙ ap (λ (earlier : List Step). WroteBack offset bytes true ∷ earlier) asked in
+    let asked : steps_of c.read_block.new.self.calls ≡ with_block c.args.writes_back offset bytes steps =
+    c.read_block.ensures.noted c.if-not-read_block.false
+    ∙ ap (λ (held : List ℕ). with_block c.args.writes_back offset held steps) (sym c.deref.ensures.value) in
     record {
       count = omega (arith, below, c.in_ok-decode.ensures.count, size, c.min-count.ensures, c.loop-number.invariant.count);
       block = omega (arith, block, c.min-count.ensures);
       read =
-          back
-          ∙ with_blocks-next words bytes number before steps is short (c.in_ok-decode.ensures.whole whole) c.loop-number.invariant.read
-          ∙ ap (λ (now : List ℕ). with_blocks now (number + 1) before) (sym c.in_ok-decode.ensures.words);
+          asked
+          ∙ with_blocks-next c.args.writes_back words bytes number before steps is short (c.in_ok-decode.ensures.whole whole) c.loop-number.invariant.read
+          ∙ ap (λ (now : List ℕ). with_blocks c.args.writes_back now (number + 1) before) (sym c.in_ok-decode.ensures.words);
     }
 
 pub returns-clause-noted : goal.returns-clause-noted
@@ -45,4 +41,4 @@ returns-clause-noted c =
     let end : c.loop-number.number ≡ div_ceil c.args.lines LINES_A_WRITE =
     omega (arith, c.loop-number-test.false, c.loop-number.auto.number-end, c.div_ceil-number-end.ensures) in
     c.loop-number.invariant.read
-    ∙ ap (λ (blocks : ℕ). with_blocks c.loop-number.words.items blocks (steps_of c.args.opening.now.calls)) end
+    ∙ ap (λ (blocks : ℕ). with_blocks c.args.writes_back c.loop-number.words.items blocks (steps_of c.args.opening.now.calls)) end

@@ -7,5 +7,5 @@ invariant-loop-number l =
     record {
       count : vec_len l.words ≡ 8 * min l.lines (1024 * l.number);
       block : 64 * min 1024 (l.lines - 1024 * l.number) ≤ vec_len l.block;
-      read : steps_of l.opening.calls ≡ with_blocks l.words.items l.number (steps_of l.fn.opening.calls);
+      read : steps_of l.opening.calls ≡ with_blocks l.writes_back l.words.items l.number (steps_of l.fn.opening.calls);
     }
