@@ -275,10 +275,16 @@ class Refusals(Images):
             path.write_bytes(data)
             with open(path, "r+b") as held:
                 fcntl.flock(held, fcntl.LOCK_EX | fcntl.LOCK_NB)
-                self.assert_refused(["inspect", "--image", str(path)], 1)
                 self.assert_refused(format_words(path), 1)
-            self.assert_written(self.inspect(path), told(BASE.record, len(plain_image.read_image(Words(LINES, BASE.words)).map)))
+                self.assert_written(self.inspect(path), told(BASE.record, len(plain_image.read_image(Words(LINES, BASE.words)).map)))
             self.assert_bytes(path.read_bytes(), data)
+
+    def test_an_image_that_may_not_be_written(self):
+        with self.folder() as folder:
+            path = folder / "p.img"
+            path.write_bytes(image_bytes(LINES, BASE.words))
+            finished = self.run_words(["inspect", "--image", str(path)], preexec_fn=limited(0))
+            self.assert_written(finished, told(BASE.record, len(plain_image.read_image(Words(LINES, BASE.words)).map)))
 
 
 class CommandLines(Images):

@@ -23,8 +23,17 @@ pub trait Images {
 
     /// The device of this name as it was left: a crash leaves what is read from it.
     ///
-    /// `WrongSize` where it has not 4,096 to 2^31 lines; `Fault` where there is none or it cannot be read; `Memory`. It is as it was.
+    /// `WrongSize` where it has not 4,096 to 2^31 lines; `Fault` where there is none, or it cannot be read or written; `Memory`. It is as it was.
     fn open(&self, name: &str) -> Result<Self::Device, Refusal>
+        ensures many { IfOk result (λ device. MIN_LINES ≤ (Self.Device.state device).lines) }
+        ensures few { IfOk result (λ device. (Self.Device.state device).lines ≤ MAX_LINES) }
+        ensures settled { IfOk result (λ device. (word : ℕ)
+            → Only ((Self.Device.state device).words word) (image_of (Self.Device.state device).words word)) };
+
+    /// The device of this name for reading alone: whoever has it open keeps it, and nothing is written to it.
+    ///
+    /// `WrongSize` where it has not 4,096 to 2^31 lines; `Fault` where there is none or it cannot be read; `Memory`.
+    fn read_only(&self, name: &str) -> Result<Self::Device, Refusal>
         ensures many { IfOk result (λ device. MIN_LINES ≤ (Self.Device.state device).lines) }
         ensures few { IfOk result (λ device. (Self.Device.state device).lines ≤ MAX_LINES) }
         ensures settled { IfOk result (λ device. (word : ℕ)
@@ -53,5 +62,9 @@ impl<'a> Images for Files<'a> {
 
     fn open(&self, name: &str) -> Result<FilePmem, Refusal> {
         FilePmem::open(self.rt, name)
+    }
+
+    fn read_only(&self, name: &str) -> Result<FilePmem, Refusal> {
+        FilePmem::read_only(self.rt, name)
     }
 }

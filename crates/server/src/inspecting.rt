@@ -13,14 +13,14 @@ use pmem::Pmem;
 use std::alloc::Global;
 use std::io::{self, Write};
 
-/// Prints what the image of this name holds. It is as it was.
+/// Prints what the image of this name holds. It is as it was, and whoever has it open keeps it.
 pub fn inspect<I: Images, W: Write>(
     alloc: Global,
     images: &I,
     name: &str,
     writer: &mut W,
 ) -> Result<(), Failure> {
-    let device = images.open(name)?;
+    let device = images.read_only(name)?;
     print_image(alloc, &device, writer)
 }
 
