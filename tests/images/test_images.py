@@ -7,6 +7,7 @@ import os
 import pathlib
 import resource
 import signal
+import stat
 import struct
 import subprocess
 import tempfile
@@ -97,6 +98,8 @@ class Formatting(Images):
                 finished = self.run_words(format_words(path, lines, ROLES[role]))
                 self.assert_written(finished, b"formatted %d lines, %d entries\n" % (lines, lines // 8))
                 self.assert_bytes(path.read_bytes(), image_bytes(lines, Writer(lines, role).words))
+                # (its owner's alone)
+                self.assertEqual(stat.S_IMODE(path.stat().st_mode), 0o600)
 
     def test_over_another_image(self):
         """All but the extents is new."""
