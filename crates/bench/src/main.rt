@@ -35,6 +35,7 @@ use crate::requests::time_requests;
 use crate::ring::time_ring;
 use crate::stream::time_stream;
 use crate::turns::time_turns;
+use descriptors::hold_closed;
 use std::alloc::Global;
 use std::random::RandomSource;
 use std::rt::Clock;
@@ -57,6 +58,7 @@ const SOME_REQUESTS: u64 = 100;
 const MANY_REQUESTS: u64 = 10_000;
 
 fn main(rt: HostRuntime) -> io::Result<()> {
+    let _held = hold_closed(&rt)?;
     let words: Vec<String> = env::args(&rt)?.skip(1).collect(rt.alloc())?;
     match words.as_slice() {
         [] => make_some(&rt, rt.alloc()),

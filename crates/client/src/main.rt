@@ -13,6 +13,7 @@ mod talking;
 use crate::command::{command, tell};
 use crate::failure::Failure;
 use crate::options::not_text;
+use descriptors::hold_closed;
 use std::alloc::Global;
 use std::env;
 use std::io::{BufReader, ErrorKind};
@@ -20,6 +21,13 @@ use std::process::ExitCode;
 use std::rt::Env;
 
 fn main(rt: HostRuntime) -> ExitCode {
+    let _held = match hold_closed(&rt) {
+        Ok(held) => held,
+        Err(error) => {
+            let _ = rt.eprintln(error);
+            return ExitCode::FAILURE;
+        }
+    };
     let status = match (words(&rt), BufReader::new(rt.alloc(), rt.stdin())) {
         (Ok(words), Ok(mut reader)) => command(
             &rt,

@@ -22,6 +22,7 @@ use crate::command::{command, tell};
 use crate::failure::Failure;
 use crate::images::Files;
 use crate::options::not_text;
+use descriptors::hold_closed;
 use kv_types::Refusal;
 use std::alloc::Global;
 use std::env;
@@ -30,6 +31,13 @@ use std::process::ExitCode;
 use std::rt::Env;
 
 fn main(rt: HostRuntime) -> ExitCode {
+    let _held = match hold_closed(&rt) {
+        Ok(held) => held,
+        Err(error) => {
+            let _ = rt.eprintln(error);
+            return ExitCode::FAILURE;
+        }
+    };
     let status = match words(&rt) {
         Ok(words) => command(
             &rt,

@@ -24,11 +24,19 @@ use crate::options::read_options;
 use crate::play::play;
 use crate::report::report;
 use crate::script::read_script;
+use descriptors::hold_closed;
 use std::hash::RandomState;
 use std::io::{BufWriter, Read, Write};
 use std::process::ExitCode;
 
 fn main(rt: HostRuntime) -> ExitCode {
+    let _held = match hold_closed(&rt) {
+        Ok(held) => held,
+        Err(error) => {
+            let _ = rt.eprintln(error);
+            return ExitCode::FAILURE;
+        }
+    };
     match run(&rt) {
         Ok(()) => ExitCode::SUCCESS,
         Err(error) => {
