@@ -1,6 +1,6 @@
 //! The thread that reads a connection's requests.
 use crate::post::Post;
-use crate::reading::{BLOCK_BYTES, read_requests};
+use crate::reading::{BLOCK_BYTES, read_requests, read_some};
 use bytes::BytesMut;
 use kv_types::Item;
 use pipes::RingOutlet;
@@ -52,7 +52,7 @@ fn let_go<S: Read>(alloc: Global, stream: &mut S) {
     };
     for _ in 0..LAST_BLOCKS {
         block.clear();
-        match block.read_from(stream) {
+        match read_some(stream, &mut block) {
             Ok(0) | Err(_) => return,
             Ok(_) => {}
         }

@@ -1,6 +1,6 @@
 //! From a connection's bytes to the items of its ring.
-ghost use Rattle.std.specs.Prelude.{◌≡◌, ℕ, List, [], ◌++◌, ◌∷◌, false, length, IfOk, OnOk, OnErr, IfErr};
-ghost use Rattle.std.specs.Io.KnownBytes.{Consumes, IsAtEnd};
+ghost use Rattle.std.specs.Prelude.{◌≡◌, ℕ, List, [], ◌++◌, ◌∷◌, ◌<◌, false, length, IfOk, OnOk, OnErr, IfErr};
+ghost use Rattle.std.specs.Io.KnownBytes.{Consumes, IsAtEnd, Keeps};
 ghost use Rattle.kv_types.specs.declared.item.Item.{Item};
 ghost use Rattle.inbound.specs.ToCome.{with_piece, GivesAll};
 ghost use Rattle.clients.specs.Asked.{asked_by};
@@ -12,7 +12,8 @@ use inbound::Inbound;
 use kv_types::Item;
 use pipes::Outlet;
 use std::alloc::Global;
-use std::io::Read;
+use std::io;
+use std::io::{ErrorKind, Read};
 use std::sync::Wait;
 use std::time::Clock;
 
@@ -66,8 +67,24 @@ fn read_piece<S: Read>(stream: &mut S, input: &mut BytesMut) -> Result<Bytes, Br
     if input.capacity() < LEAST_ROOM_BYTES {
         input.reserve(BLOCK_BYTES)?;
     }
-    let count = input.read_from(stream)?;
+    let count = read_some(stream, input)?;
     Ok(input.freeze_to(count)?)
+}
+
+/// Reads once into the spare room. A read that a signal interrupted is none.
+pub(crate) fn read_some<S: Read>(stream: &mut S, input: &mut BytesMut) -> io::Result<usize>
+    ensures ok { IfOk result (λ count. (more : List ℕ) × (length more ≡ count) × (input.new.items ≡ input.old.items ++ more)
+        × Consumes (S.remaining stream.old) (S.remaining stream.new) more) }
+    ensures end { IfOk result (λ count. 0 < input.old.spare → count ≡ 0 → IsAtEnd (S.remaining stream.new)) }
+    ensures err { OnErr result ((input.new ≡ input.old) × Keeps (S.remaining stream.old) (S.remaining stream.new)) }
+{
+    for _ in 0..u64::MAX {
+        match input.read_from(stream) {
+            Err(error) if error.kind() == ErrorKind::Interrupted => {}
+            read => return read,
+        }
+    }
+    Err(io::Error::from(ErrorKind::Interrupted))
 }
 
 /// Feeds a piece, and offers all that it asks for. Says whether an item closed the connection.
