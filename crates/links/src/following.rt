@@ -20,6 +20,7 @@ use std::alloc::{AllocError, Global};
 use std::io;
 use std::io::{Read, Write};
 use std::net::TcpListener;
+use std::time::Clock;
 use stream_codec::{Decoder, Message, write_ack};
 use wbl_engine::Durable;
 
@@ -27,12 +28,13 @@ use wbl_engine::Durable;
 const BLOCK_BYTES: usize = 65_536;
 
 /// Takes one link at a time, until one stops the node, and says why it did. A link on which nothing comes for a second ends where another connection
-/// waits, which is the next.
+/// waits, which is the next. Where a connection cannot be taken for now, it rests by the clock and goes on.
 ///
 /// # Errors
 ///
 /// That of the listener, which takes no further link.
-pub fn follow<E: Durable, K: Keyspace>(
+pub fn follow<C: Clock, E: Durable, K: Keyspace>(
+    clock: &C,
     alloc: Global,
     node: &mut Standby<E, K>,
     listener: &TcpListener,
@@ -44,7 +46,7 @@ pub fn follow<E: Durable, K: Keyspace>(
     for _ in 0..u64::MAX {
         let stream = match newer.take() {
             Some(stream) => stream,
-            None => accept(listener)?,
+            None => accept(clock, listener)?,
         };
         let mut from = LinkReader::new(&stream, listener);
         if let Err(LinkEnd::Stops(refusal)) = serve_link(alloc, node, &mut from, &mut &stream) {

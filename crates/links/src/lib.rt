@@ -4,6 +4,7 @@
 mod following;
 mod link_end;
 mod link_reader;
+mod listening;
 mod log;
 mod opening;
 mod outgoing;
@@ -15,6 +16,7 @@ mod watch;
 
 pub use following::{follow, serve_link};
 pub use link_end::LinkEnd;
+pub use listening::is_lasting;
 pub use log::{Log, Lost, News};
 pub use outgoing::Outgoing;
 pub use receiver::AckReceiver;

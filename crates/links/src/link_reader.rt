@@ -1,11 +1,15 @@
 //! A standby's link, which ends where it is silent and another connection waits.
-use std::io;
+use crate::listening::is_lasting;
 use std::io::{ErrorKind, Read};
 use std::net::{TcpListener, TcpStream};
-use std::time::Duration;
+use std::time::{Clock, Duration};
+use std::{io, thread};
 
 /// How many seconds nothing comes on a link before the node looks for a newer connection.
 const SILENCE_SECONDS: u64 = 1;
+
+/// How long it rests where a connection was refused it, in milliseconds.
+const PAUSE_MILLISECONDS: u64 = 100;
 
 /// What comes on a link. Reading fails where nothing has come for a second and another connection waits: a host that vanished tells nobody that its
 /// link is over, and one who says nothing keeps no other out.
@@ -50,8 +54,25 @@ impl Read for LinkReader<'_> {
     }
 }
 
-/// Waits for a connection.
-pub(crate) fn accept(listener: &TcpListener) -> io::Result<TcpStream> {
+/// Waits for a connection. One that ended before it was taken, or for which descriptors or memory are refused, is passed over after a rest.
+///
+/// # Errors
+///
+/// That of the listener, which takes no further connection.
+pub(crate) fn accept<C: Clock>(clock: &C, listener: &TcpListener) -> io::Result<TcpStream> {
+    for _ in 0..u64::MAX {
+        match accept_next(listener) {
+            Err(error) if !is_lasting(&error) => {
+                thread::sleep(clock, Duration::from_millis(PAUSE_MILLISECONDS));
+            }
+            taken => return taken,
+        }
+    }
+    Err(io::Error::from(ErrorKind::TimedOut))
+}
+
+/// Takes the next connection, with the time for which a read of it waits.
+fn accept_next(listener: &TcpListener) -> io::Result<TcpStream> {
     let (stream, _) = listener.accept()?;
     let _ = stream.set_nodelay(true);
     let _ = stream.set_read_timeout(Some(Duration::from_secs(SILENCE_SECONDS)));
@@ -63,7 +84,7 @@ fn waiting(listener: &TcpListener) -> Option<TcpStream> {
     if listener.set_nonblocking(true).is_err() {
         return None;
     }
-    let found = accept(listener);
+    let found = accept_next(listener);
     let blocks = listener.set_nonblocking(false);
     match found {
         Ok(stream) if blocks.is_ok() && is_open(&stream) => Some(stream),

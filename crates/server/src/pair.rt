@@ -46,7 +46,7 @@ pub fn start_pair<
     let client = Client::connect(rt, alloc, address)?;
     let (link, address) = listen(rt)?;
     let standby = format!(in alloc; "{address}")?;
-    start_standby(rt, alloc, link, Arc::try_clone(&client)?)?;
+    start_standby(*rt, alloc, link, Arc::try_clone(&client)?)?;
     let theirs = Arc::try_clone(&client)?;
     start_primary(*rt, alloc, hash_builder, clients, standby, theirs)?;
     Ok(client)
@@ -83,13 +83,17 @@ fn bound<N: Net<Listener = TcpListener, Stream = TcpStream>>(
 }
 
 /// Starts the standby's thread, which ends the client's connection once the node stops. Only `Memory`.
-fn start_standby<N: Threads>(
-    rt: &N,
+fn start_standby<N: Threads + Clock + Copy + Send + 'static>(
+    rt: N,
     alloc: Global,
     listener: TcpListener,
     client: Arc<Client>,
 ) -> Result<(), Refusal> {
-    match thread::spawn(rt, move || client.stop(any(follow_anew(alloc, &listener)))) {
+    let following = thread::spawn(&rt, move || {
+        let why = follow_anew(&rt, alloc, &listener);
+        client.stop(any(why));
+    });
+    match following {
         Ok(_) => Ok(()),
         Err(_) => Err(Refusal::Memory),
     }
@@ -99,11 +103,15 @@ fn start_standby<N: Threads>(
 ///
 /// # Errors
 ///
-/// What was refused before, or `Memory` where the listener failed: a descriptor or memory was refused.
-fn follow_anew(alloc: Global, listener: &TcpListener) -> Result<Refusal, Refusal> {
+/// What was refused before, or `Memory` where the listener failed.
+fn follow_anew<N: Clock>(
+    clock: &N,
+    alloc: Global,
+    listener: &TcpListener,
+) -> Result<Refusal, Refusal> {
     let device = new_image(alloc, Role::Standby)?;
     let mut node: Standby<WblEngine<SimPmem>, MvKeyspace> = standby::open(alloc, device)?;
-    match follow(alloc, &mut node, listener) {
+    match follow(clock, alloc, &mut node, listener) {
         Ok(why) => Ok(why),
         Err(_) => Err(Refusal::Memory),
     }

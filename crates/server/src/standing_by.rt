@@ -7,27 +7,25 @@ use standby::Standby;
 use std::alloc::Global;
 use std::io::Write;
 use std::net::{Net, TcpListener, TcpStream};
+use std::time::Clock;
 use wbl_engine::{Durable, WblEngine};
 
 /// Opens the image of this name as a standby's, and takes one link at a time at this address until one stops the node, or the address cannot be
-/// listened at. It does not return otherwise. What it does is told to `errors`, a line at a time.
-pub fn stand_by<N: Net<Listener = TcpListener, Stream = TcpStream>, I: Images, E: Write + Drop>(
-    net: &N,
-    alloc: Global,
-    images: &I,
-    name: &str,
-    listen: &str,
-    errors: E,
-) -> Result<(), Failure> {
+/// listened at, or no longer. It does not return otherwise. What it does is told to `errors`, a line at a time.
+pub fn stand_by<
+    N: Clock + Net<Listener = TcpListener, Stream = TcpStream>,
+    I: Images,
+    E: Write + Drop,
+>(rt: &N, alloc: Global, images: &I, name: &str, listen: &str, errors: E) -> Result<(), Failure> {
     let mut log = Log::new(alloc, errors);
     let device = images.open(name)?;
     let mut node: Standby<WblEngine<I::Device>, MvKeyspace> = standby::open(alloc, device)?;
     log.say(opened(&node));
-    let Ok(listener) = TcpListener::bind(net, listen) else {
+    let Ok(listener) = TcpListener::bind(rt, listen) else {
         return Err(Failure::CannotListen);
     };
     log.say(News::Listening { address: listen });
-    match follow(alloc, &mut node, &listener) {
+    match follow(rt, alloc, &mut node, &listener) {
         Ok(why) => {
             log.say(News::Stopped { why });
             Err(Failure::from(why))
