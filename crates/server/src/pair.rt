@@ -13,7 +13,7 @@ use links::{Log, follow};
 use mv_keyspace::MvKeyspace;
 use pmem::{Pmem, SimPmem};
 use primary::{Opened, open};
-use serving::run;
+use serving::{Stop, run};
 use standby::Standby;
 use std::alloc::Global;
 use std::hash::RandomState;
@@ -174,7 +174,7 @@ fn serve_anew<
 ///
 /// # Errors
 ///
-/// As at `primary::open`.
+/// As at `primary::open`, or `Memory` where the listener failed.
 fn serve_over<
     N: Threads
         + Wait
@@ -196,7 +196,10 @@ fn serve_over<
     requires { (word : ℕ) → Only ((D.state device).words word) (image_of (D.state device).words word) }
 {
     let opened: Opened<WblEngine<D>, MvKeyspace> = open(alloc, device, hash_builder)?;
-    Ok(run(rt, alloc, opened, listener, standby, Log::new(alloc, ear)))
+    match run(rt, alloc, opened, listener, standby, Log::new(alloc, ear)) {
+        Stop::Refused(why) => Ok(why),
+        Stop::Deaf => Err(Refusal::Memory),
+    }
 }
 
 /// Why a node serves no longer, wherever that came from.

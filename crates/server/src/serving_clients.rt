@@ -6,7 +6,7 @@ use links::{Log, News};
 use mv_keyspace::MvKeyspace;
 use pmem::Pmem;
 use primary::{Opened, open};
-use serving::run;
+use serving::{Stop, run};
 use std::alloc::Global;
 use std::hash::RandomState;
 use std::io::Write;
@@ -18,7 +18,7 @@ use std::time::Clock;
 use wbl_engine::WblEngine;
 
 /// Opens the image of this name as a primary's, and serves clients at the address `listen`, with the standby at the address `link`, until the engine
-/// refuses a step, or the address cannot be listened at. It does not return otherwise. What it does is told to `errors`, a line at a time.
+/// refuses a step, or the address cannot be listened at, or no longer. It does not return otherwise. What it does is told to `errors`, a line at a time.
 pub fn serve_clients<
     N: RandomSource
         + Threads
@@ -58,7 +58,11 @@ pub fn serve_clients<
     log.say(News::Listening { address: listen });
     let address = String::from_str(alloc, link)?;
     let links = Log::new(alloc, errors);
-    let why = run(*rt, alloc, opened, listener, address, links);
-    log.say(News::Stopped { why });
-    Err(Failure::from(why))
+    match run(*rt, alloc, opened, listener, address, links) {
+        Stop::Refused(why) => {
+            log.say(News::Stopped { why });
+            Err(Failure::from(why))
+        }
+        Stop::Deaf => Err(Failure::CannotListen),
+    }
 }

@@ -1,22 +1,24 @@
 //! The acceptor's thread: it gives each connection a seat and its two threads, and joins those that have ended.
-ghost use Rattle.std.specs.Prelude.{◌≡◌};
+ghost use Rattle.std.specs.Prelude.{◌≡◌, Some, OnOk};
 ghost use Rattle.std.specs.Arc.{arc_value};
+ghost use Rattle.slab.specs.Slab.{HasRoomFor, get};
 ghost use Rattle.clients.specs.contracts.writer.ReplyWriter as reply_writer;
 ghost use denote.Param.Send.{IsSend};
 
 use clients::{Asks, Cards, Connection, ReplyWriter, RequestReader, Tells, new_connection};
+use links::is_lasting;
 use lobby::Entrance;
 use marks::{MarkSeat, Marks, Reader};
 use pipes::Seat;
 use slab::Slab;
-use std::alloc::Global;
+use std::alloc::{AllocError, Global};
 use std::io::Write;
 use std::net::{TcpListener, TcpStream};
 use std::sync::{Arc, Mutex, Wait};
 use std::thread;
 use std::thread::{JoinHandle, Threads};
 use std::time::{Clock, Duration};
-use wakes::{Bell, ReadyList};
+use wakes::{Bell, Flag, ReadyList};
 
 /// Where connections get their seats, and wait until the node's thread takes them in.
 pub type Door = Mutex<Entrance<Asks, Tells>>;
@@ -24,8 +26,11 @@ pub type Door = Mutex<Entrance<Asks, Tells>>;
 /// What a client is told that finds all seats taken.
 const NO_SEAT: &[u8] = b"-ERR max number of clients reached\r\n";
 
-/// How long it rests where there are no more descriptors, in milliseconds.
+/// How long it rests where a connection was refused it, as where there are no more descriptors, in milliseconds.
 const PAUSE_MILLISECONDS: u64 = 100;
+
+/// How many threads a connection has.
+const THREADS_OF_ONE: usize = 2;
 
 /// A thread of a connection that has ended, by the connection's place.
 #[derive(Clone, Copy, Debug)]
@@ -33,6 +38,9 @@ enum Exit {
     Reader(usize),
     Writer(usize),
 }
+
+/// The threads that have ended and were not joined yet, as they tell it.
+type Exits = Mutex<Vec<Exit>>;
 
 /// The threads of a connection that were not joined yet.
 #[derive(Drop)]
@@ -63,6 +71,9 @@ pub struct Acceptor {
     root: Root,
     ready: Arc<ReadyList>,
     cards: Arc<Cards>,
+    exits: Arc<Exits>,
+    /// Set once no further connection is accepted.
+    is_deaf: Arc<Flag>,
     /// Wakes the node's thread.
     node: Bell,
     /// How often a writer gives way before it sleeps.
@@ -70,28 +81,37 @@ pub struct Acceptor {
 }
 
 impl Acceptor {
-    /// An acceptor, with a seat of these marks from which each writer gets one.
+    /// An acceptor, with a seat of these marks from which each writer gets one. It sets the flag once it accepts no further connection.
+    ///
+    /// # Errors
+    ///
+    /// Only `AllocError`.
     pub fn new(
+        alloc: Global,
         marks: Arc<Marks>,
         seat: MarkSeat,
         ready: Arc<ReadyList>,
         cards: Arc<Cards>,
+        is_deaf: Arc<Flag>,
         node: Bell,
         spin: u32,
-    ) -> Acceptor
+    ) -> Result<Acceptor, AllocError>
         requires { seat.marks ≡ arc_value marks }
     {
-        Acceptor {
+        let exits = Arc::new(alloc, Mutex::new(Vec::new(alloc)))?;
+        Ok(Acceptor {
             root: Root { marks, seat },
             ready,
             cards,
+            exits,
+            is_deaf,
             node,
             spin,
-        }
+        })
     }
 
-    /// Accepts connections until the listener ends. A connection for which there is no seat is told so and closed; one for which memory or a thread
-    /// is refused is closed.
+    /// Accepts connections until the listener takes none any more, and then says so to the node's thread. A connection for which there is no seat is
+    /// told so and closed; one for which memory or a thread is refused is closed.
     pub fn run<R: Threads + Wait + Clock + Copy + Send + 'static>(
         self,
         rt: R,
@@ -100,14 +120,25 @@ impl Acceptor {
         door: &Arc<Door>,
     ) {
         let mut acceptor = self;
-        let Ok(exits) = Arc::new(alloc, Mutex::new(Vec::new(alloc))) else {
-            return;
-        };
+        acceptor.accept_all(rt, alloc, listener, door);
+        acceptor.is_deaf.set();
+        acceptor.node.ring();
+    }
+
+    /// Accepts connections until the listener takes none any more.
+    fn accept_all<R: Threads + Wait + Clock + Copy + Send + 'static>(
+        &mut self,
+        rt: R,
+        alloc: Global,
+        listener: &TcpListener,
+        door: &Arc<Door>,
+    ) {
         let mut running = Slab::new(alloc);
         for stream in listener.incoming() {
-            reap(&rt, &exits, &mut running);
+            reap(&rt, &self.exits, &mut running);
             match stream {
-                Ok(stream) => acceptor.admit(rt, alloc, stream, door, &exits, &mut running),
+                Ok(stream) => self.admit(rt, alloc, stream, door, &mut running),
+                Err(error) if is_lasting(&error) => return,
                 Err(_) => thread::sleep(&rt, Duration::from_millis(PAUSE_MILLISECONDS)),
             }
         }
@@ -120,12 +151,11 @@ impl Acceptor {
         alloc: Global,
         stream: TcpStream,
         door: &Arc<Door>,
-        exits: &Arc<Mutex<Vec<Exit>>>,
         running: &mut Slab<Running>,
     ) {
         let entered = door.lock(&rt).enter();
         match entered {
-            Ok(seat) => self.connect(rt, alloc, stream, seat, door, exits, running),
+            Ok(seat) => self.connect(rt, alloc, stream, seat, door, running),
             Err(_) => {
                 let _ = (&mut &stream).write_all(NO_SEAT);
             }
@@ -140,7 +170,6 @@ impl Acceptor {
         stream: TcpStream,
         seat: Seat,
         door: &Arc<Door>,
-        exits: &Arc<Mutex<Vec<Exit>>>,
         running: &mut Slab<Running>,
     ) {
         let mark = self.root.reader();
@@ -155,19 +184,19 @@ impl Acceptor {
             self.spin,
         );
         match made {
-            Ok(connection) => self.start(rt, alloc, connection, door, exits, running),
+            Ok(connection) => self.start(rt, alloc, connection, door, running),
             Err(seat) => door.lock(&rt).leave(seat),
         }
     }
 
-    /// Starts the connection's threads, and lets it wait at the door.
+    /// Starts the connection's threads, and lets it wait at the door. Nothing is started where their record could not be kept: what is joined later
+    /// is what the record names.
     fn start<R: Threads + Wait + Clock + Copy + Send + 'static>(
         &self,
         rt: R,
         alloc: Global,
         connection: Connection,
         door: &Arc<Door>,
-        exits: &Arc<Mutex<Vec<Exit>>>,
         running: &mut Slab<Running>,
     ) {
         let Connection {
@@ -176,30 +205,61 @@ impl Acceptor {
             writer,
             ..
         } = connection;
+        if make_room(&rt, &self.exits, running).is_err() {
+            door.lock(&rt).leave(arrival.seat);
+            return;
+        }
         let place = running.vacant_key();
-        let Some(writing) = start_writer(rt, alloc, writer, exits, place) else {
+        let Some(writing) = start_writer(rt, alloc, writer, &self.exits, place) else {
             door.lock(&rt).leave(arrival.seat);
             return;
         };
-        let reading = start_reader(rt, alloc, reader, exits, place);
+        let reading = start_reader(rt, alloc, reader, &self.exits, place);
         if reading.is_none() {
             // nothing will be asked, so the connection is over as soon as it is served
             arrival.requests.line.is_read.set();
         }
-        let _ = running.insert(Running {
+        let threads = Running {
             reader: reading,
             writer: Some(writing),
-        });
+        };
+        keep(running, place, threads);
         let _ = door.lock(&rt).arrive(arrival);
         self.node.ring();
     }
+}
+
+/// Makes room for the record of one connection more, and for the threads of all of them to tell that they have ended. Each that has told it and was not
+/// joined yet is of a connection whose record is there.
+fn make_room<R: Wait>(
+    rt: &R,
+    exits: &Arc<Exits>,
+    running: &mut Slab<Running>,
+) -> Result<(), AllocError>
+    ensures { OnOk result (HasRoomFor running.new 1) }
+{
+    running.reserve(1)?;
+    let threads = running
+        .len()
+        .saturating_add(1)
+        .saturating_mul(THREADS_OF_ONE);
+    exits.lock(rt).reserve(threads)
+}
+
+/// Keeps the record of a connection's threads at the place that they were told.
+fn keep(running: &mut Slab<Running>, place: usize, threads: Running)
+    requires room { HasRoomFor running.old 1 }
+    requires place { place ≡ running.old.vacant_key }
+    ensures { get running.new place ≡ Some threads }
+{
+    running.insert_reserved(threads);
 }
 
 fn start_writer<R: Threads + Wait + Clock + Copy + Send + 'static>(
     rt: R,
     alloc: Global,
     writer: ReplyWriter,
-    exits: &Arc<Mutex<Vec<Exit>>>,
+    exits: &Arc<Exits>,
     place: usize,
 ) -> Option<JoinHandle<()>> {
     writer_is_send();
@@ -221,7 +281,7 @@ fn start_reader<R: Threads + Wait + Clock + Copy + Send + 'static>(
     rt: R,
     alloc: Global,
     reader: RequestReader,
-    exits: &Arc<Mutex<Vec<Exit>>>,
+    exits: &Arc<Exits>,
     place: usize,
 ) -> Option<JoinHandle<()>> {
     spawn(rt, alloc, reader, exits, Exit::Reader(place))
@@ -249,7 +309,7 @@ fn spawn<R: Threads + Wait + Clock + Copy + Send + 'static, T: Task + Send + Dro
     rt: R,
     alloc: Global,
     task: T,
-    exits: &Arc<Mutex<Vec<Exit>>>,
+    exits: &Arc<Exits>,
     exit: Exit,
 ) -> Option<JoinHandle<()>> {
     let exits = Arc::try_clone(exits).ok()?;
@@ -260,13 +320,13 @@ fn spawn<R: Threads + Wait + Clock + Copy + Send + 'static, T: Task + Send + Dro
     spawned.ok()
 }
 
-// Tells the acceptor that a thread has ended. (where memory for that is refused, the thread is joined by nobody)
-fn tell<R: Wait>(rt: &R, exits: &Arc<Mutex<Vec<Exit>>>, exit: Exit) {
+// Tells the acceptor that a thread has ended. (there is room: it was made before the thread was started)
+fn tell<R: Wait>(rt: &R, exits: &Arc<Exits>, exit: Exit) {
     let _ = exits.lock(rt).push(exit);
 }
 
 // Joins the threads that have ended.
-fn reap<R: Threads + Wait>(rt: &R, exits: &Arc<Mutex<Vec<Exit>>>, running: &mut Slab<Running>) {
+fn reap<R: Threads + Wait>(rt: &R, exits: &Arc<Exits>, running: &mut Slab<Running>) {
     for _ in 0..u64::MAX {
         let Some(exit) = exits.lock(rt).pop() else {
             return;

@@ -12,6 +12,7 @@ mod needs;
 mod node;
 mod pace;
 mod starting;
+mod stop;
 mod turns;
 
 pub use accepting::{Acceptor, Door};
@@ -19,3 +20,4 @@ pub use floor::Floor;
 pub use local_mark::LocalMark;
 pub use node::Node;
 pub use starting::run;
+pub use stop::Stop;

@@ -9,6 +9,7 @@ use crate::floor::Floor;
 use crate::gathering::Gathering;
 use crate::local_mark::LocalMark;
 use crate::pace::Pace;
+use crate::stop::Stop;
 use clients::Sight;
 use group_commit::Done;
 use kv_types::Refusal;
@@ -18,9 +19,9 @@ use mv_keyspace::Keyspace;
 use pipes::RingOutlet;
 use primary::{Back, Front, Primary, close};
 use std::alloc::Global;
-use std::sync::Wait;
+use std::sync::{Arc, Wait};
 use std::time::Clock;
-use wakes::{Bell, Idle, Sleeper};
+use wakes::{Bell, Flag, Idle, Sleeper};
 use wbl_engine::Durable;
 
 /// What the node's thread owns beside its primary.
@@ -36,6 +37,8 @@ pub struct Node {
     pub link: Bell,
     pub sleeper: Sleeper,
     pub idle: Idle,
+    /// Set once no further connection is accepted.
+    pub is_deaf: Arc<Flag>,
 }
 
 /// The committer's thread, as the node's has it.
@@ -46,14 +49,14 @@ pub(crate) struct Lent<E: Durable> {
     pub(crate) bell: Bell,
 }
 
-/// Serves the connections until the engine refuses a step, by `Fault` or `Exhausted`.
+/// Serves the connections until the engine refuses a step, by `Fault` or `Exhausted`, or no further connection is accepted.
 pub(crate) fn serve<R: Wait + Clock, E: Durable + Drop, K: Keyspace + Drop>(
     rt: &R,
     alloc: Global,
     node: Node,
     primary: Primary<E, K>,
     lent: Lent<E>,
-) -> Refusal
+) -> Stop
     requires stands { Stands E.device E.contents primary }
     requires shown { IsShown E.device E.contents primary.back node.mark }
     requires none { lent.lender ≡ None }
@@ -68,6 +71,7 @@ pub(crate) fn serve<R: Wait + Clock, E: Durable + Drop, K: Keyspace + Drop>(
         link,
         sleeper,
         mut idle,
+        is_deaf,
     } = node;
     let mut gathering = Gathering {
         closed: front.position(),
@@ -76,7 +80,7 @@ pub(crate) fn serve<R: Wait + Clock, E: Durable + Drop, K: Keyspace + Drop>(
     for _ in rt.forever() {
         let mut is_busy = match fetch(&mut front, &mut lender, &mut home) {
             Ok(did) => did,
-            Err(refusal) => return refusal,
+            Err(refusal) => return Stop::Refused(refusal),
         };
         let is_working = is_room_coming(&home);
         is_busy |= floor.admit(rt, alloc, &mut front);
@@ -96,7 +100,10 @@ pub(crate) fn serve<R: Wait + Clock, E: Durable + Drop, K: Keyspace + Drop>(
         );
         match did {
             Ok(did) => is_busy |= did,
-            Err(refusal) => return refusal,
+            Err(refusal) => return Stop::Refused(refusal),
+        }
+        if is_deaf.is_set() {
+            return Stop::Deaf;
         }
         rest(rt, &mut idle, &sleeper, is_busy);
     }

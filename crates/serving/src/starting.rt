@@ -9,6 +9,7 @@ use crate::errand::{Committing, Errand, Task, do_each};
 use crate::floor::Floor;
 use crate::local_mark::LocalMark;
 use crate::node::{Lent, Node, serve};
+use crate::stop::Stop;
 use clients::{Cards, Sight};
 use kv_types::Refusal;
 use lending::{Borrower, lending};
@@ -79,12 +80,15 @@ struct House {
     floor: Floor,
     acceptor: Acceptor,
     door: Arc<Door>,
+    /// Set once no further connection is accepted.
+    is_deaf: Arc<Flag>,
 }
 
-/// Serves clients at this listener, and sends to the standby at this address, until the engine refuses a step. The threads that it started end with
-/// the program.
+/// Serves clients at this listener, and sends to the standby at this address, until the engine refuses a step or the listener takes no further
+/// connection. The threads that it started end with the program.
 ///
-/// The answer is why: `Fault` or `Exhausted` of the engine, or `Memory` where there was none to begin with, or for a thread. What becomes of the link is told.
+/// The answer is why: `Fault` or `Exhausted` of the engine, `Memory` where there was none to begin with, or for a thread, or that the listener is over.
+/// What becomes of the link is told.
 pub fn run<
     R: Threads
         + Wait
@@ -104,7 +108,7 @@ pub fn run<
     listener: TcpListener,
     address: String,
     log: Log<W>,
-) -> Refusal
+) -> Stop
     requires { Stands E.device E.contents opened.primary }
 {
     let Opened {
@@ -116,7 +120,7 @@ pub fn run<
     let committed = primary.back.committed();
     match new_threading(alloc, &committed, opening, epoch, address) {
         Ok(threading) => start(rt, alloc, threading, listener, primary, log),
-        Err(refusal) => refusal,
+        Err(refusal) => Stop::Refused(refusal),
     }
 }
 
@@ -140,7 +144,7 @@ fn start<
     listener: TcpListener,
     primary: Primary<E, K>,
     log: Log<W>,
-) -> Refusal
+) -> Stop
     requires stands { Stands E.device E.contents primary }
     requires shown { IsShown E.device E.contents primary.back threading.node.mark }
 {
@@ -155,11 +159,11 @@ fn start<
     let is_sending = start_sender(rt, alloc, sender, receiver, log);
     let is_accepting = start_acceptor(rt, alloc, acceptor, listener, door);
     if !is_sending || !is_accepting {
-        return Refusal::Memory;
+        return Stop::Refused(Refusal::Memory);
     }
     match start_committer(rt, alloc, wake) {
         Some(lent) => serve(&rt, alloc, node, primary, lent),
-        None => Refusal::Memory,
+        None => Stop::Refused(Refusal::Memory),
     }
 }
 
@@ -253,6 +257,7 @@ fn new_threading(
         floor,
         acceptor,
         door,
+        is_deaf,
     } = new_house(alloc, marks, root, due, &own)?;
     let wake = own.another()?;
     let node = Node {
@@ -263,6 +268,7 @@ fn new_threading(
         link,
         sleeper,
         idle: Idle::new(NODE_SPIN),
+        is_deaf,
     };
     Ok(Threading {
         node,
@@ -320,12 +326,14 @@ fn new_house(
 {
     let door: Arc<Door> = Arc::new(alloc, Mutex::new(Entrance::new(alloc)?))?;
     let ready = Arc::new(alloc, ReadyList::new(alloc, node.another()?)?)?;
-    let acceptor = new_acceptor(alloc, marks, root, &ready, node.another()?)?;
+    let is_deaf = Arc::new(alloc, Flag::new())?;
+    let acceptor = new_acceptor(alloc, marks, root, &ready, &is_deaf, node.another()?)?;
     let floor = Floor::new(alloc, Arc::try_clone(&door)?, ready, due)?;
     Ok(House {
         floor,
         acceptor,
         door,
+        is_deaf,
     })
 }
 
@@ -359,13 +367,16 @@ fn new_acceptor(
     marks: Arc<Marks>,
     root: MarkSeat,
     ready: &Arc<ReadyList>,
+    is_deaf: &Arc<Flag>,
     node: Bell,
 ) -> Result<Acceptor, Refusal>
     requires { root.marks ≡ arc_value marks }
 {
     let cards = Arc::new(alloc, Cards::new(alloc)?)?;
     let ready = Arc::try_clone(ready)?;
-    Ok(Acceptor::new(marks, root, ready, cards, node, SPIN))
+    let is_deaf = Arc::try_clone(is_deaf)?;
+    let acceptor = Acceptor::new(alloc, marks, root, ready, cards, is_deaf, node, SPIN)?;
+    Ok(acceptor)
 }
 
 fn new_receiver(
