@@ -8,6 +8,7 @@ use Rattle.kv_types.specs.Change.{change_text}
 use Rattle.kv_types.specs.declared.stop.Stop.TheVariants.{Short, Broken}
 use Rattle.kv_types.specs.Reader.{◌>>=◌}
 use Rattle.stream_codec.specs.declared.message.TheConstants.{MAX_BODY_BYTES}
+use Rattle.stream_codec.specs.declared.message.GroupHead.{GroupHead}
 use Rattle.stream_codec.specs.Message.{Sent, Changes, Acknowledged}
 use Rattle.stream_codec.specs.Bytes.{Outcome, two_places, four_places, eight_places, number_at, counted_at}
 use Rattle.stream_codec.specs.declared.change.Kind.{Kind}
@@ -110,6 +111,17 @@ head_of head_kind.Ack bytes =
 -- all of a message but the changes of a group
 unfoldable pub head_at : List ℕ → Outcome Head
 head_at bytes = head_kind_at bytes >>= λ kind. head_of kind.0 kind.1
+
+-- the numbers of a group's frame, if they are all there
+abbrev pub group_of : Outcome Head → Option GroupHead
+group_of (Ok (head.Group epoch before after size, rest)) = Some (record { epoch = epoch; before = before; after = after; size = size })
+group_of (Ok (head.Ack ack, rest)) = None
+group_of (Err stop) = None
+
+-- those of the frame that is begun, by the bytes that were fed and not yet given; after a fault there is none
+abbrev pub group_begun : Option (List ℕ) → Option GroupHead
+group_begun None = None
+group_begun (Some unread) = group_of (head_at unread)
 
 -- a message, behind its numbers
 abbrev pub body_at : Head → List ℕ → Outcome Sent

@@ -2,9 +2,11 @@
 ghost use Rattle.std.specs.Prelude.{◌≡◌, ◌≢◌, ◌⊎◌, ◌++◌, [], IfOk, IfErr, OnOk, OnErr, Ok, Err, is_none};
 ghost use Rattle.kv_types.specs.declared.refusal.Refusal.TheVariants.{FrameFault, Memory};
 ghost use Rattle.stream_codec.specs.Stream.{fed};
+ghost use Rattle.stream_codec.specs.Reading.{group_begun, group_of, head_at};
 ghost use Rattle.stream_codec.specs.Scanning.{IsAt, sent_of_all, IsTaken};
 
-use crate::message::Message;
+use crate::head::{Head, head_at};
+use crate::message::{GroupHead, Message};
 use crate::scan::{Progress, START};
 use crate::whole_frames::split_frames;
 use bytes::{BufMut, BytesMut};
@@ -86,6 +88,21 @@ impl Begun {
     }
 }
 
+/// The numbers of the group's frame at the front, if all of them are there.
+fn group_at(bytes: &[u8]) -> Option<GroupHead>
+    ensures { result ≡ group_of (head_at bytes.now) }
+{
+    match head_at(bytes) {
+        Ok((Head::Group(epoch, before, after, size), _)) => Some(GroupHead {
+            epoch,
+            before,
+            after,
+            size,
+        }),
+        Ok((Head::Ack(_), _)) | Err(_) => None,
+    }
+}
+
 /// Reads frames from bytes that come in pieces. A clause sees the bytes that were fed and not yet given as frames, or `None` once no continuation
 /// of them is a frame.
 #[derive(Drop)]
@@ -123,6 +140,16 @@ impl Decoder {
         ensures { result ≡ is_none self.now }
     {
         self.begun.is_none()
+    }
+
+    /// The numbers of the group's frame that is begun, once all of them were fed.
+    pub fn group_begun(&self) -> Option<GroupHead>
+        ensures { result ≡ group_begun self.now }
+    {
+        match &self.begun {
+            Some(begun) => group_at(begun.unread.as_slice()),
+            None => None,
+        }
     }
 
     /// Takes the next piece, of any bytes, and gives the frames that are whole now, in order. Once a byte was fed after which no continuation is a

@@ -12,3 +12,15 @@ pub enum Message {
     /// From the standby: what is durable on it.
     Ack(Ack),
 }
+
+/// The numbers of a group's frame: all of it but its changes.
+#[derive(Clone, Copy, Debug, PartialEq, Eq)]
+pub struct GroupHead {
+    pub epoch: u64,
+    /// The position before the changes.
+    pub before: u64,
+    /// The position after them.
+    pub after: u64,
+    /// How many bytes the changes have together.
+    pub size: u64,
+}
