@@ -20,6 +20,6 @@ pub use listening::is_lasting;
 pub use log::{Log, Lost, News};
 pub use outgoing::Outgoing;
 pub use receiver::AckReceiver;
-pub use remote_mark::RemoteMark;
+pub use remote_mark::{RemoteMark, Standing};
 pub use sender::LinkSender;
 pub use watch::Watch;

@@ -4,6 +4,10 @@ use std::alloc::Global;
 use std::fmt;
 use std::io::Write;
 
+/// What a node tells whose standby holds what it never had itself.
+const STANDBY_AHEAD: &str =
+    "standby ahead: this node takes no acknowledgement any more, and answers nothing that waits for one; it was not formatted with this standby, or was restored from an older copy: see \"A standby that is ahead\" in docs/server.md";
+
 /// Tells what a node does. A line is written whole by one call of the writer; one that cannot be written, or for which memory is refused, is let go.
 #[derive(Drop)]
 pub struct Log<W> {
@@ -39,6 +43,8 @@ pub enum News<'a> {
         address: &'a str,
         why: Lost,
     },
+    /// The standby was once above this node, which takes no acknowledgement any more.
+    StandbyAhead,
     /// The node has stopped.
     Stopped {
         why: Refusal,
@@ -96,6 +102,7 @@ impl<'a> fmt::Display for News<'a> {
             }
             News::LinkLost { address, why } => write!(f, "link to {address} lost: {why}"),
             News::NoLink { address, why } => write!(f, "no link to {address}: {why}"),
+            News::StandbyAhead => f.write_str(STANDBY_AHEAD),
             News::Stopped { why } => write!(f, "stopped: {why}"),
         }
     }

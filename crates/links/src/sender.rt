@@ -1,4 +1,8 @@
 //! The thread that opens the link to the standby and sends on it.
+ghost use Rattle.std.specs.Prelude.{◌≡◌, OnOk};
+ghost use Rattle.links.specs.Marking.{StaysFinal};
+ghost use Rattle.links.specs.declared.remote_mark.Standing.TheVariants.{Behind};
+
 use crate::log::{Log, Lost, News};
 use crate::opening::read_opening;
 use crate::outgoing::Outgoing;
@@ -23,6 +27,11 @@ const FIRST_PAUSES: u32 = 1;
 const MOST_PAUSES: u32 = 20;
 
 const PAUSE_MILLISECONDS: u64 = 100;
+
+/// How long a node whose standby is ahead waits at least and at most before it says so again, in such pauses: doubled each time.
+const FIRST_TELLING_PAUSES: u32 = 10;
+
+const MOST_TELLING_PAUSES: u32 = 6_000;
 
 /// How long the standby may take to say where it is, and to take some of what is written, in seconds.
 const PATIENCE_SECONDS: u64 = 5;
@@ -60,7 +69,8 @@ struct Opened {
 
 impl LinkSender {
     /// Keeps the link open until somebody asks to stop: opens it, sends on it while it lasts, and opens it again after a pause. It tells when a link is
-    /// open and when it is lost, and of several in a row that do not come up it tells the first.
+    /// open and when it is lost, and of several in a row that do not come up it tells the first. Once the standby was ahead of this node no link is opened
+    /// any more: it tells that, again and again.
     pub fn run<
         R: Threads + Wait + Clock + Net<Stream = TcpStream> + Copy + Send + 'static,
         W: Write + Drop,
@@ -82,11 +92,30 @@ impl LinkSender {
             own = next;
             receiver = next_receiver;
             is_up = came_up;
+            if receiver.is_final() {
+                return own.stay_apart(&rt, &mut log);
+            }
             if got_on {
                 pauses = FIRST_PAUSES;
             }
             own = own.pause(&rt, pauses);
             pauses = pauses.saturating_mul(2).min(MOST_PAUSES);
+        }
+    }
+
+    /// Tells until somebody asks to stop that the standby is ahead: at first each second, then ever more seldom.
+    fn stay_apart<R: Wait + Clock, W: Write>(self, rt: &R, log: &mut Log<W>) {
+        let mut own = self;
+        let mut pauses = FIRST_TELLING_PAUSES;
+        for _ in rt.forever() {
+            let (next, has_stopped) = own.has_stopped();
+            own = next;
+            if has_stopped {
+                return;
+            }
+            log.say(News::StandbyAhead);
+            own = own.pause(rt, pauses);
+            pauses = pauses.saturating_mul(2).min(MOST_TELLING_PAUSES);
         }
     }
 
@@ -98,7 +127,9 @@ impl LinkSender {
         receiver: AckReceiver,
         log: &mut Log<W>,
         was_up: bool,
-    ) -> (LinkSender, AckReceiver, bool, bool) {
+    ) -> (LinkSender, AckReceiver, bool, bool)
+        ensures stays { StaysFinal receiver.mark result.1.mark }
+    {
         let mut own = self;
         let (receiver, opened) = own.open(rt, alloc, receiver);
         match opened {
@@ -167,7 +198,10 @@ impl LinkSender {
         rt: &R,
         alloc: Global,
         receiver: AckReceiver,
-    ) -> (AckReceiver, Result<Opened, Lost>) {
+    ) -> (AckReceiver, Result<Opened, Lost>)
+        ensures stays { StaysFinal receiver.mark result.0.mark }
+        ensures behind { OnOk result.1 (receiver.mark.standing ≡ Behind) }
+    {
         let Ok(stream) = dial(rt, &self.address) else {
             return (receiver, Err(Lost::Unreachable));
         };
