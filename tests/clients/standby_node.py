@@ -68,13 +68,13 @@ def crashed(writer, group, draws):
 class Node:
     """A standby that runs. One that takes longer than a program may is ended."""
 
-    def __init__(self, path, **options):
+    def __init__(self, path, *options, stderr=subprocess.PIPE, **others):
         for _ in range(20):
             with socket.socket() as free:
                 free.bind(("127.0.0.1", 0))
                 self.address = free.getsockname()
-            words = [program("server"), "standby", "--image", str(path), "--listen", "{}:{}".format(*self.address)]
-            self.child = subprocess.Popen(words, stdout=subprocess.PIPE, stderr=subprocess.PIPE, **options)
+            words = [program("server"), "standby", "--image", str(path), "--listen", "{}:{}".format(*self.address), *options]
+            self.child = subprocess.Popen(words, stdout=subprocess.PIPE, stderr=stderr, **others)
             if self.is_there():
                 return
             self.child.kill()

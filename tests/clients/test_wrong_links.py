@@ -119,3 +119,111 @@ class FakeStandby(PairCases):
         self.addCleanup(link.close)
         link.settimeout(PATIENCE)
         return link
+
+
+class SlowStrangers(ServingCases):
+    """A pair whose link a stranger has that is in no hurry."""
+
+    def test_a_stranger_that_sends_a_byte_at_a_time(self):
+        """Its link ends where the primary waits, though each byte is right and none is long in coming."""
+        self.assert_serves(1)
+        self.nodes.primary.end()
+        position = self.nodes.primary.inspect()["position"]
+        begun = head(1, position, position + 1, 2**30) + BEGUN_CHANGE
+        with Client(self.nodes.link.number) as stranger:
+            self.assertEqual(len(stranger.socket.recv(ACK_BYTES, socket.MSG_WAITALL)), ACK_BYTES)
+            over = threading.Event()
+            sender = threading.Thread(target=self.dribble, args=(stranger, begun, over), daemon=True)
+            sender.start()
+            try:
+                self.nodes.primary.start()
+                self.nodes.wait()
+                self.assert_serves(5)
+            finally:
+                over.set()
+                sender.join(PATIENCE)
+
+    @staticmethod
+    def dribble(stranger, data, over):
+        with contextlib.suppress(OSError):
+            for byte in data:
+                if over.wait(0.3):
+                    return
+                stranger.send(bytes([byte]))
+
+
+class WrongFrames(StandingBy):
+    """A standby whose primary is this test."""
+
+    @contextlib.contextmanager
+    def standby(self, *words):
+        """A new standby, and the file of what it tells."""
+        with self.folder() as folder:
+            path = self.made(folder, Writer(IMAGE_LINES, STANDBY).words)
+            errors = folder / "errors"
+            with open(errors, "ab") as told, Node(path, *words, stderr=told) as node:
+                yield node, errors
+
+    def assert_ended(self, link):
+        """The standby ends this link, whose other side goes on."""
+        link.settimeout(PATIENCE)
+        with contextlib.suppress(ConnectionError):
+            while link.recv(2**16):
+                pass
+
+    def test_a_primary_that_reads_nothing(self):
+        """The standby gives its link up, and takes the next."""
+        with self.standby() as (node, _), node.link() as link:
+            link.setsockopt(socket.SOL_SOCKET, socket.SO_RCVBUF, 4_096)
+            link.settimeout(PATIENCE)
+            with contextlib.suppress(ConnectionError, TimeoutError):
+                while True:
+                    link.sendall(1_000 * SET_A)
+            with contextlib.closing(node.link()) as next_one:
+                next_one.settimeout(PATIENCE)
+                self.assertEqual(next_one.recv(ACK_BYTES, socket.MSG_WAITALL), text(Acknowledgement(1, 1)))
+
+    def test_each_refusal_is_named(self):
+        """By its number, each time that another one ends a link."""
+        wrong = Group(2, 1, 2, (Put((b"a",), b"1"),))
+        gap = Group(1, 7, 8, (Put((b"a",), b"1"),))
+        full = Group(1, 1, 2, tuple(Put((b"%d" % at,), 65_536 * b"v") for at in range(8)))
+        cases = [(text(wrong), b"refusal 11: wrong epoch"), (text(gap), b"refusal 12: position gap"), (b"\xff", b"refusal 10: frame fault")]
+        cases += [(text(full), b'refusal 5: full: this standby has no room for a frame: see "A standby without room" in docs/server.md')]
+        with self.standby() as (node, errors):
+            node.exchange(SET_A)
+            for data, words in cases:
+                with self.case("refusal", words=words):
+                    for _ in range(20):
+                        with node.link() as link:
+                            link.sendall(data)
+                            self.assert_ended(link)
+                    wait_until(lambda words=words: b"link ended: " + words + b"\n" in errors.read_bytes(), "a refusal that is told")
+                    # (one for each try would be 20; ever more seldom they are some)
+                    self.assertLess(lines_with(errors, words), 12)
+
+    def test_one_host_alone(self):
+        """A connection from another host is closed at once, with nothing said but to whoever runs the node."""
+        with self.standby("--from", "127.0.0.2") as (node, errors):
+            for _ in range(5):
+                with contextlib.closing(node.link()) as stranger:
+                    stranger.settimeout(PATIENCE)
+                    self.assertEqual(stranger.recv(1), b"")
+            wait_until(lambda: b"closed a connection from 127.0.0.1" in errors.read_bytes(), "a stranger that is told")
+            link = socket.create_connection(node.address, PATIENCE, source_address=("127.0.0.2", 0))
+            with contextlib.closing(link):
+                self.assertEqual(link.recv(ACK_BYTES, socket.MSG_WAITALL), text(Acknowledgement(1, 0)))
+                # neither does one that waits end a link on which nothing comes
+                with contextlib.closing(node.link()) as stranger:
+                    stranger.settimeout(PATIENCE)
+                    self.assertEqual(stranger.recv(1), b"")
+                link.sendall(SET_A)
+                self.assertEqual(link.recv(ACK_BYTES, socket.MSG_WAITALL), text(Acknowledgement(1, 1)))
+
+    def test_a_host_that_is_none(self):
+        for host in ("nobody", "127.0.0.1:1", ""):
+            with self.case("host", host=host), self.folder() as folder:
+                path = self.made(folder, Writer(IMAGE_LINES, STANDBY).words)
+                status, output, errors = self.run_words(["standby", "--image", str(path), "--listen", "127.0.0.1:99999", "--from", host])
+                self.assertEqual((status, output), (2, b""))
+                self.assertIn(b"--from", errors)

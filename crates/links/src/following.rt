@@ -1,5 +1,5 @@
 //! The standby's side: one link at a time.
-ghost use Rattle.std.specs.Prelude.{◌≡◌, ◌↔◌, ℕ, List, [], ◌++◌, OnOk, OnErr, Err, Ok, Option, MatchOption, IfOk, IfErr, IsErrOf};
+ghost use Rattle.std.specs.Prelude.{◌≡◌, ◌↔◌, ℕ, List, [], ◌++◌, OnOk, OnErr, Err, Ok, Option, Some, MatchOption, IfOk, IfErr, IsErrOf};
 ghost use Rattle.std.specs.Io.KnownBytes.{Appends, Consumes};
 ghost use Rattle.kv_types.specs.declared.refusal.Refusal.TheVariants.{Fault, Memory};
 ghost use Rattle.stream_codec.specs.Message.{sent_of};
@@ -10,16 +10,20 @@ ghost use Rattle.stream_codec.specs.declared.message.Message.TheVariants.{Ack as
 ghost use Rattle.links.specs.Serving.{Stands, held, Acknowledges, Answers, HasRun, IsFreed, Says, Served, ack_text, refusal_of_ack};
 ghost use Rattle.links.specs.declared.link_end.LinkEnd.TheVariants.{Closed, Refused, Stops};
 
+use crate::door::Door;
 use crate::link_end::{LinkEnd, ends_by, refusal_of_ack};
 use crate::link_reader::{LinkReader, accept};
+use crate::link_writer::LinkWriter;
+use crate::log::Log;
 use frames::{Ack, Frame};
 use kv_types::Refusal;
 use mv_keyspace::Keyspace;
 use standby::Standby;
 use std::alloc::{AllocError, Global};
+use std::cell::Cell;
 use std::io;
 use std::io::{Read, Write};
-use std::net::TcpListener;
+use std::net::{IpAddr, TcpListener, TcpStream};
 use std::time::Clock;
 use stream_codec::{Decoder, Message, write_ack};
 use wbl_engine::Durable;
@@ -27,34 +31,76 @@ use wbl_engine::Durable;
 /// How many bytes are read at once.
 const BLOCK_BYTES: usize = 65_536;
 
-/// Takes one link at a time, until one stops the node, and says why it did. A link on which nothing comes for a second ends where another connection
-/// waits, which is the next. Where a connection cannot be taken for now, it rests by the clock and goes on.
+/// Takes one link at a time, until one stops the node, and says why it did. With a host, connections from any other are closed at once. A link on which
+/// nothing comes for a second, or no whole frame and few bytes for five, ends where another connection waits, which is the next; one whose primary takes
+/// nothing for five seconds ends. It tells why links end that the primary does not close. Where a connection cannot be taken for now, it rests by the
+/// clock and goes on.
 ///
 /// # Errors
 ///
 /// That of the listener, which takes no further link.
-pub fn follow<C: Clock, E: Durable, K: Keyspace>(
+pub fn follow<C: Clock, E: Durable, K: Keyspace, W: Write>(
     clock: &C,
     alloc: Global,
     node: &mut Standby<E, K>,
     listener: &TcpListener,
+    host: Option<IpAddr>,
+    log: &mut Log<W>,
 ) -> io::Result<Refusal>
     requires stands { Stands (E.is_faulted node.old.engine) (E.device node.old.engine) (E.contents node.old.engine) (K.table node.old.keyspace) node.old.heap node.old.ended.items }
     ensures stands { ¬ (result ≡ Ok Fault) → Stands (E.is_faulted node.new.engine) (E.device node.new.engine) (E.contents node.new.engine) (K.table node.new.keyspace) node.new.heap node.new.ended.items }
 {
+    let mut door = Door::new(host, clock, log);
     let mut newer = None;
     for _ in 0..u64::MAX {
         let stream = match newer.take() {
             Some(stream) => stream,
             None => accept(clock, listener)?,
         };
-        let mut from = LinkReader::new(&stream, listener);
-        if let Err(LinkEnd::Stops(refusal)) = serve_link(alloc, node, &mut from, &mut &stream) {
+        if !door.admits(&stream) {
+            continue;
+        }
+        let (later, stopped) = serve_next(alloc, node, &stream, listener, &mut door);
+        if let Some(refusal) = stopped {
             return Ok(refusal);
         }
-        newer = from.into_newer();
+        newer = later;
     }
     Err(io::ErrorKind::UnexpectedEof.into())
+}
+
+/// Serves the link of this connection, and tells how it ended if the primary did not close it. Answers the connection for which it was left, if it was, and
+/// why the node stops, if it does.
+fn serve_next<C: Clock, E: Durable, K: Keyspace, W: Write>(
+    alloc: Global,
+    node: &mut Standby<E, K>,
+    stream: &TcpStream,
+    listener: &TcpListener,
+    door: &mut Door<'_, C, W>,
+) -> (Option<TcpStream>, Option<Refusal>)
+    requires stands { Stands (E.is_faulted node.old.engine) (E.device node.old.engine) (E.contents node.old.engine) (K.table node.old.keyspace) node.old.heap node.old.ended.items }
+    ensures stands { ¬ (result.1 ≡ Some Fault) → Stands (E.is_faulted node.new.engine) (E.device node.new.engine) (E.contents node.new.engine) (K.table node.new.keyspace) node.new.heap node.new.ended.items }
+{
+    let written = Cell::new(0);
+    let mut from = LinkReader::new(stream, listener, door, &written);
+    let mut to = LinkWriter::new(stream, &written);
+    let served = serve_link(alloc, node, &mut from, &mut to);
+    let stopped = stop_of(served);
+    let newer = from.into_newer();
+    if let Err(end) = served {
+        door.tell_end(end);
+    }
+    (newer, stopped)
+}
+
+/// Why the node stops whose link ended so, if it does.
+fn stop_of(served: Result<(), LinkEnd>) -> Option<Refusal>
+    ensures { (result ≡ Some Fault) ↔ IsErrOf served (Stops Fault) }
+{
+    match served {
+        Err(LinkEnd::Stops(refusal)) => Some(refusal),
+        _ => None,
+    }
 }
 
 /// Serves one link: says where the node is, and then answers each frame that comes, in order, until the primary closes the connection. Then what was written is the

@@ -1,9 +1,11 @@
 //! The link between the two nodes: the threads that serve it.
 #![tactic(auto)]
 
+mod door;
 mod following;
 mod link_end;
 mod link_reader;
+mod link_writer;
 mod listening;
 mod log;
 mod opening;
@@ -11,6 +13,7 @@ mod outgoing;
 mod reading;
 mod receiver;
 mod remote_mark;
+mod seldom;
 mod sender;
 mod watch;
 

@@ -7,7 +7,7 @@ use kv_types::Refusal;
 use std::alloc::AllocError;
 
 /// Why a standby's link ended that the primary did not close.
-#[derive(Clone, Copy, Debug)]
+#[derive(Clone, Copy, Debug, PartialEq, Eq)]
 pub enum LinkEnd {
     /// A read or a write failed.
     Closed,

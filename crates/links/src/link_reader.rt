@@ -1,8 +1,10 @@
-//! A standby's link, which ends where it is silent and another connection waits.
+//! A standby's link, which ends where nothing comes of it and another connection waits.
+use crate::door::Door;
 use crate::listening::is_lasting;
-use std::io::{ErrorKind, Read};
+use std::cell::Cell;
+use std::io::{ErrorKind, Read, Write};
 use std::net::{TcpListener, TcpStream};
-use std::time::{Clock, Duration};
+use std::time::{Clock, Duration, Instant};
 use std::{io, thread};
 
 /// How many seconds nothing comes on a link before the node looks for a newer connection.
@@ -11,22 +13,46 @@ const SILENCE_SECONDS: u64 = 1;
 /// How long it rests where a connection was refused it, in milliseconds.
 const PAUSE_MILLISECONDS: u64 = 100;
 
-/// What comes on a link. Reading fails where nothing has come for a second and another connection waits: a host that vanished tells nobody that its
-/// link is over, and one who says nothing keeps no other out.
+/// In how many seconds something has to come of what comes on a link, or the node looks for a newer connection.
+const PATIENCE_SECONDS: u64 = 5;
+
+/// How many bytes in that time are enough where no frame has ended.
+const LEAST_BYTES: u64 = 65_536;
+
+/// What comes on a link. Reading fails where another connection waits and nothing has come for a second, or no frame was acknowledged and few bytes came for
+/// some: a host that vanished tells nobody that its link is over, and one who says nothing, or next to nothing, keeps no other out.
 #[derive(Drop)]
-pub(crate) struct LinkReader<'a> {
+pub(crate) struct LinkReader<'a, 'b, C, W> {
     stream: &'a TcpStream,
     listener: &'a TcpListener,
+    door: &'a mut Door<'b, C, W>,
     newer: Option<TcpStream>,
+    /// How many acknowledgements were written.
+    written: &'a Cell<u64>,
+    /// When the link began to be looked at, what was written then, and how many bytes came since.
+    since: Option<Instant>,
+    written_then: u64,
+    bytes: u64,
 }
 
-impl<'a> LinkReader<'a> {
-    /// What comes on this link, with the listener at which others wait.
-    pub(crate) fn new(stream: &'a TcpStream, listener: &'a TcpListener) -> LinkReader<'a> {
+impl<'a, 'b, C: Clock, W: Write> LinkReader<'a, 'b, C, W> {
+    /// What comes on this link, with the listener at which others wait. A write that is not taken for some seconds fails from now on.
+    pub(crate) fn new(
+        stream: &'a TcpStream,
+        listener: &'a TcpListener,
+        door: &'a mut Door<'b, C, W>,
+        written: &'a Cell<u64>,
+    ) -> LinkReader<'a, 'b, C, W> {
+        let _ = stream.set_write_timeout(Some(Duration::from_secs(PATIENCE_SECONDS)));
         LinkReader {
             stream,
             listener,
+            door,
             newer: None,
+            written,
+            since: None,
+            written_then: 0,
+            bytes: 0,
         }
     }
 
@@ -34,18 +60,61 @@ impl<'a> LinkReader<'a> {
     pub(crate) fn into_newer(self) -> Option<TcpStream> {
         self.newer
     }
+
+    /// Whether another connection waits that may be a link, and is kept then.
+    fn finds_newer(&mut self) -> bool {
+        if let Some(newer) = waiting(self.listener) {
+            if self.door.admits(&newer) {
+                self.newer = Some(newer);
+                return true;
+            }
+        }
+        false
+    }
+
+    /// Whether nothing has come of the link for some seconds. It is looked at anew after something has.
+    fn makes_no_way(&mut self) -> bool {
+        let Ok(now) = Instant::now(self.door.clock()) else {
+            return false;
+        };
+        let Some(since) = self.since else {
+            self.look_anew(now);
+            return false;
+        };
+        if now.duration_since(since) < Duration::from_secs(PATIENCE_SECONDS) {
+            return false;
+        }
+        if self.bytes < LEAST_BYTES && self.written.get() == self.written_then {
+            return true;
+        }
+        self.look_anew(now);
+        false
+    }
+
+    /// Begins to look at the link.
+    fn look_anew(&mut self, now: Instant) {
+        self.since = Some(now);
+        self.written_then = self.written.get();
+        self.bytes = 0;
+    }
 }
 
-impl Read for LinkReader<'_> {
+impl<C: Clock, W: Write> Read for LinkReader<'_, '_, C, W> {
     fn read(&mut self, buf: &mut [u8]) -> io::Result<usize> {
+        if self.makes_no_way() && self.finds_newer() {
+            return Err(io::Error::from(ErrorKind::TimedOut));
+        }
         for _ in 0..u64::MAX {
             let mut stream = self.stream;
             match stream.read(buf) {
                 Err(error) if error.kind() == ErrorKind::WouldBlock => {
-                    if let Some(newer) = waiting(self.listener) {
-                        self.newer = Some(newer);
+                    if self.finds_newer() {
                         return Err(error);
                     }
+                }
+                Ok(count) => {
+                    self.bytes = self.bytes.saturating_add(count as u64);
+                    return Ok(count);
                 }
                 other => return other,
             }

@@ -1,12 +1,18 @@
 //! What a node tells of itself, a line at a time.
+use crate::link_end::LinkEnd;
 use kv_types::Refusal;
 use std::alloc::Global;
 use std::fmt;
 use std::io::Write;
+use std::net::IpAddr;
 
 /// What a node tells whose standby holds what it never had itself.
 const STANDBY_AHEAD: &str =
     "standby ahead: this node takes no acknowledgement any more, and answers nothing that waits for one; it was not formatted with this standby, or was restored from an older copy: see \"A standby that is ahead\" in docs/server.md";
+
+/// What follows the refusal of a frame for which there is no room.
+const NO_ROOM: &str =
+    ": this standby has no room for a frame: see \"A standby without room\" in docs/server.md";
 
 /// Tells what a node does. A line is written whole by one call of the writer; one that cannot be written, or for which memory is refused, is let go.
 #[derive(Drop)]
@@ -42,6 +48,14 @@ pub enum News<'a> {
     NoLink {
         address: &'a str,
         why: Lost,
+    },
+    /// A link from a primary has ended that the primary did not close.
+    LinkEnded {
+        why: LinkEnd,
+    },
+    /// Somebody connected from a host whose links are not taken.
+    Stranger {
+        host: IpAddr,
     },
     /// The standby was once above this node, which takes no acknowledgement any more.
     StandbyAhead,
@@ -102,6 +116,13 @@ impl<'a> fmt::Display for News<'a> {
             }
             News::LinkLost { address, why } => write!(f, "link to {address} lost: {why}"),
             News::NoLink { address, why } => write!(f, "no link to {address}: {why}"),
+            News::LinkEnded { why } => write!(f, "link ended: {why}"),
+            News::Stranger { host } => {
+                write!(
+                    f,
+                    "closed a connection from {host}: links are taken from another host alone"
+                )
+            }
             News::StandbyAhead => f.write_str(STANDBY_AHEAD),
             News::Stopped { why } => write!(f, "stopped: {why}"),
         }
@@ -118,5 +139,29 @@ impl fmt::Display for Lost {
             Lost::Unwritten => f.write_str("a write failed"),
             Lost::Stopping => f.write_str("this node stops"),
         }
+    }
+}
+
+impl fmt::Display for LinkEnd {
+    fn fmt<W: fmt::Write>(&self, f: &mut fmt::Formatter<W>) -> fmt::Result {
+        match self {
+            LinkEnd::Closed => {
+                f.write_str(
+                    "a read or a write failed, or nothing came of it and another connection waits",
+                )
+            }
+            LinkEnd::Refused(refusal) | LinkEnd::Stops(refusal) => {
+                let number = refusal.number();
+                write!(f, "refusal {number}: {refusal}{}", advice(*refusal))
+            }
+        }
+    }
+}
+
+/// What there is to do about a refusal that comes again until somebody does it.
+fn advice(refusal: Refusal) -> &'static str {
+    match refusal {
+        Refusal::Full => NO_ROOM,
+        _ => "",
     }
 }

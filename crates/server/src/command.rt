@@ -106,7 +106,11 @@ fn run<
             image,
             old_primary_stopped,
         } => promote(alloc, images, image, old_primary_stopped, writer),
-        Task::Standby { image, listen } => stand_by(rt, alloc, images, image, listen, errors),
+        Task::Standby {
+            image,
+            listen,
+            from,
+        } => stand_by(rt, alloc, images, image, listen, from, errors),
         Task::Primary {
             image,
             listen,

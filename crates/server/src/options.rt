@@ -3,6 +3,7 @@ use clap::builder::{Arg, ArgAction, Command};
 use clap::error::ErrorKind;
 use clap::{ArgMatches, Error, value_parser};
 use std::alloc::Global;
+use std::net::{AddrParseError, IpAddr};
 use wbl_engine::Role;
 
 /// The program's name in its own texts.
@@ -10,11 +11,18 @@ const PROGRAM: &str = "wbl-server";
 
 const PRIMARY: &str = "primary";
 
+const STANDBY: &str = "standby";
+
 /// The option by which the operator states that the old primary does nothing more.
 const STOPPED: &str = "old-primary-stopped";
 
+/// The option by which a standby takes links from one host alone.
+const FROM: &str = "from";
+
+const NO_HOST: &str = "'--from <HOST>' takes an IP address, without a port";
+
 /// The roles that an image is formatted for.
-static ROLES: [&str; 2] = [PRIMARY, "standby"];
+static ROLES: [&str; 2] = [PRIMARY, STANDBY];
 
 /// What the program is asked to do. Names of images and addresses are as they were written.
 #[derive(Clone, Copy)]
@@ -31,10 +39,11 @@ pub enum Task<'a> {
         listen: &'a str,
         link: &'a str,
     },
-    /// To follow a primary that dials this address.
+    /// To follow a primary that dials this address, from this host alone if one is told.
     Standby {
         image: &'a str,
         listen: &'a str,
+        from: Option<IpAddr>,
     },
     /// To make the image of a stopped standby a primary's, if the operator says that the old primary is stopped.
     Promote {
@@ -56,8 +65,9 @@ pub fn options<'a>(alloc: Global, words: &'a [String]) -> Result<Task<'a>, Error
     let mut command = grammar(alloc)?;
     let matches = command.try_get_matches_from_mut(words)?;
     match asked(&matches) {
-        Some(task) => Ok(task),
-        None => Err(command.error(ErrorKind::MissingSubcommand, "a subcommand is missing")?),
+        Ok(Some(task)) => Ok(task),
+        Ok(None) => Err(command.error(ErrorKind::MissingSubcommand, "a subcommand is missing")?),
+        Err(_) => Err(command.error(ErrorKind::ValueValidation, NO_HOST)?),
     }
 }
 
@@ -118,10 +128,18 @@ fn primary_command<'a>(alloc: Global) -> Result<Command<'a>, Error> {
 }
 
 fn standby_command<'a>(alloc: Global) -> Result<Command<'a>, Error> {
-    let command = Command::new(alloc, "standby")
+    let from = option(
+        alloc,
+        FROM,
+        "HOST",
+        "The one IP address that links are taken from",
+    )
+    .required(false);
+    let command = Command::new(alloc, STANDBY)
         .about("Follows a primary")
         .arg(image(alloc))?
-        .arg(option(alloc, "listen", "ADDRESS", "Where the primary connects"))?;
+        .arg(option(alloc, "listen", "ADDRESS", "Where the primary connects"))?
+        .arg(from)?;
     Ok(command)
 }
 
@@ -159,9 +177,29 @@ fn option<'a>(alloc: Global, name: &'a str, value: &'a str, help: &'a str) -> Ar
         .action(ArgAction::Set)
 }
 
-/// What was asked for, if each option of the subcommand has its value.
-fn asked<'a>(matches: &ArgMatches<'a>) -> Option<Task<'a>> {
-    let (name, found) = matches.subcommand()?;
+/// What was asked for, if each option of the subcommand has its value. An error where the host is no IP address.
+fn asked<'a>(matches: &ArgMatches<'a>) -> Result<Option<Task<'a>>, AddrParseError> {
+    let Some((name, found)) = matches.subcommand() else {
+        return Ok(None);
+    };
+    let from = if name == STANDBY {
+        host_of(found)?
+    } else {
+        None
+    };
+    Ok(task_of(name, found, from))
+}
+
+/// The host that links are taken from alone, if one was told.
+fn host_of<'a>(found: &ArgMatches<'a>) -> Result<Option<IpAddr>, AddrParseError> {
+    match found.try_get_one::<IpAddr>(FROM)? {
+        Some(host) => Ok(Some(host.to_canonical())),
+        None => Ok(None),
+    }
+}
+
+/// What this subcommand asks for, if each of its options has its value.
+fn task_of<'a>(name: &str, found: &ArgMatches<'a>, from: Option<IpAddr>) -> Option<Task<'a>> {
     let image = found.get_str("image")?;
     match name {
         "format" => Some(Task::Format {
@@ -174,9 +212,10 @@ fn asked<'a>(matches: &ArgMatches<'a>) -> Option<Task<'a>> {
             listen: found.get_str("listen")?,
             link: found.get_str("link")?,
         }),
-        "standby" => Some(Task::Standby {
+        STANDBY => Some(Task::Standby {
             image,
             listen: found.get_str("listen")?,
+            from,
         }),
         "promote" => Some(Task::Promote {
             image,

@@ -111,7 +111,8 @@ fn follow_anew<N: Clock>(
 ) -> Result<Refusal, Refusal> {
     let device = new_image(alloc, Role::Standby)?;
     let mut node: Standby<WblEngine<SimPmem>, MvKeyspace> = standby::open(alloc, device)?;
-    match follow(clock, alloc, &mut node, listener) {
+    let mut log = Log::new(alloc, io::sink());
+    match follow(clock, alloc, &mut node, listener, None, &mut log) {
         Ok(why) => Ok(why),
         Err(_) => Err(Refusal::Memory),
     }
