@@ -202,6 +202,17 @@ class WrongFrames(StandingBy):
                     # (one for each try would be 20; ever more seldom they are some)
                     self.assertLess(lines_with(errors, words), 12)
 
+    def test_a_head_is_judged_before_its_body(self):
+        """A frame that will be refused is refused as soon as its numbers are there, with the refusal that the whole frame would have."""
+        cases = [(head(2, 1, 2, 2**40), b"refusal 11: wrong epoch"), (head(1, 7, 8, 2**40), b"refusal 12: position gap")]
+        with self.standby() as (node, errors):
+            node.exchange(SET_A)
+            for begun, words in cases:
+                with self.case("head", words=words), node.link() as link:
+                    link.sendall(begun + BEGUN_CHANGE)
+                    self.assert_ended(link)
+                    wait_until(lambda words=words: b"link ended: " + words + b"\n" in errors.read_bytes(), "a refusal that is told")
+
     def test_one_host_alone(self):
         """A connection from another host is closed at once, with nothing said but to whoever runs the node."""
         with self.standby("--from", "127.0.0.2") as (node, errors):

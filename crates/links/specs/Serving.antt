@@ -1,5 +1,5 @@
 -- How a standby serves a link: which frames it answered, and what it holds then.
-use Rattle.std.specs.Prelude.{◌≡◌, ◌⊎◌, ℕ, Bool, false, nat_eq, if◌then◌else◌, List, [], ◌∷◌, ◌++◌, Option}
+use Rattle.std.specs.Prelude.{◌≡◌, ◌⊎◌, ℕ, Bool, false, nat_eq, nat_lt, nat_le, if◌then◌else◌, List, [], ◌∷◌, ◌++◌, Option, None, Some}
 use Rattle.std.specs.List.{flat_map}
 use Rattle.std.specs.Io.KnownBytes.{Appends, Consumes}
 use Rattle.stream_codec.specs.Stream.{Reaches}
@@ -8,12 +8,14 @@ use Rattle.kv_types.specs.declared.refusal.Refusal.{Refusal}
 use Rattle.kv_types.specs.declared.refusal.Refusal.TheVariants.{Fault, Exhausted, PositionGap, WrongEpoch}
 use Rattle.extent_heap.specs.Room.{Room}
 use Rattle.pmem.specs.Device.{State}
+use Rattle.model.specs.declared.record.Record.{Record}
 use Rattle.model.specs.Group.{Contents}
 use Rattle.mv_keyspace.specs.Table.{Table}
 use Rattle.wbl_engine.specs.Contents.{IsDurable}
 use Rattle.frames.specs.declared.frame.Frame.{Frame}
+use Rattle.stream_codec.specs.declared.message.GroupHead.{GroupHead}
 use Rattle.frames.specs.declared.ack.Ack.{Ack}
-use Rattle.standby.specs.Following.{Follows, IsHeld, IsTakenNext, HasTaken}
+use Rattle.standby.specs.Following.{Follows, TakesEpoch, IsHeld, IsNext, IsTakenNext, HasTaken}
 use Rattle.stream_codec.specs.Message.{Sent, sent_of_frame, sent_of_ack, sent_text}
 use Rattle.links.specs.declared.link_end.LinkEnd.{LinkEnd}
 use Rattle.links.specs.declared.link_end.LinkEnd.TheVariants.{Refused, Stops}
@@ -98,3 +100,22 @@ ends_by refusal = Refused refusal
 -- why a node of this epoch refuses an acknowledgement, which only a standby sends
 abbrev pub refusal_of_ack : ℕ → Ack → Refusal
 refusal_of_ack epoch ack = if nat_eq ack.epoch epoch then PositionGap else WrongEpoch
+
+-- a frame of these numbers
+pub record IsOf (head : GroupHead) (frame : Frame) : Type 0 where
+  pub epoch_is : frame.epoch ≡ head.epoch
+  pub before_is : frame.before ≡ head.before
+  pub after_is : frame.after ≡ head.after
+
+-- why a node of this epoch at this position will refuse a frame of these numbers, if it will
+abbrev pub refusal_of_head : ℕ → ℕ → GroupHead → Option Refusal
+refusal_of_head epoch position head =
+    if nat_eq head.epoch epoch then (if nat_le head.after position then None else (if nat_eq head.before position then None else Some PositionGap))
+    else (if nat_eq position 0 then (if nat_lt epoch head.epoch then (if nat_eq head.before position then None else Some PositionGap) else Some WrongEpoch) else Some WrongEpoch)
+
+-- the node refuses the frame so when it is whole, if so it does
+abbrev pub IsRefusedBy : Record → Frame → Option Refusal → Type 0
+IsRefusedBy node frame (Some WrongEpoch) = ¬ TakesEpoch node frame.epoch
+IsRefusedBy node frame (Some PositionGap) = TakesEpoch node frame.epoch × ¬ IsHeld node frame × ¬ IsNext node.position frame
+IsRefusedBy node frame (Some refusal) = ⊥
+IsRefusedBy node frame None = Unit {0}

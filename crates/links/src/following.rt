@@ -1,17 +1,18 @@
 //! The standby's side: one link at a time.
-ghost use Rattle.std.specs.Prelude.{◌≡◌, ◌↔◌, ℕ, List, [], ◌++◌, OnOk, OnErr, Err, Ok, Option, Some, MatchOption, IfOk, IfErr, IsErrOf};
+ghost use Rattle.std.specs.Prelude.{◌≡◌, ◌↔◌, ℕ, List, [], ◌++◌, OnOk, OnErr, Err, Ok, Option, None, Some, MatchOption, IfOk, IfErr, IfSome, IsErrOf};
 ghost use Rattle.std.specs.Io.KnownBytes.{Appends, Consumes};
 ghost use Rattle.kv_types.specs.declared.refusal.Refusal.TheVariants.{Fault, Memory};
 ghost use Rattle.stream_codec.specs.Message.{sent_of};
+ghost use Rattle.stream_codec.specs.Reading.{group_begun};
 ghost use Rattle.stream_codec.specs.Scanning.{sent_of_all};
 ghost use Rattle.stream_codec.specs.Stream.{fed};
 ghost use Rattle.frames.specs.declared.ack.Ack.{Ack as Told};
 ghost use Rattle.stream_codec.specs.declared.message.Message.TheVariants.{Ack as AckMessage};
-ghost use Rattle.links.specs.Serving.{Stands, held, Acknowledges, Answers, HasRun, IsFreed, Says, Served, ack_text, refusal_of_ack};
+ghost use Rattle.links.specs.Serving.{Stands, held, Acknowledges, Answers, HasRun, IsFreed, Says, Served, ack_text, refusal_of_ack, refusal_of_head};
 ghost use Rattle.links.specs.declared.link_end.LinkEnd.TheVariants.{Closed, Refused, Stops};
 
 use crate::door::Door;
-use crate::link_end::{LinkEnd, ends_by, refusal_of_ack};
+use crate::link_end::{LinkEnd, ends_by, refusal_of_ack, refusal_of_head};
 use crate::link_reader::{LinkReader, accept};
 use crate::link_writer::LinkWriter;
 use crate::log::Log;
@@ -25,7 +26,7 @@ use std::io;
 use std::io::{Read, Write};
 use std::net::{IpAddr, TcpListener, TcpStream};
 use std::time::Clock;
-use stream_codec::{Decoder, Message, write_ack};
+use stream_codec::{Decoder, GroupHead, Message, write_ack};
 use wbl_engine::Durable;
 
 /// How many bytes are read at once.
@@ -203,7 +204,8 @@ fn send<O: Write>(to: &mut O, out: &mut Vec<u8>) -> Result<(), LinkEnd>
     }
 }
 
-/// Answers the frames that are whole with this piece, in order. Nothing is left in `out`.
+/// Answers the frames that are whole with this piece, in order. Nothing is left in `out`. A frame of which only the beginning is there is one that the
+/// node may take, as far as its numbers tell.
 fn answer_piece<E: Durable, K: Keyspace, O: Write>(
     alloc: Global,
     node: &mut Standby<E, K>,
@@ -218,6 +220,8 @@ fn answer_piece<E: Durable, K: Keyspace, O: Write>(
     ensures all { OnOk result (HasRun (held (E.contents node.old.engine) (K.table node.old.keyspace)) (fed decoder.old piece.now).messages (O.contents to.old)
         (held (E.contents node.new.engine) (K.table node.new.keyspace)) (O.contents to.new)) }
     ensures unread { OnOk result (decoder.new ≡ (fed decoder.old piece.now).unread) }
+    ensures begun { OnOk result (IfSome (group_begun decoder.new) (λ head.
+        refusal_of_head (E.contents node.new.engine).current.epoch (E.contents node.new.engine).current.position head ≡ None)) }
     ensures emptied { OnOk result (out.new.items ≡ []) }
     ensures says { ¬ IsErrOf result Closed → Says (held (E.contents node.old.engine) (K.table node.old.keyspace)) (O.contents to.old) (O.contents to.new) }
 {
@@ -229,7 +233,24 @@ fn answer_piece<E: Durable, K: Keyspace, O: Write>(
     if decoder.is_broken() {
         return Err(LinkEnd::Refused(Refusal::FrameFault));
     }
+    if let Some(refusal) = refusal_of_begun(node, decoder.group_begun()) {
+        return Err(LinkEnd::Refused(refusal));
+    }
     Ok(())
+}
+
+/// Why the node will refuse the frame that is begun, if its numbers tell it already: the refusal that `Standby::take_frame` would give.
+fn refusal_of_begun<E: Durable, K: Keyspace>(
+    node: &Standby<E, K>,
+    begun: Option<GroupHead>,
+) -> Option<Refusal>
+    ensures some { IfSome begun (λ head. result ≡ refusal_of_head (E.contents node.now.engine).current.epoch (E.contents node.now.engine).current.position head) }
+    ensures none { begun ≡ None → result ≡ None }
+{
+    match begun {
+        Some(head) => refusal_of_head(node.epoch(), node.position(), &head),
+        None => None,
+    }
 }
 
 /// Answers what came, in order.

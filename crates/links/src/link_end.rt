@@ -1,10 +1,14 @@
 //! Why a link ended, on the standby's side.
-ghost use Rattle.std.specs.Prelude.{◌≡◌};
-ghost use Rattle.links.specs.Serving.{ends_by, refusal_of_ack};
+ghost use Rattle.std.specs.Prelude.{◌≡◌, ◌⊎◌, ◌≤◌, ◌<◌, None};
+ghost use Rattle.model.specs.declared.record.Record.{Record as NodeRecord};
+ghost use Rattle.frames.specs.declared.frame.Frame.{Frame as Sent};
+ghost use Rattle.standby.specs.Following.{TakesEpoch, IsHeld, IsNext, IsTakenNext};
+ghost use Rattle.links.specs.Serving.{ends_by, refusal_of_ack, refusal_of_head, IsOf, IsRefusedBy};
 
 use frames::Ack;
 use kv_types::Refusal;
 use std::alloc::AllocError;
+use stream_codec::GroupHead;
 
 /// Why a standby's link ended that the primary did not close.
 #[derive(Clone, Copy, Debug, PartialEq, Eq)]
@@ -47,4 +51,23 @@ pub(crate) fn refusal_of_ack(epoch: u64, ack: &Ack) -> Refusal
     } else {
         Refusal::WrongEpoch
     }
+}
+
+/// Why a node of this epoch at this position will refuse a frame of these numbers, if it will, by `WrongEpoch` or `PositionGap`.
+pub(crate) fn refusal_of_head(epoch: u64, position: u64, head: &GroupHead) -> Option<Refusal>
+    ensures by_numbers { result ≡ refusal_of_head epoch position head.now }
+    ensures held { result ≡ None → (node : NodeRecord) → (frame : Sent) → node.epoch ≡ epoch → node.position ≡ position → IsOf head.now frame
+        → frame.before < frame.after → IsHeld node frame ⊎ IsTakenNext node frame }
+    ensures refused { (node : NodeRecord) → (frame : Sent) → node.epoch ≡ epoch → node.position ≡ position → IsOf head.now frame
+        → IsRefusedBy node frame result }
+{
+    let takes_epoch = head.epoch == epoch || (position == 0 && head.epoch > epoch);
+    if !takes_epoch {
+        return Some(Refusal::WrongEpoch);
+    }
+    let is_held = head.epoch == epoch && head.after <= position;
+    if is_held || head.before == position {
+        return None;
+    }
+    Some(Refusal::PositionGap)
 }
