@@ -16,6 +16,7 @@ import tempfile
 import time
 
 import common
+import plain_image
 from spelling import spell
 
 LINES = 65_536
@@ -268,26 +269,32 @@ class Node:
         rows = [line.split(" ", 1) for line in run("inspect", "--image", str(self.image)).decode().splitlines()]
         return {name: int(value) if value.isdigit() else value for name, value in rows}
 
+    def read_image(self):
+        """The image, as the plain reader has it. The process must have ended."""
+        words = memoryview(self.image.read_bytes()).cast("Q")
+        return plain_image.read_image(plain_image.Words(len(words) // 8, {place: word for place, word in enumerate(words) if word}))
+
 
 class Pair:
-    """A primary and a standby over two new images, both running, and the clients of it."""
+    """A primary and a standby over two new images, both running, and the clients of it. The standby's image has as many lines as the primary's,
+    or as many as are said."""
 
-    def __init__(self, lines=LINES, descriptors=DESCRIPTORS, folder=None):
+    def __init__(self, lines=LINES, descriptors=DESCRIPTORS, folder=None, standby_lines=None):
         self.parts = contextlib.ExitStack()
         try:
-            self._make(lines, descriptors, folder)
+            self._make(lines, descriptors, folder, standby_lines or lines)
         except BaseException:
             self.close()
             raise
 
-    def _make(self, lines, descriptors, folder):
+    def _make(self, lines, descriptors, folder, standby_lines):
         self.folder = pathlib.Path(self.parts.enter_context(tempfile.TemporaryDirectory(prefix="wbl-pair-", dir=folder)))
         self.door, self.link = (self.parts.enter_context(contextlib.closing(Port())) for _ in range(2))
         self.descriptors, self.lines = descriptors, lines
         self.standby = self.standby_over(self.folder / "standby.img")
         self.primary = self.primary_over(self.folder / "primary.img")
-        for node in (self.standby, self.primary):
-            node.format(lines)
+        for node, size in ((self.standby, standby_lines), (self.primary, lines)):
+            node.format(size)
             node.start(descriptors)
         self.wait()
 
@@ -365,9 +372,13 @@ class PairCases(common.Cases):
         signal.setitimer(signal.ITIMER_REAL, MOST_SECONDS)
         self.addCleanup(signal.setitimer, signal.ITIMER_REAL, 0)
 
+    def image_folder(self):
+        """Where images are made; None is the system's folder for what is temporary."""
+        return MEMORY if not self.ON_DISK and os.access(MEMORY, os.W_OK) else None
+
     def pair(self, **options):
         """A pair that ends with the test."""
-        made = Pair(folder=MEMORY if not self.ON_DISK and os.access(MEMORY, os.W_OK) else None, **options)
+        made = Pair(folder=self.image_folder(), **options)
         self.addCleanup(made.close)
         return made
 

@@ -4,15 +4,12 @@ serves nobody while the standby's or its own is held."""
 import pathlib
 import random
 import re
-import shutil
-import subprocess
 
 import common
-import plain_image
+import held_syncs
 import simulation
 from pair import LINES, PairCases, spell, wait_until
 
-SOURCE = pathlib.Path(__file__).resolve().parent / "held_syncs.c"
 KEY = "k" * 500
 # What a reader takes in at most of a connection that is not served: a ring of items, one more, and a block of bytes.
 RING_ITEMS, BLOCK_BYTES = 256, 16 * 1_024
@@ -39,12 +36,6 @@ def called_in_world(requests):
     return simulation.simulate(schedule.events, "--map", "--lines", f"{LINES},{LINES}")
 
 
-def image_in(file):
-    """The image that a file holds."""
-    words = memoryview(file.read_bytes()).cast("Q")
-    return plain_image.read_image(plain_image.Words(len(words) // 8, {place: word for place, word in enumerate(words) if word}))
-
-
 def untaken(port, client):
     """How many bytes that came from this client the process at this port has not read."""
     ours = client.socket.getsockname()[1]
@@ -55,18 +46,16 @@ def untaken(port, client):
     return int(row[2], 16) + int(other[1], 16)
 
 
-@common.unittest.skipUnless(shutil.which("gcc"), "there is no gcc")
+@common.unittest.skipUnless(held_syncs.HAS_COMPILER, "there is no gcc")
 class Held(PairCases):
     def held(self, role, is_slow=False):
         """A pair of which one node's syncs are held while the file is there that this returns beside it. If that is said, each takes long anyway."""
         nodes = self.pair()
-        library, file = nodes.folder / "held_syncs.so", nodes.folder / "held"
-        subprocess.run(["gcc", "-shared", "-fPIC", "-O1", "-Wall", "-Wextra", "-Werror", "-D_GNU_SOURCE", "-o", library, SOURCE, "-ldl"], check=True)
+        node, file = getattr(nodes, role), nodes.folder / "held"
         if is_slow:
-            file.with_suffix(".slow").touch()
-        node = getattr(nodes, role)
+            held_syncs.slow(file).touch()
         node.end()
-        node.before = ["/usr/bin/env", f"LD_PRELOAD={library}", f"HELD_FILE={file}"]
+        held_syncs.hold(node, file)
         node.start()
         nodes.wait()
         return nodes, file
@@ -77,7 +66,7 @@ class Held(PairCases):
             self.assertEqual(second.ask("GET", KEY), b"$-1\r\n")
             file.touch()
             first.send(spell("SET", "k", "1"))
-            wait_until(lambda: file.with_suffix(".begun").exists(), "a sync that is held")
+            wait_until(held_syncs.begun(file).exists, "a sync that is held")
             request = spell("GET", KEY)
             second.send(request * REQUESTS)
             most = (RING_ITEMS + 1) * len(request) + BLOCK_BYTES
@@ -106,7 +95,7 @@ class Held(PairCases):
         run = called_in_world(requests)
         self.assertEqual(replies, [call.reply for call in run.calls])
         for node in (nodes.primary, nodes.standby):
-            image = image_in(node.image)
+            image = node.read_image()
             self.assertEqual(image.record.position, CHANGES)
             self.assertEqual(image.map, dict(run.records["primary"]))
 
@@ -116,7 +105,7 @@ class Held(PairCases):
             self.assertEqual(second.ask("GET", "k"), b"$-1\r\n")
             file.touch()
             first.send(spell("SET", "k", "1"))
-            wait_until(lambda: file.with_suffix(".begun").exists(), "a sync that is held")
+            wait_until(held_syncs.begun(file).exists, "a sync that is held")
             second.send(spell("GET", "k"))
             self.assertTrue(second.is_silent() and first.is_silent())
             file.unlink()
