@@ -47,6 +47,10 @@ class Record(typing.NamedTuple):
     gaps: tuple
     role: int
 
+    def told(self):
+        """What of it does not depend on how room was made."""
+        return self.position, self.epoch, self.role
+
     def counts(self, stamp):
         return 1 <= stamp <= self.cp and not any(first <= stamp <= last for first, last in self.gaps)
 
@@ -237,6 +241,11 @@ def lines_of(length):
     return max(1, -(-length // 64))
 
 
+def lines_of_puts(changes):
+    """How many lines each put among these changes takes."""
+    return [lines_of(len(b"".join(change.name)) + len(change.value)) for change in changes if isinstance(change, Put)]
+
+
 def extents_begin(lines):
     """The first line of extents."""
     return DIRECTORY_LINE + lines // 8
@@ -274,21 +283,25 @@ class Room:
     def take(self, changes):
         """Whether there is room for all puts among these changes: each takes the lowest free entry, and the lowest free run that is
         long enough. Otherwise nothing is taken."""
-        puts = [change for change in changes if isinstance(change, Put)]
+        counts = lines_of_puts(changes)
         runs, lines = list(self.runs), []
-        for put in puts:
-            count = lines_of(len(b"".join(put.name)) + len(put.value))
+        for count in counts:
             at = next((at for at, (first, end) in enumerate(runs) if end - first >= count), None)
             if at is None:
                 return False
             first, end = runs[at]
             runs[at:at + 1] = [(first + count, end)] if first + count < end else []
             lines.append((first, count))
-        if len(puts) > len(self.entries):
+        if len(counts) > len(self.entries):
             return False
         self.runs = runs
         self.given += [Place(heapq.heappop(self.entries), *each) for each in lines]
         return True
+
+    def is_enough_for(self, changes):
+        """Whether as many entries and lines are free as these changes take, wherever they lie."""
+        counts = lines_of_puts(changes)
+        return len(counts) <= len(self.entries) and sum(counts) <= sum(end - first for first, end in self.runs)
 
     def give(self, places):
         """These places are free again."""
@@ -343,7 +356,8 @@ class Table:
 class Writer:
     """A new image, to which groups are committed one after another, from which what has ended is freed, and which is opened again. Beside
     it is what its node holds in memory: the free room, and the entry of each record. A primary's is ahead of the image by what waits for a
-    commit."""
+    commit. `places_may_differ` once a standby may have moved versions or cleared gaps to make room: the places of versions, their stamps, and the record's
+    number, stamps and gaps are one way then of many."""
 
     def __init__(self, lines, role):
         self.lines = lines
@@ -354,6 +368,7 @@ class Writer:
         self._versions = {}
         # the entries of those that have ended
         self._ended = set()
+        self.places_may_differ = False
         self.crash()
         self._put(0, [MAGIC, VERSION, lines, lines // 8])
         self._put_record()
@@ -414,6 +429,27 @@ class Writer:
     def free_ended(self):
         """Frees all that has ended, and gives its places to the room, as a standby does."""
         self.room.give(self.free(self.ended))
+
+    def make_room(self, changes):
+        """A standby of which no run is long enough for these changes clears its gaps and, where lines and entries are enough, moves versions. Whether it may do
+        so."""
+        may_move = self.room.is_enough_for(changes)
+        self.places_may_differ = self.places_may_differ or may_move or bool(self.record.gaps)
+        while self.record.gaps:
+            self.clear_gap()
+        return may_move
+
+    def pack(self):
+        """All versions lie one after another, in the order of their lines: as far as moves may bring them."""
+        line, data = extents_begin(self.lines), Words(self.lines, dict(self.words))
+        for entry, (name, place) in sorted(self._versions.items(), key=lambda version: version[1][1].line):
+            words = data.slice(place.line * WORDS_OF_LINE, place.lines * WORDS_OF_LINE)
+            self._put(place.line * WORDS_OF_LINE, [0] * len(words))
+            self._put(line * WORDS_OF_LINE, words)
+            self._put((DIRECTORY_LINE + entry) * WORDS_OF_LINE + 3, [line])
+            self._versions[entry] = name, place._replace(line=line)
+            line += place.lines
+        self.room = Room(self.lines, [place for _, place in self._versions.values()])
 
     def clear_gap(self):
         """Clears the oldest gap of an image in which no stamp lies in a gap."""

@@ -80,6 +80,8 @@ class Node:
     def __init__(self, lines, role, fail):
         self.image = plain_image.Writer(lines, role)
         self.runs = True
+        # frames that joined on and were not taken
+        self.refused = 0
         self.fences = 0
         self.fail = fail
         self.fence(FORMAT_FENCES)
@@ -110,14 +112,25 @@ class Node:
         self.fence(CLEAR_FENCES)
         self.image.clear_gap()
 
-    def take(self, changes, positions):
-        """A standby takes a frame: what has ended is freed before it and after it. Whether there was room for it."""
+    def take(self, changes, positions, is_told):
+        """A standby takes a frame: what has ended is freed before it and after it. Where it has to make room for it, it is what was told of the run that
+        says whether that could be done. Whether it was taken."""
         self.free_ended()
-        if not self.image.room.take(changes):
+        if (self.image.places_may_differ or not self.image.room.take(changes)) and not self.make_room(changes, is_told):
+            self.refused += 1
             return False
         self.commit([self.image.part(changes)], positions)
         self.free_ended()
         return True
+
+    def make_room(self, changes, is_told):
+        """Whether there is room for a frame once versions were moved; it is taken then."""
+        if self.fences < self.fail:
+            raise ValueError("how many fences moves make is not known, so none may fail behind them")
+        if not self.image.make_room(changes) or not is_told:
+            return False
+        self.image.pack()
+        return self.image.room.take(changes)
 
     def free_ended(self):
         if self.image.ended:
@@ -145,9 +158,12 @@ class Node:
 
 class Machine:
     """A run. `done` says of each event whether it did its step, `calls` has each call as (connection, item, reply,
-    position), and `ended` names the event at which a fence failed, "formatting", or None."""
+    position), and `ended` names the event at which a fence failed, "formatting", or None. `told` has the positions that the standby acknowledged in
+    the run that this one is compared with: a standby that has to make room takes a frame where that one did. Where there is none it takes it where lines
+    and entries are enough."""
 
-    def __init__(self, lines=DEFAULT_LINES, fail=(0, 0)):
+    def __init__(self, lines=DEFAULT_LINES, fail=(0, 0), told=None):
+        self.told = told
         self.connections = []
         self.calls = []
         # of each changing call its part
@@ -367,10 +383,14 @@ class Machine:
             return False
         before, after, changes = self.arrived.pop(0)
         if before == self.standby.position:
-            self.standby.take(changes, after - before)
+            self.standby.take(changes, after - before, self._is_told(after))
         if after <= self.standby.position:
             self.acknowledgements.append(self.standby.position)
         return True
+
+    def _is_told(self, position):
+        """Whether the next acknowledgement may be of this position."""
+        return self.told is None or self.told[len(self.acknowledgements):][:1] == [position]
 
     def ack_delivered(self, number):
         if int(number) < len(self.acknowledgements):

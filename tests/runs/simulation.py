@@ -12,6 +12,8 @@ import plain_wire
 import spelling
 
 NODES = ("primary", "standby")
+# With so many lines more than the primary a standby always makes room for a frame.
+SPARE_LINES = 1_040
 ROLES = {"primary": plain_image.PRIMARY, "standby": plain_image.STANDBY}
 
 STRING = r'"[^"\\]*(?:\\.[^"\\]*)*"'
@@ -247,6 +249,11 @@ def texts_between(machine):
     return [plain_wire.text(group) for group in groups], [plain_wire.text(ack) for ack in acknowledgements]
 
 
+def told_positions(trace):
+    """The positions that the standby acknowledged."""
+    return [position for _, position in trace.acknowledgements]
+
+
 def words_of(text):
     """The words of a request as they are printed, or None for a fault."""
     return None if text == "fault" else tuple(map(common.unquoted, re.findall(STRING, text)))
@@ -269,8 +276,10 @@ class Runs(common.Cases):
         events = [*schedule.events, f"crash {crash}"] if crash else schedule.events
         sizes = ["--lines", "%d,%d" % lines] if lines != plain_machine.DEFAULT_LINES else []
         trace = simulate(head + events, "--map", "--images", *sizes, *options)
-        machine = plain_machine.Machine(lines, fail).play(events)
+        machine = plain_machine.Machine(lines, fail, told_positions(trace)).play(events)
         self.assert_played(trace, machine, len(events), len(head))
+        if lines[1] >= lines[0] + SPARE_LINES:
+            self.assertEqual(machine.standby.refused, 0, "frames that the standby has no room for, though it has lines to spare")
         if machine.ended is None:
             for place, node in enumerate(NODES):
                 self.assert_image(trace, machine, node, lines[place])
@@ -296,18 +305,23 @@ class Runs(common.Cases):
         self.assertEqual(trace.ended, whole.get(machine.ended, at))
 
     def assert_image(self, trace, machine, node, lines):
-        """The image is, word for word, that of what the node did to it, and it reads so: just these entries are in use."""
-        writer, parts = getattr(machine, node).image, machine.redis.parts
-        image = plain_image.read_image(plain_image.Words(lines, trace.words[node]))
-        wrong = sorted(set(trace.words[node].items()) ^ set(writer.words.items()))
-        self.assertEqual(wrong[:5], [], f"words of the {node} that are not as they should be, or should be and are not")
-        self.assertEqual(image.record, writer.record)
-        self.assertEqual(image.map, dict(plain_keyspace.keyspace_after(parts[:image.record.position]).records()))
-        self.assertEqual(trace.records[node], sorted(image.map.items()))
+        """The image is, word for word, that of what the node did to it, and it reads so: just these entries are in use. Where places may differ it has
+        the same versions, wherever they are."""
+        writer, parts, words = getattr(machine, node).image, machine.redis.parts, plain_image.Words(lines, trace.words[node])
+        image = plain_image.read_image(words)
         record = image.record
-        versions = plain_image.read_versions(plain_image.Words(lines, trace.words[node]), record)
-        self.assertEqual([entry for entry, end in versions.counted if not end], writer.live)
-        self.assertEqual([entry for entry, end in versions.counted if end], writer.ended)
+        self.assertEqual(image.map, dict(plain_keyspace.keyspace_after(parts[:record.position]).records()))
+        self.assertEqual(trace.records[node], sorted(image.map.items()))
+        versions = plain_image.read_versions(words, record)
         self.assertEqual(versions.gapped, [])
+        if writer.places_may_differ:
+            self.assertEqual(record.told(), writer.record.told())
+            self.assertEqual(sorted(plain_image.versions_on(words)), sorted(plain_image.versions_on(plain_image.Words(lines, writer.words))))
+        else:
+            wrong = sorted(set(words.words.items()) ^ set(writer.words.items()))
+            self.assertEqual(wrong[:5], [], f"words of the {node} that are not as they should be, or should be and are not")
+            self.assertEqual(record, writer.record)
+            self.assertEqual([entry for entry, end in versions.counted if not end], writer.live)
+            self.assertEqual([entry for entry, end in versions.counted if end], writer.ended)
         told = NodeLine(record.position, record.number, record.cp, record.cd, record.epoch, node, len(record.gaps))
         self.assertEqual(trace.nodes[node], told)

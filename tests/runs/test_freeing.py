@@ -6,7 +6,7 @@ Each run is compared with the plain machine too, event by event and both images 
 import draws
 import plain_image
 import plain_machine
-from simulation import NODES, Runs, Schedule
+from simulation import NODES, SPARE_LINES, Runs, Schedule
 from spelling import spell
 from worked_cases import OK, SET_A, STORE_IS_FULL
 
@@ -198,41 +198,44 @@ class Freeing(Runs):
         self.assertEqual(self.versions(trace, "standby"), ([(0, 0), (1, 0)], 2))
 
 
+# Requests of a drawn history, and the lengths of their values.
+REQUESTS = 400
+LENGTHS = [0, 62, 63, 64, 500, 3_000, 8_192, 20_000, 40_000, 50_000, 60_000, 65_536]
+
+
+def history(drawn, lines):
+    """Values of all lengths at a few keys. What is sent is acknowledged at once; what has ended may come back before the next request, or with what others
+    end."""
+    schedule, machine, crashes = Schedule(1), plain_machine.Machine(lines), 0
+    for _ in range(REQUESTS):
+        start, key = len(schedule.events), f"k{drawn.randrange(10)}"
+        is_set = drawn.randrange(4) > 0
+        schedule.group(crashes, spell("SET", key, drawn.choice(LENGTHS) * b"v") if is_set else spell("DEL", key))
+        schedule.replicate(len(machine.frames))
+        schedule.add(f"ack-delivered {len(machine.acknowledgements)}", "raise-remote", *drawn.sample(FREEING, drawn.randrange(3)))
+        if drawn.randrange(3):
+            schedule.free()
+        machine.play(schedule.events[start:] if start > 1 else schedule.events)
+        if drawn.randrange(100) == 0:
+            # a delta, where the standby is behind
+            crash = ["crash primary 0", "reopen primary", "enter", "open-link", "send", f"deliver {len(machine.frames)}", "apply"]
+            schedule.add(*crash)
+            machine.play(crash)
+            crashes += 1
+    return schedule
+
+
 class Drawn(Runs):
-    """Values of all lengths at a few keys, drawn by a seed, on images that they fill: runs of lines are given back in any order, joined
-    and cut again."""
-
-    REQUESTS = 400
-    LENGTHS = [0, 62, 63, 64, 500, 3_000, 8_192, 20_000, 40_000, 50_000, 60_000, 65_536]
-
-    def history(self, drawn, lines):
-        """The events. What is sent is acknowledged at once; what has ended may come back before the next request, or with what others
-        end."""
-        schedule, machine, crashes = Schedule(1), plain_machine.Machine(lines), 0
-        for _ in range(self.REQUESTS):
-            start, key = len(schedule.events), f"k{drawn.randrange(10)}"
-            is_set = drawn.randrange(4) > 0
-            schedule.group(crashes, spell("SET", key, drawn.choice(self.LENGTHS) * b"v") if is_set else spell("DEL", key))
-            schedule.replicate(len(machine.frames))
-            schedule.add(f"ack-delivered {len(machine.acknowledgements)}", "raise-remote", *drawn.sample(FREEING, drawn.randrange(3)))
-            if drawn.randrange(3):
-                schedule.free()
-            machine.play(schedule.events[start:] if start > 1 else schedule.events)
-            if drawn.randrange(100) == 0:
-                # a delta, where the standby is behind
-                crash = ["crash primary 0", "reopen primary", "enter", "open-link", "send", f"deliver {len(machine.frames)}", "apply"]
-                schedule.add(*crash)
-                machine.play(crash)
-                crashes += 1
-        return schedule
+    """Histories drawn by a seed, on images that they fill: runs of lines are given back in any order, joined and cut again."""
 
     def check(self, seed, lines):
-        trace = self.play(self.history(draws.numbers(f"freeing {seed}"), lines), lines=lines)
+        trace = self.play(history(draws.numbers(f"freeing {seed}"), lines), lines=lines)
         replies = [call.reply for call in trace.calls]
         full = [place for place, reply in enumerate(replies) if reply == STORE_IS_FULL]
         self.assertGreater(len(full), 10)
         self.assertGreater(replies[full[0]:].count(OK), 50)
-        self.assertEqual(trace.nodes["primary"].position == trace.nodes["standby"].position, lines[1] > lines[0])
+        stands = [trace.nodes[node].position for node in NODES]
+        self.assertTrue(stands[1] == stands[0] if lines[1] > lines[0] else stands[1] <= stands[0], stands)
 
     def test_a_standby_with_ample_room_0(self):
         self.check(0, (LINES, 2 * LINES))
@@ -240,8 +243,14 @@ class Drawn(Runs):
     def test_a_standby_with_ample_room_1(self):
         self.check(1, (LINES, 2 * LINES))
 
+    def test_a_standby_with_a_spare_place_0(self):
+        self.check(3, (LINES, LINES + SPARE_LINES))
+
+    def test_a_standby_with_a_spare_place_1(self):
+        self.check(4, (LINES, LINES + SPARE_LINES))
+
     def test_a_standby_whose_free_lines_lie_apart(self):
-        # where the primary has a run that is long enough it has none, and then it follows no more
+        # where the primary has a run that is long enough it has none
         self.check(2, (LINES, LINES))
 
 

@@ -11,7 +11,7 @@ import plain_redis
 import plain_replies
 import spelling
 from plain_keyspace import Drop
-from simulation import NODES, Runs, Schedule, simulate, texts_between, told_between
+from simulation import NODES, Runs, Schedule, simulate, texts_between, told_between, told_positions
 
 PROGRAMS = ["simulator"]
 IS_SLOW = True
@@ -325,7 +325,7 @@ class Orders(Runs):
     def check_machine(self, trace, events, lines):
         """The events that did their step are those that the plain machine has, and so are the calls, the released bytes
         and the words of both images."""
-        machine = plain_machine.Machine((lines, lines)).play(events)
+        machine = plain_machine.Machine((lines, lines), told=told_positions(trace)).play(events)
         with self.case("events"):
             wrong = [place for place, (did, should) in enumerate(zip(trace.done, machine.done)) if did != should]
             self.assertEqual((wrong[:5], len(trace.done)), ([], len(machine.done)))
