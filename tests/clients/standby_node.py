@@ -56,6 +56,19 @@ def with_record(words, record):
     return words | {4: record.number} | dict(enumerate(plain_image.record_words(record), slot))
 
 
+def without_records(words):
+    """These words but for the records and the root."""
+    first, end = (line * WORDS_OF_LINE for line in (1, 7))
+    return {at: word for at, word in words.items() if at != 4 and not first <= at < end}
+
+
+def cut_short(writer, changes):
+    """The words that a crash leaves before the record of a commit of these changes is stored, all else of which is there."""
+    later = copy.deepcopy(writer)
+    later.commit([changes])
+    return with_record(later.words, writer.record)
+
+
 def crashed(writer, group, draws):
     """The words that a crash in the commit of a group leaves before its root is stored: some of those that it stores."""
     later = copy.deepcopy(writer)
