@@ -36,12 +36,14 @@ class Noting:
 
     def __init__(self, loaded, image, fails=0, torn=0, keeps=True, goes_on=False):
         self.image, self.log, self.synced = image, image.with_suffix(".calls"), image.with_suffix(".synced")
+        self.fails = fails
         self.log.unlink(missing_ok=True)
         settings = {"LD_PRELOAD": loaded, "NOTED_LOG": self.log, "NOTED_FAILS": fails, "NOTED_TORN": torn}
         if keeps:
             if not goes_on:
                 shutil.copyfile(image, self.synced)
             settings |= {"NOTED_IMAGE": image, "NOTED_SYNCED": self.synced}
+        self.settings = {name: str(value) for name, value in settings.items()}
         self.words = ["/usr/bin/env", *(f"{name}={value}" for name, value in settings.items())]
 
     def calls(self):

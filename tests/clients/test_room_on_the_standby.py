@@ -1,17 +1,28 @@
 """A standby whose free lines or entries are as many as a frame takes, but lie apart, or in a gap: it makes room, and the reply comes. What is caught is a
 pair of healthy nodes that answers nothing any more."""
 
+import contextlib
+import os
+import random
+
 import common
 import filling
 import held_syncs
+import noted_calls
+import plain_image
+from noted_calls import Noting, mixed
 from pair import PATIENCE, PairCases, wait_until
+from plain_image import STANDBY, Words, Writer
+from plain_keyspace import Put
 from plain_replies import OK
+from plain_wire import Acknowledgement, Group, text
 from spelling import spell
+from standby_node import ACK_BYTES, Node, StandingBy, cut_short, take
+from test_images import FAILED, LINES, refusal
 
 PROGRAMS = ["server"]
 IS_SLOW = True
 
-LINES, ENTRIES = 4_096, 512
 # At a key of one byte it takes 1,025 of 3,576 lines.
 LONGEST = 65_536 * b"v"
 # How long each load writes (tests/sweep-room takes longer), and its seed, at which a standby that makes no room is soon stuck.
@@ -76,6 +87,72 @@ class Gaps(RoomCases):
                     nodes.standby.start()
                 self.assertEqual(client.reply(), OK)
         self.assert_both_hold(nodes, dict.fromkeys(keys, b"new"))
+
+
+def live_versions(words):
+    """The versions of a whole image that have not ended, wherever they are."""
+    return sorted(version for version in plain_image.versions_on(words) if not version.has_ended)
+
+
+@common.unittest.skipUnless(held_syncs.HAS_COMPILER, "there is no gcc")
+class CutShort(StandingBy):
+    """A sync fails while a standby makes room for a frame. Whatever is left of the words that were not durable, the image holds what it held before the frame
+    or after it, each version at its position; started again the node takes the frame."""
+
+    def check(self, before, frames):
+        """Over these words, of an image that stands before the last of these frames, each sync of taking that one fails in turn."""
+        ample, live = Writer(2 * LINES, STANDBY), {}
+        for frame in frames:
+            self.assertTrue(take(ample, frame))
+            live[frame.after] = live_versions(Words(2 * LINES, ample.words))
+        with self.folder() as folder:
+            library = noted_calls.library(folder)
+            # (two are those of opening the image)
+            number = 3
+            while self.fails(path := self.made(folder, before), frames[-1], live, Noting(library, path, fails=number)):
+                number += 1
+            # three are those of the commit
+            self.assertGreater(number - 3, 3)
+
+    def fails(self, path, frame, live, noting):
+        """Whether that sync fails before the frame is taken."""
+        with Node(path, env=os.environ | noting.settings) as node:
+            if self.is_taken(node, frame, frame.before):
+                return False
+            self.assertTrue(noting.calls()[-1].failed, "the frame was refused")
+            self.assertEqual(node.ended(), (FAILED, b"", refusal(1)))
+        left, durable, drawn = path.read_bytes(), noting.synced.read_bytes(), random.Random(noting.fails)
+        for data in (left, durable, mixed(left, durable, drawn), mixed(left, durable, drawn)):
+            path.write_bytes(data)
+            words = self.words(path)
+            position = plain_image.read_image(words).record.position
+            self.assertEqual(live_versions(words), live[position])
+            with Node(path) as node:
+                self.assertTrue(self.is_taken(node, frame, position))
+            self.assertEqual(live_versions(self.words(path)), live[frame.after])
+        return True
+
+    def is_taken(self, node, frame, position):
+        """Whether a node that stands there acknowledges a frame. One that has ended before says nothing."""
+        wanted = b"".join(text(Acknowledgement(1, at)) for at in (position, frame.after))
+        found = b""
+        with contextlib.suppress(ConnectionRefusedError):
+            found = node.exchange(text(frame))
+        self.assertIn(found, (b"", wanted[:ACK_BYTES], wanted))
+        return found == wanted
+
+    def test_a_version_is_moved(self):
+        long = [Put((key,), LONGEST) for key in (b"A", b"B")]
+        puts = [*long, Put((b"s",), b"1"), long[0], Put((b"s",), b"2"), long[1]]
+        frames, writer = [Group(1, at, at + 1, (put,)) for at, put in enumerate(puts)], Writer(LINES, STANDBY)
+        self.assertEqual([take(writer, frame) for frame in frames], [True, True, True, True, True, False])
+        self.check(writer.words, frames)
+
+    def test_a_gap_is_cleared(self):
+        puts = [Put((b"%d" % number,), b"v") for number in range(600)]
+        frames, writer = [Group(1, 0, 1, tuple(puts[:300])), Group(1, 1, 2, tuple(puts[500:]))], Writer(LINES, STANDBY)
+        self.assertTrue(take(writer, frames[0]))
+        self.check(cut_short(writer, puts[300:500]), frames)
 
 
 class Loads(PairCases):
