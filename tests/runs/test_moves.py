@@ -2,6 +2,9 @@
 
 Each run is compared with the plain machine too (simulation.Runs), from then on by its versions, wherever they are."""
 
+import pathlib
+import re
+
 import common
 import draws
 import plain_image
@@ -47,6 +50,15 @@ class Moves(Runs):
 
     def test_two_long_values_and_a_short_one(self):
         self.assert_follows(two_long_values_and_a_short_one(), (LINES, LINES))
+
+    def test_the_history_of_it(self):
+        """room_is_made.events, which says of each step what lies where."""
+        text = pathlib.Path(__file__).with_name("room_is_made.events").read_text(encoding="ascii")
+        schedule = Schedule()
+        for line in filter(lambda line: line and not line.startswith("#"), text.splitlines()):
+            times, event = re.fullmatch(r"(?:repeat (\d+) )?(.+)", line).groups()
+            schedule.add(*int(times or 1) * [event])
+        self.assert_follows(schedule, (LINES, LINES))
 
     def test_a_standby_with_a_spare_place(self):
         self.assert_follows(two_long_values_and_a_short_one(), (LINES, LINES + SPARE_LINES))
