@@ -160,6 +160,15 @@ class StandingBy(Images):
         if len(image.record.gaps) < 8:
             self.assertEqual(left.gapped, versions.gapped)
 
+    def assert_words(self, found, wanted):
+        """An image has these words; but its node may have cleared gaps, in which nothing lies."""
+        if found == wanted:
+            return
+        record, before = (plain_image.read_image(Words(LINES, words)).record for words in (found, wanted))
+        cleared = record.number - before.number
+        self.assertEqual(record, before._replace(number=record.number, gaps=before.gaps[cleared:]) if cleared > 0 else before)
+        self.assertEqual(without_records(found), without_records(wanted) if cleared else wanted)
+
     def words(self, path):
         return Words(LINES, words_of(path.read_bytes()))
 

@@ -6,7 +6,7 @@ from damaged_frames import SET_A, damaged, written
 from plain_image import STANDBY, Writer
 from plain_wire import Acknowledgement, read_stream, text
 from standby_node import ACK_BYTES, LIMIT, Node, StandingBy, with_record
-from test_images import LINES
+from test_images import LINES, words_of
 from worked_cases import DELTA
 
 PROGRAMS = ["server"]
@@ -31,12 +31,12 @@ class Damaged(StandingBy):
             record = Writer(LINES, STANDBY).record._replace(position=LIMIT - 1)
             path = self.made(folder, with_record(Writer(LINES, STANDBY).words, record))
             with Node(path) as node:
-                data = path.read_bytes()
+                before = words_of(path.read_bytes())
                 for name, sent in rows:
                     for piece in pieces:
                         with self.case(name, piece=piece):
                             self.assertEqual(node.exchange(sent, piece), acknowledged(1, LIMIT - 1, sent))
-                self.assert_bytes(path.read_bytes(), data)
+                self.assert_words(words_of(path.read_bytes()), before)
 
     def test_500_damaged_frames(self):
         rows = [(seed, damaged(seed)[1]) for seed in range(500)]

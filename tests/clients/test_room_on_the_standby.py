@@ -26,7 +26,7 @@ IS_SLOW = True
 # At a key of one byte it takes 1,025 of 3,576 lines.
 LONGEST = 65_536 * b"v"
 # How long each load writes (tests/sweep-room takes longer), and its seed, at which a standby that makes no room is soon stuck.
-SECONDS, SEED = 3, 0
+SECONDS, SEED = 3, 1
 
 
 class RoomCases(PairCases):
@@ -162,7 +162,7 @@ class Loads(PairCases):
 def add_loads():
     """One test for each kind, and how full it is; every other one with kills; and the standby is of the same size, or larger by what lets it always make
     room."""
-    rows = [("sessions", 80), ("sessions", 90), ("pages", 80), ("pages", 90), ("blobs", 60), ("blobs", 80), ("any", 80), ("any", 90)]
+    rows = [("sessions", 80), ("sessions", 90), ("pages", 80), ("pages", 90), ("blobs", 90), ("blobs", 60), ("any", 80), ("any", 90)]
     for number, (kind, fill) in enumerate(rows):
         for extra in (0, filling.SPARE_LINES):
             options = {"standby_lines": LINES + extra, "kills": number % 2 == 1, "seed": SEED}

@@ -11,7 +11,7 @@ from damaged_frames import SET_A
 from plain_image import STANDBY, Words, Writer
 from plain_keyspace import DropKey, Put
 from plain_wire import Acknowledgement, Group, read_stream, text
-from standby_node import ACK_BYTES, LIMIT, Node, StandingBy, crashed, cut_short, drawn_change, drawn_frames, take, without_records
+from standby_node import ACK_BYTES, LIMIT, Node, StandingBy, crashed, cut_short, drawn_change, drawn_frames, take
 from test_images import FAILED, LINE_BYTES, LINES, limited, refusal, words_of
 from worked_cases import DELTA
 
@@ -20,14 +20,8 @@ PROGRAMS = ["server"]
 
 class Following(StandingBy):
     def assert_holds(self, path, writer):
-        """The file has just the words that the frames leave, each where docs/image.md has it; but the node may have cleared gaps, in which nothing lies."""
-        found, wanted = words_of(path.read_bytes()), writer.words
-        record = plain_image.read_image(Words(LINES, found)).record
-        cleared = record.number - writer.record.number
-        if cleared:
-            self.assertEqual(record, writer.record._replace(number=record.number, gaps=writer.record.gaps[cleared:]))
-            found, wanted = map(without_records, (found, wanted))
-        self.assertEqual(found, wanted)
+        """The file has just the words that the frames leave, each where docs/image.md has it."""
+        self.assert_words(words_of(path.read_bytes()), writer.words)
 
     def test_the_worked_frames(self):
         with self.folder() as folder:

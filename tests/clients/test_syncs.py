@@ -252,9 +252,9 @@ class LoneSets(NotedCases):
         nodes.wait()
         with nodes.client() as client:
             found = []
-            for turn in range(4):
+            for turn in range(6):
                 self.assertEqual(client.ask("SET", "a", f"{turn}"), OK)
-                # (what it replaced is freed a little later)
+                # (what it replaced is freed a little later, and gaps are cleared while nothing comes)
                 time.sleep(0.5)
                 found.append([self.asked(node) for node in both])
         for at, (node, words) in enumerate(both.items()):
