@@ -168,9 +168,14 @@ class Writer:
         requests = [self.request() for _ in range(self.draws.randint(1, PIPELINE))]
         self.waiting.extend(requests)
         self.since = self.since or self.store.clock.now()
-        client.send(b"".join(spell("SET", key, length * b"v") if length else spell("DEL", key) for key, length in requests))
+        client.send(b"".join(spell("SET", key, self.value(key, length)) if length else spell("DEL", key) for key, length in requests))
         while self.waiting:
             self.hear(client.reply())
+
+    def value(self, key, length):
+        """So many bytes that no other key has, and this one does not have again soon."""
+        piece = f"{key} {self.answered};".encode()
+        return (piece * (length // len(piece) + 1))[:length]
 
     def request(self):
         """A key and the length that it is to have, or 0 where it is to go."""
