@@ -270,7 +270,7 @@ class Node:
         return {name: int(value) if value.isdigit() else value for name, value in rows}
 
     def read_image(self):
-        """The image, as the plain reader has it. The process must have ended."""
+        """The image, as the plain reader has it. A process that runs may write meanwhile."""
         words = memoryview(self.image.read_bytes()).cast("Q")
         return plain_image.read_image(plain_image.Words(len(words) // 8, {place: word for place, word in enumerate(words) if word}))
 
