@@ -124,6 +124,13 @@ class Links(Refused, StandingBy):
                 with Node(path, env=self.settings(accepts=f"{number} 2 {ALL}")) as node:
                     self.assertEqual(node.ended(), (FAILED, b"", CANNOT_LISTEN))
 
+    def test_a_read_that_a_signal_interrupts_is_made_again(self):
+        with self.folder() as folder:
+            path = self.made(folder, Writer(LINES, STANDBY).words)
+            with Node(path, env=self.settings(reads=2)) as node:
+                for before in (0, 1, 1):
+                    self.assertEqual(node.exchange(SET_A), b"".join(text(Acknowledgement(1, at)) for at in (before, 1)))
+
 
 class Reads(Refused):
     def test_a_read_that_a_signal_interrupts_is_made_again(self):

@@ -112,6 +112,7 @@ impl<C: Clock, W: Write> Read for LinkReader<'_, '_, C, W> {
                         return Err(error);
                     }
                 }
+                Err(error) if error.kind() == ErrorKind::Interrupted => {}
                 Ok(count) => {
                     self.bytes = self.bytes.saturating_add(count as u64);
                     return Ok(count);
