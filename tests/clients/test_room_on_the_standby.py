@@ -89,24 +89,6 @@ class Gaps(RoomCases):
         self.assert_both_hold(nodes, dict.fromkeys(keys, b"new"))
 
 
-    def test_gaps_are_cleared_while_nothing_comes(self):
-        """Of a standby that was started again and again, while a primary is linked to it and all is quiet."""
-        nodes = self.pair(lines=LINES)
-        for _ in range(3):
-            nodes.restart(nodes.standby)
-            wait_until(nodes.standby.is_listening, "a standby that listens")
-        with nodes.client() as client:
-            self.assertEqual(client.ask("SET", "a", "1"), OK)
-
-        def has_no_gap():
-            # (it may write meanwhile)
-            with contextlib.suppress(plain_image.BadImage):
-                return not nodes.standby.read_image().record.gaps
-
-        wait_until(has_no_gap, "a standby that has cleared its gaps")
-        self.assert_both_hold(nodes, {"a": b"1"})
-
-
 def live_versions(words):
     """The versions of a whole image that have not ended, wherever they are."""
     return sorted(version for version in plain_image.versions_on(words) if not version.has_ended)
