@@ -107,12 +107,12 @@ class CutShort(StandingBy):
             live[frame.after] = live_versions(Words(2 * LINES, ample.words))
         with self.folder() as folder:
             library = noted_calls.library(folder)
-            # (two are those of opening the image)
-            number = 3
+            # (three are those of opening the image, the first that of the whole file)
+            number = first = 4
             while self.fails(path := self.made(folder, before), frames[-1], live, Noting(library, path, fails=number)):
                 number += 1
             # three are those of the commit
-            self.assertGreater(number - 3, 3)
+            self.assertGreater(number - first, 3)
 
     def fails(self, path, frame, live, noting):
         """Whether that sync fails before the frame is taken."""
