@@ -1,6 +1,7 @@
 """A node that is refused memory while it runs, and has it again a little later. It catches an answer to what was not taken, a counter
 that goes back, and a thread that waits for ever once memory is back."""
 
+import contextlib
 import pathlib
 import re
 import resource
@@ -110,3 +111,37 @@ class Starved(PairCases):
     def test_the_standby(self):
         """The primary waits, and all is answered once the standby has memory again."""
         self.check_node("standby")
+
+
+class Hoarded(PairCases):
+    """A node that may have 300 MB more than it takes at rest."""
+
+    MOST, MEGABYTES = 300_000_000, 2_000
+
+    def test_a_transaction_that_is_never_ended(self):
+        """One connection queues more than that. It is refused, the other is served within 5 seconds each time, and what was held is free with its end."""
+        nodes = self.pair()
+        limit_memory(nodes.primary.process, self.MOST)
+        request = [word for number in range(500) for word in (f"k{number}", LONG)]
+        other, queued = nodes.client(), 0
+        with nodes.client() as client:
+            self.assertEqual(client.ask("MULTI"), OK)
+            with contextlib.suppress(Ended, ConnectionError):
+                while queued < self.MEGABYTES:
+                    if (found := client.ask("MSET", *request)) == NO_MEMORY:
+                        break
+                    self.assertEqual(found, b"+QUEUED\r\n")
+                    queued += 30
+                    self.assert_served(other, queued)
+            self.assert_served(other, queued + 1)
+        self.assertLess(queued, self.MEGABYTES)
+        with nodes.client() as client:
+            self.assertEqual(client.ask("MULTI"), OK)
+            self.assertEqual(client.ask("MSET", *request), b"+QUEUED\r\n")
+            self.assertEqual(client.ask("DISCARD"), OK)
+        self.assertTrue(nodes.primary.is_running())
+
+    def assert_served(self, client, value):
+        began = time.monotonic()
+        self.assertEqual(client.ask("SET", "other", f"{value}"), OK)
+        self.assertLess(time.monotonic() - began, 5)
