@@ -257,11 +257,14 @@ class Ends(ServingCases):
                 options = ["--link", second.address()] if role == "primary" else []
                 for words in (
                     [role, "--image", image, "--listen", first.address(), *options],
-                    ["inspect", "--image", image],
                     ["format", "--image", image, "--lines", "65536", "--role", role],
                 ):
                     with self.case("refused", words=words[0], role=role):
                         self.assert_refused(words, fault)
+                with self.case("inspected", role=role):
+                    finished = common.run_program("server", ["inspect", "--image", image], seconds=PATIENCE)
+                    self.assertEqual((finished.status, common.without_news(finished.errors)), (0, b""))
+                    self.assertIn(f"role {role}\n".encode(), finished.output)
         self.assert_serves()
 
     def wait_for(self, node, lines):
