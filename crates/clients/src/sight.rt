@@ -32,13 +32,4 @@ impl Sight {
         let (seat, seen) = marks.read(seat);
         (Sight { marks, seat }, seen)
     }
-
-    /// Whether the node is to stop.
-    pub fn is_stopping(self) -> (Sight, bool)
-        ensures knows { (result.0.seat.knows.local ≡ self.seat.knows.local) × (result.0.seat.knows.remote ≡ self.seat.knows.remote) }
-    {
-        let Sight { marks, seat } = self;
-        let (seat, stops) = marks.stopped(seat);
-        (Sight { marks, seat }, stops)
-    }
 }

@@ -27,7 +27,7 @@ pub struct ReplyWriter {
 impl ReplyWriter {
     /// Writes until the connection is over and all its replies are written, and then shuts down the sending side of the socket, or both where
     /// the reader has not ended. If a write fails or memory is refused, it shuts down both sides, so that the reader ends, and lets the replies
-    /// go until the connection is over. If the node is to stop, it shuts down both sides at once. When it ends, the connection is over.
+    /// go until the connection is over. When it ends, the connection is over.
     pub fn run<R: Wait + Clock>(self, rt: &R) {
         let ReplyWriter {
             stream,
@@ -37,7 +37,7 @@ impl ReplyWriter {
             post,
             mut idle,
         } = self;
-        let (sight, ending) = write_replies(
+        let ending = write_replies(
             rt,
             &mut &*stream,
             &mut replies,
@@ -48,7 +48,7 @@ impl ReplyWriter {
         );
         let _ = stream.shutdown(last_shutdown(ending, post.is_read()));
         if ending != Ending::Over {
-            let_go(rt, &mut replies, sight, &post);
+            let_go(rt, &mut replies, &post);
             post.end();
         }
     }

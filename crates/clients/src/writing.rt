@@ -22,8 +22,6 @@ use wakes::Idle;
 pub enum Ending {
     /// The connection is over, and all its replies are written.
     Over,
-    /// The node is to stop.
-    Stopping,
     /// A write failed, or memory was refused.
     Failed,
 }
@@ -40,7 +38,7 @@ enum Round {
 }
 
 /// Writes a connection's replies, each once both nodes hold the position at which it was made, until the connection is over and nothing is
-/// held, or the node is to stop. It waits for replies, and for the marks.
+/// held. It waits for replies, and for the marks.
 pub fn write_replies<R: Wait + Clock, W: Write>(
     rt: &R,
     writer: &mut W,
@@ -49,30 +47,21 @@ pub fn write_replies<R: Wait + Clock, W: Write>(
     sight: Sight,
     post: &Post,
     idle: &mut Idle,
-) -> (Sight, Ending)
+) -> Ending
     requires none_held { (outbox.gate.pending ≡ []) × (outbox.gate.waiting ≡ []) }
-    ensures written { result.1 ≡ Ending.Over → (more : List Answer) × (taken_at replies.new ≡ taken_at replies.old ++ more)
+    ensures written { result ≡ Ending.Over → (more : List Answer) × (taken_at replies.new ≡ taken_at replies.old ++ more)
         × Appends (W.contents writer.old) (W.contents writer.new) (texts_of more) }
 {
     let mut outbox = outbox;
     let mut sight = sight;
     for _ in rt.forever() {
         let (next, seen) = sight.look();
+        sight = next;
         match write_round(rt, writer, replies, &mut outbox, &seen, post) {
-            Ok(Round::Last) => return (next, Ending::Over),
-            Ok(Round::Busy) => {
-                idle.busy();
-                sight = next;
-            }
-            Ok(Round::Idle) => {
-                let (next, stops) = next.is_stopping();
-                if stops {
-                    return (next, Ending::Stopping);
-                }
-                idle.wait(rt, &post.sleeper);
-                sight = next;
-            }
-            Err(_) => return (next, Ending::Failed),
+            Ok(Round::Last) => return Ending::Over,
+            Ok(Round::Busy) => idle.busy(),
+            Ok(Round::Idle) => idle.wait(rt, &post.sleeper),
+            Err(_) => return Ending::Failed,
         }
     }
     unreachable!()
@@ -116,20 +105,13 @@ fn round_of(is_last: bool, is_busy: bool) -> Round
     }
 }
 
-/// Takes the replies that nobody can have any more and lets them go, until the connection is over or the node is to stop. Otherwise the
-/// thread that serves would wait for room for ever.
-pub(crate) fn let_go<R: Wait + Clock>(
-    rt: &R,
-    replies: &mut RingInlet<Held>,
-    sight: Sight,
-    post: &Post,
-) {
-    let mut sight = sight;
+/// Takes the replies that nobody can have any more and lets them go, until the connection is over. Otherwise the thread that serves would wait for room
+/// for ever.
+pub(crate) fn let_go<R: Wait + Clock>(rt: &R, replies: &mut RingInlet<Held>, post: &Post) {
     for _ in rt.forever() {
         let is_over = post.is_over();
         let took = take_some(replies);
-        let (next, stops) = sight.is_stopping();
-        if stops || (is_over && !took) {
+        if is_over && !took {
             return;
         }
         if took {
@@ -137,7 +119,6 @@ pub(crate) fn let_go<R: Wait + Clock>(
         } else {
             post.sleeper.sleep(rt);
         }
-        sight = next;
     }
 }
 
