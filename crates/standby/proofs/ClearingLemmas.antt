@@ -1,5 +1,5 @@
 -- A gap that a standby clears to make room.
-use Rattle.std.proofs.Common.{◌≡◌, ℕ, ◌+◌, ◌<◌, ◌≤◌, ◌||◌, ◌⊎◌, inl, inr, Bool, true, false, IsTrue, List, [], ◌∷◌, Ok, Err, length, nat_eq, refl, sym, ap, subst, ◌∙◌, arith, eq-eqb}
+use Rattle.std.proofs.Common.{◌≡◌, ℕ, ◌+◌, ◌<◌, ◌≤◌, ◌||◌, ◌⊎◌, inl, inr, Bool, true, false, IsTrue, List, [], ◌∷◌, Result, Ok, Err, IsErrOf, length, nat_eq, refl, sym, ap, subst, ◌∙◌, arith, eq-eqb}
 use Rattle.std.proofs.lemmas.Bool.{false_from_ne_true, or_cases, or_left, or_right, true≢false}
 use Rattle.std.specs.List.{AllByRecursion}
 use Rattle.kv_types.specs.declared.place.EntryNo.{EntryNo}
@@ -7,13 +7,13 @@ use Rattle.kv_types.specs.declared.refusal.Refusal.{Refusal}
 use Rattle.kv_types.specs.declared.refusal.Refusal.TheVariants.{Exhausted, Fault, Memory}
 use Rattle.pmem.specs.Device.{State}
 use Rattle.pmem.specs.Runs.{LeavesOnly}
-use Rattle.pmem.proofs.Leaving.{LeavesOnly-weaken}
+use Rattle.pmem.proofs.Leaving.{LeavesOnly-weaken, none_leaves}
 use Rattle.extent_heap.specs.Room.{IsOutEntry, Room, is_free_entry, is_free_line}
 use Rattle.model.specs.declared.image.TheConstants.{COUNTER_LIMIT}
 use Rattle.model.specs.declared.record.Record.{Record}
 use Rattle.model.specs.Group.{Contents, Versions, is_ended_version, is_listed}
 use Rattle.model.specs.Image.{Image, entries_of_lines}
-use Rattle.mv_keyspace.specs.Table.{IsTable, Table}
+use Rattle.mv_keyspace.specs.Table.{IsTable, Table, records}
 use Rattle.placing.specs.Back.{CanGiveAll, GivesAll}
 use Rattle.placing.proofs.MemberLemmas.{distinct_none}
 use Rattle.wbl_engine.specs.Contents.{IsDurable, Keeps}
@@ -23,10 +23,9 @@ use Rattle.wbl_engine.proofs.LawfulLemmas.{lawful_from}
 use Rattle.wbl_engine.proofs.WithoutLemmas.{consistent_cleared, lawful_cleared}
 use Rattle.frames.specs.declared.frame.Frame.{Frame}
 use Rattle.standby.specs.declared.standby.Standby.{Standby}
-use Rattle.standby.specs.Following.{Follows, HoldsRearranged, IsNearLimit, IsRearranged, WouldExhaust}
-use Rattle.standby.specs.Taking.{Rearranges}
-use Rattle.standby.proofs.RearrangedLemmas.{HoldsRearranged-keeps, IsRearranged-recorded}
-use Rattle.standby.proofs.RoomLemmas.{IsReady, Rearranges-refused}
+use Rattle.standby.specs.Following.{Follows, HoldsRearranged, IsGapless, IsNearLimit, IsRearranged, WouldExhaust}
+use Rattle.standby.specs.Taking.{Rearranges, Stands, Tidies}
+use Rattle.standby.proofs.RearrangedLemmas.{HoldsRearranged-keeps, IsRearranged-recorded, IsRearranged-refl}
 
 -- ---- entries that are listed
 
@@ -115,92 +114,152 @@ lawful_next a room are =
       once = distinct_none nat_eq;
     }) room are
 
-module _ {E K D : Type 0} (device : E → State) (contents : E → Contents) (is_faulted : E → Bool) (table : K → Table) (frame : Frame) (old : Standby E K D)
-    (ready : IsReady device contents is_faulted table frame old) (far : ¬ IsNearLimit (contents old.engine).current) where
-  below : (contents old.engine).current.number + 1 < COUNTER_LIMIT
-  below = grind (arith, far)
+module _ {E K D : Type 0} (device : E → State) (contents : E → Contents) (is_faulted : E → Bool) (table : K → Table) where
+  -- nothing was cleared, and nothing had ended
+  pub Tidies-still : (node : Standby E K D) → Stands device contents is_faulted table node → node.ended.items ≡ [] → IsGapless (contents node.engine).current
+      → Tidies device contents is_faulted table node (Ok false) node
+  Tidies-still node stands none gapless = record {
+    causes = tt;
+    keyspace = refl;
+    none = none;
+    versions = λ i. rw none refl;
+    cleared = λ is. cc;
+    gapless = λ _. (gapless, refl);
+    rearranged = IsRearranged-refl (contents node.engine);
+    still = λ _. stands.follows;
+    sound = λ _. (stands.sound, refl);
+    durable = λ _. stands.durable;
+    fault = λ is. cc;
+    moments = none_leaves (device node.engine) (HoldsRearranged (contents node.engine)) (λ image is. HoldsRearranged-keeps (contents node.engine) image (stands.durable image is));
+  }
 
-  cleared : IsRearranged (contents old.engine) (cleared_contents (contents old.engine))
-  cleared = IsRearranged-recorded (contents old.engine) (cleared_contents (contents old.engine)) refl refl refl refl (λ i. refl)
-      (λ are. lawful_next (contents old.engine) below are)
+  -- memory was refused before anything happened
+  pub Tidies-refused : (node : Standby E K D) → Stands device contents is_faulted table node → Tidies device contents is_faulted table node (Err Memory) node
+  Tidies-refused node stands = record {
+    causes = inl refl;
+    keyspace = refl;
+    none = tt;
+    versions = tt;
+    cleared = λ is. cc;
+    gapless = λ is. cc;
+    rearranged = IsRearranged-refl (contents node.engine);
+    still = λ _. stands.follows;
+    sound = λ _. (stands.sound, refl);
+    durable = λ _. stands.durable;
+    fault = λ is. cc;
+    moments = none_leaves (device node.engine) (HoldsRearranged (contents node.engine)) (λ image is. HoldsRearranged-keeps (contents node.engine) image (stands.durable image is));
+  }
 
-  run : (device' : State) → LeavesOnly (device old.engine) device' (λ image. Keeps (contents old.engine) image ⊎ Keeps (cleared_contents (contents old.engine)) image)
-      → LeavesOnly (device old.engine) device' (HoldsRearranged (contents old.engine))
-  run device' moments = LeavesOnly-weaken (HoldsRearranged (contents old.engine)) (λ image either. holds image either) moments
-    where
-      holds : (image : Image) → Keeps (contents old.engine) image ⊎ Keeps (cleared_contents (contents old.engine)) image → HoldsRearranged (contents old.engine) image
-      holds image (inl keeps) = HoldsRearranged-keeps (contents old.engine) image keeps
-      holds image (inr keeps) = record {
-        after = cleared_contents (contents old.engine);
-        rearranged = cleared;
-        consistent = λ consistent. record { free = consistent.free; beyond = consistent.beyond };
-        keeps = keeps;
-      }
+  -- what is ready for a frame may be tidied
+  pub Rearranges-tidied : (frame : Frame) (old new : Standby E K D) (result : Result Bool Refusal) → Tidies device contents is_faulted table old result new
+      → (¬ IsErrOf result Fault → ¬ WouldExhaust (contents new.engine).current frame) → Rearranges device contents is_faulted table frame old result new
+  Rearranges-tidied frame old new result is counters = record {
+    causes = is.causes;
+    map = ap (λ (keyspace : K). records (table keyspace)) is.keyspace;
+    rearranged = is.rearranged;
+    none = is.none;
+    still = is.still;
+    sound = is.sound;
+    durable = is.durable;
+    fault = is.fault;
+    counters = counters;
+    moments = is.moments;
+  }
 
-  not_exhausting : (r : Record) → ¬ IsNearLimit r → ¬ WouldExhaust r frame → ¬ WouldExhaust (record_after_clearing r) frame
-  not_exhausting r far fits (inl stamps) = fits (inl stamps)
-  not_exhausting r far fits (inr (inl position)) = fits (inr (inl position))
-  not_exhausting r far fits (inr (inr (inl number))) = far (inr number)
-  not_exhausting r far fits (inr (inr (inr epoch))) = fits (inr (inr (inr epoch)))
+  module _ (old : Standby E K D) (stands : Stands device contents is_faulted table old) (nothing : old.ended.items ≡ [])
+      (far : ¬ IsNearLimit (contents old.engine).current) where
+    follows : Follows (contents old.engine) (table old.keyspace) old.heap []
+    follows = subst (Follows (contents old.engine) (table old.keyspace) old.heap) nothing stands.follows
 
-  -- the gap was cleared
-  pub Rearranges-cleared : (engine : E) (entries : List EntryNo) (room' : Room) (new : Standby E K D) → new.engine ≡ engine → new.keyspace ≡ old.keyspace → new.heap ≡ room' → new.ended ≡ old.ended
-      → Clears (contents old.engine) entries (contents engine) → GivesAll old.heap entries [] room'
-      → IsDurable (device engine) (contents engine) → (is_faulted engine ≡ false) × ((device engine).failures ≡ (device old.engine).failures)
-      → LeavesOnly (device old.engine) (device engine) (λ image. Keeps (contents old.engine) image ⊎ Keeps (cleared_contents (contents old.engine)) image)
-      → Rearranges device contents is_faulted table frame old (Ok true) new
-  Rearranges-cleared engine entries room' new engine_is keyspace_is heap_is ended_is clears given durable sound moments =
-      let follows = Follows-cleared (contents old.engine) (contents engine) (table old.keyspace) old.heap ready.follows entries clears room' given in
-      let none : new.ended.items ≡ [] = ap (λ ended. ended.items) ended_is ∙ ready.none in
-      let current = clears.current in
-      record {
-        causes = tt;
-        map = rw keyspace_is refl;
-        rearranged = rw engine_is (IsRearranged-recorded (contents old.engine) (contents engine) (ap (λ (r : Record). r.position) current) (ap (λ (r : Record). r.epoch) current)
-            (ap (λ (r : Record). r.role) current) clears.lines_are clears.versions (λ are. lawful_cleared (contents old.engine) (contents engine) entries clears below are));
-        none = none;
-        still = λ _. rw (engine_is, keyspace_is, heap_is, none) follows;
-        sound = λ _. rw engine_is sound;
-        durable = λ _. rw engine_is durable;
-        fault = λ is. cc;
-        counters = λ _. rw (engine_is, current) (not_exhausting (contents old.engine).current far ready.counters);
-        moments = rw engine_is (run (device engine) moments);
-      }
+    below : (contents old.engine).current.number + 1 < COUNTER_LIMIT
+    below = grind (arith, far)
 
-  three : (refusal : Refusal) → (refusal ≡ Fault) ⊎ ((refusal ≡ Exhausted) ⊎ (refusal ≡ Memory)) → (refusal ≡ Exhausted → ⊥) → (refusal ≡ Memory) ⊎ (refusal ≡ Fault)
-  three refusal (inl fault) none = inr fault
-  three refusal (inr (inl exhausted)) none = absurd (none exhausted)
-  three refusal (inr (inr memory)) none = inl memory
+    cleared : IsRearranged (contents old.engine) (cleared_contents (contents old.engine))
+    cleared = IsRearranged-recorded (contents old.engine) (cleared_contents (contents old.engine)) refl refl refl refl (λ i. refl)
+        (λ are. lawful_next (contents old.engine) below are)
 
-  -- that was refused
-  pub Rearranges-uncleared : (engine : E) (refusal : Refusal) (new : Standby E K D) → new.engine ≡ engine → new.keyspace ≡ old.keyspace → new.heap ≡ old.heap → new.ended ≡ old.ended
-      → (refusal ≡ Fault) ⊎ ((refusal ≡ Exhausted) ⊎ (refusal ≡ Memory)) → (refusal ≡ Exhausted → COUNTER_LIMIT ≤ (contents old.engine).current.number + 1) → (refusal ≡ Memory → engine ≡ old.engine)
-      → (refusal ≡ Fault → KeepsVersions (contents old.engine) (contents engine)) → (refusal ≡ Fault → (is_faulted engine ≡ true) × ((device old.engine).failures < (device engine).failures))
-      → LeavesOnly (device old.engine) (device engine) (λ image. Keeps (contents old.engine) image ⊎ Keeps (cleared_contents (contents old.engine)) image)
-      → Rearranges device contents is_faulted table {X = Bool} frame old (Err refusal) new
-  Rearranges-uncleared engine refusal new engine_is keyspace_is heap_is ended_is causes limit memory stays fault moments =
-      elim (three refusal causes (λ exhausted. let reached = limit exhausted in omega (arith, reached, below))) [
-        | inl is_memory ↦
-            let same : new ≡ old = λ p. record { engine = (engine_is ∙ memory is_memory) p; keyspace = keyspace_is p; heap = heap_is p; ended = ended_is p } in
-            rw (same, is_memory) (Rearranges-refused device contents is_faulted table {X = Bool} frame old ready)
-        | inr is_fault ↦
-            let kept = stays is_fault in
-            let told = fault is_fault in
-            record {
-              causes = inr is_fault;
-              map = rw keyspace_is refl;
-              rearranged = rw engine_is (IsRearranged-recorded (contents old.engine) (contents engine) (ap (λ (r : Record). r.position) kept.current) (ap (λ (r : Record). r.epoch) kept.current)
-                  (ap (λ (r : Record). r.role) kept.current) kept.lines_are kept.versions
-                  (λ are. lawful_from (contents old.engine) (contents engine) (rw kept.current are.current) kept.lines_are kept.versions are));
-              none = tt;
-              still = λ sound. absurd (sound (ap Err is_fault));
-              sound = λ sound. absurd (sound (ap Err is_fault));
-              durable = λ sound. absurd (sound (ap Err is_fault));
-              fault = λ _. rw engine_is told;
-              counters = λ sound. absurd (sound (ap Err is_fault));
-              moments = rw engine_is (run (device engine) moments);
-            }
-      ]
+    run : (device' : State) → LeavesOnly (device old.engine) device' (λ image. Keeps (contents old.engine) image ⊎ Keeps (cleared_contents (contents old.engine)) image)
+        → LeavesOnly (device old.engine) device' (HoldsRearranged (contents old.engine))
+    run device' moments = LeavesOnly-weaken (HoldsRearranged (contents old.engine)) (λ image either. holds image either) moments
+      where
+        holds : (image : Image) → Keeps (contents old.engine) image ⊎ Keeps (cleared_contents (contents old.engine)) image → HoldsRearranged (contents old.engine) image
+        holds image (inl keeps) = HoldsRearranged-keeps (contents old.engine) image keeps
+        holds image (inr keeps) = record {
+          after = cleared_contents (contents old.engine);
+          rearranged = cleared;
+          consistent = λ consistent. record { free = consistent.free; beyond = consistent.beyond };
+          keeps = keeps;
+        }
+
+    -- the gap was cleared
+    pub Tidies-cleared : (engine : E) (entries : List EntryNo) (room' : Room) (new : Standby E K D) → new.engine ≡ engine → new.keyspace ≡ old.keyspace → new.heap ≡ room' → new.ended ≡ old.ended
+        → 0 < length (contents old.engine).current.gaps.items → Clears (contents old.engine) entries (contents engine) → GivesAll old.heap entries [] room'
+        → IsDurable (device engine) (contents engine) → (is_faulted engine ≡ false) × ((device engine).failures ≡ (device old.engine).failures)
+        → LeavesOnly (device old.engine) (device engine) (λ image. Keeps (contents old.engine) image ⊎ Keeps (cleared_contents (contents old.engine)) image)
+        → Tidies device contents is_faulted table old (Ok true) new
+    Tidies-cleared engine entries room' new engine_is keyspace_is heap_is ended_is some clears given durable sound moments =
+        let now = Follows-cleared (contents old.engine) (contents engine) (table old.keyspace) old.heap follows entries clears room' given in
+        let none : new.ended.items ≡ [] = ap (λ ended. ended.items) ended_is ∙ nothing in
+        let current = clears.current in
+        record {
+          causes = tt;
+          keyspace = keyspace_is;
+          none = none;
+          versions = λ i. rw (engine_is, nothing) (clears.versions i);
+          cleared = λ _. (some, rw engine_is current);
+          gapless = λ is. cc;
+          rearranged = rw engine_is (IsRearranged-recorded (contents old.engine) (contents engine) (ap (λ (r : Record). r.position) current) (ap (λ (r : Record). r.epoch) current)
+              (ap (λ (r : Record). r.role) current) clears.lines_are clears.versions (λ are. lawful_cleared (contents old.engine) (contents engine) entries clears below are));
+          still = λ _. rw (engine_is, keyspace_is, heap_is, none) now;
+          sound = λ _. rw engine_is sound;
+          durable = λ _. rw engine_is durable;
+          fault = λ is. cc;
+          moments = rw engine_is (run (device engine) moments);
+        }
+
+    three : (refusal : Refusal) → (refusal ≡ Fault) ⊎ ((refusal ≡ Exhausted) ⊎ (refusal ≡ Memory)) → (refusal ≡ Exhausted → ⊥) → (refusal ≡ Memory) ⊎ (refusal ≡ Fault)
+    three refusal (inl fault) none = inr fault
+    three refusal (inr (inl exhausted)) none = absurd (none exhausted)
+    three refusal (inr (inr memory)) none = inl memory
+
+    -- that was refused
+    pub Tidies-uncleared : (engine : E) (refusal : Refusal) (new : Standby E K D) → new.engine ≡ engine → new.keyspace ≡ old.keyspace → new.heap ≡ old.heap → new.ended ≡ old.ended
+        → (refusal ≡ Fault) ⊎ ((refusal ≡ Exhausted) ⊎ (refusal ≡ Memory)) → (refusal ≡ Exhausted → COUNTER_LIMIT ≤ (contents old.engine).current.number + 1) → (refusal ≡ Memory → engine ≡ old.engine)
+        → (refusal ≡ Fault → KeepsVersions (contents old.engine) (contents engine)) → (refusal ≡ Fault → (is_faulted engine ≡ true) × ((device old.engine).failures < (device engine).failures))
+        → LeavesOnly (device old.engine) (device engine) (λ image. Keeps (contents old.engine) image ⊎ Keeps (cleared_contents (contents old.engine)) image)
+        → Tidies device contents is_faulted table old (Err refusal) new
+    Tidies-uncleared engine refusal new engine_is keyspace_is heap_is ended_is causes limit memory stays fault moments =
+        elim (three refusal causes (λ exhausted. let reached = limit exhausted in omega (arith, reached, below))) [
+          | inl is_memory ↦
+              let same : new ≡ old = λ p. record { engine = (engine_is ∙ memory is_memory) p; keyspace = keyspace_is p; heap = heap_is p; ended = ended_is p } in
+              rw (same, is_memory) (Tidies-refused old stands)
+          | inr is_fault ↦
+              let kept = stays is_fault in
+              let told = fault is_fault in
+              record {
+                causes = inr is_fault;
+                keyspace = keyspace_is;
+                none = tt;
+                versions = tt;
+                cleared = λ is. cc;
+                gapless = λ is. cc;
+                rearranged = rw engine_is (IsRearranged-recorded (contents old.engine) (contents engine) (ap (λ (r : Record). r.position) kept.current) (ap (λ (r : Record). r.epoch) kept.current)
+                    (ap (λ (r : Record). r.role) kept.current) kept.lines_are kept.versions
+                    (λ are. lawful_from (contents old.engine) (contents engine) (rw kept.current are.current) kept.lines_are kept.versions are));
+                still = λ sound. absurd (sound (ap Err is_fault));
+                sound = λ sound. absurd (sound (ap Err is_fault));
+                durable = λ sound. absurd (sound (ap Err is_fault));
+                fault = λ _. rw engine_is told;
+                moments = rw engine_is (run (device engine) moments);
+              }
+        ]
+
+-- one more record leaves the counters of a frame, where they are not near their limit
+pub not_exhausting : (r : Record) (frame : Frame) → ¬ IsNearLimit r → ¬ WouldExhaust r frame → ¬ WouldExhaust (record_after_clearing r) frame
+not_exhausting r frame far fits (inl stamps) = fits (inl stamps)
+not_exhausting r frame far fits (inr (inl position)) = fits (inr (inl position))
+not_exhausting r frame far fits (inr (inr (inl number))) = far (inr number)
+not_exhausting r frame far fits (inr (inr (inr epoch))) = fits (inr (inr (inr epoch)))
 
 -- a record that has a gap
 pub some_gap : {A : Type 0} (xs : List A) → (xs ≡ [] → ⊥) → 0 < length xs

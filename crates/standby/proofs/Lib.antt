@@ -11,3 +11,4 @@ pub mod MovedLemmas
 pub mod RoomLemmas
 pub mod ClearingLemmas
 pub mod MovingLemmas
+pub mod IdleLemmas

@@ -1,5 +1,5 @@
 -- What the calls of a standby do, by what is known of its engine and its keyspace.
-use Rattle.std.specs.Prelude.{◌≡◌, ◌⊎◌, ◌<◌, ◌≤◌, [], Bool, false, true, Result, Ok, Err, IfOk, IfErr, OnOk, OnErr, IsErrOf}
+use Rattle.std.specs.Prelude.{◌≡◌, ◌⊎◌, ℕ, ◌<◌, ◌≤◌, [], length, Bool, false, true, Result, Ok, Err, IfOk, IfErr, OnOk, OnErr, IsErrOf}
 use Rattle.kv_types.specs.declared.refusal.Refusal.{Refusal}
 use Rattle.kv_types.specs.declared.refusal.Refusal.TheVariants.{WrongEpoch, PositionGap, Full, Memory, Fault, Exhausted}
 use Rattle.pmem.specs.Device.{State}
@@ -8,11 +8,12 @@ use Rattle.model.specs.Group.{Contents}
 use Rattle.mv_keyspace.specs.Table.{Table, records}
 use Rattle.placing.specs.Place.{HasRoomFor}
 use Rattle.wbl_engine.specs.Contents.{IsDurable}
+use Rattle.wbl_engine.specs.Freeing.{after_free, record_after_clearing}
 use Rattle.wbl_engine.specs.Lawful.{AreLawful}
 use Rattle.frames.specs.declared.ack.Ack.{Ack}
 use Rattle.frames.specs.declared.frame.Frame.{Frame}
 use Rattle.standby.specs.declared.standby.Standby.{Standby}
-use Rattle.standby.specs.Following.{Follows, TakesEpoch, IsHeld, IsNext, IsTakenNext, HasTaken, AreGone, HasRoomOnceFreed, HoldsRearranged, IsRearranged, NoGapIsLeft, WouldExhaust, IsBeforeOrWhole, IsUnmovedOrWhole, EndsAs}
+use Rattle.standby.specs.Following.{Follows, TakesEpoch, IsHeld, IsNext, IsTakenNext, HasTaken, AreGone, HasRoomOnceFreed, HoldsRearranged, IsGapless, IsRearranged, NoGapIsLeft, WouldExhaust, IsBeforeOrWhole, IsUnmovedOrWhole, EndsAs}
 
 module _ {E K D : Type 0} (device : E → State) (contents : E → Contents) (is_faulted : E → Bool) (table : K → Table) where
   -- The standby may take frames: its keyspace and its heap follow its image, no fence has failed, and all that its engine contains is durable.
@@ -76,5 +77,22 @@ module _ {E K D : Type 0} (device : E → State) (contents : E → Contents) (is
     pub durable : ¬ IsErrOf result Fault → IsDurable (device new.engine) (contents new.engine)
     pub fault : IsErrOf result Fault → (is_faulted new.engine ≡ true) × ((device old.engine).failures < (device new.engine).failures)
     pub counters : ¬ IsErrOf result Fault → ¬ WouldExhaust (contents new.engine).current frame
+    -- at any moment of the call
+    pub moments : LeavesOnly (device old.engine) (device new.engine) (HoldsRearranged (contents old.engine))
+
+  -- What had ended was freed and then the oldest gap cleared, while no frame came; or there was no gap to clear. No version moves, and none that is live goes.
+  pub record Tidies (old : Standby E K D) (result : Result Bool Refusal) (new : Standby E K D) : Type 0 where
+    pub causes : IfErr result (λ refusal. (refusal ≡ Memory) ⊎ (refusal ≡ Fault))
+    pub keyspace : new.keyspace ≡ old.keyspace
+    pub none : OnOk result (new.ended.items ≡ [])
+    pub versions : OnOk result ((i : ℕ) → (contents new.engine).versions i ≡ (after_free old.ended.items (contents old.engine)).versions i)
+    pub cleared : result ≡ Ok true → (0 < length (contents old.engine).current.gaps.items)
+        × ((contents new.engine).current ≡ record_after_clearing (contents old.engine).current)
+    pub gapless : result ≡ Ok false → IsGapless (contents old.engine).current × ((contents new.engine).current ≡ (contents old.engine).current)
+    pub rearranged : IsRearranged (contents old.engine) (contents new.engine)
+    pub still : ¬ IsErrOf result Fault → Follows (contents new.engine) (table new.keyspace) new.heap new.ended.items
+    pub sound : ¬ IsErrOf result Fault → (is_faulted new.engine ≡ false) × ((device new.engine).failures ≡ (device old.engine).failures)
+    pub durable : ¬ IsErrOf result Fault → IsDurable (device new.engine) (contents new.engine)
+    pub fault : IsErrOf result Fault → (is_faulted new.engine ≡ true) × ((device old.engine).failures < (device new.engine).failures)
     -- at any moment of the call
     pub moments : LeavesOnly (device old.engine) (device new.engine) (HoldsRearranged (contents old.engine))

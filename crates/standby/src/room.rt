@@ -1,10 +1,12 @@
 //! Room for a frame that has none, once all that had ended is freed.
-ghost use Rattle.std.specs.Prelude.{◌≡◌, ◌⊎◌, ◌↔◌, ◌+◌, [], length, true, false, IsTrue, IfOk, OnOk, OnErr, Ok, Err};
+ghost use Rattle.std.specs.Prelude.{◌≡◌, ◌⊎◌, ◌↔◌, [], true, false, IsTrue, IfOk, OnOk, OnErr, IsErrOf, Ok, Err};
+ghost use Rattle.kv_types.specs.declared.refusal.Refusal.TheVariants.{Fault};
 ghost use Rattle.placing.specs.Place.{HasRoomFor};
 ghost use Rattle.wbl_engine.specs.Contents.{IsDurable};
+ghost use Rattle.frames.specs.declared.frame.Frame.{Frame as SomeFrame};
 ghost use Rattle.standby.specs.Following.{Follows, IsGapless, IsNearLimit, NoGapIsLeft, WouldExhaust};
 ghost use Rattle.standby.specs.Moving.{HasCleared};
-ghost use Rattle.standby.specs.Taking.{Rearranges};
+ghost use Rattle.standby.specs.Taking.{Rearranges, Tidies};
 
 use crate::standby::Standby;
 use frames::Frame;
@@ -59,7 +61,7 @@ impl<E: Durable, K: Keyspace> Standby<E, K> {
         ensures gapless { result ≡ Ok false → IsGapless (E.contents self.new.engine).current }
     {
         while !self.fits(alloc, frame)? {
-            if !self.clear_gap(alloc, frame)? {
+            if !self.clear_gap(alloc)? {
                 return Ok(false);
             }
         }
@@ -85,16 +87,17 @@ impl<E: Durable, K: Keyspace> Standby<E, K> {
     /// # Errors
     ///
     /// `Memory` if an allocation was refused, with nothing changed. `Fault` if a fence failed.
-    fn clear_gap(&mut self, alloc: Global, frame: &Frame) -> Result<bool, Refusal>
+    pub(crate) fn clear_gap(&mut self, alloc: Global) -> Result<bool, Refusal>
         requires follows { Follows (E.contents self.old.engine) (K.table self.old.keyspace) self.old.heap [] }
         requires none { self.old.ended.items ≡ [] }
         requires sound { E.is_faulted self.old.engine ≡ false }
         requires durable { IsDurable (E.device self.old.engine) (E.contents self.old.engine) }
-        requires counters { ¬ WouldExhaust (E.contents self.old.engine).current frame.now }
-        ensures rearranges { Rearranges E.device E.contents E.is_faulted K.table frame.now self.old result self.new }
+        ensures tidies { Tidies E.device E.contents E.is_faulted K.table self.old result self.new }
         ensures cleared { result ≡ Ok true → HasCleared (E.contents self.old.engine) (E.contents self.new.engine) self.old.heap self.new.heap }
-        ensures fewer { result ≡ Ok true → length (E.contents self.new.engine).current.gaps.items + 1 ≡ length (E.contents self.old.engine).current.gaps.items }
-        ensures none_left { result ≡ Ok false → (self.new ≡ self.old) × IsGapless (E.contents self.old.engine).current }
+        ensures none_left { result ≡ Ok false → self.new ≡ self.old }
+        // what comes next has its counters still
+        ensures counters { (frame : SomeFrame) → ¬ WouldExhaust (E.contents self.old.engine).current frame → ¬ IsErrOf result Fault
+            → ¬ WouldExhaust (E.contents self.new.engine).current frame }
     {
         let current = self.engine.record();
         if has_no_gap(current) || is_near_limit(current) {

@@ -1,9 +1,12 @@
 use Rattle.std.proofs.Common.{arith, ◌≡◌, Bool, Result, Err, Ok, inl, inr, true, false, refl, sym, ap, subst, ◌∙◌}
 use Rattle.std.proofs.lemmas.Result.{err_from_is_err_and}
+use Rattle.kv_types.specs.declared.refusal.Refusal.{Refusal}
 use Rattle.kv_types.specs.declared.refusal.Refusal.TheVariants.{Memory}
 use Rattle.placing.specs.Place.{HasRoomFor}
 use Rattle.wbl_engine.specs.Contents.{IsDurable}
+use Rattle.standby.specs.Following.{WouldExhaust}
 use Rattle.standby.specs.Taking.{Rearranges}
+use Rattle.standby.proofs.ClearingLemmas.{Rearranges-tidied}
 use Rattle.standby.proofs.RoomLemmas.{IsReady, IsReady-then, Rearranges-done, Rearranges-refused, Rearranges-still, Rearranges-then}
 use Rattle.standby.proofs.standby.Standby.clear_gaps.Given.{Over}
 use Rattle.standby.proofs.standby.Standby.clear_gaps.Goals as goal
@@ -32,6 +35,15 @@ pub clear_gap-requires-clause-durable : goal.clear_gap-requires-clause-durable
 clear_gap-requires-clause-durable g c =
     subst (λ node. IsDurable (g.E.Durable.device node.engine) (g.E.Durable.contents node.engine)) (sym c.fits.ensures.same) c.loop-self.invariant.ready.durable
 
+-- the clearing leaves the frame its counters
+tidied : (g : Over) (c : After-clear_gap g) (result : Result Bool Refusal) → c.clear_gap.result ≡ result
+    → Rearranges g.E.Durable.device g.E.Durable.contents g.E.Durable.is_faulted g.K.Keyspace.table c.args.frame.now c.fits.new.self result c.clear_gap.new.self
+tidied g c result is =
+    subst (λ (result : Result Bool Refusal). Rearranges g.E.Durable.device g.E.Durable.contents g.E.Durable.is_faulted g.K.Keyspace.table c.args.frame.now c.fits.new.self result c.clear_gap.new.self) is
+    (Rearranges-tidied g.E.Durable.device g.E.Durable.contents g.E.Durable.is_faulted g.K.Keyspace.table c.args.frame.now c.fits.new.self c.clear_gap.new.self c.clear_gap.result c.clear_gap.ensures.tidies
+    (c.clear_gap.ensures.counters c.args.frame.now
+    (subst (λ node. ¬ WouldExhaust (g.E.Durable.contents node.engine).current c.args.frame.now) (sym c.fits.ensures.same) c.loop-self.invariant.ready.counters)))
+
 -- there was no room at first
 no_room : (g : Over) (c : After-clear_gap g) → HasRoomFor c.args.self.now.heap c.args.frame.now.changes.items → ⊥
 no_room g c has = elim c.loop-self.invariant.first [
@@ -49,7 +61,7 @@ returns-in_err-clear_gap-clause-rearranges g c =
     (Rearranges-then g.E.Durable.device g.E.Durable.contents g.E.Durable.is_faulted g.K.Keyspace.table c.args.frame.now c.args.self.now c.loop-self.self c.clear_gap.new.self tt (Err c.in_err-clear_gap.field-0.0)
     c.loop-self.invariant.so_far
     (subst (λ node. Rearranges g.E.Durable.device g.E.Durable.contents g.E.Durable.is_faulted g.K.Keyspace.table {X = Bool} c.args.frame.now node (Err c.in_err-clear_gap.field-0.0) c.clear_gap.new.self) c.fits.ensures.same
-    c.in_err-clear_gap.ensures.rearranges))
+    (tidied g (goal.at.returns-in_err-clear_gap-clause-rearranges g c).After-clear_gap (Err c.in_err-clear_gap.field-0.0) c.in_err-clear_gap.was)))
 
 pub returns-in_err-clear_gap-clause-unmoved : goal.returns-in_err-clear_gap-clause-unmoved
 returns-in_err-clear_gap-clause-unmoved g c = λ has. absurd (no_room g (goal.at.returns-in_err-clear_gap-clause-unmoved g c).After-clear_gap has)
@@ -60,7 +72,7 @@ so_far : (g : Over) (c : After-clear_gap g) (done : Bool) → c.clear_gap.result
 so_far g c done is =
     Rearranges-then g.E.Durable.device g.E.Durable.contents g.E.Durable.is_faulted g.K.Keyspace.table c.args.frame.now c.args.self.now c.loop-self.self c.clear_gap.new.self tt (Ok done) c.loop-self.invariant.so_far
     (subst (λ node. Rearranges g.E.Durable.device g.E.Durable.contents g.E.Durable.is_faulted g.K.Keyspace.table {X = Bool} c.args.frame.now node (Ok done) c.clear_gap.new.self) c.fits.ensures.same
-    (subst (λ (result : Result Bool _). Rearranges g.E.Durable.device g.E.Durable.contents g.E.Durable.is_faulted g.K.Keyspace.table {X = Bool} c.args.frame.now c.fits.new.self result c.clear_gap.new.self) is c.clear_gap.ensures.rearranges))
+    (tidied g c (Ok done) is))
 
 pub returns-then-not-branch-2-clause-rearranges : goal.returns-then-not-branch-2-clause-rearranges
 returns-then-not-branch-2-clause-rearranges g c =
