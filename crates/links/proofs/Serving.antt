@@ -1,5 +1,5 @@
 -- What a standby's answer to one frame says of a run.
-use Rattle.std.proofs.Common.{◌≡◌, ◌≢◌, ℕ, ◌<◌, ◌⊎◌, inl, inr, List, [], ◌∷◌, ◌++◌, Result, Ok, Err, IfErr, IsErrOf, OnOk, refl, sym, ap, subst, ◌∙◌, append-nil, append_assoc, Option, Some, None}
+use Rattle.std.proofs.Common.{◌≡◌, ◌≢◌, ℕ, ◌⊎◌, inl, inr, List, [], ◌∷◌, ◌++◌, Result, Ok, Err, IfErr, IsErrOf, OnOk, refl, sym, ap, subst, ◌∙◌, append-nil, append_assoc, Option, Some, None}
 use Rattle.kv_types.specs.declared.refusal.Refusal.{Refusal}
 use Rattle.kv_types.specs.declared.refusal.Refusal.TheVariants.{Fault, Memory}
 use Rattle.frames.specs.declared.frame.Frame.{Frame}
@@ -16,7 +16,7 @@ use Rattle.stream_codec.specs.Scanning.{sent_of_all}
 use Rattle.std.specs.Io.KnownBytes.{Appends, Consumes}
 use Rattle.std.proofs.lemmas.Grind.{flat_map-append}
 use Rattle.stream_codec.specs.Stream.{begun as unfed, took, fed}
-use Rattle.links.specs.Serving.{Held, Acknowledges, Answers, IsFreed, Run, none, more, Says, HasRun, Served, ack_text, acks_text, ends_by}
+use Rattle.links.specs.Serving.{Held, Acknowledges, Answers, IsFreed, IsTidied, Run, none, more, idle, Says, HasRun, Served, ack_text, acks_text, ends_by}
 
 -- what a node says of a frame that it acknowledged
 pub acknowledges : (before : Held) (frame : Frame) (ack : Ack) (after : Held) → ack.epoch ≡ frame.epoch → ack.position ≡ after.contents.current.position
@@ -78,6 +78,10 @@ pub OnOk-into : {T E : Type 0} {P Q : Type 0} (result : Result T E) → (P → Q
 OnOk-into (Ok x) into told = into told
 OnOk-into (Err e) into told = tt
 
+pub OnOk-always : {T E : Type 0} {P : Type 0} (result : Result T E) → P → OnOk result P
+OnOk-always (Ok x) told = told
+OnOk-always (Err e) told = tt
+
 -- what had ended is freed, or there was no memory to free it
 pub frees-by : {T : Type 0} (result : Result T Refusal) (before after : Held) → ¬ IsErrOf result Fault → IfErr result (λ refusal. (refusal ≡ Memory) ⊎ (refusal ≡ Fault))
     → OnOk result (IsFreed before after) → (IsErrOf result Memory → after ≡ before) → IsFreed before after
@@ -103,6 +107,8 @@ Run-join first middle last messages _ acks _ run (more _ between _ others told m
     subst (λ (sent : List Sent). Run first sent (acks ++ (told ++ ack ∷ [])) last) (append_assoc messages others (message ∷ []))
     (subst (λ (all : List Ack). Run first ((messages ++ others) ++ message ∷ []) all last) (append_assoc acks told (ack ∷ []))
     (more first between last (messages ++ others) (acks ++ told) message ack (Run-join first middle between messages others acks told run so_far) answers))
+Run-join first middle last messages others acks told run (idle _ between _ _ _ so_far tidied) =
+    idle first between last (messages ++ others) (acks ++ told) (Run-join first middle between messages others acks told run so_far) tidied
 
 Consumes-join : (bytes between left : Option (List ℕ)) (xs ys : List ℕ) → Consumes bytes between xs → Consumes between left ys → Consumes bytes left (xs ++ ys)
 Consumes-join None between left xs ys one two = tt
@@ -208,3 +214,18 @@ Served-ended first last bytes before between left after unread served consumed =
   run = served.run;
   written = served.written;
 }
+
+-- nothing came, and the node tidied its image
+pub Served-tidied : (first middle last : Held) (bytes before between left after unread : Option (List ℕ)) → Served first bytes before middle between after unread → Consumes between left []
+    → IsTidied middle last → Served first bytes before last left after unread
+Served-tidied first middle last bytes before between left after unread served consumed tidied =
+    let same = Served-ended first middle bytes before between left after unread served consumed in
+    record {
+      text = same.text;
+      messages = same.messages;
+      acks = same.acks;
+      consumed = same.consumed;
+      read = same.read;
+      run = idle first middle last same.messages same.acks same.run tidied;
+      written = same.written;
+    }

@@ -15,7 +15,7 @@ use Rattle.wbl_engine.specs.Contents.{IsDurable}
 use Rattle.frames.specs.declared.frame.Frame.{Frame}
 use Rattle.stream_codec.specs.declared.message.GroupHead.{GroupHead}
 use Rattle.frames.specs.declared.ack.Ack.{Ack}
-use Rattle.standby.specs.Following.{Follows, TakesEpoch, IsHeld, IsNext, IsTakenNext, HasTaken}
+use Rattle.standby.specs.Following.{Follows, TakesEpoch, IsHeld, IsNext, IsRearranged, IsTakenNext, HasTaken}
 use Rattle.stream_codec.specs.Message.{Sent, sent_of_frame, sent_of_ack, sent_text}
 use Rattle.links.specs.declared.link_end.LinkEnd.{LinkEnd}
 use Rattle.links.specs.declared.link_end.LinkEnd.TheVariants.{Refused, Stops}
@@ -47,17 +47,23 @@ pub record IsFreed (before after : Held) : Type 0 where
   pub line_count : after.contents.lines ≡ before.contents.lines
   pub table_is : after.table ≡ before.table
 
+-- While nothing came, what has ended may have been freed and a gap cleared. The same keyspace stands at the same position.
+pub record IsTidied (before after : Held) : Type 0 where
+  pub rearranged : IsRearranged before.contents after.contents
+  pub table_is : after.table ≡ before.table
+
 -- the same of what came on the link, which is a frame
 pub record Answers (before : Held) (message : Sent) (ack : Ack) (after : Held) : Type 0 where
   pub frame : Frame
   pub is_frame : message ≡ sent_of_frame frame
   pub acknowledges : Acknowledges before frame ack after
 
--- The node answered these messages, in order, with these acknowledgements, and nothing else moved it.
+-- The node answered these messages, in order, with these acknowledgements, and nothing else moved it. Between them it may have tidied its image.
 pub data Run : Held → List Sent → List Ack → Held → Type 0 where
   none : (node : Held) → Run node [] [] node
   more : (first middle last : Held) (messages : List Sent) (acks : List Ack) (message : Sent) (ack : Ack)
       → Run first messages acks middle → Answers middle message ack last → Run first (messages ++ message ∷ []) (acks ++ ack ∷ []) last
+  idle : (first middle last : Held) (messages : List Sent) (acks : List Ack) → Run first messages acks middle → IsTidied middle last → Run first messages acks last
 
 -- acknowledgements as bytes
 unfoldable pub ack_text : Ack → List ℕ

@@ -8,7 +8,8 @@ ghost use Rattle.stream_codec.specs.Scanning.{sent_of_all};
 ghost use Rattle.stream_codec.specs.Stream.{fed};
 ghost use Rattle.frames.specs.declared.ack.Ack.{Ack as Told};
 ghost use Rattle.stream_codec.specs.declared.message.Message.TheVariants.{Ack as AckMessage};
-ghost use Rattle.links.specs.Serving.{Stands, held, Acknowledges, Answers, HasRun, IsFreed, Says, Served, ack_text, refusal_of_ack, refusal_of_head};
+ghost use Rattle.links.specs.Reading.{piece_of};
+ghost use Rattle.links.specs.Serving.{Stands, held, Acknowledges, Answers, HasRun, IsFreed, IsTidied, Says, Served, ack_text, refusal_of_ack, refusal_of_head};
 ghost use Rattle.links.specs.declared.link_end.LinkEnd.TheVariants.{Closed, Refused, Stops};
 
 use crate::door::Door;
@@ -23,7 +24,7 @@ use standby::Standby;
 use std::alloc::{AllocError, Global};
 use std::cell::Cell;
 use std::io;
-use std::io::{Read, Write};
+use std::io::{ErrorKind, Read, Write};
 use std::net::{IpAddr, TcpListener, TcpStream};
 use std::time::Clock;
 use stream_codec::{Decoder, GroupHead, Message, write_ack};
@@ -163,31 +164,50 @@ fn answer_until_closed<E: Durable, K: Keyspace, I: Read, O: Write>(
 {
     let mut decoder = Decoder::new(alloc);
     for _ in 0..u64::MAX {
-        let Some(piece) = read_piece(from, block)? else {
-            return Ok(());
+        let piece = match read_piece(from, block)? {
+            Came::Piece(piece) => piece,
+            Came::Nothing => {
+                tidy(alloc, node)?;
+                continue;
+            }
+            Came::End => return Ok(()),
         };
-        if let Err(end) = answer_piece(alloc, node, &mut decoder, piece, out, to) {
-            return Err(end);
-        }
+        answer_piece(alloc, node, &mut decoder, piece, out, to)?;
     }
     Ok(())
 }
 
-/// Reads what has come, or `None` where the other side closed the connection.
-fn read_piece<'a, I: Read>(
-    from: &mut I,
-    block: &'a mut Vec<u8>,
-) -> Result<Option<&'a [u8]>, LinkEnd>
-    ensures { IfOk result (λ found. MatchOption found (Consumes (I.remaining from.old) (I.remaining from.new) [])
-        (λ piece. Consumes (I.remaining from.old) (I.remaining from.new) piece.now)) }
+/// What a read of a link came to.
+enum Came<'a> {
+    /// These bytes.
+    Piece(&'a [u8]),
+    /// Nothing, for as long as a read waits.
+    Nothing,
+    /// The other side closed the connection.
+    End,
+}
+
+/// Reads what has come.
+fn read_piece<'a, I: Read>(from: &mut I, block: &'a mut Vec<u8>) -> Result<Came<'a>, LinkEnd>
+    ensures { IfOk result (λ came. Consumes (I.remaining from.old) (I.remaining from.new) (piece_of came)) }
 {
-    let Ok(count) = from.read(block) else {
-        return Err(LinkEnd::Closed);
-    };
-    if count == 0 {
-        return Ok(None);
+    match from.read(block) {
+        Ok(0) => Ok(Came::End),
+        Ok(count) => Ok(Came::Piece(&block[..count])),
+        Err(error) if error.kind() == ErrorKind::WouldBlock => Ok(Came::Nothing),
+        Err(_) => Err(LinkEnd::Closed),
     }
-    Ok(Some(&block[..count]))
+}
+
+/// Uses a time in which nothing comes: frees what has ended, and clears the oldest gap of the record. What there is no memory for is left. A fence that
+/// fails stops the node.
+fn tidy<E: Durable, K: Keyspace>(alloc: Global, node: &mut Standby<E, K>) -> Result<(), LinkEnd>
+    requires stands { Stands (E.is_faulted node.old.engine) (E.device node.old.engine) (E.contents node.old.engine) (K.table node.old.keyspace) node.old.heap node.old.ended.items }
+    ensures stands { ¬ IsErrOf result (Stops Fault) → Stands (E.is_faulted node.new.engine) (E.device node.new.engine) (E.contents node.new.engine) (K.table node.new.keyspace) node.new.heap node.new.ended.items }
+    ensures tidied { OnOk result (IsTidied (held (E.contents node.old.engine) (K.table node.old.keyspace)) (held (E.contents node.new.engine) (K.table node.new.keyspace))) }
+    ensures cause { IfErr result (λ end. end ≡ Stops Fault) }
+{
+    only_fault(node.tidy(alloc))
 }
 
 /// Writes what was put into `out`, and empties it.
@@ -357,12 +377,12 @@ fn free_ended<E: Durable, K: Keyspace>(
     Ok(())
 }
 
-/// A link stops for a fault alone: what there was no memory to free is left for later.
-fn only_fault(freed: Result<(), Refusal>) -> Result<(), LinkEnd>
-    ensures fault { IsErrOf result (Stops Fault) ↔ IsErrOf freed Fault }
+/// A link stops for a fault alone: what there was no memory for is left for later.
+fn only_fault<T: Drop>(done: Result<T, Refusal>) -> Result<(), LinkEnd>
+    ensures fault { IsErrOf result (Stops Fault) ↔ IsErrOf done Fault }
     ensures cause { IfErr result (λ end. end ≡ Stops Fault) }
 {
-    match freed {
+    match done {
         Err(Refusal::Fault) => Err(LinkEnd::Stops(Refusal::Fault)),
         _ => Ok(()),
     }

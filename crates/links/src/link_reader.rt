@@ -19,8 +19,9 @@ const PATIENCE_SECONDS: u64 = 5;
 /// How many bytes in that time are enough where no frame has ended.
 const LEAST_BYTES: u64 = 65_536;
 
-/// What comes on a link. Reading fails where another connection waits and nothing has come for a second, or no frame was acknowledged and few bytes came for
-/// some: a host that vanished tells nobody that its link is over, and one who says nothing, or next to nothing, keeps no other out.
+/// What comes on a link. A read answers `WouldBlock` where nothing has come for a second. It fails with `TimedOut` where another connection waits and nothing
+/// has come for a second, or no frame was acknowledged and few bytes came for some: a host that vanished tells nobody that its link is over, and one who
+/// says nothing, or next to nothing, keeps no other out.
 #[derive(Drop)]
 pub(crate) struct LinkReader<'a, 'b, C, W> {
     stream: &'a TcpStream,
@@ -107,10 +108,8 @@ impl<C: Clock, W: Write> Read for LinkReader<'_, '_, C, W> {
         for _ in 0..u64::MAX {
             let mut stream = self.stream;
             match stream.read(buf) {
-                Err(error) if error.kind() == ErrorKind::WouldBlock => {
-                    if self.finds_newer() {
-                        return Err(error);
-                    }
+                Err(error) if error.kind() == ErrorKind::WouldBlock && self.finds_newer() => {
+                    return Err(io::Error::from(ErrorKind::TimedOut));
                 }
                 Err(error) if error.kind() == ErrorKind::Interrupted => {}
                 Ok(count) => {

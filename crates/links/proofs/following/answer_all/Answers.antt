@@ -2,7 +2,7 @@ use Rattle.std.proofs.Common.{Err, List, [], ◌∷◌, ◌++◌, sym, ap, ◌�
 use Rattle.std.proofs.lemmas.Result.{err_from_is_err_and}
 use Rattle.std.specs.Vec.Iter.{into_iter_items}
 use Rattle.stream_codec.specs.declared.message.Message.{Message}
-use Rattle.links.proofs.Serving.{begun, one_more-message, not_stopped, says-run, says-then, same_end}
+use Rattle.links.proofs.Serving.{begun, one_more-message, not_stopped, says-then, same_end}
 use Rattle.links.proofs.following.answer_all.Goals as goal
 
 pub loop-message-init : goal.loop-message-init
