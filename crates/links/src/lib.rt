@@ -15,6 +15,7 @@ mod receiver;
 mod remote_mark;
 mod seldom;
 mod sender;
+mod unanswered;
 mod watch;
 
 pub use following::{follow, serve_link};

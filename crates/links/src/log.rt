@@ -14,6 +14,10 @@ const STANDBY_AHEAD: &str =
 const NO_ROOM: &str =
     ": this standby has no room for a frame: see \"A standby without room\" in docs/server.md";
 
+/// What follows where a standby does not take what is sent.
+const NOT_TAKEN: &str =
+    ": its own standard error says by which refusal; where that is \"refusal 5: full\", see \"A standby without room\" in docs/server.md";
+
 /// Tells what a node does. A line is written whole by one call of the writer; one that cannot be written, or for which memory is refused, is let go.
 #[derive(Drop)]
 pub struct Log<W> {
@@ -49,6 +53,12 @@ pub enum News<'a> {
         address: &'a str,
         why: Lost,
     },
+    /// The standby at this address, which is at this position, ended so many links in a row without taking what was sent on them.
+    NotTaken {
+        address: &'a str,
+        position: u64,
+        links: u32,
+    },
     /// A link from a primary has ended that the primary did not close.
     LinkEnded {
         why: LinkEnd,
@@ -78,8 +88,16 @@ pub enum Lost {
     Ended,
     /// A write failed.
     Unwritten,
-    /// The node was asked to stop.
-    Stopping,
+}
+
+impl Lost {
+    /// Whether the connection was ended by the other side, or by what lies between.
+    pub(crate) fn is_by_peer(self) -> bool {
+        match self {
+            Lost::Ended | Lost::Unwritten => true,
+            Lost::Unreachable | Lost::Silent | Lost::Refused(_) => false,
+        }
+    }
 }
 
 impl<W: Write> Log<W> {
@@ -116,6 +134,16 @@ impl<'a> fmt::Display for News<'a> {
             }
             News::LinkLost { address, why } => write!(f, "link to {address} lost: {why}"),
             News::NoLink { address, why } => write!(f, "no link to {address}: {why}"),
+            News::NotTaken {
+                address,
+                position,
+                links,
+            } => {
+                write!(
+                    f,
+                    "{address} at position {position} ended {links} links in a row and took nothing that was sent on them{NOT_TAKEN}"
+                )
+            }
             News::LinkEnded { why } => write!(f, "link ended: {why}"),
             News::Stranger { host } => {
                 write!(
@@ -137,7 +165,6 @@ impl fmt::Display for Lost {
             Lost::Refused(refusal) => write!(f, "{refusal}"),
             Lost::Ended => f.write_str("the connection ended"),
             Lost::Unwritten => f.write_str("a write failed"),
-            Lost::Stopping => f.write_str("this node stops"),
         }
     }
 }

@@ -7,6 +7,7 @@ use crate::log::{Log, Lost, News};
 use crate::opening::read_opening;
 use crate::outgoing::Outgoing;
 use crate::receiver::AckReceiver;
+use crate::unanswered::Unanswered;
 use crate::watch::Watch;
 use kv_types::Refusal;
 use model::Group;
@@ -51,7 +52,7 @@ pub struct LinkSender {
     pub node: Bell,
     /// Set by the receiver once the connection brings nothing more.
     pub is_broken: Arc<Flag>,
-    /// The marks, of which it reads the remote one and whether to stop.
+    /// The marks, of which it reads the remote one.
     pub watch: Watch,
     /// How often it gives way before it sleeps.
     pub spin: u32,
@@ -67,55 +68,48 @@ struct Opened {
     decoder: Decoder,
 }
 
+/// What a sender tells, and what it remembers of links that ended.
+#[derive(Drop)]
+struct Telling<W> {
+    log: Log<W>,
+    unanswered: Unanswered,
+}
+
 impl LinkSender {
-    /// Keeps the link open until somebody asks to stop: opens it, sends on it while it lasts, and opens it again after a pause. It tells when a link is
-    /// open and when it is lost, and of several in a row that do not come up it tells the first. Once the standby was ahead of this node no link is opened
-    /// any more: it tells that, again and again.
+    /// Keeps the link open for good: opens it, sends on it while it lasts, and opens it again after a pause. It tells when a link is
+    /// open and when it is lost, of several in a row that do not come up the first, and of several in a row on which the standby took nothing that they did.
+    /// Once the standby was ahead of this node no link is opened any more: it tells that, again and again.
     pub fn run<
         R: Threads + Wait + Clock + Net<Stream = TcpStream> + Copy + Send + 'static,
         W: Write + Drop,
     >(self, rt: R, alloc: Global, receiver: AckReceiver, log: Log<W>) {
         let mut own = self;
         let mut receiver = receiver;
-        let mut log = log;
+        let mut telling = Telling {
+            log,
+            unanswered: Unanswered::new(),
+        };
         let mut is_up = true;
         let mut pauses = FIRST_PAUSES;
         for _ in rt.forever() {
-            let (next, has_stopped) = own.has_stopped();
-            own = next;
-            if has_stopped {
-                return;
-            }
             let (next, next_receiver, got_on, came_up) = own.serve_link(
-                &rt, alloc, receiver, &mut log, is_up,
+                &rt,
+                alloc,
+                receiver,
+                &mut telling,
+                is_up,
             );
             own = next;
             receiver = next_receiver;
             is_up = came_up;
             if receiver.is_final() {
-                return own.stay_apart(&rt, &mut log);
+                return stay_apart(&rt, &mut telling.log);
             }
             if got_on {
                 pauses = FIRST_PAUSES;
             }
-            own = own.pause(&rt, pauses);
+            pause(&rt, pauses);
             pauses = pauses.saturating_mul(2).min(MOST_PAUSES);
-        }
-    }
-
-    /// Tells until somebody asks to stop that the standby is ahead: at first each second, then ever more seldom.
-    fn stay_apart<R: Wait + Clock, W: Write>(self, rt: &R, log: &mut Log<W>) {
-        let mut own = self;
-        let mut pauses = FIRST_TELLING_PAUSES;
-        for _ in rt.forever() {
-            let (next, has_stopped) = own.has_stopped();
-            own = next;
-            if has_stopped {
-                return;
-            }
-            log.say(News::StandbyAhead);
-            own = own.pause(rt, pauses);
-            pauses = pauses.saturating_mul(2).min(MOST_TELLING_PAUSES);
         }
     }
 
@@ -125,7 +119,7 @@ impl LinkSender {
         rt: &R,
         alloc: Global,
         receiver: AckReceiver,
-        log: &mut Log<W>,
+        telling: &mut Telling<W>,
         was_up: bool,
     ) -> (LinkSender, AckReceiver, bool, bool)
         ensures stays { StaysFinal receiver.mark result.1.mark }
@@ -134,13 +128,13 @@ impl LinkSender {
         let (receiver, opened) = own.open(rt, alloc, receiver);
         match opened {
             Ok(opened) => {
-                let (own, receiver, got_on) = own.keep_up(rt, alloc, receiver, opened, log);
+                let (own, receiver, got_on) = own.keep_up(rt, alloc, receiver, opened, telling);
                 (own, receiver, got_on, true)
             }
             Err(why) => {
                 if was_up {
                     let address = own.address.as_str();
-                    log.say(News::NoLink { address, why });
+                    telling.log.say(News::NoLink { address, why });
                 }
                 (own, receiver, false, false)
             }
@@ -154,7 +148,7 @@ impl LinkSender {
         alloc: Global,
         receiver: AckReceiver,
         opened: Opened,
-        log: &mut Log<W>,
+        telling: &mut Telling<W>,
     ) -> (LinkSender, AckReceiver, bool) {
         let own = self;
         let known = own.outgoing.known();
@@ -164,26 +158,29 @@ impl LinkSender {
             theirs,
             decoder,
         } = opened;
-        log.say(News::LinkOpen {
+        telling.log.say(News::LinkOpen {
             address: own.address.as_str(),
             position,
         });
         own.is_broken.take();
         match thread::spawn(rt, move || receiver.run(alloc, theirs, decoder)) {
             Ok(child) => {
-                let (own, why) = own.send_all(rt, alloc, &mut &*stream);
+                let (own, has_sent, why) = own.send_all(rt, alloc, &mut &*stream);
                 let _ = stream.shutdown(Shutdown::Both);
-                log.say(News::LinkLost {
-                    address: own.address.as_str(),
-                    why,
-                });
-                let got_on = own.outgoing.known() > known;
+                let address = own.address.as_str();
+                let reached = own.outgoing.known();
+                let got_on = reached > known;
+                telling.log.say(News::LinkLost { address, why });
+                let is_refused = has_sent && !got_on && why.is_by_peer();
+                telling
+                    .unanswered
+                    .note(rt, &mut telling.log, address, reached, is_refused);
                 (own, child.join(rt), got_on)
             }
             Err(error) => {
                 // where the connection has ended, the receiver comes back at once
                 let _ = stream.shutdown(Shutdown::Both);
-                log.say(News::LinkLost {
+                telling.log.say(News::LinkLost {
                     address: own.address.as_str(),
                     why: Lost::Refused(Refusal::Memory),
                 });
@@ -221,45 +218,42 @@ impl LinkSender {
         }
     }
 
-    /// Sends what is due until the link breaks or somebody asks to stop. Answers why it ended.
+    /// Sends what is due until the link breaks. Answers whether it sent something, and why it ended.
     fn send_all<R: Wait + Clock, O: Write>(
         self,
         rt: &R,
         alloc: Global,
         to: &mut O,
-    ) -> (LinkSender, Lost) {
+    ) -> (LinkSender, bool, Lost) {
         let mut own = self;
         let mut idle = Idle::new(own.spin);
+        let mut has_sent = false;
         let mut out = Vec::new(alloc);
         if let Err(refusal) = own.outgoing.put_delta(&mut out) {
-            return (own, Lost::Refused(refusal));
+            return (own, has_sent, Lost::Refused(refusal));
         }
         for _ in rt.forever() {
-            let (next, has_stopped) = own.has_stopped();
-            own = next;
-            if has_stopped {
-                return (own, Lost::Stopping);
-            }
             if own.is_broken.is_set() {
-                return (own, Lost::Ended);
+                return (own, has_sent, Lost::Ended);
             }
             own = own.note_acknowledged(alloc);
             if let Err(refusal) = own.outgoing.put_frames(alloc, &mut own.groups, &mut out) {
-                return (own, Lost::Refused(refusal));
+                return (own, has_sent, Lost::Refused(refusal));
             }
             if out.is_empty() {
                 idle.wait(rt, &own.sleeper);
             } else {
                 // the groups were taken, so there is room for more, whatever becomes of the frames
                 own.node.ring();
+                has_sent = true;
                 if to.write_all(&out).is_err() {
-                    return (own, Lost::Unwritten);
+                    return (own, has_sent, Lost::Unwritten);
                 }
                 out.clear();
                 idle.busy();
             }
         }
-        (own, Lost::Stopping)
+        (own, has_sent, Lost::Ended)
     }
 
     /// Lets the frames go that the standby has acknowledged.
@@ -287,45 +281,22 @@ impl LinkSender {
             spin,
         }
     }
+}
 
-    /// Whether somebody has asked to stop.
-    fn has_stopped(self) -> (LinkSender, bool) {
-        let LinkSender {
-            address,
-            outgoing,
-            groups,
-            sleeper,
-            node,
-            is_broken,
-            watch,
-            spin,
-        } = self;
-        let (watch, has_stopped) = watch.has_stopped();
-        let own = LinkSender {
-            address,
-            outgoing,
-            groups,
-            sleeper,
-            node,
-            is_broken,
-            watch,
-            spin,
-        };
-        (own, has_stopped)
+/// Tells for good that the standby is ahead: at first each second, then ever more seldom.
+fn stay_apart<R: Wait + Clock, W: Write>(rt: &R, log: &mut Log<W>) {
+    let mut pauses = FIRST_TELLING_PAUSES;
+    for _ in rt.forever() {
+        log.say(News::StandbyAhead);
+        pause(rt, pauses);
+        pauses = pauses.saturating_mul(2).min(MOST_TELLING_PAUSES);
     }
+}
 
-    /// Lets so many pauses pass, or fewer where somebody asks to stop.
-    fn pause<R: Clock>(self, rt: &R, pauses: u32) -> LinkSender {
-        let mut own = self;
-        for _ in 0..pauses {
-            let (next, has_stopped) = own.has_stopped();
-            own = next;
-            if has_stopped {
-                return own;
-            }
-            thread::sleep(rt, Duration::from_millis(PAUSE_MILLISECONDS));
-        }
-        own
+/// Lets so many pauses pass.
+fn pause<R: Clock>(rt: &R, pauses: u32) {
+    for _ in 0..pauses {
+        thread::sleep(rt, Duration::from_millis(PAUSE_MILLISECONDS));
     }
 }
 

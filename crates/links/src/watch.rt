@@ -31,11 +31,4 @@ impl Watch {
         let (seat, remote) = marks.read_remote(seat);
         (Watch { marks, seat }, remote)
     }
-
-    /// Whether somebody has asked to stop.
-    pub fn has_stopped(self) -> (Watch, bool) {
-        let Watch { marks, seat } = self;
-        let (seat, has_stopped) = marks.stopped(seat);
-        (Watch { marks, seat }, has_stopped)
-    }
 }
