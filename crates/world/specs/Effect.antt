@@ -15,7 +15,7 @@ use Rattle.redis_core.specs.Sequencing.{Sequencing, TakesBack}
 use Rattle.primary.specs.Closing.{ClosesOne}
 use Rattle.primary.specs.Resuming.{IsOver}
 use Rattle.frames.specs.declared.frame.Frame.{Frame}
-use Rattle.standby.specs.Following.{IsTakenNext}
+use Rattle.standby.specs.Following.{IsTakenNext, NoGapIsLeft}
 use Rattle.standby.specs.Restarting.{IsReopened}
 use Rattle.machine.specs.declared.event.Event.{Event}
 use Rattle.machine.specs.declared.event.Event.TheVariants.{AcceptFreed, Apply, ClearGap, CloseGroup, Crash, Free, Reopen}
@@ -61,10 +61,11 @@ pub record TakesOldest (old : Sequencing) (notices : List Freed) (new : Sequenci
 
 -- ---- a frame
 
--- a standby has no room for the puts of the frame, and nothing that has ended is left to free
+-- a standby has no room for the puts of the frame, nothing that has ended is left to free, and no gap to clear
 pub record IsFullFor (frame : Frame) (node : Node) : Type 0 where
   pub room : ¬ HasRoomFor node.room frame.changes.items
   pub freed : node.ended ≡ []
+  pub gaps : NoGapIsLeft node.contents.current node.room frame
 
 -- the standby took the first frame that came: one that comes next it acknowledges, unless it has no room for it
 abbrev pub AnswersFirst : List Frame → List (Vec ℕ Global) → List (Vec ℕ Global) → Node → Node → Type 0
