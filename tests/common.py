@@ -39,7 +39,8 @@ SECONDS = 300
 # What a node tells while it runs (docs/server.md, "What a node tells").
 NEWS = re.compile(
     rb"(?:opened at position \d+, epoch \d+, with \d+ keys|listening on \S+|link open to \S+ at position \d+"
-    rb"|(?:link to \S+ lost|no link to \S+|link ended|standby ahead|closed a connection from \S+|stopped): [^\n]+)\n"
+    rb"|(?:link to \S+ lost|no link to \S+|link ended|standby ahead|closed a connection from \S+|stopped): [^\n]+"
+    rb"|\S+ at position \d+ ended \d+ links in a row [^\n]+)\n"
 )
 
 

@@ -89,6 +89,97 @@ class Gaps(RoomCases):
         self.assert_both_hold(nodes, dict.fromkeys(keys, b"new"))
 
 
+class Named(RoomCases):
+    """A frame for which no room can be made: it is named on both nodes."""
+
+    def test_a_standby_that_is_too_small(self):
+        nodes = self.pair(lines=2 * LINES, standby_lines=LINES)
+        with nodes.client() as client:
+            # (three of them have room on the standby)
+            self.assertEqual([client.ask("SET", f"k{number}", LONGEST) for number in range(3)], 3 * [OK])
+            client.send(spell("SET", "k3", LONGEST))
+            for node, words in ((nodes.standby, b"link ended: refusal 5: full: "), (nodes.primary, b" links in a row and took nothing that was sent on them: ")):
+                wait_until(lambda node=node, words=words: words in node.errors.read_bytes(), f"a {node.role} that names it")
+                with self.case("what there is to do", role=node.role):
+                    self.assertIn(b'see "A standby without room" in docs/server.md', node.errors.read_bytes())
+            self.assertTrue(client.is_silent())
+
+    def test_a_standby_that_is_only_away(self):
+        """Links that the standby ends, with nothing sent on them, and one that comes back, are not taken for that."""
+        nodes = self.pair(lines=LINES)
+        with nodes.client() as client:
+            for number in range(5):
+                self.assertEqual(client.ask("SET", "a", str(number)), OK)
+                nodes.restart(nodes.standby)
+            self.assertEqual(client.ask("SET", "a", "5"), OK)
+        self.assertNotIn(b"links in a row", nodes.primary.errors.read_bytes())
+
+
+@common.unittest.skipUnless(held_syncs.HAS_COMPILER, "there is no gcc")
+class Idle(StandingBy):
+    """A standby to which nothing comes clears its gaps, the oldest first."""
+
+    def gaps_of(self, path):
+        """The gaps of the image's record; `None` where it was read while a node wrote it."""
+        with contextlib.suppress(plain_image.BadImage):
+            return plain_image.read_image(self.words(path)).record.gaps
+        return None
+
+    def silent(self, node, path, *wanted):
+        """A link on which nothing is sent, until these are the gaps one after another, or the node has ended."""
+        with contextlib.suppress(ConnectionError), node.link() as link:
+            link.recv(ACK_BYTES)
+            for gaps in wanted:
+                wait_until(lambda gaps=gaps: node.child.poll() is not None or self.gaps_of(path) == gaps, "a gap that is cleared")
+
+    def test_all_gaps_are_cleared_and_the_map_stays(self):
+        """One gap of a commit that was cut short, and those of three openings."""
+        puts = [Put((b"%d" % number,), b"v") for number in range(500)]
+        writer = Writer(LINES, STANDBY)
+        self.assertTrue(take(writer, Group(1, 0, 1, tuple(puts[:300]))))
+        with self.folder() as folder:
+            path = self.made(folder, cut_short(writer, puts[300:400]))
+            for _ in range(2):
+                with Node(path):
+                    pass
+            live = live_versions(self.words(path))
+            first = plain_image.read_image(self.words(path)).record
+            with Node(path) as node:
+                opened = self.gaps_of(path)
+                self.assertEqual(opened[:len(first.gaps)], first.gaps)
+                self.silent(node, path, *(opened[count:] for count in range(1, len(opened) + 1)))
+                # (and it takes what comes then)
+                frame = Group(1, 1, 2, tuple(puts[400:500]))
+                self.assertEqual(node.exchange(text(frame)), text(Acknowledgement(1, 1)) + text(Acknowledgement(1, 2)))
+            words = self.words(path)
+            self.assertEqual(plain_image.read_image(words).record.position, 2)
+            self.assertEqual([version for version in live_versions(words) if version in live], live)
+
+    def test_each_sync_of_it_fails(self):
+        """The node ends then; whatever is left of the words that were not durable, the image holds the same map."""
+        puts = [Put((b"%d" % number,), b"v") for number in range(200)]
+        writer = Writer(LINES, STANDBY)
+        self.assertTrue(take(writer, Group(1, 0, 1, tuple(puts[:100]))))
+        words = cut_short(writer, puts[100:])
+        with self.folder() as folder:
+            library = noted_calls.library(folder)
+            # (three are those of opening the image, the first that of the whole file; three are those of a gap)
+            for number in range(4, 7):
+                path = self.made(folder, words)
+                live = live_versions(self.words(path))
+                noting = Noting(library, path, fails=number)
+                with Node(path, env=os.environ | noting.settings) as node:
+                    self.silent(node, path, "none such")
+                    self.assertEqual(node.ended(), (FAILED, b"", refusal(1)))
+                left, durable, drawn = path.read_bytes(), noting.synced.read_bytes(), random.Random(number)
+                for data in (left, durable, mixed(left, durable, drawn), mixed(left, durable, drawn)):
+                    path.write_bytes(data)
+                    self.assertEqual(live_versions(self.words(path)), live)
+                    with Node(path) as node:
+                        self.silent(node, path, ())
+                    self.assertEqual(live_versions(self.words(path)), live)
+
+
 def live_versions(words):
     """The versions of a whole image that have not ended, wherever they are."""
     return sorted(version for version in plain_image.versions_on(words) if not version.has_ended)
