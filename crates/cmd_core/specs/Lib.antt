@@ -7,3 +7,4 @@ pub mod Integer
 pub mod Counter
 pub mod Record
 pub mod Naming
+pub mod Puts

@@ -10,6 +10,7 @@ mod naming;
 mod ordered;
 mod outcome;
 mod plain_lookup;
+mod puts;
 mod reading;
 mod record;
 mod shape;
@@ -25,6 +26,7 @@ pub use ordered::{
     start_of_field, start_of_fields, start_of_key, string_in_order,
 };
 pub use outcome::{Answer, Outcome, Status};
+pub use puts::{MAX_INTEGER_BYTES, PutBound, Puts};
 pub use reading::{check_hash, string_at};
 pub use record::{
     KeptRecord, count_fields_in, count_keys_in, field_in, fields_in, has_in, string_in,
