@@ -1,1 +1,3 @@
 mod WorkedCases
+pub mod PutsLemmas
+pub mod NoPutsLemmas
