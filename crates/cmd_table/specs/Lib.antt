@@ -3,3 +3,4 @@ pub mod Misuse
 pub mod Command
 pub mod Meaning
 pub mod Request
+pub mod Puts

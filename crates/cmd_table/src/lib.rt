@@ -5,6 +5,7 @@ mod command;
 mod dispatch;
 mod laws;
 mod misuse;
+mod puts;
 mod request;
 mod row;
 
@@ -12,5 +13,6 @@ pub use command::{Command, read_command, read_request};
 pub use dispatch::run;
 pub use laws::every_command_is_found;
 pub use misuse::Misuse;
+pub use puts::{most_puts, puts_of};
 pub use request::{closes, outcome_of_words};
 pub use row::{Row, is_served, row_of};
