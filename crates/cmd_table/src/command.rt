@@ -1,7 +1,8 @@
 //! From a request to a command, or to why it is none: tested once, over the table.
 ghost use Rattle.std.specs.Prelude.{◌≡◌, ◌≤◌, IsTrue, length, drop, IfOk};
 ghost use Rattle.std.specs.List.{AllByRecursion};
-ghost use Rattle.kv_types.specs.declared.limits.TheConstants.{MAX_VALUE_BYTES};
+ghost use Rattle.kv_types.specs.declared.limits.TheConstants.{MAX_VALUE_BYTES, REQUEST_LIMITS};
+ghost use Rattle.kv_types.specs.Word.{IsWithin};
 ghost use Rattle.cmd_core.specs.Shape.{Fits};
 ghost use Rattle.cmd_table.specs.Command as spec;
 ghost use Rattle.cmd_table.specs.Row.{row, is_served};
@@ -45,9 +46,10 @@ pub fn read_request(request: &Request) -> Result<Command<'_>, Misuse>
 }
 
 /// The words after the name.
-fn arguments_of(request: &Request) -> &[Bytes]
+pub(crate) fn arguments_of(request: &Request) -> &[Bytes]
     ensures words { result.now ≡ drop 1 request.now }
     ensures short { AllByRecursion (λ word. length word ≤ MAX_VALUE_BYTES) result.now }
+    ensures within { IsWithin REQUEST_LIMITS result.now }
 {
     &request.words()[1..]
 }

@@ -1,13 +1,11 @@
 //! How much a request may put: a column of the table, and what it says of a request's words.
-ghost use Rattle.std.specs.Prelude.{◌≡◌, drop};
+ghost use Rattle.std.specs.Prelude.{◌≡◌};
 ghost use Rattle.kv_types.specs.Keyspace.{Keyspace};
-ghost use Rattle.kv_types.specs.Word.{IsWithin};
-ghost use Rattle.kv_types.specs.declared.limits.TheConstants.{REQUEST_LIMITS};
 ghost use Rattle.cmd_core.specs.Puts.{PutsWithin};
 ghost use Rattle.cmd_table.specs.Puts as spec;
 ghost use Rattle.cmd_table.specs.Request.{outcome_of_words};
 
-use bytes::Bytes;
+use crate::command::arguments_of;
 use cmd_core::{PutBound, Puts};
 use kv_types::{CommandName, Request};
 
@@ -74,12 +72,4 @@ fn puts_if_named(name: Option<CommandName>) -> Puts
         Some(name) => puts_of(name),
         None => Puts::Nothing,
     }
-}
-
-/// The words after the name.
-fn arguments_of(request: &Request) -> &[Bytes]
-    ensures words { result.now ≡ drop 1 request.now }
-    ensures within { IsWithin REQUEST_LIMITS result.now }
-{
-    &request.words()[1..]
 }
