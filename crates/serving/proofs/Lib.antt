@@ -1,1 +1,2 @@
 mod HereOrLent
+mod NeedLemmas

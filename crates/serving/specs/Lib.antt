@@ -1,1 +1,2 @@
 pub mod Errand
+pub mod Need

@@ -1,11 +1,13 @@
 //! How much room a request may need.
-use kv_types::{CommandName, Item, MAX_VALUE_BYTES, Request};
+ghost use Rattle.std.specs.Prelude.{◌≡◌};
+ghost use Rattle.kv_types.specs.Keyspace.{Keyspace};
+ghost use Rattle.cmd_table.specs.Request.{outcome_of_words};
+ghost use Rattle.model.specs.Image.{lines_of_bytes};
+ghost use Rattle.serving.specs.Need as spec;
 
-/// How many bytes a value may have that a command makes of a number, and what else is not in the words.
-const MADE_BYTES: usize = 32;
-
-/// How many bytes of a version one line of an extent has.
-const LINE_BYTES: usize = 64;
+use cmd_table::most_puts;
+use kv_types::{CommandName, Item, Request};
+use model::LINE_BYTES;
 
 /// Room for so many versions, each in an extent of at most so many lines.
 #[derive(Clone, Copy)]
@@ -81,70 +83,41 @@ impl Queued {
 }
 
 /// What an item asks of the room.
-pub(crate) fn asked_by(item: &Item) -> Asked {
+pub(crate) fn asked_by(item: &Item) -> Asked
+    ensures { result ≡ spec.asked_by item.now }
+{
     match item {
         Item::Request(request) => asked_by_request(request),
         Item::Fault(_) => Asked::AtMost(Need::NONE),
     }
 }
 
-fn asked_by_request(request: &Request) -> Asked {
+fn asked_by_request(request: &Request) -> Asked
+    ensures { result ≡ spec.asked_by_words request.now }
+{
     match request.name() {
         Some(CommandName::Multi) => Asked::Begins,
         Some(CommandName::Exec) => Asked::Runs,
         Some(CommandName::Discard) => Asked::Drops,
-        Some(name) => Asked::AtMost(need_of(name, request)),
-        None => Asked::AtMost(Need::NONE),
+        _ => Asked::AtMost(need_of(request)),
     }
 }
 
-/// The most that a command puts for these words.
-fn need_of(name: CommandName, request: &Request) -> Need {
-    match name {
-        CommandName::MSet | CommandName::MSetNx | CommandName::HSet => {
-            room_for(pairs_of(request), longest_version(request))
-        }
-        CommandName::Set
-        | CommandName::SetNx
-        | CommandName::Incr
-        | CommandName::Decr
-        | CommandName::IncrBy
-        | CommandName::DecrBy
-        | CommandName::HSetNx
-        | CommandName::HIncrBy => room_for(1, longest_version(request)),
-        // what is there already counts too
-        CommandName::Append => room_for(
-            1,
-            longest_version(request).saturating_add(MAX_VALUE_BYTES),
-        ),
-        _ => Need::NONE,
-    }
-}
-
-/// How many pairs of words there may be behind a command's name.
-fn pairs_of(request: &Request) -> u64 {
-    (request.words().len() / 2) as u64
-}
-
-fn room_for(count: u64, bytes: usize) -> Need {
+/// The room for all that the request puts, where it runs at once.
+fn need_of(request: &Request) -> Need
+    ensures value { result ≡ spec.need_of request.now }
+    ensures enough { (s : Keyspace) → spec.IsEnough result (outcome_of_words s request.now).changes }
+{
+    let most = most_puts(request);
     Need {
-        count,
-        lines: (bytes / LINE_BYTES) as u64 + 1,
+        count: most.count as u64,
+        lines: lines_for(most.bytes as u64),
     }
 }
 
-/// How many bytes of names and value the longest version that the words ask for may have: the first word after the command's name is in each, and
-/// beside it at most two that stand in a row.
-fn longest_version(request: &Request) -> usize {
-    let mut first = 0;
-    let mut last = 0;
-    let mut longest = 0;
-    for (place, word) in request.words().iter().enumerate() {
-        if place == 1 {
-            first = word.len();
-        }
-        longest = word.len().saturating_add(last).max(longest);
-        last = word.len();
-    }
-    first.saturating_add(longest).saturating_add(MADE_BYTES)
+/// How many lines so many bytes take: at least one.
+fn lines_for(bytes: u64) -> u64
+    ensures { result ≡ lines_of_bytes bytes }
+{
+    bytes.div_ceil(LINE_BYTES).max(1)
 }

@@ -1,0 +1,38 @@
+-- How much room a request may need, and that it is enough.
+use Rattle.std.specs.Prelude.{ℕ, ◌≤◌, List, length, Option, Some}
+use Rattle.std.specs.List.{AllByRecursion}
+use Rattle.kv_types.specs.declared.change.Change.{Change}
+use Rattle.kv_types.specs.declared.command_name.CommandName.{CommandName}
+use Rattle.kv_types.specs.declared.command_name.CommandName.TheVariants as name
+use Rattle.kv_types.specs.declared.item.Item.{Item}
+use Rattle.kv_types.specs.declared.item.Item.TheVariants.{Request, Fault}
+use Rattle.kv_types.specs.CommandName.{named_by}
+use Rattle.cmd_core.specs.Puts.{put_sizes}
+use Rattle.cmd_table.specs.Puts.{most_puts}
+use Rattle.model.specs.Image.{lines_of_bytes}
+use Rattle.serving.specs.declared.needs.Asked.{Asked}
+use Rattle.serving.specs.declared.needs.Asked.TheVariants.{AtMost, Begins, Runs, Drops}
+use Rattle.serving.specs.declared.needs.Need.{Need}
+
+-- the most that the request puts, with an extent for each version
+abbrev pub need_of : List (List ℕ) → Need
+need_of words = record { count = (most_puts words).count; lines = lines_of_bytes (most_puts words).bytes }
+
+abbrev pub asked_by_named : Need → Option CommandName → Asked
+asked_by_named need (Some name.Multi) = Begins
+asked_by_named need (Some name.Exec) = Runs
+asked_by_named need (Some name.Discard) = Drops
+asked_by_named need _ = AtMost need
+
+abbrev pub asked_by_words : List (List ℕ) → Asked
+asked_by_words words = asked_by_named (need_of words) (named_by words)
+
+-- a fault puts nothing
+abbrev pub asked_by : Item → Asked
+asked_by (Request words) = asked_by_words words
+asked_by (Fault fault) = AtMost (record { count = 0; lines = 1 })
+
+-- The changes put no more versions, and none takes an extent of more lines.
+pub record IsEnough (need : Need) (changes : List Change) : Type 0 where
+  pub few : length (put_sizes changes) ≤ need.count
+  pub short : AllByRecursion (λ bytes. lines_of_bytes bytes ≤ need.lines) (put_sizes changes)
