@@ -30,8 +30,6 @@ pub struct Connection {
     pub reader: RequestReader,
     /// What its writer runs.
     pub writer: ReplyWriter,
-    /// Its socket. Whoever shuts it down ends a read or a write that waits.
-    pub stream: Arc<TcpStream>,
 }
 
 /// The parts of a connection beside its seat.
@@ -41,7 +39,6 @@ struct Parts {
     tells: Tells,
     reader: RequestReader,
     writer: ReplyWriter,
-    stream: Arc<TcpStream>,
 }
 
 /// Makes all that the threads of a connection need. `spin` is how often its writer gives way to other threads before it sleeps.
@@ -84,7 +81,6 @@ pub fn new_connection(
             },
             reader: parts.reader,
             writer: parts.writer,
-            stream: parts.stream,
         }),
         Err(_) => Err(seat),
     }
@@ -120,7 +116,7 @@ fn make_parts(
         post: post(reader_sleeper, &line, ready, cards, number)?,
     };
     let writer = ReplyWriter {
-        stream: Arc::try_clone(&stream)?,
+        stream,
         replies: replies.inlet,
         outbox: Outbox::new(alloc),
         sight: Sight::new(Arc::try_clone(marks)?, mark),
@@ -139,7 +135,6 @@ fn make_parts(
         },
         reader,
         writer,
-        stream,
     })
 }
 
