@@ -1,3 +1,4 @@
+pub mod BelowLemmas
 pub mod BitsLemmas
 pub mod Counting
 pub mod EntriesLemmas

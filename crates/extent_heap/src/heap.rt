@@ -1,6 +1,7 @@
 //! The free lines and entries of an image.
 ghost use Rattle.std.specs.Prelude.{◌≡◌, ℕ, ◌+◌, ◌^◌, ◌<◌, ◌≤◌, ◌↔◌, ◌⊎◌, false, IsTrue, IfOk, IfErr, OnOk, OnErr, IsErrOf, length, vec_len};
 ghost use Rattle.std.specs.Vec.{vec_capacity};
+ghost use Rattle.extent_heap.specs.Below.{has_room_below};
 ghost use Rattle.extent_heap.specs.Runs.{longest, some_run};
 ghost use Rattle.extent_heap.specs.Room.{Room, fresh_room, has_room, is_free_line, is_free_entry, IsFreeRun, free_lines_below, ClaimsExtent, TakesExtent, GivesExtent, IsOut, ClaimsEntry, TakesEntry, GivesEntry, IsOutEntry};
 
@@ -156,6 +157,23 @@ impl ExtentHeap {
         ensures { result ≡ has_room count lines self.now }
     {
         count <= self.entries.count() && self.lines.lacking(lines, count) == 0
+    }
+
+    /// Whether so many entries are free, and so many extents of this many lines can be cut from the free runs below `end`: of a run that goes on beyond it
+    /// the lines below count.
+    pub fn has_room_below(&self, count: u64, lines: u64, end: u64) -> bool
+        requires { 0 < lines }
+        ensures { result ≡ has_room_below count lines end self.now }
+    {
+        count <= self.entries.count() && self.lines.lacking_below(lines, end, count) == 0
+    }
+
+    /// Whether all lines of the extent are free.
+    pub fn is_free(&self, extent: Extent) -> bool
+        requires { 0 < extent.lines }
+        ensures { IsTrue result ↔ IsFreeRun self.now extent.first_line extent.lines }
+    {
+        self.lines.holds(extent)
     }
 
     /// Hands out the lowest free entry. `Refusal::Full` if none is free, and then nothing changed.

@@ -4,6 +4,7 @@
 //! the line where its run begins, so that it takes no memory, and the ranks are spread as if by chance. So the tree is some 2 log2(runs) deep. Nothing
 //! but the time that a call takes rests on the ranks.
 ghost use Rattle.std.specs.Prelude.{◌≡◌, ◌-◌, ◌<◌, [], ◌∷◌, ◌++◌, MatchOption};
+ghost use Rattle.extent_heap.specs.Below.{lines_below, pieces_below};
 ghost use Rattle.extent_heap.specs.Runs.{longest, pieces, IsFirstFit, TellsPart};
 ghost use Rattle.extent_heap.specs.Split.{IsSplit};
 
@@ -251,6 +252,35 @@ impl Tree {
             }
         }
     }
+
+    /// How many of so many extents of this many lines cannot be cut from the runs below `end`. It looks no further once there are enough.
+    #[tactic(auto, using(crate::proofs::BelowLemmas::none_short_below))]
+    pub(crate) fn lacking_below(&self, lines: u64, end: u64, wanted: u64) -> u64
+        requires { 0 < lines }
+        ensures { result ≡ wanted - pieces_below lines end self.now }
+    {
+        if wanted == 0 {
+            return 0;
+        }
+        if self.longest() < lines {
+            return wanted;
+        }
+        match &self.root {
+            None => wanted,
+            Some(fork) => {
+                let before = fork.left.lacking_below(lines, end, wanted);
+                let here = before.saturating_sub(lines_below(fork.run, end) / lines);
+                fork.right.lacking_below(lines, end, here)
+            }
+        }
+    }
+}
+
+/// How many lines of the run lie below `end`.
+fn lines_below(run: Extent, end: u64) -> u64
+    ensures { result ≡ lines_below end run }
+{
+    run.lines.min(end.saturating_sub(run.first_line))
 }
 
 /// The rank of the fork of a run that begins at this line: a number that looks random (Steele, Lea and Flood, "Fast splittable pseudorandom number
