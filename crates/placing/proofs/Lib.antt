@@ -12,3 +12,4 @@ pub mod BackLemmas
 pub mod RebuiltLemmas
 pub mod ReadLemmas
 pub mod FreedPlaces
+pub mod BelowLemmas

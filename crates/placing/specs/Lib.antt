@@ -6,3 +6,4 @@ pub mod Out
 pub mod Rebuilt
 pub mod Back
 pub mod Fitting
+pub mod Below

@@ -1,5 +1,5 @@
 //! Whether changes find room, before any is made.
-ghost use Rattle.std.specs.Prelude.{◌≡◌, ◌↔◌, ◌++◌, ◌+◌, IsTrue, length, max, IfOk, IfErr};
+ghost use Rattle.std.specs.Prelude.{◌≡◌, ◌↔◌, ◌++◌, ◌+◌, ◌<◌, IsTrue, length, max, IfOk, IfErr};
 ghost use Rattle.extent_heap.specs.Room.{has_room};
 ghost use Rattle.placing.specs.Fitting.{fits_surely, lines_wanted, most};
 ghost use Rattle.placing.specs.Place.{HasRoomFor};
@@ -40,6 +40,25 @@ pub fn has_room_for(
 pub fn fits_surely(heap: &ExtentHeap, changes: &[Change]) -> bool
     ensures { result ≡ fits_surely heap.now changes.now }
 {
+    let wanted = wanted_by(changes);
+    heap.has_room(wanted.count, wanted.longest)
+}
+
+/// What the puts among some changes want.
+#[derive(Drop)]
+pub(crate) struct Wanted {
+    /// How many they are.
+    pub(crate) count: u64,
+    /// How many lines the longest wants, and at least one.
+    pub(crate) longest: u64,
+}
+
+/// What the puts among these changes want.
+pub(crate) fn wanted_by(changes: &[Change]) -> Wanted
+    ensures count { result.count ≡ length (lines_wanted changes.now) }
+    ensures longest { result.longest ≡ most 1 (lines_wanted changes.now) }
+    ensures some { 0 < result.longest }
+{
     let mut count: u64 = 0;
     let mut longest: u64 = 1;
     for change in changes {
@@ -48,5 +67,5 @@ pub fn fits_surely(heap: &ExtentHeap, changes: &[Change]) -> bool
             longest = longest.max(lines_for(id, value));
         }
     }
-    heap.has_room(count, longest)
+    Wanted { count, longest }
 }

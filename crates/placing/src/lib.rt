@@ -2,6 +2,7 @@
 //! versions of an image.
 #![tactic(auto)]
 
+mod below;
 mod fitting;
 mod giving;
 mod laws;
@@ -9,6 +10,7 @@ mod performing;
 mod places;
 mod rebuilding;
 
+pub use below::{fits_surely_below, has_room_below_for};
 pub use fitting::{fits_surely, has_room_for};
 pub use giving::give_all;
 pub use laws::images_are_read_by_entries;

@@ -1,6 +1,6 @@
 use Rattle.std.proofs.Common.{◌≡◌, ◌+◌, ◌<◌, ◌≤◌, drop, length}
 use Rattle.placing.specs.Fitting.{lines_wanted, most}
-use Rattle.placing.proofs.fitting.fits_surely.Given as goal
+use Rattle.placing.proofs.fitting.wanted_by.Given as goal
 
 abbrev pub invariant-loop-change : goal.invariant-loop-change
 invariant-loop-change l = record {
