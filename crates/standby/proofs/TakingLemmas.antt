@@ -20,6 +20,7 @@ use Rattle.frames.specs.declared.ack.Ack.{Ack}
 use Rattle.frames.specs.declared.frame.Frame.{Frame}
 use Rattle.standby.specs.declared.standby.Standby.{Standby}
 use Rattle.standby.specs.Following.{AreGone, EndsAs, Follows, HasFreed, HasRoomOnceFreed, HasTaken, HoldsRearranged, HoldsWhole, IsBeforeOrWhole, IsRearranged, IsTakenNext, IsUnmovedOrWhole, IsWhole, NoGapIsLeft, WouldExhaust}
+use Rattle.standby.specs.Spare.{HasRoomAtOnce}
 use Rattle.standby.specs.Taking.{Rearranges, Stands, TakesFrame}
 use Rattle.standby.proofs.EndedLemmas.{KeepsWithoutSome-none, Same-is}
 use Rattle.standby.proofs.FreedLemmas.{IsWhole-without, moments-committed}
@@ -59,7 +60,7 @@ module _ {E K D : Type 0} (device : E → State) (contents : E → Contents) (is
   -- what making room for a frame comes to
   pub record MakesRoom (frame : Frame) (old : Standby E K D) (result : Result (Unit {0}) Refusal) (new : Standby E K D) : Type 0 where
     pub rearranges : Rearranges device contents is_faulted table frame old result new
-    pub unmoved : HasRoomFor old.heap frame.changes.items → new ≡ old
+    pub unmoved : HasRoomAtOnce (contents old.engine).lines old.heap frame → new ≡ old
     pub done : OnOk result (HasRoomFor new.heap frame.changes.items ⊎ NoGapIsLeft (contents new.engine).current new.heap frame)
 
   -- a frame that comes next would bring a counter to its limit
@@ -259,8 +260,9 @@ module _ {E K D : Type 0} (device : E → State) (contents : E → Contents) (is
       first = IsRearranged-freed (contents old.engine) (contents mid.engine) old.ended.items stands.follows.listed frees.freed.contents_are
 
       -- what had room has it still, and nothing was moved for it
-      still_fits : Fits → HasRoomFor mid.heap frame.changes.items
-      still_fits has = has mid.heap frees.freed.given
+      still_fits : Fits → HasRoomAtOnce (contents mid.engine).lines mid.heap frame
+      still_fits has =
+          subst (λ (lines : ℕ). HasRoomAtOnce lines mid.heap frame) (sym frees.freed.contents_are.lines) (has mid.heap frees.freed.given)
 
       module _ (made : Result (Unit {0}) Refusal) (makes : MakesRoom frame mid made roomy) where
         abbrev rearranges : Rearranges device contents is_faulted table frame mid made roomy
@@ -401,7 +403,7 @@ module _ {E K D : Type 0} (device : E → State) (contents : E → Contents) (is
                   let now_full : IsFull new = (rw same.2 none, same.3, rw (same.0, same.2) left) in
                   record {
                     cause = inl full;
-                    fits_not = λ has _. none (subst (λ (node : Standby E K D). HasRoomFor node.heap frame.changes.items) (sym (unmoved (Ok made) makes has)) (still_fits has));
+                    fits_not = λ has _. none (subst (λ (node : Standby E K D). HasRoomFor node.heap frame.changes.items) (sym (unmoved (Ok made) makes has)) (still_fits has).fits);
                     unmoved = still_there;
                     full = λ _. now_full;
                     fault = λ fault. cc;

@@ -11,11 +11,11 @@ use Rattle.mv_keyspace.specs.Table.{Table, IsTable, records}
 use Rattle.placing.specs.Back.{GivesAll, HasOut}
 use Rattle.placing.specs.Fitting.{fits_surely}
 use Rattle.placing.specs.Left.{IsLeftOf}
-use Rattle.placing.specs.Place.{HasRoomFor}
 use Rattle.wbl_engine.specs.Contents.{Keeps, Same}
 use Rattle.wbl_engine.specs.Freeing.{AreEnded, KeepsWithoutSome, after_free, extents_of, is_listed}
 use Rattle.wbl_engine.specs.Lawful.{AreLawful}
 use Rattle.frames.specs.declared.frame.Frame.{Frame}
+use Rattle.standby.specs.Spare.{HasRoomAtOnce}
 
 -- ---- the invariant
 
@@ -83,10 +83,10 @@ abbrev pub AreGone : ℕ → Versions → Versions → Type 0
 AreGone position old new =
     (i : ℕ) (version : Version) → new i ≡ Some version → version.is_ended ≡ true → (version.position ≡ position) ⊎ WasLive old version
 
--- the heap has room for the puts of the frame, once what has ended is freed
+-- the heap has room for the puts of the frame with nothing moved, once what has ended is freed
 abbrev pub HasRoomOnceFreed : Room → List EntryNo → Contents → Frame → Type 0
 HasRoomOnceFreed room ended contents frame =
-    (freed : Room) → GivesAll room ended (extents_of contents.versions ended) freed → HasRoomFor freed frame.changes.items
+    (freed : Room) → GivesAll room ended (extents_of contents.versions ended) freed → HasRoomAtOnce contents.lines freed frame
 
 -- After this record, a commit of the frame would bring the limit of the stamps, the position, the number of the record, or an epoch that
 -- rises to the limit of counters.

@@ -36,7 +36,7 @@ module _ {E K D : Type 0} (device : E → State) (contents : E → Contents) (is
     pub taken : IsTakenNext (contents old.engine).current frame
         → OnOk result (HasTaken frame (contents old.engine) (contents new.engine) (table old.keyspace) (table new.keyspace))
     pub gone : IsTakenNext (contents old.engine).current frame → OnOk result (AreGone frame.after (contents old.engine).versions (contents new.engine).versions)
-    -- where there is room once what had ended is freed, it is not refused for room, and nothing is moved
+    -- where there is room with nothing moved, once what had ended is freed, it is not refused for room, and nothing is moved
     pub fits : IsTakenNext (contents old.engine).current frame → HasRoomOnceFreed old.heap old.ended.items (contents old.engine) frame → ¬ IsErrOf result Full
     pub unmoved : IsTakenNext (contents old.engine).current frame → HasRoomOnceFreed old.heap old.ended.items (contents old.engine) frame
         → LeavesOnly (device old.engine) (device new.engine) (IsUnmovedOrWhole frame old.ended.items (contents old.engine) (table old.keyspace))

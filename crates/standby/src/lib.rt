@@ -8,8 +8,10 @@ mod part;
 mod planning;
 mod restarting;
 mod room;
+mod spare;
 mod standby;
 mod taking;
 
 pub use opening::open;
+pub use spare::SPARE_LINES;
 pub use standby::Standby;

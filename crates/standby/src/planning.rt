@@ -1,5 +1,6 @@
 //! Which versions are moved, so that a frame finds room.
-ghost use Rattle.std.specs.Prelude.{◌≡◌, [], false, IfErr, OnOk};
+ghost use Rattle.std.specs.Prelude.{◌≡◌, [], false, true, Ok, IfErr, OnOk};
+ghost use Rattle.placing.specs.Below.{HasRoomBelow};
 ghost use Rattle.wbl_engine.specs.Contents.{IsDurable};
 ghost use Rattle.standby.specs.Following.{Follows, IsGapless, WouldExhaust};
 ghost use Rattle.standby.specs.Taking.{Rearranges};
@@ -33,13 +34,18 @@ struct Wanted {
 }
 
 impl<E: Durable, K: Keyspace> Standby<E, K> {
-    /// Moves versions until the frame fits, or no plan is found for it: few moves for its longest put at first, then for all of them, and at last as many
-    /// as it takes.
+    /// Moves versions until the frame has room below `end`, or no plan is found for it: few moves for its longest put at first, then for all of them, and
+    /// at last as many as it takes. Answers whether it has room there.
     ///
     /// # Errors
     ///
     /// `Memory` if an allocation was refused, `Fault` if a fence failed.
-    pub(crate) fn move_for(&mut self, alloc: Global, frame: &Frame) -> Result<(), Refusal>
+    pub(crate) fn move_for(
+        &mut self,
+        alloc: Global,
+        frame: &Frame,
+        end: u64,
+    ) -> Result<bool, Refusal>
         requires follows { Follows (E.contents self.old.engine) (K.table self.old.keyspace) self.old.heap [] }
         requires none { self.old.ended.items ≡ [] }
         requires sound { E.is_faulted self.old.engine ≡ false }
@@ -47,19 +53,19 @@ impl<E: Durable, K: Keyspace> Standby<E, K> {
         requires counters { ¬ WouldExhaust (E.contents self.old.engine).current frame.now }
         ensures rearranges { Rearranges E.device E.contents E.is_faulted K.table frame.now self.old result self.new }
         ensures gapless { IsGapless (E.contents self.old.engine).current → OnOk result (IsGapless (E.contents self.new.engine).current) }
+        ensures fits { result ≡ Ok true → HasRoomBelow self.new.heap frame.now.changes.items end }
     {
         let wanted = wanted_by(&frame.changes);
-        if self.move_by(alloc, frame, Way::Window, wanted.longest)? {
-            return Ok(());
+        if self.move_by(alloc, frame, end, Way::Window, wanted.longest)? {
+            return Ok(true);
         }
-        if self.move_by(alloc, frame, Way::Window, wanted.total)? {
-            return Ok(());
+        if self.move_by(alloc, frame, end, Way::Window, wanted.total)? {
+            return Ok(true);
         }
-        self.move_by(alloc, frame, Way::Down, wanted.total)?;
-        Ok(())
+        self.move_by(alloc, frame, end, Way::Down, wanted.total)
     }
 
-    /// Makes the moves of one plan, for a run of so many lines, if there is one. Answers whether the frame fits then.
+    /// Makes the moves of one plan, for a run of so many lines below `end`, if there is one. Answers whether the frame has room there then.
     ///
     /// # Errors
     ///
@@ -68,6 +74,7 @@ impl<E: Durable, K: Keyspace> Standby<E, K> {
         &mut self,
         alloc: Global,
         frame: &Frame,
+        end: u64,
         way: Way,
         need: u64,
     ) -> Result<bool, Refusal>
@@ -78,14 +85,15 @@ impl<E: Durable, K: Keyspace> Standby<E, K> {
         requires counters { ¬ WouldExhaust (E.contents self.old.engine).current frame.now }
         ensures rearranges { Rearranges E.device E.contents E.is_faulted K.table frame.now self.old result self.new }
         ensures gapless { IsGapless (E.contents self.old.engine).current → OnOk result (IsGapless (E.contents self.new.engine).current) }
+        ensures fits { result ≡ Ok true → HasRoomBelow self.new.heap frame.now.changes.items end }
     {
         let rows = self.keyspace.since(alloc, 0)?;
         let extents = extents_of(alloc, &self.engine, &rows)?;
-        let Some(moves) = plan(alloc, way, &extents, self.engine.lines(), need)? else {
+        let Some(moves) = plan(alloc, way, &extents, end, self.engine.lines(), need)? else {
             return Ok(false);
         };
         self.make_moves(alloc, frame, &rows, &moves)?;
-        self.fits(alloc, frame)
+        self.fits_below(alloc, frame, end)
     }
 
     /// Makes these moves of rows in turn, up to one that cannot be made.
@@ -120,7 +128,7 @@ impl<E: Durable, K: Keyspace> Standby<E, K> {
     }
 }
 
-/// Moves that leave a run of so many free lines in an image of `lines` lines, if some are found.
+/// Moves that leave a run of so many free lines below `end` in an image of `lines` lines, if some are found.
 ///
 /// # Errors
 ///
@@ -129,13 +137,14 @@ fn plan(
     alloc: Global,
     way: Way,
     extents: &[Extent],
+    end: u64,
     lines: u64,
     need: u64,
 ) -> Result<Option<Vec<Move>>, AllocError> {
     let first = LAYOUT.directory_line + LAYOUT.directory_room(lines);
     match way {
-        Way::Window => make_window(alloc, extents, first, lines, need),
-        Way::Down => push_down(alloc, extents, first, lines, lines, need),
+        Way::Window => make_window(alloc, extents, first, end, need),
+        Way::Down => push_down(alloc, extents, first, end, lines, need),
     }
 }
 

@@ -18,8 +18,9 @@ use std::alloc::Global;
 use wbl_engine::Durable;
 
 impl<E: Durable, K: Keyspace> Standby<E, K> {
-    /// Makes room for a frame that has none: clears the gaps of the record, the oldest first, and then moves versions, until it fits or nothing more
-    /// is found to do. Where it has room nothing changes.
+    /// Makes room for a frame that has none: below the spare place where that is free (`make_room_below`), and else in the whole image: it clears the gaps
+    /// of the record, the oldest first, and then moves versions, until the frame fits or nothing more is found to do. Where it has room with nothing moved
+    /// nothing changes.
     ///
     /// # Errors
     ///
@@ -31,17 +32,22 @@ impl<E: Durable, K: Keyspace> Standby<E, K> {
         requires durable { IsDurable (E.device self.old.engine) (E.contents self.old.engine) }
         requires counters { ¬ WouldExhaust (E.contents self.old.engine).current frame.now }
         ensures rearranges { Rearranges E.device E.contents E.is_faulted K.table frame.now self.old result self.new }
-        ensures unmoved { HasRoomFor self.old.heap frame.now.changes.items → self.new ≡ self.old }
+        ensures unmoved { HasRoomAtOnce (E.contents self.old.engine).lines self.old.heap frame.now → self.new ≡ self.old }
         ensures done { OnOk result (HasRoomFor self.new.heap frame.now.changes.items
             ⊎ NoGapIsLeft (E.contents self.new.engine).current self.new.heap frame.now) }
     {
+        if self.make_room_below(alloc, frame)? {
+            return Ok(());
+        }
         if fits_surely(&self.heap, &frame.changes) {
             return Ok(());
         }
         if self.clear_gaps(alloc, frame)? {
             return Ok(());
         }
-        self.move_for(alloc, frame)
+        let end = self.engine.lines();
+        self.move_for(alloc, frame, end)?;
+        Ok(())
     }
 
     /// Clears the gaps of the record, the oldest first, until the frame fits. Answers whether it does.
@@ -49,7 +55,7 @@ impl<E: Durable, K: Keyspace> Standby<E, K> {
     /// # Errors
     ///
     /// `Memory` if an allocation was refused, `Fault` if a fence failed.
-    fn clear_gaps(&mut self, alloc: Global, frame: &Frame) -> Result<bool, Refusal>
+    pub(crate) fn clear_gaps(&mut self, alloc: Global, frame: &Frame) -> Result<bool, Refusal>
         requires follows { Follows (E.contents self.old.engine) (K.table self.old.keyspace) self.old.heap [] }
         requires none { self.old.ended.items ≡ [] }
         requires sound { E.is_faulted self.old.engine ≡ false }

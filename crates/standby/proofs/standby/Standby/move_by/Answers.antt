@@ -40,6 +40,6 @@ returns-in_err-make_moves-clause-rearranges g c =
 
 pub returns-clause-rearranges : goal.returns-clause-rearranges
 returns-clause-rearranges g c =
-    Rearranges-asked g.E.Durable.device g.E.Durable.contents g.E.Durable.is_faulted g.K.Keyspace.table c.args.frame.now c.args.self.now c.make_moves.new.self c.fits.new.self c.fits.result
+    Rearranges-asked g.E.Durable.device g.E.Durable.contents g.E.Durable.is_faulted g.K.Keyspace.table c.args.frame.now c.args.self.now c.make_moves.new.self c.fits_below.new.self c.fits_below.result
     (Rearranges-done g.E.Durable.device g.E.Durable.contents g.E.Durable.is_faulted g.K.Keyspace.table c.args.frame.now c.args.self.now c.make_moves.new.self c.in_ok-make_moves.field-0 tt c.in_ok-make_moves.ensures.rearranges)
-    c.fits.ensures.same c.fits.ensures.cause
+    c.fits_below.ensures.same c.fits_below.ensures.cause

@@ -1,4 +1,4 @@
-use Rattle.std.proofs.Common.{◌≡◌, Bool, Result, Err, Ok, ap, subst, ◌∙◌}
+use Rattle.std.proofs.Common.{◌≡◌, Bool, true, Result, Err, Ok, ap, subst, ◌∙◌}
 use Rattle.std.proofs.lemmas.Result.{err_from_is_err_and}
 use Rattle.standby.specs.Taking.{Rearranges}
 use Rattle.standby.proofs.RoomLemmas.{Rearranges-done, Rearranges-passed, Rearranges-then}
@@ -25,7 +25,9 @@ returns-in_err-move_by-clause-rearranges g c =
     rw (exit.1 ∙ ap Err exit.2) (Rearranges-passed g.E.Durable.device g.E.Durable.contents g.E.Durable.is_faulted g.K.Keyspace.table c.args.frame.now c.args.self.now c.move_by.new.self c.in_err-move_by.field-0.0 c.in_err-move_by.ensures.rearranges)
 
 pub returns-then-branch-clause-rearranges : goal.returns-then-branch-clause-rearranges
-returns-then-branch-clause-rearranges g c = first g (goal.at.returns-then-branch-clause-rearranges g c).After-move_by c.in_ok-move_by.field-0 c.in_ok-move_by.was
+returns-then-branch-clause-rearranges g c =
+    Rearranges-done g.E.Durable.device g.E.Durable.contents g.E.Durable.is_faulted g.K.Keyspace.table c.args.frame.now c.args.self.now c.move_by.new.self tt true
+    (first g (goal.at.returns-then-branch-clause-rearranges g c).After-move_by c.in_ok-move_by.field-0 c.in_ok-move_by.was)
 
 pub move_by-requires-2-clause-durable : goal.move_by-requires-2-clause-durable
 move_by-requires-2-clause-durable g c = c.in_ok-move_by.ensures.rearranges.durable (λ is. cc)
@@ -41,26 +43,18 @@ returns-in_err-move_by-2-clause-rearranges g c =
 pub returns-then-branch-2-clause-rearranges : goal.returns-then-branch-2-clause-rearranges
 returns-then-branch-2-clause-rearranges g c =
     let at = goal.at.returns-then-branch-2-clause-rearranges g c in
-    second g at.After-move_by-2 c.in_ok-move_by-2.field-0 c.in_ok-move_by-2.was (first g at.After-move_by c.in_ok-move_by.field-0 c.in_ok-move_by.was)
+    Rearranges-done g.E.Durable.device g.E.Durable.contents g.E.Durable.is_faulted g.K.Keyspace.table c.args.frame.now c.args.self.now c.move_by-2.new.self tt true
+    (second g at.After-move_by-2 c.in_ok-move_by-2.field-0 c.in_ok-move_by-2.was (first g at.After-move_by c.in_ok-move_by.field-0 c.in_ok-move_by.was))
 
 pub move_by-requires-3-clause-durable : goal.move_by-requires-3-clause-durable
 move_by-requires-3-clause-durable g c = c.in_ok-move_by-2.ensures.rearranges.durable (λ is. cc)
-
-pub returns-in_err-move_by-3-clause-rearranges : goal.returns-in_err-move_by-3-clause-rearranges
-returns-in_err-move_by-3-clause-rearranges g c =
-    let exit = err_from_is_err_and c.from_residual-in_err-move_by-3.result c.from_residual-in_err-move_by-3.ensures.1 in
-    let at = goal.at.returns-in_err-move_by-3-clause-rearranges g c in
-    let before = second g at.After-move_by-2 c.in_ok-move_by-2.field-0 c.in_ok-move_by-2.was (first g at.After-move_by c.in_ok-move_by.field-0 c.in_ok-move_by.was) in
-    rw (exit.1 ∙ ap Err exit.2)
-    (Rearranges-then g.E.Durable.device g.E.Durable.contents g.E.Durable.is_faulted g.K.Keyspace.table c.args.frame.now c.args.self.now c.move_by-2.new.self c.move_by-3.new.self tt (Err c.in_err-move_by-3.field-0.0) before
-    (Rearranges-passed g.E.Durable.device g.E.Durable.contents g.E.Durable.is_faulted g.K.Keyspace.table c.args.frame.now c.move_by-2.new.self c.move_by-3.new.self c.in_err-move_by-3.field-0.0 c.in_err-move_by-3.ensures.rearranges))
 
 pub returns-clause-rearranges : goal.returns-clause-rearranges
 returns-clause-rearranges g c =
     let at = goal.at.returns-clause-rearranges g c in
     let before = second g at.After-move_by-2 c.in_ok-move_by-2.field-0 c.in_ok-move_by-2.was (first g at.After-move_by c.in_ok-move_by.field-0 c.in_ok-move_by.was) in
-    Rearranges-then g.E.Durable.device g.E.Durable.contents g.E.Durable.is_faulted g.K.Keyspace.table c.args.frame.now c.args.self.now c.move_by-2.new.self c.move_by-3.new.self tt (Ok tt) before
-    (Rearranges-done g.E.Durable.device g.E.Durable.contents g.E.Durable.is_faulted g.K.Keyspace.table c.args.frame.now c.move_by-2.new.self c.move_by-3.new.self c.in_ok-move_by-3.field-0 tt c.in_ok-move_by-3.ensures.rearranges)
+    Rearranges-then g.E.Durable.device g.E.Durable.contents g.E.Durable.is_faulted g.K.Keyspace.table c.args.frame.now c.args.self.now c.move_by-2.new.self c.move_by-3.new.self tt c.move_by-3.result before
+    c.move_by-3.ensures.rearranges
 
 pub returns-clause-gapless : goal.returns-clause-gapless
-returns-clause-gapless g c = λ none. c.in_ok-move_by-3.ensures.gapless (c.in_ok-move_by-2.ensures.gapless (c.in_ok-move_by.ensures.gapless none))
+returns-clause-gapless g c = λ none. c.move_by-3.ensures.gapless (c.in_ok-move_by-2.ensures.gapless (c.in_ok-move_by.ensures.gapless none))
