@@ -13,7 +13,7 @@ import time
 import typing
 
 from pair import PATIENCE, Client, Ended, Pair, TakesTooLong, wait_until
-from plain_image import extents_begin, lines_of
+from plain_image import MORE_LINES, extents_begin, lines_of
 from plain_replies import NO_ROOM, OK, error, integer
 from spelling import spell
 
@@ -21,10 +21,8 @@ CLIENTS = 4
 # What a writer sends before it reads, at most.
 PIPELINE = 3
 STORE_IS_FULL = error(NO_ROOM)
-# What a standby tells that can make no room.
+# What a standby tells that can make no room: never one of MORE_LINES more than its primary.
 NAMED = b"refusal 5: full"
-# So many lines more than the primary a standby has that is never to tell that.
-SPARE_LINES = 1_040
 PAGES = (1_024, 4_096, 16_384)
 LONGEST = 65_536
 
@@ -278,7 +276,7 @@ def load(kind, lines, fill, seconds, standby_lines=None, kills=False, seed=0, mo
     """So many seconds of writers over a pair of images of so many lines, of which their values take `fill` per cent at most. Waited where a request is not
     answered while both nodes run, but where the standby, being no larger, tells that it has no room."""
     with Pair(lines=lines, standby_lines=standby_lines, folder=folder) as pair:
-        store, has_spare = Store(pair, fill, most_wait), (standby_lines or lines) >= lines + SPARE_LINES
+        store, has_spare = Store(pair, fill, most_wait), (standby_lines or lines) >= lines + MORE_LINES
         writers = [Writer(store, kind, seed, number) for number in range(CLIENTS)]
         count = 0
         try:

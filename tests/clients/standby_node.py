@@ -41,9 +41,9 @@ def drawn_frames(draws, position, count):
 
 def take(writer, frame):
     """The writer's image takes a frame, as a node does that frees first what an earlier life ended, and what the frame ended after it. It gives whether there
-    is room."""
+    is room with nothing moved."""
     writer.free_ended()
-    if not writer.room.take(frame.changes):
+    if not writer.room.take_at_once(frame.changes):
         return False
     writer.commit_parts([writer.part(frame.changes)], frame.after - frame.before)
     writer.free_ended()

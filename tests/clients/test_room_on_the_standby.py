@@ -12,7 +12,7 @@ import noted_calls
 import plain_image
 from noted_calls import Noting, mixed
 from pair import PATIENCE, PairCases, wait_until
-from plain_image import STANDBY, Words, Writer
+from plain_image import MORE_LINES, STANDBY, Words, Writer
 from plain_keyspace import Put
 from plain_replies import OK
 from plain_wire import Acknowledgement, Group, text
@@ -255,7 +255,7 @@ def add_loads():
     room."""
     rows = [("sessions", 80), ("sessions", 90), ("pages", 80), ("pages", 90), ("blobs", 90), ("blobs", 60), ("any", 80), ("any", 90)]
     for number, (kind, fill) in enumerate(rows):
-        for extra in (0, filling.SPARE_LINES):
+        for extra in (0, MORE_LINES):
             options = {"standby_lines": LINES + extra, "kills": number % 2 == 1, "seed": SEED}
 
             def test(self, row=(kind, LINES, fill, SECONDS), options=options):

@@ -1,6 +1,7 @@
 """Images as words, from docs/image.md: a reader that checks each rule of a whole image, the room of an image, and a writer
 of formatting, of commits of groups and of reopenings."""
 
+import copy
 import dataclasses
 import heapq
 import itertools
@@ -23,6 +24,11 @@ PRIMARY, STANDBY = 1, 2
 STRING, FIELD = 1, 2
 MOST_KEY_BYTES, MOST_VALUE_BYTES = 512, 65_536
 LENGTH_SHIFT = 65_536
+
+# "Room for a frame" of docs/replication.md: a standby keeps its last lines free, as many as the longest version has. With so many lines more than its primary
+# it always makes room: seven of eight of them are lines of extents, and at least as many as the spare place has.
+SPARE_LINES = (2 * MOST_KEY_BYTES + MOST_VALUE_BYTES) // 64
+MORE_LINES = 1_192
 
 # "Refusals" of docs/replication.md: those of an image that is read.
 WRONG_SIZE, BAD_MAGIC, BAD_VERSION, DAMAGED = 4, 2, 3, 7
@@ -273,6 +279,7 @@ class Room:
 
     def __init__(self, lines, places=()):
         taken = {place.entry for place in places}
+        self.lines = lines
         self.entries = [entry for entry in range(lines // 8) if entry not in taken]
         self.runs = [(extents_begin(lines), lines)]
         for place in sorted(places, key=lambda place: place.line):
@@ -297,6 +304,22 @@ class Room:
         self.runs = runs
         self.given += [Place(heapq.heappop(self.entries), *each) for each in lines]
         return True
+
+    def take_at_once(self, changes):
+        """The same on a standby that moves nothing: it takes them below the spare place while that is free. Where it is in use, or where fewer lines are free
+        below it than the longest put takes, it takes them anywhere."""
+        end, counts = self.lines - SPARE_LINES, lines_of_puts(changes)
+        below = [(first, min(last, end)) for first, last in self.runs if first < end]
+        keeps_spare = (end, self.lines) in [(max(first, end), last) for first, last in self.runs]
+        if keeps_spare and sum(last - first for first, last in below) >= max(counts, default=0):
+            before = copy.copy(self.runs), copy.copy(self.entries), len(self.given)
+            if not self.take(changes):
+                return False
+            if all(place.line + place.lines <= end for place in self.given[before[2]:]):
+                return True
+            self.runs, self.entries, self.given = before[0], before[1], self.given[:before[2]]
+            return False
+        return self.take(changes)
 
     def is_enough_for(self, changes):
         """Whether as many entries and lines are free as these changes take, wherever they lie."""

@@ -116,7 +116,7 @@ class Node:
         """A standby takes a frame: what has ended is freed before it and after it. Where it has to make room for it, it is what was told of the run that
         says whether that could be done. Whether it was taken."""
         self.free_ended()
-        if (self.image.places_may_differ or not self.image.room.take(changes)) and not self.make_room(changes, is_told):
+        if (self.image.places_may_differ or not self.image.room.take_at_once(changes)) and not self.make_room(changes, is_told):
             self.refused += 1
             return False
         self.commit([self.image.part(changes)], positions)

@@ -10,10 +10,9 @@ import plain_keyspace
 import plain_machine
 import plain_wire
 import spelling
+from plain_image import MORE_LINES
 
 NODES = ("primary", "standby")
-# With so many lines more than the primary a standby always makes room for a frame.
-SPARE_LINES = 1_040
 ROLES = {"primary": plain_image.PRIMARY, "standby": plain_image.STANDBY}
 
 STRING = r'"[^"\\]*(?:\\.[^"\\]*)*"'
@@ -278,7 +277,7 @@ class Runs(common.Cases):
         trace = simulate(head + events, "--map", "--images", *sizes, *options)
         machine = plain_machine.Machine(lines, fail, told_positions(trace)).play(events)
         self.assert_played(trace, machine, len(events), len(head))
-        if lines[1] >= lines[0] + SPARE_LINES:
+        if lines[1] >= lines[0] + MORE_LINES:
             self.assertEqual(machine.standby.refused, 0, "frames that the standby has no room for, though it has lines to spare")
         if machine.ended is None:
             for place, node in enumerate(NODES):

@@ -6,7 +6,8 @@ Each run is compared with the plain machine too, event by event and both images 
 import draws
 import plain_image
 import plain_machine
-from simulation import NODES, SPARE_LINES, Runs, Schedule
+from plain_image import MORE_LINES
+from simulation import NODES, Runs, Schedule
 from spelling import spell
 from worked_cases import OK, SET_A, STORE_IS_FULL
 
@@ -244,10 +245,10 @@ class Drawn(Runs):
         self.check(1, (LINES, 2 * LINES))
 
     def test_a_standby_with_a_spare_place_0(self):
-        self.check(3, (LINES, LINES + SPARE_LINES))
+        self.check(3, (LINES, LINES + MORE_LINES))
 
     def test_a_standby_with_a_spare_place_1(self):
-        self.check(4, (LINES, LINES + SPARE_LINES))
+        self.check(4, (LINES, LINES + MORE_LINES))
 
     def test_a_standby_whose_free_lines_lie_apart(self):
         # where the primary has a run that is long enough it has none

@@ -11,7 +11,9 @@ import plain_image
 import plain_keyspace
 import plain_machine
 import test_freeing
-from simulation import NODES, SPARE_LINES, Runs, Schedule
+from plain_image import MORE_LINES
+from plain_replies import integer
+from simulation import NODES, Runs, Schedule
 from spelling import spell
 from worked_cases import OK
 
@@ -39,14 +41,40 @@ def two_long_values_and_a_short_one(*more):
     return schedule
 
 
+def value_of(lines):
+    """A value that takes so many lines at a key of one byte."""
+    return (64 * lines - 1) * b"v"
+
+
+def longest(letter):
+    """Key, field and value of a version of 1,040 lines."""
+    return 512 * letter, 512 * letter, LONGEST
+
+
+def gaps_that_are_too_short():
+    """What a standby leaves between long values that keeps no lines back: 960 free lines below B, which has 1,040, 961 between B and E, which has 1,025, and
+    fewer behind E. Neither can move, and F finds no place, though more than twice its 1,040 lines are free. On the primary, which frees in other places,
+    1,440 lines are free in one piece below B."""
+    schedule, number = Schedule(1), 0
+    steps = [("SET", "a", value_of(481)), ("SET", "a", value_of(479)), ("SET", "c", value_of(480)), ("HSET", *longest("B")), ("SET", "d", value_of(481)), None,
+             ("SET", "a", value_of(480)), ("DEL", "d"), None, ("DEL", "c"), ("SET", "E", LONGEST), ("DEL", "a"), None, ("HSET", *longest("F"))]
+    for step in steps:
+        if step is None:
+            schedule.free()
+        else:
+            schedule.serve_to_end(0, number, spell(*step))
+            number += 1
+    return schedule
+
+
 class Moves(Runs):
     def assert_follows(self, schedule, lines):
         trace = self.play(schedule, lines=lines)
-        calls = len(trace.calls)
-        self.assertEqual([call.reply for call in trace.calls], calls * [OK])
-        self.assertEqual([trace.nodes[node].position for node in NODES], 2 * [calls])
+        replies = [call.reply for call in trace.calls]
+        self.assertEqual([reply for reply in replies if reply not in (OK, integer(1))], [])
+        self.assertEqual([trace.nodes[node].position for node in NODES], 2 * [len(replies)])
         self.assertEqual(trace.records["standby"], trace.records["primary"])
-        self.assertEqual(trace.released, [calls * OK])
+        self.assertEqual(trace.released, [b"".join(replies)])
 
     def test_two_long_values_and_a_short_one(self):
         self.assert_follows(two_long_values_and_a_short_one(), (LINES, LINES))
@@ -60,8 +88,11 @@ class Moves(Runs):
             schedule.add(*int(times or 1) * [event])
         self.assert_follows(schedule, (LINES, LINES))
 
-    def test_a_standby_with_a_spare_place(self):
-        self.assert_follows(two_long_values_and_a_short_one(), (LINES, LINES + SPARE_LINES))
+    def test_a_standby_with_lines_to_spare(self):
+        self.assert_follows(two_long_values_and_a_short_one(), (LINES, LINES + MORE_LINES))
+
+    def test_gaps_that_are_too_short(self):
+        self.assert_follows(gaps_that_are_too_short(), (LINES, LINES + MORE_LINES))
 
     def test_a_standby_that_was_opened_again(self):
         """It has a gap, in which there is no entry."""

@@ -1,8 +1,10 @@
-"""Whether a standby finds room for each value that its primary could place: a law of the plans of crates/packing, played on their plain model.
+"""Whether a standby finds room for each value that its primary could place, over drawn orders. Played in Python: the plans of crates/packing on their plain
+model (models/packing.py), and the rule by which crates/standby uses them (spare.rt, room.rt, planning.rt), once more in plain steps. So it tells of the plans
+and of the rule, and of the code only as far as it does what these say.
 
-Both heaps are first fit. The primary gives lines back some writes later, the standby at once, so the same values lie elsewhere in each. Where no run
-below the spare place is long enough, the standby empties a window; where there is none, it pushes extents down; and only then does it use the spare
-place for a value, out of which that goes as soon as there is room below."""
+Both heaps are first fit. The primary gives lines back later than the standby, so the same values lie elsewhere in each. The standby keeps its last lines free
+as a spare place, for as long as they are. It makes room below them: it empties a window, and where there is none it pushes extents down, by way of the spare
+place where they must. Only where that finds no room does it use the whole image."""
 
 import bisect
 import collections
@@ -10,11 +12,15 @@ import random
 import unittest
 
 import packing
+from plain_image import MORE_LINES, SPARE_LINES, extents_begin
 
-# The longest extent, and the spare place of a standby, which holds it.
-SPARE_LINES = 1_025
-# The primary gives the lines of a value back so many writes after it was overwritten.
+# In a load the primary gives the lines of a value back so many writes after it was overwritten.
 LATE_WRITES = 8
+
+
+def usable(lines):
+    """The lines of extents of an image of so many lines."""
+    return lines - extents_begin(lines)
 
 
 class Heap:
@@ -36,11 +42,14 @@ class Heap:
         if low < self.lines:
             yield low, self.lines
 
+    def is_free(self, line, lines):
+        return any(low <= line and line + lines <= high for low, high in self.free_runs())
+
     def find(self, lines, end):
         return next((low for low, high in self.free_runs() if min(high, end) - low >= lines), None)
 
     def claim(self, line, lines):
-        if not any(low <= line and line + lines <= high for low, high in self.free_runs()):
+        if not self.is_free(line, lines):
             raise AssertionError(f"{lines} lines from {line} on are not free")
         bisect.insort(self._starts, line)
         self._extents[line] = lines
@@ -60,27 +69,30 @@ class Primary:
         """Whether there was room."""
         line = self.heap.find(lines, self.heap.lines)
         if line is None:
-            self._give(0)
+            self.free()
             line = self.heap.find(lines, self.heap.lines)
         if line is None:
             return False
         self.heap.claim(line, lines)
-        if name in self.places:
-            self._late.append(self.places[name])
+        self.delete(name)
         self.places[name] = line
-        self._give(LATE_WRITES)
         return True
 
-    def _give(self, left):
+    def delete(self, name):
+        if name in self.places:
+            self._late.append(self.places.pop(name))
+
+    def free(self, left=0):
+        """The lines of all but so many of the values that are gone come back, the oldest first."""
         while len(self._late) > left:
             self.heap.give(self._late.popleft())
 
 
 class Standby:
-    """A heap with a spare place behind `end`, which gives lines back at once and moves extents where it must."""
+    """A heap that gives lines back at once, and moves extents where it must. Where `keeps_spare` it keeps its last lines free."""
 
-    def __init__(self, lines):
-        self.heap, self.end = Heap(lines), lines - SPARE_LINES
+    def __init__(self, lines, keeps_spare=True):
+        self.heap, self.keeps_spare = Heap(lines), keeps_spare
         self._places, self._names = {}, {}
         self.counts = collections.Counter()
 
@@ -90,39 +102,34 @@ class Standby:
         if line is None:
             return False
         self.heap.claim(line, lines)
-        if name in self._places:
-            self._leave(self._places[name])
+        self.delete(name)
         self._enter(name, line)
-        self._clear_spare()
         return True
 
+    def delete(self, name):
+        if name in self._places:
+            self._leave(self._places[name])
+
     def _room(self, lines):
-        line = self.heap.find(lines, self.end)
-        for way in (self._window, self._push, self._whole):
+        whole, below = self.heap.lines, self.heap.lines - SPARE_LINES
+        if self.keeps_spare and self.heap.is_free(below, SPARE_LINES):
+            line = self._room_below(lines, below)
             if line is not None:
-                break
-            line = way(lines)
+                return line
+            self.counts["values that found no room below"] += 1
+        return self._room_below(lines, whole)
+
+    def _room_below(self, lines, end):
+        line = self.heap.find(lines, end)
+        for way in (self._window, self._push):
+            line = way(lines, end) if line is None else line
         return line
 
-    def _window(self, lines):
-        plan = packing.make_window(self.heap.extents(), 0, self.end, lines)
-        return self._make("windows", plan, lines, self.end)
+    def _window(self, lines, end):
+        return self._make("windows", packing.make_window(self.heap.extents(), 0, end, lines), lines, end)
 
-    def _push(self, lines):
-        plan = packing.push_down(self.heap.extents(), 0, self.end, self.heap.lines, lines)
-        return self._make("pushes", plan, lines, self.end)
-
-    def _whole(self, lines):
-        """Room in the whole image, the spare place with it."""
-        whole = self.heap.lines
-        for plan in (packing.make_window, lambda *asked: packing.push_down(*asked[:3], whole, asked[3])):
-            line = self.heap.find(lines, whole)
-            if line is None:
-                line = self._make("moves in the whole image", plan(self.heap.extents(), 0, whole, lines), lines, whole)
-            if line is not None:
-                self.counts["values in the spare place"] += 1
-                return line
-        return None
+    def _push(self, lines, end):
+        return self._make("pushes", packing.push_down(self.heap.extents(), 0, end, self.heap.lines, lines), lines, end)
 
     def _make(self, way, moves, lines, end):
         """Makes the moves, one at a time, each to lines that are free then. The room that there is afterwards."""
@@ -134,17 +141,10 @@ class Standby:
             self._move(line, count, to)
             extents[index] = (to, count)
         self.counts[way] += 1
-        self.counts["lines moved"] += sum(extents[index][1] for index, _ in moves)
         room = self.heap.find(lines, end)
         if room is None:
             raise AssertionError(f"the moves leave no {lines} lines free below {end}")
         return room
-
-    def _clear_spare(self):
-        for line, lines in self.heap.extents():
-            to = self.heap.find(lines, self.end) if line + lines > self.end else None
-            if to is not None:
-                self._move(line, lines, to)
 
     def _move(self, line, lines, to):
         self.heap.claim(to, lines)
@@ -157,8 +157,10 @@ class Standby:
 
     def _leave(self, line):
         self.heap.give(line)
-        del self._names[line]
+        del self._places[self._names.pop(line)]
 
+
+# ---- loads: values of one kind come and go, and the primary is nearly full
 
 def session(draw):
     """Session data: a lognormal length with a median of some 665 bytes."""
@@ -171,7 +173,7 @@ def page(draw):
 
 def blob(draw):
     """One of ten is of the greatest length, the others are short."""
-    return 1_025 if draw.random() < 0.1 else draw.randint(1, 16)
+    return SPARE_LINES if draw.random() < 0.1 else draw.randint(1, 16)
 
 
 def wide(draw):
@@ -179,7 +181,7 @@ def wide(draw):
 
 
 def any_length(draw):
-    return draw.randint(1, 1_025)
+    return draw.randint(1, SPARE_LINES)
 
 
 def fill(draw, length, primary, standby, share):
@@ -208,29 +210,67 @@ def overwrite(draw, length, primary, standby, share, writes):
             values[name] = lines
             if not standby.write(name, lines):
                 return at + 1
+        primary.free(LATE_WRITES)
     return None
 
 
-def play(length, lines, more, share, writes, seed):
-    """Where a standby with so many lines more than its primary was stuck, and what it did."""
-    draw = random.Random(seed)
-    standby = Standby(lines + more)
-    return overwrite(draw, length, Primary(lines), standby, share, writes), standby.counts
+# ---- the worst that is known: long values, and values about as long as the gaps that are left between them
+
+STEPS = 60
+
+
+def contrive(seed, standby):
+    """Some steps on a pair whose primary has 4,096 lines. The step at which the standby found no room."""
+    draw, primary, made = random.Random(f"contrived {seed}"), Primary(usable(4_096)), 0
+    gap = draw.randint(300, 520)
+    lengths = [1_025, 1_025, SPARE_LINES, gap, gap + 1, gap + 2, draw.randint(1, 100), draw.randint(100, 520)]
+    for step in range(STEPS):
+        kind, names = draw.random(), list(primary.places)
+        if kind < 0.55:
+            name, lines = made if draw.random() < 0.7 or not names else draw.choice(names), draw.choice(lengths)
+            if primary.write(name, lines):
+                made += name == made
+                if not standby.write(name, lines):
+                    return step
+        elif kind < 0.85 and names:
+            name = draw.choice(names)
+            primary.delete(name)
+            standby.delete(name)
+        else:
+            primary.free()
+    return None
 
 
 class Packing(unittest.TestCase):
-    # What is drawn, the primary's lines, and how many writes.
-    DRAWN = [(any_length, 6_000, 1_500), (session, 3_576, 800), (blob, 7_152, 800), (page, 7_152, 800), (wide, 3_576, 1_500)]
+    # What is drawn, how many lines the primary's image has, and how many writes.
+    DRAWN = [(any_length, 6_864, 1_500), (session, 4_096, 800), (blob, 8_192, 800), (page, 8_192, 800), (wide, 4_096, 1_500)]
     SHARES = [0.8, 0.95, 1.0]
+    CONTRIVED = 1_500
+    # A history in which each gap that is left is too short for a value, and each value is too long for a gap.
+    STUCK = 771
 
     def test_a_standby_with_a_spare_place_more_always_finds_room(self):
         moved = collections.Counter()
         for length, lines, writes in self.DRAWN:
             for share in self.SHARES:
                 with self.subTest(values=length.__name__, share=share):
-                    stuck, counts = play(length, lines, SPARE_LINES, share, writes, f"{length.__name__} {share}")
-                    self.assertIsNone(stuck)
-                    self.assertEqual(counts["values in the spare place"], 0)
-                    moved += counts
+                    draw, standby = random.Random(f"{length.__name__} {share}"), Standby(usable(lines + MORE_LINES))
+                    self.assertIsNone(overwrite(draw, length, Primary(usable(lines)), standby, share, writes))
+                    self.assertEqual(standby.counts["values that found no room below"], 0)
+                    moved += standby.counts
         self.assertGreater(moved["windows"], 0)
         self.assertGreater(moved["pushes"], 0)
+
+    def test_gaps_that_are_too_short(self):
+        moved = collections.Counter()
+        for seed in range(self.CONTRIVED):
+            with self.subTest(seed=seed):
+                standby = Standby(usable(4_096 + MORE_LINES))
+                self.assertIsNone(contrive(seed, standby))
+                self.assertEqual(standby.counts["values that found no room below"], 0)
+                moved += standby.counts
+        self.assertGreater(moved["pushes"], 0)
+
+    def test_no_spare_place(self):
+        """A standby of so many lines that keeps none of them free finds no room."""
+        self.assertIsNotNone(contrive(self.STUCK, Standby(usable(4_096 + MORE_LINES), keeps_spare=False)))
