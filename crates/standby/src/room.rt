@@ -6,6 +6,7 @@ ghost use Rattle.wbl_engine.specs.Contents.{IsDurable};
 ghost use Rattle.frames.specs.declared.frame.Frame.{Frame as SomeFrame};
 ghost use Rattle.standby.specs.Following.{Follows, IsGapless, IsNearLimit, NoGapIsLeft, WouldExhaust};
 ghost use Rattle.standby.specs.Moving.{HasCleared};
+ghost use Rattle.standby.specs.Spare.{HasRoomAtOnce};
 ghost use Rattle.standby.specs.Taking.{Rearranges, Tidies};
 
 use crate::standby::Standby;
