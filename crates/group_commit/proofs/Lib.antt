@@ -1,3 +1,4 @@
+pub mod DueLemmas
 pub mod FreedLemmas
 pub mod GroupsLemmas
 pub mod TakingLemmas

@@ -1,20 +1,25 @@
--- What a turn in `Ready` comes to, of what its parts did.
-use Rattle.std.proofs.Common.{rules, ◌≡◌, ◌≢◌, ◌⊎◌, ◌↔◌, ℕ, ◌<◌, Bool, false, IsTrue, List, [], ◌∷◌, ◌++◌, length, drop, Option, Some, None, Result, Ok, slice_index_or, Global, inl, inr, refl, sym, ap, subst, ◌∙◌, length-append, arith}
-use Rattle.std.proofs.lemmas.List.{append-nil}
+-- What a turn comes to, of what its parts did.
+use Rattle.std.proofs.Common.{rules, ◌≡◌, ◌≢◌, ◌↔◌, ℕ, ◌<◌, Bool, true, false, IsTrue, List, [], ◌∷◌, ◌++◌, length, drop, Result, Err, slice_index_or, nat_lt, Global, refl, sym, ap, subst, ◌∙◌, arith}
 use Rattle.std.specs.declared.collections.VecDeque.{VecDeque}
+use Rattle.std.proofs.lemmas.Grind.{flat_map-append}
+use Rattle.pipes.specs.Waiting.{Waiting}
 use Rattle.pmem.specs.Device.{State}
 use Rattle.kv_types.specs.declared.refusal.Refusal.{Refusal}
+use Rattle.kv_types.specs.declared.refusal.Refusal.TheVariants.{Memory}
 use Rattle.model.specs.declared.group.Group.{Group}
 use Rattle.model.specs.declared.work.FreeList.{FreeList}
 use Rattle.model.specs.declared.work.Work.{Work}
+use Rattle.model.specs.declared.work.Work.TheVariants as work
 use Rattle.model.specs.Group.{AreEnded, Contents}
 use Rattle.group_commit.specs.Committing.{Commits}
-use Rattle.group_commit.proofs.FreedLemmas.{AreEnded-first}
-use Rattle.group_commit.specs.Working.{ClearsGap, FreesFirst, GivesWork, IsDrained, StaysIdle, TakesLists, TakesNext, Tidies, TurnsReady, entries_of_lists}
+use Rattle.group_commit.specs.Due.{due_now, has_group, left_by, reached_by}
+use Rattle.group_commit.specs.Group.{lists_before, lists_of}
+use Rattle.group_commit.specs.Working.{FreesFirst, IsLawful, LacksRoom, Takes, entries_of_lists}
 use Rattle.group_commit.specs.declared.committer.Committer.{Committer}
+use Rattle.group_commit.specs.declared.due.Due.{Due}
 use Rattle.group_commit.specs.declared.stage.Done.{Done}
-use Rattle.group_commit.specs.declared.stage.Done.TheVariants.{Idle}
-use Rattle.group_commit.specs.declared.stage.Stage.TheVariants.{Ready}
+use Rattle.group_commit.proofs.FreedLemmas.{AreEnded-first}
+use Rattle.group_commit.proofs.TakingLemmas.{AllAside}
 
 -- ---- lists
 
@@ -22,10 +27,6 @@ use Rattle.group_commit.specs.declared.stage.Stage.TheVariants.{Ready}
 pub none-left : {X : Type 0} (xs : List X) (some : Bool) → IsTrue some ↔ (xs ≢ []) → some ≡ false → xs ≡ []
 none-left [] some tells is = refl
 none-left (x ∷ xs) some tells is = absurd (let told = sym is ∙ tells.1 (λ e. let none = ap length e in omega arith) in cc)
-
-pub some-left : {X : Type 0} (xs : List X) → xs ≢ [] → 0 < length xs
-some-left [] some = absurd (some refl)
-some-left (x ∷ xs) some = omega arith
 
 -- the first of some lists, and the rest
 pub first-is : (lists : List FreeList) (list : FreeList) → 0 < length lists → list ≡ slice_index_or lists 0 list → lists ≡ list ∷ drop 1 lists
@@ -36,104 +37,57 @@ first-is (first ∷ lists) list some is = ap (λ x. x ∷ lists) (sym is)
 pub first-ended : (contents : Contents) (lists : List FreeList) (list : FreeList) (rest : List FreeList) → lists ≡ list ∷ rest → AreEnded contents (entries_of_lists lists) → AreEnded contents list.entries.items
 first-ended contents lists list rest is are = AreEnded-first contents list.entries.items (entries_of_lists rest) (subst (λ xs. AreEnded contents (entries_of_lists xs)) is are)
 
--- ---- what a lawful queue gives
+-- the entries of the lists aside have ended
+pub aside-ended : (contents : Contents) (aside : List FreeList) (items : List Work) → IsLawful contents aside items → AreEnded contents (entries_of_lists aside)
+aside-ended contents aside items lawful =
+    AreEnded-first contents (entries_of_lists aside) (entries_of_lists (lists_before items))
+    (subst (AreEnded contents) (flat_map-append (λ (list : FreeList). list.entries.items) aside (lists_before items)) lawful.lists)
 
-module _ {I : Type 0} (gives : I → Option Work → I → Type 0) where
-  pub aside-ended : (before : I) (aside : List FreeList) (contents : Contents) → GivesWork gives before aside contents → AreEnded contents (entries_of_lists aside)
-  aside-ended before aside contents lawful = subst (λ xs. AreEnded contents (entries_of_lists xs)) (append-nil aside) (lawful.lists [] before refl)
+-- and where no group waits, so have those of all lists
+lists-all : (items : List Work) → has_group items ≡ false → lists_before items ≡ lists_of items
+lists-all [] none = refl
+lists-all (work.Commit group ∷ items) none = cc
+lists-all (work.Free list ∷ items) none = ap (λ (lists : List FreeList). list ∷ lists) (lists-all items none)
+
+pub reached-ended : (contents : Contents) (has_room : Bool) (aside : List FreeList) (items : List Work) → (has_room ≡ true → has_group items ≡ false) → IsLawful contents aside items
+    → AreEnded contents (entries_of_lists (reached_by has_room aside items))
+reached-ended contents true aside items none lawful = subst (λ (lists : List FreeList). AreEnded contents (entries_of_lists (aside ++ lists))) (lists-all items (none refl)) lawful.lists
+reached-ended contents false aside items none lawful = aside-ended contents aside items lawful
 
 -- ---- the parts of a turn
 
 module _ {E : Type 0} (device : E → State) (contents : E → Contents) (is_faulted : E → Bool) where
-  -- a list that stands aside is no matter of the room
-  pub Tidies-aside : (old : Committer E) (room remote : ℕ) (result : Result Done Refusal) (new : Committer E) → old.aside.items ≢ []
-      → Tidies device contents is_faulted old 0 remote result new → Tidies device contents is_faulted old room remote result new
-  Tidies-aside old room remote result new some (inl frees) = inl frees
-  Tidies-aside old room remote result new some (inr (inl clears)) = absurd (some clears.1)
-  Tidies-aside old room remote result new some (inr (inr idle)) =
-      inr (inr record { answer = idle.answer; engine = idle.engine; stage = idle.stage; local = idle.local; aside_is = idle.aside_is; waits = idle.waits; none = λ e. absurd (some e) })
-
-  -- no list stands aside
-  pub Tidies-alone : (old : Committer E) (room remote : ℕ) (result : Result Done Refusal) (new : Committer E) → old.aside.items ≡ [] → old.stage ≡ Ready → 0 < room
-      → ClearsGap device contents is_faulted old result new ⊎ ((result ≡ Ok Idle) × (new ≡ old) × ((contents old.engine).current.gaps.items ≡ []))
-      → Tidies device contents is_faulted old room remote result new
-  Tidies-alone old room remote result new alone ready some (inl clears) = inr (inl (some, alone, clears))
-  Tidies-alone old room remote result new alone ready some (inr idle) = inr (inr record {
-    answer = idle.0;
-    engine = ap (λ (it : Committer E). it.engine) idle.1;
-    stage = ap (λ (it : Committer E). it.stage) idle.1 ∙ ready;
-    local = ap (λ (it : Committer E). it.local) idle.1;
-    aside_is = ap (λ (it : Committer E). it.aside.items) idle.1;
-    waits = λ list rest is. absurd (let none = ap length (sym alone ∙ is) in omega arith);
-    none = λ is. inr idle.2;
-  })
-
-  -- what is set aside beforehand is no matter of what is freed, cleared or committed
+  -- what is set aside beforehand is no matter of what is freed or committed
   module _ (old : Committer E) (aside : VecDeque FreeList Global) where
     abbrev middle : Committer E
     middle = record old { aside = aside }
 
-    commits-from : (group : Group) (result : Result Done Refusal) (new : Committer E) → Commits device contents is_faulted middle group result new → Commits device contents is_faulted old group result new
+    pub commits-from : (group : Group) (result : Result Done Refusal) (new : Committer E) → Commits device contents is_faulted middle group result new → Commits device contents is_faulted old group result new
     commits-from group result new it = search rules
 
-    frees-from : (list : FreeList) (rest : List FreeList) (result : Result Done Refusal) (new : Committer E) → FreesFirst device contents is_faulted middle list rest result new
+    pub frees-from : (list : FreeList) (rest : List FreeList) (result : Result Done Refusal) (new : Committer E) → FreesFirst device contents is_faulted middle list rest result new
         → FreesFirst device contents is_faulted old list rest result new
     frees-from list rest result new it = search rules
 
-    clears-from : (result : Result Done Refusal) (new : Committer E) → ClearsGap device contents is_faulted middle result new → ClearsGap device contents is_faulted old result new
-    clears-from result new it = search rules
+    -- nothing was set aside
+    pub lacks-room : (before after : Waiting Work) (result : Result Done Refusal) → result ≡ Err Memory → aside.items ≡ old.aside.items → after ≡ before
+        → LacksRoom device contents is_faulted old before result middle after
+    lacks-room before after result answer same queue = record { answer = answer; engine = refl; stage = refl; local = refl; aside = same; queue = queue }
 
-    idle-from : (xs ys : List FreeList) (room remote : ℕ) (result : Result Done Refusal) (new : Committer E) → xs ≡ ys → StaysIdle device contents is_faulted middle xs room remote result new
-        → StaysIdle device contents is_faulted old ys room remote result new
-    idle-from xs ys room remote result new is it = rw (sym is) (search rules)
+    pub freed-from : (before after : Waiting Work) (list : FreeList) (rest : List FreeList) (result : Result Done Refusal) (new : Committer E) → AllAside old.aside.items before.items aside.items after.items
+        → reached_by true old.aside.items before.items ≡ list ∷ rest
+        → ((list : FreeList) (rest : List FreeList) → aside.items ≡ list ∷ rest → FreesFirst device contents is_faulted middle list rest result new)
+        → (after.items ≡ left_by true before.items) × FreesFirst device contents is_faulted old list rest result new
+    freed-from before after list rest result new all reached frees = (all.left, frees-from list rest result new (frees list rest (sym all.reached ∙ reached)))
 
-    module _ {I : Type 0} (gives : I → Option Work → I → Type 0) (before : I) (room remote : ℕ) where
-      -- where no list and nothing stood aside, the queue gave no more
-      no-more : (lists : List FreeList) (between after : I) → old.aside.items ++ lists ≡ [] → 0 < room → IsDrained gives room before lists between after → gives between None after
-      no-more lists between after alone some (inl (has, inl gave)) = gave
-      no-more lists between after alone some (inl (has, inr full)) =
-          absurd (let both = length-append old.aside.items lists in let none = ap length alone in let many = full.0 in omega arith)
-      no-more lists between after alone some (inr without) = absurd (let none = without.0 in omega arith)
+  -- ---- the step that is due
 
-      came-tidied : (lists : List FreeList) (between after : I) (result : Result Done Refusal) (new : Committer E) → TakesLists gives before lists between
-          → aside.items ≡ old.aside.items ++ lists → IsDrained gives room before lists between after → Tidies device contents is_faulted middle room remote result new
-          → TurnsReady device contents is_faulted gives old before room remote result new after
-      came-tidied lists between after result new takes set drained (inl (list, rest, is, due, frees)) = record {
-        lists = lists;
-        between = between;
-        takes = takes;
-        came = inr (inl (drained, list, rest, sym set ∙ is, due, frees-from list rest result new frees));
-      }
-      came-tidied lists between after result new takes set drained (inr (inl (some, alone, clears))) = record {
-        lists = lists;
-        between = between;
-        takes = takes;
-        came = inr (inr (inl (some, no-more lists between after (sym set ∙ alone) some drained, sym set ∙ alone, clears-from result new clears)));
-      }
-      came-tidied lists between after result new takes set drained (inr (inr idle)) = record {
-        lists = lists;
-        between = between;
-        takes = takes;
-        came = inr (inr (inr (inl (drained, idle-from aside.items (old.aside.items ++ lists) room remote result new set idle))));
-      }
+  module _ {O : Type 0} (offered : O → List Group) (known_room : O → ℕ) (old new : Committer E) (before after : Waiting Work) (link link' : O) (remote : ℕ) (result : Result Done Refusal) where
+    abbrev Took : Due → Bool → Type 0
+    Took step has_room = Takes device contents is_faulted offered known_room step has_room remote old before link result new after link'
 
-      -- nothing more came
-      pub turns-tidied : (after : I) (result : Result Done Refusal) (new : Committer E) → 0 < room → TakesNext gives before old.aside.items (Ok None) after aside.items
-          → Tidies device contents is_faulted middle room remote result new → TurnsReady device contents is_faulted gives old before room remote result new after
-      turns-tidied after result new some taken tidies = came-tidied taken.lists taken.between after result new taken.takes taken.set_aside (inl (some, taken.next)) tidies
-
-      -- a group came
-      pub turns-committed : (after : I) (group : Group) (result : Result Done Refusal) (new : Committer E) → 0 < room → TakesNext gives before old.aside.items (Ok (Some group)) after aside.items
-          → Commits device contents is_faulted middle group result new → new.aside ≡ aside → TurnsReady device contents is_faulted gives old before room remote result new after
-      turns-committed after group result new some taken commits same = record {
-        lists = taken.lists;
-        between = taken.between;
-        takes = taken.takes;
-        came = inl (group, some, taken.next, commits-from group result new commits, ap (λ (it : VecDeque FreeList Global). it.items) same ∙ taken.set_aside);
-      }
-
-  -- the link has no room, and nothing was taken
-  pub turns-without : {I : Type 0} (gives : I → Option Work → I → Type 0) (old : Committer E) (before : I) (remote : ℕ) (result : Result Done Refusal) (new : Committer E)
-      → Tidies device contents is_faulted old 0 remote result new → TurnsReady device contents is_faulted gives old before 0 remote result new before
-  turns-without gives old before remote result new tidies =
-      came-tidied old old.aside gives before 0 remote [] before before result new refl (sym (append-nil old.aside.items)) (inr (refl, refl, refl)) tidies
+    -- it was taken
+    pub takes-step : (step : Due) (room : ℕ) → room ≡ known_room link' → due_now contents old before (nat_lt 0 room) remote ≡ step → Took step (nat_lt 0 room)
+        → Took (due_now contents old before (nat_lt 0 (known_room link')) remote) (nat_lt 0 (known_room link'))
+    takes-step step room at is took =
+        subst (λ (n : ℕ). Took (due_now contents old before (nat_lt 0 n) remote) (nat_lt 0 n)) at (subst (λ (s : Due). Took s (nat_lt 0 room)) (sym is) took)

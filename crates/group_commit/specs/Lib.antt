@@ -1,3 +1,4 @@
 pub mod Committing
+pub mod Due
 pub mod Group
 pub mod Working

@@ -1,5 +1,5 @@
--- What a turn of a committer that may take a group comes to.
-use Rattle.std.specs.Prelude.{◌≡◌, ◌⊎◌, ℕ, ◌+◌, ◌<◌, ◌≤◌, Bool, false, true, List, [], ◌∷◌, ◌++◌, length, Option, Some, None, Result, Ok, Err, IfOk, IfErr, IsErrOf, OnOk, OnErr}
+-- What a turn of a committer comes to, by the step that was due.
+use Rattle.std.specs.Prelude.{◌≡◌, ◌⊎◌, ℕ, ◌+◌, ◌<◌, ◌≤◌, Bool, false, true, List, [], ◌∷◌, ◌++◌, length, map, Option, Some, None, Result, Ok, Err, IfOk, IfErr, IsErrOf, OnOk, OnErr}
 use Rattle.std.specs.List.{flat_map}
 use Rattle.pmem.specs.Device.{State}
 use Rattle.pmem.specs.Runs.{LeavesOnly}
@@ -12,52 +12,39 @@ use Rattle.model.specs.declared.work.FreeList.{FreeList}
 use Rattle.model.specs.declared.work.Work.{Work}
 use Rattle.model.specs.declared.work.Work.TheVariants as work
 use Rattle.model.specs.Group.{AreEnded, Contents, IsGroup}
-use Rattle.pipes.specs.declared.limits.TheConstants.{PIPE_ITEMS}
+use Rattle.pipes.specs.Waiting.{Waiting}
 use Rattle.wbl_engine.specs.declared.freeing.Freed.{Freed as Places}
 use Rattle.wbl_engine.specs.Contents.{Keeps, IsDurable, Same}
 use Rattle.wbl_engine.specs.Freeing.{Clears, KeepsWithoutSome, after_free, cleared_contents, extents_of}
-use Rattle.group_commit.specs.Committing.{Commits}
+use Rattle.group_commit.specs.Committing.{Commits, raised, ready_again}
+use Rattle.group_commit.specs.Due.{left_by, reached_by}
+use Rattle.group_commit.specs.Group.{lists_before}
 use Rattle.group_commit.specs.declared.committer.Committer.{Committer}
+use Rattle.group_commit.specs.declared.due.Due.{Due}
+use Rattle.group_commit.specs.declared.due.Due.TheVariants as due
 use Rattle.group_commit.specs.declared.stage.Done.{Done}
-use Rattle.group_commit.specs.declared.stage.Done.TheVariants.{Cleared, Freed, Idle}
-use Rattle.group_commit.specs.declared.stage.Stage.TheVariants.{Ready}
+use Rattle.group_commit.specs.declared.stage.Done.TheVariants.{Cleared, Freed, Handed, Idle, Raised}
+use Rattle.group_commit.specs.declared.stage.Stage.TheVariants.{Durable, Ready, Shown}
 
 -- the entries of these free lists, in order
 abbrev pub entries_of_lists : List FreeList → List EntryNo
 entries_of_lists = flat_map (λ list. list.entries.items)
 
--- Free lists, and nothing else, are taken from this end of the queue, one after another.
-abbrev pub TakesLists : {I : Type 0} → (I → Option Work → I → Type 0) → I → List FreeList → I → Type 0
-TakesLists gives before [] after = after ≡ before
-TakesLists {I} gives before (list ∷ lists) after = (between : I) × gives before (Some (work.Free list)) between × TakesLists gives between lists after
+-- What waits is lawful: the first group, behind any free lists, is what a commit asks for, and the entries of the lists before it, with those that stand aside, have ended, each listed once.
+pub record IsLawful (contents : Contents) (aside : List FreeList) (items : List Work) : Type 0 where
+  pub group : (lists : List FreeList) (group : Group) (rest : List Work) → items ≡ map work.Free lists ++ work.Commit group ∷ rest → IsGroup contents group
+  pub lists : AreEnded contents (entries_of_lists (aside ++ lists_before items))
 
--- What the queue may give next is lawful: a group, after any free lists, is what a commit asks for, and the entries of the lists, with those that stand aside, have ended.
-pub record GivesWork {I : Type 0} (gives : I → Option Work → I → Type 0) (before : I) (aside : List FreeList) (contents : Contents) : Type 0 where
-  pub group : (lists : List FreeList) (between after : I) (group : Group) → TakesLists gives before lists between → gives between (Some (work.Commit group)) after → IsGroup contents group
-  pub lists : (lists : List FreeList) (between : I) → TakesLists gives before lists between → AreEnded contents (entries_of_lists (aside ++ lists))
+-- These items were free lists, and this group behind them, if one came; else nothing is left.
+abbrev pub AreTaken : List Work → List FreeList → Option Group → List Work → Type 0
+AreTaken before lists (Some group) after = before ≡ map work.Free lists ++ work.Commit group ∷ after
+AreTaken before lists None after = (before ≡ map work.Free lists) × (after ≡ [])
 
--- After these lists the queue gives no more, or they are as many as a turn takes.
-abbrev pub EndsLists : {I : Type 0} → (I → Option Work → I → Type 0) → List FreeList → I → I → Type 0
-EndsLists gives lists between after = gives between None after ⊎ ((length lists ≡ PIPE_ITEMS) × (after ≡ between))
-
--- All that could be taken was: the pipe to the link has room and the lists ended, or it has no room and nothing was taken.
-abbrev pub IsDrained : {I : Type 0} → (I → Option Work → I → Type 0) → ℕ → I → List FreeList → I → I → Type 0
-IsDrained gives room before lists between after =
-    ((0 < room) × EndsLists gives lists between after) ⊎ ((room ≡ 0) × (lists ≡ []) × (after ≡ before))
-
--- After these lists the queue gave a group, or the lists ended; or room for a list was refused, and nothing more was taken.
-abbrev pub GivesNext : {I : Type 0} → (I → Option Work → I → Type 0) → List FreeList → I → Result (Option Group) Refusal → I → Type 0
-GivesNext gives lists between (Ok (Some group)) after = gives between (Some (work.Commit group)) after
-GivesNext gives lists between (Ok None) after = EndsLists gives lists between after
-GivesNext gives lists between (Err refusal) after = (refusal ≡ Memory) × (after ≡ between)
-
--- Free lists were taken from the queue, and stand aside behind those that did; then that came.
-pub record TakesNext {I : Type 0} (gives : I → Option Work → I → Type 0) (before : I) (aside : List FreeList) (result : Result (Option Group) Refusal) (after : I) (aside' : List FreeList) : Type 0 where
+-- Free lists were taken from the front of what waits and stand aside behind those that did; then that came.
+pub record SetsAside (aside : List FreeList) (before : List Work) (came : Option Group) (aside' : List FreeList) (after : List Work) : Type 0 where
   pub lists : List FreeList
-  pub between : I
-  pub takes : TakesLists gives before lists between
   pub set_aside : aside' ≡ aside ++ lists
-  pub next : GivesNext gives lists between result after
+  pub taken : AreTaken before lists came after
 
 -- by what is known of an engine
 module _ {E : Type 0} (device : E → State) (contents : E → Contents) (is_faulted : E → Bool) where
@@ -96,42 +83,60 @@ module _ {E : Type 0} (device : E → State) (contents : E → Contents) (is_fau
     pub moments : is_faulted old.engine ≡ false → LeavesOnly (device old.engine) (device new.engine)
         (λ image. Keeps (contents old.engine) image ⊎ Keeps (cleared_contents (contents old.engine)) image)
 
-  -- nothing was to be done: the oldest list aside waits for the standby, or there is none, and no room at the link or no gap
-  pub record StaysIdle (old : Committer E) (aside : List FreeList) (room remote : ℕ) (result : Result Done Refusal) (new : Committer E) : Type 0 where
-    pub answer : result ≡ Ok Idle
-    pub engine : new.engine ≡ old.engine
-    pub stage : new.stage ≡ Ready
-    pub local : new.local ≡ old.local
-    pub aside_is : new.aside.items ≡ aside
-    pub waits : (list : FreeList) (rest : List FreeList) → aside ≡ list ∷ rest → remote < list.position
-    pub none : aside ≡ [] → (room ≡ 0) ⊎ ((contents old.engine).current.gaps.items ≡ [])
-
-  -- The oldest list aside was freed, or a gap was cleared, or nothing was to be done.
-  abbrev pub Tidies : Committer E → ℕ → ℕ → Result Done Refusal → Committer E → Type 0
-  Tidies old room remote result new =
-      ((list : FreeList) × (rest : List FreeList) × (old.aside.items ≡ list ∷ rest) × (list.position ≤ remote) × FreesFirst old list rest result new)
-      ⊎ ((0 < room) × (old.aside.items ≡ []) × ClearsGap old result new)
-      ⊎ StaysIdle old old.aside.items room remote result new
-
-  -- room for a list to stand aside was refused
-  pub record RefusesAside (old : Committer E) (aside : List FreeList) (result : Result Done Refusal) (new : Committer E) : Type 0 where
+  -- room for the lists to stand aside was refused, and nothing changed
+  pub record LacksRoom (old : Committer E) (before : Waiting Work) (result : Result Done Refusal) (new : Committer E) (after : Waiting Work) : Type 0 where
     pub answer : result ≡ Err Memory
     pub engine : new.engine ≡ old.engine
-    pub stage : new.stage ≡ Ready
+    pub stage : new.stage ≡ old.stage
     pub local : new.local ≡ old.local
-    pub aside_is : new.aside.items ≡ aside
+    pub aside : new.aside.items ≡ old.aside.items
+    pub queue : after ≡ before
 
-  -- What a turn in `Ready` came to, with this known room at the link and this remote mark: free lists were taken from the queue and stand aside behind
-  -- those that did; then a group was taken and committed, or, where there was none, the oldest list aside was freed, if the standby has passed it, or,
-  -- where there is none, a gap was cleared.
-  pub record TurnsReady {I : Type 0} (gives : I → Option Work → I → Type 0) (old : Committer E) (before : I) (room remote : ℕ) (result : Result Done Refusal) (new : Committer E) (after : I) : Type 0 where
+  -- The free lists that waited first were set aside, behind those that were, and the group behind them was taken; its commit came to that.
+  pub record TakesGroup (old : Committer E) (before : Waiting Work) (result : Result Done Refusal) (new : Committer E) (after : Waiting Work) : Type 0 where
     pub lists : List FreeList
-    pub between : I
-    pub takes : TakesLists gives before lists between
-    pub came :
-        ((group : Group) × (0 < room) × gives between (Some (work.Commit group)) after × Commits device contents is_faulted old group result new × (new.aside.items ≡ old.aside.items ++ lists))
-        ⊎ (IsDrained gives room before lists between after × (list : FreeList) × (rest : List FreeList)
-        × (old.aside.items ++ lists ≡ list ∷ rest) × (list.position ≤ remote) × FreesFirst old list rest result new)
-        ⊎ ((0 < room) × gives between None after × (old.aside.items ++ lists ≡ []) × ClearsGap old result new)
-        ⊎ (IsDrained gives room before lists between after × StaysIdle old (old.aside.items ++ lists) room remote result new)
-        ⊎ ((0 < room) × (after ≡ between) × RefusesAside old (old.aside.items ++ lists) result new)
+    pub group : Group
+    pub taken : before.items ≡ map work.Free lists ++ work.Commit group ∷ after.items
+    pub set_aside : new.aside.items ≡ old.aside.items ++ lists
+    pub commits : Commits device contents is_faulted old group result new
+
+  -- What was reached was set aside, and the first of it was freed, which the standby has passed, or that came to this.
+  pub record FreesReached (has_room : Bool) (remote : ℕ) (old : Committer E) (before : Waiting Work) (result : Result Done Refusal) (new : Committer E) (after : Waiting Work) : Type 0 where
+    pub list : FreeList
+    pub rest : List FreeList
+    pub reached : reached_by has_room old.aside.items before.items ≡ list ∷ rest
+    pub passed : list.position ≤ remote
+    pub left : after.items ≡ left_by has_room before.items
+    pub frees : FreesFirst old list rest result new
+
+  -- the local mark was raised to the engine's position, to which the group in hand led
+  pub record RaisesMark (old : Committer E) (result : Result Done Refusal) (new : Committer E) : Type 0 where
+    pub group : Group
+    pub in_hand : old.stage ≡ Durable group
+    pub answer : result ≡ Ok Raised
+    pub now : new ≡ raised device contents is_faulted group old
+
+  -- by what is known of the end of a link at which groups are offered
+  module _ {O : Type 0} (offered : O → List Group) (known_room : O → ℕ) where
+    -- nothing was offered, and no room was lost
+    pub record OffersNone (link link' : O) : Type 0 where
+      pub offered_is : offered link' ≡ offered link
+      pub room : known_room link ≤ known_room link'
+
+    -- The group in hand was handed on; or the link neither knew of room nor found any, and it stays in hand.
+    pub record HandsOn (old : Committer E) (link : O) (result : Result Done Refusal) (new : Committer E) (link' : O) : Type 0 where
+      pub group : Group
+      pub in_hand : old.stage ≡ Shown group
+      pub came : ((result ≡ Ok Handed) × (new ≡ ready_again old) × (offered link' ≡ offered link ++ group ∷ []))
+          ⊎ ((result ≡ Ok Idle) × (new ≡ old) × (known_room link ≡ 0) × (offered link' ≡ offered link))
+
+    -- What a turn came to whose step was due, by whether the link had room, and by the remote mark: that step was taken, or refused, and no other.
+    abbrev pub Takes : Due → Bool → ℕ → Committer E → Waiting Work → O → Result Done Refusal → Committer E → Waiting Work → O → Type 0
+    Takes due.Commit has_room remote old before link result new after link' =
+        OffersNone link link' × (TakesGroup old before result new after ⊎ LacksRoom old before result new after)
+    Takes due.Free has_room remote old before link result new after link' =
+        OffersNone link link' × (FreesReached has_room remote old before result new after ⊎ LacksRoom old before result new after)
+    Takes due.Clear has_room remote old before link result new after link' = OffersNone link link' × (after ≡ before) × ClearsGap old result new
+    Takes due.Raise has_room remote old before link result new after link' = (link' ≡ link) × (after ≡ before) × RaisesMark old result new
+    Takes due.Hand has_room remote old before link result new after link' = (after ≡ before) × HandsOn old link result new link'
+    Takes due.Nothing has_room remote old before link result new after link' = OffersNone link link' × (after ≡ before) × (result ≡ Ok Idle) × (new ≡ old)

@@ -1,5 +1,5 @@
 //! The committer.
-ghost use Rattle.std.specs.Prelude.{◌≡◌, ◌≢◌, ◌⊎◌, ◌↔◌, ◌++◌, ◌∷◌, [], ◌<◌, ◌≤◌, ℕ, Some, Ok, Err, true, false, IsTrue, List, length, map, MatchOption, OnOk, OnErr, IfOk, IfErr, IsErrOf};
+ghost use Rattle.std.specs.Prelude.{◌≡◌, ◌≢◌, ◌⊎◌, ◌↔◌, ◌++◌, ◌∷◌, [], ◌<◌, ℕ, Some, Err, true, false, nat_lt, IsTrue, List, length, MatchOption, OnOk, OnErr, IfOk, IfErr, IsErrOf};
 ghost use Rattle.kv_types.specs.declared.refusal.Refusal.{Refusal as Cause};
 ghost use Rattle.pmem.specs.Device.{Only, newest_at};
 ghost use Rattle.pmem.specs.Crash.{IsImage, IsSettled, image_of, picked};
@@ -7,21 +7,21 @@ ghost use Rattle.pmem.specs.Runs.{LeavesOnly};
 ghost use Rattle.model.specs.declared.group.Group.{Group};
 ghost use Rattle.model.specs.declared.record.Record.{Record as CommitRecord};
 ghost use Rattle.model.specs.declared.work.FreeList.{FreeList};
-ghost use Rattle.model.specs.declared.work.Work.{Work};
-ghost use Rattle.model.specs.declared.work.Work.TheVariants.{Commit, Free};
 ghost use Rattle.model.specs.Group.{AreEnded, IsGroup};
-ghost use Rattle.pipes.specs.declared.limits.TheConstants.{PIPE_ITEMS};
 ghost use Rattle.heap_layout.specs.Superblock.{super_refusal};
 ghost use Rattle.wbl_engine.specs.Contents.{IsDurable};
 ghost use Rattle.wbl_engine.specs.Lawful.{IsUndamaged};
 ghost use Rattle.wbl_engine.specs.Reopening.{IsShown, RefusesReopening, Reopens, StaysReadable};
-ghost use Rattle.group_commit.specs.Committing.{Commits, raised, ready_again};
-ghost use Rattle.group_commit.specs.Working.{ClearsGap, GivesWork, TakesNext, Tidies, TurnsReady, entries_of_lists};
+ghost use Rattle.group_commit.specs.Committing.{Commits, raised};
+ghost use Rattle.group_commit.specs.Due.{due_now, has_group, left_by, reached_by};
+ghost use Rattle.group_commit.specs.Working.{ClearsGap, FreesFirst, IsLawful, LacksRoom, TakesGroup, Takes, entries_of_lists};
 
+use crate::due::{Due, due_when_ready};
+use crate::queue::set_aside;
 use crate::stage::{Done, Stage};
 use kv_types::Refusal;
 use model::{FreeList, Group, Role, Work};
-use pipes::{Inlet, Outlet, PIPE_ITEMS};
+use pipes::{LocalPipe, Outlet};
 use pmem::Pmem;
 use std::alloc::Global;
 use std::collections::VecDeque;
@@ -99,13 +99,6 @@ impl<E: Durable> Committer<E> {
         self.local
     }
 
-    /// The oldest free list that stands aside, if there is one.
-    pub fn first_aside(&self) -> Option<&FreeList>
-        ensures { MatchOption result (self.now.aside.items ≡ []) (λ list. (rest : List FreeList) × (self.now.aside.items ≡ list.now ∷ rest)) }
-    {
-        self.aside.front()
-    }
-
     /// Whether a free list stands aside.
     pub fn has_aside(&self) -> bool
         ensures { IsTrue result ↔ (self.now.aside.items ≢ []) }
@@ -115,7 +108,8 @@ impl<E: Durable> Committer<E> {
 
     /// Whether the engine's record has a gap.
     pub fn has_gap(&self) -> bool
-        ensures { IsTrue result ↔ ((E.contents self.now.engine).current.gaps.items ≢ []) }
+        ensures some { IsTrue result ↔ ((E.contents self.now.engine).current.gaps.items ≢ []) }
+        ensures counted { result ≡ nat_lt 0 (length (E.contents self.now.engine).current.gaps.items) }
     {
         !self.engine.record().gaps.is_empty()
     }
@@ -127,38 +121,42 @@ impl<E: Durable> Committer<E> {
         self.engine.into_device()
     }
 
+    /// The step that the next turn takes, with this queue, where nothing comes until then; `has_room` is whether the link has room for a group, and `remote` the
+    /// remote mark.
+    pub fn due(&self, work: &LocalPipe<Work>, has_room: bool, remote: u64) -> Due
+        ensures { result ≡ due_now E.contents self.now work.now has_room remote }
+    {
+        match &self.stage {
+            Stage::Ready => due_when_ready(&self.aside, work, has_room, self.has_gap(), remote),
+            Stage::Durable(_) => Due::Raise,
+            Stage::Shown(_) => Due::Hand,
+        }
+    }
+
     /// Takes the one step that is due, and waits for nobody. `remote` is the remote mark: the position up to which everything is durable at the standby.
     ///
-    /// In `Ready`, where the link has room, it sets aside the free lists that come next, 256 at most, and takes the group behind them and commits it.
-    /// Where no group came, or the link has no room, it frees the oldest list aside, if the standby has passed it; where none stands aside and the link
-    /// has room, it clears the oldest gap. In `Durable` it raises the local mark to the engine's position; in `Shown` it hands the group on to the link,
-    /// where that has room.
+    /// A group in hand is told of, and then handed on to the link. With none in hand, the first group that waits is committed, where the link has room for
+    /// it; the free lists before it go aside. Where no group may be taken, the first free list that is reached is freed, if the standby has passed it, and
+    /// the others go aside; where none is, the oldest gap is cleared.
     ///
     /// # Errors
     ///
-    /// In `Ready` alone. `Fault` where a fence failed, in this call or an earlier one, and then the engine refuses each later step. `Exhausted` where a
-    /// counter would reach 2^62, and then the engine is as it was. A group that was to be committed was taken either way. `Memory` where memory was
-    /// refused: for room aside, and then nothing more was taken, or for a list to be freed, which stays aside, or for a gap to be cleared; the engine is
-    /// as it was.
-    pub fn turn<I: Inlet<Item = Work>, O: Outlet<Item = Group>>(
+    /// `Fault` where a fence failed, in this call or an earlier one, and then the engine refuses each later step. `Exhausted` where a counter would reach
+    /// 2^62, and then the engine is as it was. A group that was to be committed was taken either way. `Memory` where memory was refused: for room aside, and
+    /// then nothing changed, or for a list to be freed, which stays aside, or for a gap to be cleared; the engine is as it was.
+    pub fn turn<O: Outlet<Item = Group>>(
         &mut self,
         alloc: Global,
-        work: &mut I,
+        work: &mut LocalPipe<Work>,
         link: &mut O,
         remote: u64,
     ) -> Result<Done, Refusal>
-        requires lawful { self.old.stage ≡ Stage.Ready → GivesWork I.take_gives work.old self.old.aside.items (E.contents self.old.engine) }
+        requires lawful { self.old.stage ≡ Stage.Ready → IsLawful (E.contents self.old.engine) self.old.aside.items work.old.items }
         requires shown { (group : Group) → self.old.stage ≡ Stage.Shown group → O.may_offer link.old group }
-        ensures ready { self.old.stage ≡ Stage.Ready → (O.offered link.new ≡ O.offered link.old) × (O.known_room link.old ≤ O.known_room link.new)
-            × TurnsReady E.device E.contents E.is_faulted I.take_gives self.old work.old (O.known_room link.new) remote result self.new work.new }
-        ensures durable { (group : Group) → self.old.stage ≡ Stage.Durable group
-            → (result ≡ Ok Done.Raised) × (self.new ≡ raised E.device E.contents E.is_faulted group self.old) × (work.new ≡ work.old) × (link.new ≡ link.old) }
-        ensures shown { (group : Group) → self.old.stage ≡ Stage.Shown group → (work.new ≡ work.old)
-            × (((result ≡ Ok Done.Handed) × (self.new ≡ ready_again self.old) × (O.offered link.new ≡ O.offered link.old ++ group ∷ []))
-            ⊎ ((result ≡ Ok Done.Idle) × (self.new ≡ self.old) × (O.known_room link.old ≡ 0) × (O.offered link.new ≡ O.offered link.old))) }
-        // a known group is taken, behind fewer free lists than a turn takes
-        ensures otherwise { self.old.stage ≡ Stage.Ready → 0 < O.known_room link.old → (lists : List FreeList) (group : Group) (others : List Work)
-            → I.known_items work.old ≡ map Free lists ++ Commit group ∷ others → length lists < PIPE_ITEMS → result ≢ Ok Done.Idle }
+        // the step that is due where the link has the room that it was found to have
+        ensures takes { let has_room = nat_lt 0 (O.known_room link.new) in
+            Takes E.device E.contents E.is_faulted O.offered O.known_room (due_now E.contents self.old work.old has_room remote) has_room remote
+            self.old work.old link.old result self.new work.new link.new }
         ensures same { O.is_same link.old link.new }
     {
         match std::mem::replace(&mut self.stage, Stage::Ready) {
@@ -168,29 +166,41 @@ impl<E: Durable> Committer<E> {
         }
     }
 
-    /// Commits the next group, where there is one and the link has room for it, or else does what is due beside groups.
-    fn do_next<I: Inlet<Item = Work>, O: Outlet<Item = Group>>(
+    /// Takes the step that is due with no group in hand.
+    fn do_next<O: Outlet<Item = Group>>(
         &mut self,
         alloc: Global,
-        work: &mut I,
+        work: &mut LocalPipe<Work>,
         link: &mut O,
         remote: u64,
     ) -> Result<Done, Refusal>
         requires ready { self.old.stage ≡ Stage.Ready }
-        requires lawful { GivesWork I.take_gives work.old self.old.aside.items (E.contents self.old.engine) }
-        ensures offered { O.offered link.new ≡ O.offered link.old }
-        ensures room { O.known_room link.old ≤ O.known_room link.new }
-        ensures turns { TurnsReady E.device E.contents E.is_faulted I.take_gives self.old work.old (O.known_room link.new) remote result self.new work.new }
-        ensures otherwise { 0 < O.known_room link.old → (lists : List FreeList) (group : Group) (others : List Work)
-            → I.known_items work.old ≡ map Free lists ++ Commit group ∷ others → length lists < PIPE_ITEMS → result ≢ Ok Done.Idle }
+        requires lawful { IsLawful (E.contents self.old.engine) self.old.aside.items work.old.items }
+        ensures takes { let has_room = nat_lt 0 (O.known_room link.new) in
+            Takes E.device E.contents E.is_faulted O.offered O.known_room (due_now E.contents self.old work.old has_room remote) has_room remote
+            self.old work.old link.old result self.new work.new link.new }
         ensures same { O.is_same link.old link.new }
     {
-        if link.room() == 0 {
-            return self.free_first(alloc, remote);
+        let has_room = link.room() > 0;
+        match self.due(work, has_room, remote) {
+            Due::Commit => self.commit_next(work),
+            Due::Free => self.free_reached(alloc, work, has_room),
+            Due::Clear => self.clear_gap(alloc),
+            Due::Raise | Due::Hand | Due::Nothing => Ok(Done::Idle),
         }
-        match next_group(&mut self.aside, work)? {
+    }
+
+    /// Takes the first group that waits and commits it. The free lists before it go aside.
+    fn commit_next(&mut self, work: &mut LocalPipe<Work>) -> Result<Done, Refusal>
+        requires ready { self.old.stage ≡ Stage.Ready }
+        requires lawful { IsLawful (E.contents self.old.engine) self.old.aside.items work.old.items }
+        requires some { has_group work.old.items ≡ true }
+        ensures { TakesGroup E.device E.contents E.is_faulted self.old work.old result self.new work.new
+            ⊎ LacksRoom E.device E.contents E.is_faulted self.old work.old result self.new work.new }
+    {
+        match set_aside(&mut self.aside, work)? {
             Some(group) => self.commit(group),
-            None => self.tidy(alloc, remote),
+            None => Ok(Done::Idle),
         }
     }
 
@@ -206,45 +216,48 @@ impl<E: Durable> Committer<E> {
         Ok(Done::Committed(committed))
     }
 
-    /// Frees the oldest list aside, if the standby has passed it, or clears the oldest gap where no list stands aside.
-    fn tidy(&mut self, alloc: Global, remote: u64) -> Result<Done, Refusal>
+    /// Sets aside what is reached, and frees the first of it.
+    fn free_reached(
+        &mut self,
+        alloc: Global,
+        work: &mut LocalPipe<Work>,
+        has_room: bool,
+    ) -> Result<Done, Refusal>
         requires ready { self.old.stage ≡ Stage.Ready }
-        requires lawful { AreEnded (E.contents self.old.engine) (entries_of_lists self.old.aside.items) }
-        ensures { (room : ℕ) → 0 < room → Tidies E.device E.contents E.is_faulted self.old room remote result self.new }
+        requires lawful { IsLawful (E.contents self.old.engine) self.old.aside.items work.old.items }
+        requires none { has_room ≡ true → has_group work.old.items ≡ false }
+        ensures { (list : FreeList) (rest : List FreeList) → reached_by has_room self.old.aside.items work.old.items ≡ list ∷ rest
+            → ((work.new.items ≡ left_by has_room work.old.items) × FreesFirst E.device E.contents E.is_faulted self.old list rest result self.new)
+            ⊎ LacksRoom E.device E.contents E.is_faulted self.old work.old result self.new work.new }
     {
-        if self.has_aside() {
-            return self.free_first(alloc, remote);
+        if !has_room {
+            return self.free_first(alloc);
         }
-        self.clear_gap(alloc)
+        set_aside(&mut self.aside, work)?;
+        self.free_first(alloc)
     }
 
-    /// Frees the oldest list aside, if the standby has passed it.
-    fn free_first(&mut self, alloc: Global, remote: u64) -> Result<Done, Refusal>
+    /// Frees the oldest list aside.
+    fn free_first(&mut self, alloc: Global) -> Result<Done, Refusal>
         requires ready { self.old.stage ≡ Stage.Ready }
         requires lawful { AreEnded (E.contents self.old.engine) (entries_of_lists self.old.aside.items) }
-        ensures { Tidies E.device E.contents E.is_faulted self.old 0 remote result self.new }
+        ensures { (list : FreeList) (rest : List FreeList) → self.old.aside.items ≡ list ∷ rest → FreesFirst E.device E.contents E.is_faulted self.old list rest result self.new }
     {
         let Some(list) = self.aside.front() else {
             return Ok(Done::Idle);
         };
-        if list.position > remote {
-            return Ok(Done::Idle);
-        }
         let freed = self.engine.free(alloc, &list.entries)?;
         let _ = self.aside.pop_front();
         Ok(Done::Freed(freed))
     }
 
-    /// Clears the oldest gap of the record, if it has one.
+    /// Clears the oldest gap of the record.
     fn clear_gap(&mut self, alloc: Global) -> Result<Done, Refusal>
         requires ready { self.old.stage ≡ Stage.Ready }
         requires alone { self.old.aside.items ≡ [] }
-        ensures { ClearsGap E.device E.contents E.is_faulted self.old result self.new
-            ⊎ ((result ≡ Ok Done.Idle) × (self.new ≡ self.old) × ((E.contents self.old.engine).current.gaps.items ≡ [])) }
+        requires some { 0 < length (E.contents self.old.engine).current.gaps.items }
+        ensures { ClearsGap E.device E.contents E.is_faulted self.old result self.new }
     {
-        if !self.has_gap() {
-            return Ok(Done::Idle);
-        }
         let cleared = self.engine.clear_gap(alloc)?;
         Ok(Done::Cleared(cleared))
     }
@@ -330,26 +343,4 @@ impl<E: Restarting> Committer<E> {
         self.aside.clear();
         Ok(versions)
     }
-}
-
-/// Takes free lists from the queue and sets them aside, 256 at most, and then takes a group. It answers `None` where none came behind them.
-///
-/// # Errors
-///
-/// `Memory` alone, where room for one more list aside was refused. Nothing was taken after that.
-fn next_group<I: Inlet<Item = Work>>(
-    aside: &mut VecDeque<FreeList>,
-    work: &mut I,
-) -> Result<Option<Group>, Refusal>
-    ensures { TakesNext I.take_gives work.old aside.old.items result work.new aside.new.items }
-{
-    for _ in 0..PIPE_ITEMS {
-        aside.reserve(1)?;
-        match work.take() {
-            Some(Work::Commit(group)) => return Ok(Some(group)),
-            Some(Work::Free(list)) => aside.push_back_reserved(list),
-            None => return Ok(None),
-        }
-    }
-    Ok(None)
 }

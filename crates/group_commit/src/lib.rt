@@ -2,7 +2,10 @@
 #![tactic(auto)]
 
 mod committer;
+mod due;
+mod queue;
 mod stage;
 
 pub use committer::Committer;
+pub use due::Due;
 pub use stage::{Done, Stage};

@@ -14,10 +14,10 @@ use Rattle.wbl_engine.specs.declared.freeing.Freed.{Freed}
 use Rattle.wbl_engine.proofs.WithoutLemmas.{AllEnded}
 use Rattle.redis_core.specs.Sequencing.{Expects, IsAheadOf, Sequencing}
 use Rattle.group_commit.specs.Group.{AreWork, after_groups, after_work, groups_of, lists_before, lists_of}
-use Rattle.group_commit.specs.Working.{GivesWork, entries_of_lists}
+use Rattle.group_commit.specs.Working.{IsLawful, entries_of_lists}
 use Rattle.group_commit.proofs.FreedLemmas.{AllEnded-listed, AreEnded-after_group, AreEnded-first, AreEnded-moved, AreEnded-rest, IsConsistent-after_groups}
-use Rattle.group_commit.proofs.WorkLemmas.{AreGroups-of-work, AreWork-behind, AreWork-push-group, AreWork-push-list, GivesWork-first, after_work-push-group, after_work-push-list, groups_of-append, groups_of-lists, lists_before-lists, lists_of-append, lists_of-lists}
-use Rattle.pipes.specs.Waiting.{Waiting, LocalTakes}
+use Rattle.group_commit.proofs.WorkLemmas.{AreGroups-of-work, AreWork-behind, AreWork-push-group, AreWork-push-list, after_work-push-group, after_work-push-list, groups_of-append, groups_of-lists, lawful, lists_before-lists, lists_of-append, lists_of-lists}
+use Rattle.pipes.specs.Waiting.{Waiting}
 use Rattle.primary.specs.Closing.{ClosesGroup, ClosesList}
 use Rattle.primary.specs.Leading.{AreOfEpoch, Leads, entries_told, extents_told}
 
@@ -166,10 +166,8 @@ ended-reached contents items aside s notices leads =
         ]
 
 -- what a turn of the committer requires
-pub gives-work : (contents : Contents) (waiting : Waiting Work) (aside : List FreeList) (s : Sequencing) (notices : List Freed) → Leads contents waiting.items aside s notices
-    → GivesWork LocalTakes waiting aside contents
-gives-work contents waiting aside s notices leads =
-    GivesWork-first contents waiting aside waiting.items refl leads.work_is (ended-reached contents waiting.items aside s notices leads)
+pub gives-work : (contents : Contents) (items : List Work) (aside : List FreeList) (s : Sequencing) (notices : List Freed) → Leads contents items aside s notices → IsLawful contents aside items
+gives-work contents items aside s notices leads = lawful contents aside items leads.work_is (ended-reached contents items aside s notices leads)
 
 -- ---- a group has committed
 

@@ -1,12 +1,12 @@
 -- What stands of a primary between its steps.
-use Rattle.std.specs.Prelude.{ℕ, List, [], ◌∷◌}
+use Rattle.std.specs.Prelude.{◌≡◌, ℕ, List, [], ◌∷◌}
 use Rattle.pmem.specs.Device.{State}
 use Rattle.model.specs.declared.work.FreeList.{FreeList}
 use Rattle.model.specs.declared.work.Work.{Work}
 use Rattle.model.specs.Group.{Contents, IsConsistent}
 use Rattle.wbl_engine.specs.declared.freeing.Freed.{Freed}
 use Rattle.wbl_engine.specs.Contents.{IsDurable}
-use Rattle.redis_core.specs.Sequencing.{Sequencing}
+use Rattle.redis_core.specs.Sequencing.{Sequencing, TakesBack}
 use Rattle.group_commit.specs.declared.stage.Done.{Done}
 use Rattle.group_commit.specs.declared.stage.Done.TheVariants as done
 use Rattle.primary.specs.declared.back.Back.{Back}
@@ -25,6 +25,12 @@ abbrev pub notices_of : Done → List Freed
 notices_of (done.Freed places) = places ∷ []
 notices_of (done.Cleared places) = places ∷ []
 notices_of _ = []
+
+-- what it freed is free in the sequencer's heap again, and nothing else changed there
+abbrev pub IsTold : Done → Sequencing → Sequencing → Type 0
+IsTold (done.Freed places) old new = TakesBack old places.entries.items places.extents.items new
+IsTold (done.Cleared places) old new = TakesBack old places.entries.items places.extents.items new
+IsTold _ old new = new ≡ old
 
 -- the position of the engine after such a turn, of which only a commit moves it
 abbrev pub position_after : Done → ℕ → ℕ

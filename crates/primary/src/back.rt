@@ -1,12 +1,15 @@
 //! What of a primary commits.
-ghost use Rattle.std.specs.Prelude.{◌≡◌, ◌↔◌, ◌≤◌, false, ℕ, [], IfOk, IsErrOf};
+ghost use Rattle.std.specs.Prelude.{◌≡◌, ◌↔◌, ◌≤◌, ◌++◌, false, nat_lt, ℕ, List, [], IfOk, IsErrOf};
 ghost use Rattle.model.specs.declared.group.Group.{Group};
+ghost use Rattle.wbl_engine.specs.declared.freeing.Freed.{Freed};
 ghost use Rattle.redis_core.specs.Sequencing.{Sequencing};
+ghost use Rattle.group_commit.specs.Due.{due_now};
+ghost use Rattle.group_commit.specs.Working.{Takes};
 ghost use Rattle.group_commit.specs.declared.stage.Done.TheVariants as done;
 ghost use Rattle.primary.specs.Settled.{HasNothingInHand};
 ghost use Rattle.primary.specs.Standing.{BackStands, notices_of, position_after};
 
-use group_commit::{Committer, Done};
+use group_commit::{Committer, Done, Due};
 use kv_types::Refusal;
 use model::{Group, Work};
 use pipes::{LocalPipe, Outlet};
@@ -45,8 +48,15 @@ impl<E: Durable> Back<E> {
         is_queued | is_kept
     }
 
-    /// Takes the step of the committer that is due, as `Committer::turn` does. Whatever sequencer is ahead of this before is so after it, once it is told
-    /// of what the step freed. The engine's position moves by a commit alone, and never falls.
+    /// The step that the next call of `commit` takes, where nothing comes until then; `has_room` is whether the link has room for a group.
+    pub fn due(&self, has_room: bool, remote: u64) -> Due
+        ensures { result ≡ due_now E.contents self.now.committer self.now.work has_room remote }
+    {
+        self.committer.due(&self.work, has_room, remote)
+    }
+
+    /// Takes the step of the committer that is due, as `Committer::turn` does. Whatever sequencer is ahead of this before, once it is told of what was freed,
+    /// is so after it, once it is told of what the step freed too. The engine's position moves by a commit alone, and never falls.
     ///
     /// # Errors
     ///
@@ -57,11 +67,15 @@ impl<E: Durable> Back<E> {
         link: &mut O,
         remote: u64,
     ) -> Result<Done, Refusal>
-        requires stands { (s : Sequencing) × BackStands E.device E.contents self.old s [] }
+        requires stands { (s : Sequencing) × (notices : List Freed) × BackStands E.device E.contents self.old s notices }
         requires may { (group : Group) → O.may_offer link.old group }
-        ensures told { IfOk result (λ came. (s : Sequencing) → BackStands E.device E.contents self.old s []
-            → BackStands E.device E.contents self.new s (notices_of came)) }
-        ensures again { IsErrOf result Refusal.Memory → (s : Sequencing) → BackStands E.device E.contents self.old s [] → BackStands E.device E.contents self.new s [] }
+        ensures takes { let has_room = nat_lt 0 (O.known_room link.new) in
+            Takes E.device E.contents E.is_faulted O.offered O.known_room (due_now E.contents self.old.committer self.old.work has_room remote) has_room remote
+            self.old.committer self.old.work link.old result self.new.committer self.new.work link.new }
+        ensures told { IfOk result (λ came. (s : Sequencing) (notices : List Freed) → BackStands E.device E.contents self.old s notices
+            → BackStands E.device E.contents self.new s (notices ++ notices_of came)) }
+        ensures again { IsErrOf result Refusal.Memory → (s : Sequencing) (notices : List Freed)
+            → BackStands E.device E.contents self.old s notices → BackStands E.device E.contents self.new s notices }
         ensures position { IfOk result (λ came. (E.contents self.new.committer.engine).current.position
             ≡ position_after came (E.contents self.old.committer.engine).current.position) }
         ensures rises { IfOk result (λ _. (E.contents self.old.committer.engine).current.position ≤ (E.contents self.new.committer.engine).current.position) }

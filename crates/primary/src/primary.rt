@@ -1,12 +1,13 @@
 //! A primary: what serves, and what commits.
-ghost use Rattle.std.specs.Prelude.{◌≡◌, [], List, ℕ, IfOk, IfErr};
+ghost use Rattle.std.specs.Prelude.{◌≡◌, [], List, true, false, IfOk, IfErr, OnErr};
 ghost use Rattle.model.specs.declared.work.FreeList.{FreeList};
 ghost use Rattle.model.specs.declared.work.Work.{Work};
 ghost use Rattle.model.specs.Group.{Contents, IsConsistent};
 ghost use Rattle.wbl_engine.specs.Contents.{IsDurable};
+ghost use Rattle.primary.specs.Closing.{ClosesOne, MayClose};
 ghost use Rattle.primary.specs.Leading.{AreLaid, Leads};
 ghost use Rattle.primary.specs.Resuming.{IsOver};
-ghost use Rattle.primary.specs.Standing.{BackStands, Stands, notices_of};
+ghost use Rattle.primary.specs.Standing.{BackStands, IsTold, Stands, notices_of};
 
 use crate::back::Back;
 use crate::closing::close_next;
@@ -59,7 +60,13 @@ pub fn close<E: Durable, K: Keyspace>(
     front: &mut Front<K>,
     back: &mut Back<E>,
 ) -> Result<bool, Refusal>
+    ensures closed { IfOk result (λ did. did ≡ true → MayClose front.old.sequencer back.old.work
+        × ClosesOne front.old.sequencer back.old.work front.new.sequencer back.new.work) }
+    ensures none { IfOk result (λ did. did ≡ false → (¬ MayClose front.old.sequencer back.old.work) × (front.new.sequencer ≡ front.old.sequencer)
+        × (back.new.work ≡ back.old.work)) }
     ensures cause { IfErr result (λ refusal. refusal ≡ Refusal.Memory) }
+    ensures refused { OnErr result (MayClose front.old.sequencer back.old.work × (front.new.sequencer ≡ front.old.sequencer)
+        × (back.new.work.items ≡ back.old.work.items)) }
     ensures stands { BackStands E.device E.contents back.old front.old.sequencer [] → BackStands E.device E.contents back.new front.new.sequencer [] }
     ensures committer { back.new.committer ≡ back.old.committer }
 {
@@ -69,7 +76,8 @@ pub fn close<E: Durable, K: Keyspace>(
 /// Gives the front's heap what a step of the back freed.
 pub fn take_back<K: Keyspace>(front: &mut Front<K>, done: &Done)
     requires expected { (contents : Contents) × (items : List Work) × (aside : List FreeList) × Leads contents items aside front.old.sequencer (notices_of done.now) }
-    ensures { (contents : Contents) (items : List Work) (aside : List FreeList) → Leads contents items aside front.old.sequencer (notices_of done.now)
+    ensures taken { IsTold done.now front.old.sequencer front.new.sequencer }
+    ensures leads { (contents : Contents) (items : List Work) (aside : List FreeList) → Leads contents items aside front.old.sequencer (notices_of done.now)
         → Leads contents items aside front.new.sequencer [] }
 {
     match done {

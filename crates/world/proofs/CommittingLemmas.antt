@@ -88,17 +88,17 @@ first-group calls (list ∷ lists) group rest (Frees position ∷ works) are =
     }
 
 -- These free lists, and this group behind them, were taken from what waited. The lists are aside, and the group is in hand if it was committed.
-pub record TakesGroup (contents : Contents) (old : Committing) (lists : List FreeList) (group : Group) (new : Committing) : Type 0 where
+pub record TakesLawful (contents : Contents) (old : Committing) (lists : List FreeList) (group : Group) (new : Committing) : Type 0 where
   pub taken : old.waiting.items ≡ map work.Free lists ++ work.Commit group ∷ new.waiting.items
   pub set_aside : new.aside ≡ old.aside ++ lists
   pub lawful : IsGroup contents group
   pub own : group.epoch ≡ contents.current.epoch
 
 -- what leads to the sequencer is what a commit asks for
-pub takes-group : (contents : Contents) (old : Committing) (lists : List FreeList) (group : Group) (new : Committing) (s : Sequencing) (notices : List Freed)
+pub takes-lawful : (contents : Contents) (old : Committing) (lists : List FreeList) (group : Group) (new : Committing) (s : Sequencing) (notices : List Freed)
     → old.waiting.items ≡ map work.Free lists ++ work.Commit group ∷ new.waiting.items → new.aside ≡ old.aside ++ lists → Leads contents old.waiting.items old.aside s notices
-    → TakesGroup contents old lists group new
-takes-group contents old lists group new s notices taken set_aside leads =
+    → TakesLawful contents old lists group new
+takes-lawful contents old lists group new s notices taken set_aside leads =
     let epochs : AreOfEpoch contents.current.epoch (groups_of (work.Commit group ∷ new.waiting.items)) =
     subst (AreOfEpoch contents.current.epoch) (ap groups_of taken ∙ groups_of-lists lists (work.Commit group ∷ new.waiting.items)) leads.epochs in
     record {
@@ -112,7 +112,7 @@ takes-group contents old lists group new s notices taken set_aside leads =
 
 -- once the group has committed
 pub Leads-committed : (contents contents' : Contents) (old : Committing) (lists : List FreeList) (group : Group) (new : Committing) (s : Sequencing) (notices : List Freed) → IsConsistent contents
-    → TakesGroup contents old lists group new → Same (after_group contents group) contents' → Leads contents old.waiting.items old.aside s notices → Leads contents' new.waiting.items new.aside s notices
+    → TakesLawful contents old lists group new → Same (after_group contents group) contents' → Leads contents old.waiting.items old.aside s notices → Leads contents' new.waiting.items new.aside s notices
 Leads-committed contents contents' old lists group new s notices consistent takes moved leads =
     subst (λ (c : Contents). Leads c new.waiting.items new.aside s notices) (sym (Same-is (after_group contents group) contents' moved))
     (subst (λ (aside : List FreeList). Leads (after_group contents group) new.waiting.items aside s notices) (sym takes.set_aside)
@@ -128,7 +128,7 @@ record NextGroup (holder : Holder) (calls : List Call) (position : ℕ) (content
   pub after : AreContentsAt holder calls firsts.first.after (after_group contents group)
 
 next-group : (holder : Holder) (calls : List Call) (position : ℕ) (contents : Contents) (old : Committing) (lists : List FreeList) (group : Group) (new : Committing) (machine : Machine)
-    → AreContentsAt holder calls position contents → TakesGroup contents old lists group new → CommittingRefines calls old machine
+    → AreContentsAt holder calls position contents → TakesLawful contents old lists group new → CommittingRefines calls old machine
     → NextGroup holder calls position contents lists group new.waiting.items machine.waiting
 next-group holder calls position contents old lists group new machine at takes stands =
     let firsts = first-group calls lists group new.waiting.items machine.waiting (subst (λ items. AreWorkOf calls items machine.waiting) takes.taken stands.work) in
@@ -141,7 +141,7 @@ next-group holder calls position contents old lists group new machine at takes s
 
 -- the first group that waits is committed, and the lists before it go aside
 pub commit-goes : (holder : Holder) (w : World) (old : Committing) (lists : List FreeList) (group : Group) (new : Committing) (device device' : State) (contents contents' : Contents) (is_faulted is_faulted' : Bool)
-    → TakesGroup contents old lists group new → new.stage ≡ Durable group → new.local ≡ old.local → (is_faulted ≡ false → Exhausts contents group → ⊥)
+    → TakesLawful contents old lists group new → new.stage ≡ Durable group → new.local ≡ old.local → (is_faulted ≡ false → Exhausts contents group → ⊥)
     → Same (after_group contents group) contents' → IsDurable device' contents' → is_faulted' ≡ false
     → CommittingRefines w.primary.calls old w.primary.committer → EngineStands holder w.primary.calls w.primary.committer.position device contents is_faulted
     → CommittingRefines w.primary.calls new (committed_first (from_group w.primary.committer.waiting) w.primary.committer)
@@ -169,7 +169,7 @@ commit-goes holder w old lists group new device device' contents contents' is_fa
 
 -- what was remembered is so after it
 pub Remembers-committed : (holder : Holder) (w : World) (old : Committing) (lists : List FreeList) (group : Group) (new : Committing) (contents contents' : Contents) (s : Sequencing)
-    → TakesGroup contents old lists group new → Same (after_group contents group) contents' → CommittingRefines w.primary.calls old w.primary.committer
+    → TakesLawful contents old lists group new → Same (after_group contents group) contents' → CommittingRefines w.primary.calls old w.primary.committer
     → AreContentsAt holder w.primary.calls w.primary.committer.position contents
     → Remembers w.standby.position w.primary.committer.position w.primary.calls contents old.waiting.items old.aside s
     → Remembers w.standby.position (next_primary w) w.primary.calls contents' new.waiting.items new.aside s
@@ -190,7 +190,7 @@ Remembers-committed holder w old lists group new contents contents' s takes move
 
 -- at any moment of the engine's call, a crash leaves what was before it or what is after it
 pub commit-moments : (holder : Holder) (w : World) (old : Committing) (lists : List FreeList) (group : Group) (new : Committing) (device device' : State) (contents : Contents) (is_faulted : Bool)
-    → TakesGroup contents old lists group new → (is_faulted ≡ false → ¬ Exhausts contents group)
+    → TakesLawful contents old lists group new → (is_faulted ≡ false → ¬ Exhausts contents group)
     → (is_faulted ≡ false → LeavesOnly device device' (λ image. Keeps contents image ⊎ Keeps (after_group contents group) image))
     → CommittingRefines w.primary.calls old w.primary.committer → EngineStands holder w.primary.calls w.primary.committer.position device contents is_faulted
     → NearOnly holder w.primary.calls w.primary.committer.position (next_primary w) device device'
@@ -216,7 +216,7 @@ parts-rise before versions (part ∷ parts) are = omega (arith, are.0, parts-ris
 
 -- a commit that would take a counter to the limit: a group takes one stamp per part, and its positions rise by at least one per part
 pub commit-limit : (holder : Holder) (w : World) (old : Committing) (lists : List FreeList) (group : Group) (new : Committing) (device : State) (contents : Contents) (is_faulted : Bool)
-    → TakesGroup contents old lists group new → Exhausts contents group → CommittingRefines w.primary.calls old w.primary.committer → EngineStands holder w.primary.calls w.primary.committer.position device contents is_faulted
+    → TakesLawful contents old lists group new → Exhausts contents group → CommittingRefines w.primary.calls old w.primary.committer → EngineStands holder w.primary.calls w.primary.committer.position device contents is_faulted
     → (image : Image) → IsImage device.words image → IsAtLimit holder.lines (next_primary w - w.primary.committer.position) (next_primary w - w.primary.committer.position) image
 commit-limit holder w old lists group new device contents is_faulted takes exhausts stands engine image is =
     let position = w.primary.committer.position in
@@ -240,7 +240,7 @@ commit-limit holder w old lists group new device contents is_faulted takes exhau
 -- the engine refused to commit: a fence failed, or a counter is at its limit
 pub commit-ends : (holder : Holder) (w : World) (old : Committing) (lists : List FreeList) (group : Group) (new : Committing) (device device' : State) (contents : Contents) (is_faulted : Bool)
     (result : Result Done Refusal) (refusal : Refusal) → result ≡ Err refusal
-    → TakesGroup contents old lists group new → IfErr result (λ r. (r ≡ Fault) ⊎ (r ≡ Exhausted))
+    → TakesLawful contents old lists group new → IfErr result (λ r. (r ≡ Fault) ⊎ (r ≡ Exhausted))
     → (IsErrOf result Fault → (is_faulted ≡ true) ⊎ (device.failures < device'.failures)) → (IsErrOf result Exhausted → Exhausts contents group × (device' ≡ device))
     → (is_faulted ≡ false → Exhausts contents group → result ≡ Err Exhausted)
     → (is_faulted ≡ false → LeavesOnly device device' (λ image. Keeps contents image ⊎ Keeps (after_group contents group) image))

@@ -1,9 +1,9 @@
 -- What freeing, clearing a gap and telling the sequencer of it do to the pair, of what they do to its parts.
 use mathlib.Core.Path.{fun_ext}
-use Rattle.std.proofs.Common.{rules, ◌≡◌, ◌⊎◌, ◌+◌, ◌-◌, ◌<◌, ◌≤◌, ℕ, inl, inr, Bool, true, false, not, ◌&&◌, ◌||◌, cond, nat_lt, List, ◌∷◌, ◌++◌, length, map, drop, Result, Ok, Err, Vec, Global, refl, sym, ap, ap₂, subst, ◌∙◌, arith, append-nil, le_refl, length-append, true≢false, []}
+use Rattle.std.proofs.Common.{rules, ◌≡◌, ◌⊎◌, ◌+◌, ◌-◌, ◌<◌, ◌≤◌, ℕ, inl, inr, Bool, true, false, ◌||◌, cond, nat_lt, List, ◌∷◌, ◌++◌, length, drop, Result, Ok, Err, Vec, Global, refl, sym, ap, subst, ◌∙◌, arith, le_refl, length-append, true≢false, []}
 use Rattle.std.specs.List.{IsDistinct}
 use Rattle.std.proofs.lemmas.List.{length-drop}
-use Rattle.std.proofs.lemmas.Bool.{cases_lt, le-ltb, lt-ltb, leb-true, ltb-true}
+use Rattle.std.proofs.lemmas.Bool.{cases_lt, le-ltb, lt-ltb}
 use Rattle.kv_types.specs.declared.place.EntryNo.{EntryNo}
 use Rattle.kv_types.specs.declared.place.Extent.{Extent}
 use Rattle.kv_types.specs.declared.refusal.Refusal.{Refusal}
@@ -18,8 +18,7 @@ use Rattle.model.specs.declared.image.TheConstants.{COUNTER_LIMIT}
 use Rattle.model.specs.declared.record.Record.{Record}
 use Rattle.model.specs.declared.work.FreeList.{FreeList}
 use Rattle.model.specs.declared.work.Work.{Work}
-use Rattle.model.specs.declared.work.Work.TheVariants as work
-use Rattle.model.specs.Call.{cut_at, is_nonempty, keyspace_after}
+use Rattle.model.specs.Call.{cut_at, keyspace_after}
 use Rattle.model.specs.Group.{AreEnded, Contents, Versions, after_free, without}
 use Rattle.model.specs.Image.{Image, IsMapOf, entries_of_lines}
 use Rattle.model.proofs.RecordLemmas.{HasRecord-lines}
@@ -29,32 +28,30 @@ use Rattle.wbl_engine.specs.Contents.{IsDurable, Keeps, Same}
 use Rattle.wbl_engine.specs.Freeing.{Clears, KeepsWithoutSome, cleared_contents}
 use Rattle.wbl_engine.specs.Lawful.{AreLawful}
 use Rattle.wbl_engine.proofs.WithoutLemmas.{AllEnded, IsMapOf-contents_without, consistent_cleared, consistent_without, lawful_cleared, lawful_without}
-use Rattle.pipes.specs.Waiting.{Waiting, LocalTakes}
+use Rattle.pipes.specs.Waiting.{Waiting}
 use Rattle.redis_core.specs.Sequencing.{Expects, IsAheadOf, Sequencing, TakesBack}
 use Rattle.standby_stream.specs.declared.opening.Opening.{Opening}
 use Rattle.standby_stream.specs.Stream.{Stream}
-use Rattle.group_commit.specs.Group.{groups_of, lists_of}
-use Rattle.group_commit.specs.Working.{ClearsGap, FreesFirst, IsDrained, TakesLists, TurnsReady, entries_of_lists}
+use Rattle.group_commit.specs.Due.{due_now, has_group, left_by, reached_by}
+use Rattle.group_commit.specs.Working.{ClearsGap, FreesReached, entries_of_lists}
 use Rattle.group_commit.specs.declared.committer.Committer.{Committer}
+use Rattle.group_commit.specs.declared.due.Due.TheVariants as due
 use Rattle.group_commit.specs.declared.stage.Done.{Done}
 use Rattle.group_commit.specs.declared.stage.Done.TheVariants as done
 use Rattle.group_commit.specs.declared.stage.Stage.{Stage}
-use Rattle.group_commit.specs.declared.stage.Stage.TheVariants.{Ready}
+use Rattle.group_commit.proofs.DueLemmas.{ClearIsDue, FreeIsDue, clear-now, free-now, no-groups}
 use Rattle.group_commit.proofs.FreedLemmas.{AllEnded-listed, AreEnded-first}
 use Rattle.group_commit.proofs.GroupsLemmas.{Same-is}
-use Rattle.group_commit.proofs.WorkLemmas.{EndsLists-none, TakesLists-items, groups_of-lists, lists_of-lists}
-use Rattle.machine.specs.declared.event.TheConstants.{PIPE_ITEMS}
 use Rattle.machine.specs.declared.event.Event.{Event}
 use Rattle.machine.specs.declared.event.Event.TheVariants as events
 use Rattle.machine.specs.Event.{Work as MachineWork, World, Happens, Step, has_room, may_happen, reached_lists}
 use Rattle.machine.specs.Event as machine
 use Rattle.machine.proofs.SoundEvents.{sound-step}
 use Rattle.world.specs.Cause.{Breaks, EndsBy, Resting, asks_memory, IsAtLimit, RestsAtLimit}
-use Rattle.world.specs.Committing.{AreContentsAt, CommittingRefines, EngineStands, Leads, OpensAt, OpensAtEither, StageRefines, next_primary}
+use Rattle.world.specs.Committing.{AreContentsAt, CommittingRefines, EngineStands, Leads, OpensAt, OpensAtEither, StageRefines, link_has_room, next_primary, reached_now}
 use Rattle.world.specs.GroupSpan.{AreWorkOf, positions_of_lists}
 use Rattle.world.specs.Pair.{Does, FreeingRefines, IsCut, Pair, PairRefines, PartsRefine, Steps}
 use Rattle.world.specs.Effect.{ClearsOldest, FreesOldest}
-use Rattle.world.specs.Queue.{has_group, is_first_within, is_ready_now, link_has_room, may_clear_now, may_commit_now, may_free_now, reached_now}
 use Rattle.world.specs.Recalling.{Remembers}
 use Rattle.connections.specs.Session.{SeatsFollow, SequencerRefines, seats_of}
 use Rattle.world.specs.Standby.{Arrived, Node}
@@ -63,12 +60,13 @@ use Rattle.connections.specs.declared.transcript.Transcript.{Transcript}
 use Rattle.primary.specs.Leading.{AreLaid}
 use Rattle.primary.proofs.AheadLemmas.{laid-engine}
 use Rattle.world.proofs.EngineLemmas.{Opens-engine, keeps-opens, moves-same}
-use Rattle.primary.proofs.FreedQueue.{Leads-accepted, Leads-aside, Leads-cleared, Leads-freed}
+use Rattle.primary.proofs.FreedQueue.{Leads-accepted, Leads-cleared, Leads-freed}
+use Rattle.primary.proofs.TurnedLemmas.{Leads-reached}
 use Rattle.world.proofs.LivesLemmas.{Runs, enabled-is, is_own, lives-step, nodes-refine, own-runs}
 use Rattle.world.proofs.PairLemmas.{Led, Opens-standby, cut-for, cut-same, goes-steps, none-added, rests-primary, rests-standby, stays-does, tells}
-use Rattle.world.proofs.QueueLemmas.{clear-enabled, free-enabled, reached-positions, room-link}
+use Rattle.world.proofs.QueueLemmas.{clear-disabled, clear-enabled, free-disabled, free-enabled, reached-positions, room-link}
 use Rattle.world.proofs.RecallLemmas.{remembers-aside, remembers-freed, remembers-on, remembers-same}
-use Rattle.world.proofs.PairTurns.{Waiting-same, is-ready, may-parts}
+use Rattle.world.proofs.PairTurns.{Took, Waiting-same}
 
 -- ---- the engine
 
@@ -221,79 +219,20 @@ accept-none old notices none none' =
     (stays-does old events.AcceptFreed refl (λ first second w stands.
     let few = ap length (sym none) ∙ stands.parts.freeing.notices_are in sym (le-ltb 0 w.primary.notices (omega (arith, few)))))
 
--- ---- what a turn found in the queue
+-- ---- what a turn reaches
 
--- the free lists that were reached stand aside, and what is left waits
-record Drained (aside lists : List FreeList) (before after : Waiting Work) (handed : List Group) : Type 0 where
-  pub reached : reached_now aside before.items handed ≡ aside ++ lists
-  pub left : after.items ≡ cond (link_has_room handed) [] before.items
-  pub leads : (contents : Contents) (s : Sequencing) (notices : List Freed) → Leads contents before.items aside s notices → Leads contents after.items (aside ++ lists) s notices
-  pub remembers : (low position : ℕ) (calls : List Call) (contents : Contents) (s : Sequencing) → Remembers low position calls contents before.items aside s
-      → Remembers low position calls contents after.items (aside ++ lists) s
-
-has-drained : (before between after : Waiting Work) (aside lists : List FreeList) (handed : Waiting Group) → TakesLists LocalTakes before lists between
-    → IsDrained LocalTakes (PIPE_ITEMS - length handed.items) before lists between after → Drained aside lists before after handed.items
-has-drained before between after aside lists handed takes (inl (some, ends)) =
-    let none = EndsLists-none before between after lists takes ends in
-    let items : before.items ≡ map work.Free lists ++ [] = TakesLists-items before between lists takes ∙ ap (λ (rest : List Work). map work.Free lists ++ rest) none.0 in
-    let lists_are : lists_of before.items ≡ lists = ap lists_of items ∙ lists_of-lists lists [] ∙ append-nil lists in
-    let groups : groups_of before.items ≡ [] = ap groups_of items ∙ groups_of-lists lists [] in
-    let has : link_has_room handed.items ≡ true = lt-ltb (length handed.items) PIPE_ITEMS (omega (arith, some)) in
-    record {
-      reached = ap (λ (room : Bool). cond room (aside ++ lists_of before.items) aside) has ∙ ap (λ (xs : List FreeList). aside ++ xs) lists_are;
-      left = none.1 ∙ sym (ap (λ (room : Bool). cond room [] before.items) has);
-      leads = λ contents s notices leads. rw (none.1, ← lists_are) (Leads-aside contents before.items aside s notices groups leads);
-      remembers = λ low position calls contents s remembers. rw (none.1, ← lists_are) (remembers-aside low position calls contents before.items aside s groups remembers);
-    }
-has-drained before between after aside lists handed takes (inr (full, nothing, same)) =
-    let has : link_has_room handed.items ≡ false = le-ltb (length handed.items) PIPE_ITEMS (let within = handed.within in omega (arith, full, within)) in
-    let all : aside ≡ aside ++ lists = sym (ap (λ (xs : List FreeList). aside ++ xs) nothing ∙ append-nil aside) in
-    let items : after.items ≡ before.items = ap (λ (pipe : Waiting Work). pipe.items) same in
-    record {
-      reached = ap (λ (room : Bool). cond room (aside ++ lists_of before.items) aside) has ∙ all;
-      left = items ∙ sym (ap (λ (room : Bool). cond room [] before.items) has);
-      leads = λ contents s notices leads. rw (items, ← all) leads;
-      remembers = λ low position calls contents s remembers. rw (items, ← all) remembers;
-    }
-
-group_behind : (lists : List FreeList) (group : Group) (others : List Work) → has_group (map work.Free lists ++ work.Commit group ∷ others) ≡ true
-group_behind [] group others = refl
-group_behind (list ∷ lists) group others = group_behind lists group others
+remembers-reached : (has_room : Bool) (low position : ℕ) (calls : List Call) (contents : Contents) (items : List Work) (aside : List FreeList) (s : Sequencing) → (has_room ≡ true → has_group items ≡ false)
+    → Remembers low position calls contents items aside s → Remembers low position calls contents (left_by has_room items) (reached_by has_room aside items) s
+remembers-reached true low position calls contents items aside s none remembers = remembers-aside low position calls contents items aside s (no-groups items (none refl)) remembers
+remembers-reached false low position calls contents items aside s none remembers = remembers
 
 -- what waits for the machine's committer
-work_left : (calls : List Call) (room room' : Bool) (items : List Work) (works : List MachineWork) → room ≡ room' → AreWorkOf calls items works → AreWorkOf calls (cond room [] items) (cond room' [] works)
-work_left calls room room' items works same are = subst (λ (b : Bool). AreWorkOf calls (cond room [] items) (cond b [] works)) same (by room)
+work_left : (calls : List Call) (room room' : Bool) (items : List Work) (works : List MachineWork) → room ≡ room' → AreWorkOf calls items works → AreWorkOf calls (left_by room items) (cond room' [] works)
+work_left calls room room' items works same are = subst (λ (b : Bool). AreWorkOf calls (left_by room items) (cond b [] works)) same (by room)
   where
-    by : (b : Bool) → AreWorkOf calls (cond b [] items) (cond b [] works)
+    by : (b : Bool) → AreWorkOf calls (left_by b items) (cond b [] works)
     by true = tt
     by false = are
-
-within_first : (high : ℕ) (lists : List FreeList) → is_first_within high lists ≡ true → (list : FreeList) × (rest : List FreeList) × (lists ≡ list ∷ rest) × (list.position ≤ high)
-within_first high [] within = absurd (true≢false (sym within))
-within_first high (list ∷ rest) within = (list, rest, refl, leb-true list.position high within)
-
-nothing_left : {X : Type 0} (xs : List X) → not (is_nonempty xs) ≡ true → xs ≡ []
-nothing_left [] e = refl
-nothing_left (x ∷ xs) e = cc
-
-clears_alone : (stage : Stage) (aside : List FreeList) (items : List Work) (handed : List Group) (gaps : ℕ) → may_clear_now stage aside items handed gaps ≡ true
-    → (link_has_room handed ≡ true) × (items ≡ []) × (aside ≡ []) × (0 < gaps)
-clears_alone stage aside items handed gaps may =
-    let last = may-parts (is_ready_now stage && link_has_room handed && not (is_nonempty items)) (not (is_nonempty aside)) (nat_lt 0 gaps) may in
-    let first = may-parts (is_ready_now stage) (link_has_room handed) (not (is_nonempty items)) last.0 in (first.1, nothing_left items first.2, nothing_left aside last.1, ltb-true 0 gaps last.2)
-
-none_there : (lists : List FreeList) (items : List Work) → [] ≡ map work.Free lists ++ items → (lists ≡ []) × (items ≡ [])
-none_there [] items is = (refl, sym is)
-none_there (list ∷ lists) items is = cc
-
-pub free-ready : (stage : Stage) (aside : List FreeList) (items : List Work) (handed : List Group) (remote : ℕ) → may_free_now stage aside items handed remote ≡ true → stage ≡ Ready
-free-ready stage aside items handed remote may =
-    is-ready stage (may-parts (is_ready_now stage) (not (may_commit_now stage items handed)) (is_first_within remote (reached_now aside items handed)) may).0
-
-pub clear-ready : (stage : Stage) (aside : List FreeList) (items : List Work) (handed : List Group) (gaps : ℕ) → may_clear_now stage aside items handed gaps ≡ true → stage ≡ Ready
-clear-ready stage aside items handed gaps may =
-    let last = may-parts (is_ready_now stage && link_has_room handed && not (is_nonempty items)) (not (is_nonempty aside)) (nat_lt 0 gaps) may in
-    is-ready stage (may-parts (is_ready_now stage) (link_has_room handed) (not (is_nonempty items)) last.0).0
 
 -- ---- a turn of a committer that is ready
 
@@ -366,78 +305,29 @@ module _ {E : Type 0} (device : E → State) (contents : E → Contents) (is_fau
   -- ---- a list is freed
 
   module _ (before : Committer E) (waiting : Waiting Work) (notices : List Freed) (handed : Waiting Group)
-      (may : may_free_now before.stage before.aside.items waiting.items handed.items remote ≡ true) where
+      (is : due_now contents before waiting (link_has_room handed.items) remote ≡ due.Free) where
     abbrev old : Pair
     old = pair_with before waiting notices handed
 
     free_may : (first second : Holder) (w : World) → PairRefines first second old w → may_happen w events.Free ≡ true
     free_may first second w stands =
-        sym (free-enabled w old.committing handed.items remote stands.parts.committing stands.parts.link.waiting stands.parts.link.remote_is) ∙ may
+        free-enabled w old.committing handed.items stands.parts.committing stands.parts.link.waiting remote (length (contents before.engine).current.gaps.items) stands.parts.link.remote_is is
+
+    may : FreeIsDue before.stage before.aside.items waiting.items (link_has_room handed.items) remote
+    may = free-now contents before waiting (link_has_room handed.items) remote is
 
     -- the first list that was reached was freed, or that came to this
-    record Frees (after : Committer E) (waiting' : Waiting Work) (result : Result Done Refusal) : Type 0 where
-      pub lists : List FreeList
-      pub list : FreeList
-      pub rest : List FreeList
-      pub drains : Drained before.aside.items lists waiting waiting' handed.items
-      pub is : before.aside.items ++ lists ≡ list ∷ rest
-      pub frees : FreesFirst device contents is_faulted before list rest result after
+    abbrev Frees : Committer E → Waiting Work → Result Done Refusal → Type 0
+    Frees after waiting' result = FreesReached device contents is_faulted (link_has_room handed.items) remote before waiting result after waiting'
 
-    abbrev reached : List FreeList
-    reached = reached_now before.aside.items waiting.items handed.items
-
-    told : (is_ready_now before.stage ≡ true) × (not (may_commit_now before.stage waiting.items handed.items) ≡ true) × (is_first_within remote reached ≡ true)
-    told = may-parts (is_ready_now before.stage) (not (may_commit_now before.stage waiting.items handed.items)) (is_first_within remote reached) may
-
-    no_group : (lists : List FreeList) (between after : Waiting Work) (group : Group) → 0 < PIPE_ITEMS - length handed.items → TakesLists LocalTakes waiting lists between
-        → between.items ≡ work.Commit group ∷ after.items → ⊥
-    no_group lists between after group some takes gives =
-        let room : link_has_room handed.items ≡ true = lt-ltb (length handed.items) PIPE_ITEMS (omega (arith, some)) in
-        let has : has_group waiting.items ≡ true =
-        ap has_group (TakesLists-items waiting between lists takes ∙ ap (λ (rest : List Work). map work.Free lists ++ rest) gives) ∙ group_behind lists group after.items in
-        let commits : may_commit_now before.stage waiting.items handed.items ≡ true =
-        ap (λ (b : Bool). b && has_group waiting.items && link_has_room handed.items) told.0 ∙ ap (λ (b : Bool). b && link_has_room handed.items) has ∙ room in
-        true≢false (sym (ap not (sym commits) ∙ told.1))
-
-    came-free : (after : Committer E) (waiting' : Waiting Work) (handed' : Waiting Group) (result : Result Done Refusal) → handed'.items ≡ handed.items
-        → TurnsReady device contents is_faulted LocalTakes before waiting (PIPE_ITEMS - length handed'.items) remote result after waiting'
-        → Frees after waiting' result ⊎ ((result ≡ Err Memory) × (after.engine ≡ before.engine))
-    came-free after waiting' handed' result offered given = by
-      where
-        turns : TurnsReady device contents is_faulted LocalTakes before waiting (PIPE_ITEMS - length handed.items) remote result after waiting'
-        turns = subst (λ (items : List Group). TurnsReady device contents is_faulted LocalTakes before waiting (PIPE_ITEMS - length items) remote result after waiting') offered given
-
-        reaches : (xs : List FreeList) → reached ≡ xs → (list : FreeList) × (rest : List FreeList) × (xs ≡ list ∷ rest) × (list.position ≤ remote)
-        reaches xs is = within_first remote xs (ap (is_first_within remote) (sym is) ∙ told.2)
-
-        by : Frees after waiting' result ⊎ ((result ≡ Err Memory) × (after.engine ≡ before.engine))
-        by = elim turns.came [
-          | inl (group, some, gives, commits, set_aside) ↦ absurd (no_group turns.lists turns.between waiting' group some turns.takes gives)
-          | inr (inl (drains, list, rest, is, due, frees)) ↦ inl record {
-            lists = turns.lists;
-            list = list;
-            rest = rest;
-            drains = has-drained waiting turns.between waiting' before.aside.items turns.lists handed turns.takes drains;
-            is = is;
-            frees = frees;
-          }
-          | inr (inr (inl (some, gives, none, clears))) ↦
-              let drains = has-drained waiting turns.between waiting' before.aside.items turns.lists handed turns.takes (inl (some, inl gives)) in
-              let first = reaches [] (drains.reached ∙ none) in
-              absurd (let is = first.2 in cc)
-          | inr (inr (inr (inl (drains, idle)))) ↦
-              let so = has-drained waiting turns.between waiting' before.aside.items turns.lists handed turns.takes drains in
-              let first = reaches (before.aside.items ++ turns.lists) so.reached in
-              absurd (let waits = idle.waits first.0 first.1 first.2 in let due = first.3 in omega (arith, waits, due))
-          | inr (inr (inr (inr (some, same, refuses)))) ↦ inr (refuses.answer, refuses.engine)
-        ]
-
-    module _ (after : Committer E) (waiting' : Waiting Work) (ready : before.stage ≡ Ready) where
+    module _ (after : Committer E) (waiting' : Waiting Work) where
       -- what stood aside then is lawful
       leads-then : (result : Result Done Refusal) (frees : Frees after waiting' result) (first second : Holder) (w : World) → PartsRefine first second old w
           → Leads old.contents waiting'.items (frees.list ∷ frees.rest) sequencer notices
       leads-then result frees first second w parts =
-          subst (λ (xs : List FreeList). Leads old.contents waiting'.items xs sequencer notices) frees.is (frees.drains.leads old.contents sequencer notices parts.leads)
+          rw frees.left
+          (subst (λ (xs : List FreeList). Leads old.contents (left_by (link_has_room handed.items) waiting.items) xs sequencer notices) frees.reached
+          (Leads-reached old.contents (link_has_room handed.items) waiting.items before.aside.items sequencer notices may.none parts.leads))
 
       ended-then : (result : Result Done Refusal) (frees : Frees after waiting' result) (first second : Holder) (w : World) → PartsRefine first second old w → AreEnded old.contents frees.list.entries.items
       ended-then result frees first second w parts =
@@ -446,7 +336,7 @@ module _ {E : Type 0} (device : E → State) (contents : E → Contents) (is_fau
       -- the standby has passed it
       passed-then : (result : Result Done Refusal) (frees : Frees after waiting' result) (first second : Holder) (w : World) → PairRefines first second old w → frees.list.position ≤ w.standby.position
       passed-then result frees first second w stands =
-          let due = leb-true frees.list.position remote (ap (is_first_within remote) (sym (frees.drains.reached ∙ frees.is)) ∙ told.2) in
+          let due = frees.passed in
           omega (arith, due, stands.parts.link.remote_is, stands.sound.link.remote, stands.sound.standby.known)
 
       moments-then : (result : Result Done Refusal) (frees : Frees after waiting' result) (first second : Holder) (w : World) → PartsRefine first second old w
@@ -472,15 +362,15 @@ module _ {E : Type 0} (device : E → State) (contents : E → Contents) (is_fau
           let new = pair_with after waiting' (notices ++ places ∷ []) handed in
           let moved = Same-is (after_free entries old.contents) (contents after.engine) it.moved in
           let reached_is : positions_of_lists (frees.list ∷ frees.rest) ≡ reached_lists w =
-          ap positions_of_lists (sym (frees.drains.reached ∙ frees.is)) ∙ reached-positions w old.committing handed.items parts.committing parts.link.waiting in
+          ap positions_of_lists (sym frees.reached) ∙ reached-positions w old.committing handed.items parts.committing parts.link.waiting in
           let many = parts.freeing.notices_are in
           let committing : CommittingRefines calls new.committing (machine.freed w).primary.committer =
           record {
-            work = subst (λ (items : List Work). AreWorkOf calls items (cond (has_room w.primary.link.waiting) [] w.primary.committer.waiting)) (sym frees.drains.left)
+            work = subst (λ (items : List Work). AreWorkOf calls items (cond (has_room w.primary.link.waiting) [] w.primary.committer.waiting)) (sym frees.left)
                 (work_left calls (link_has_room handed.items) (has_room w.primary.link.waiting) waiting.items w.primary.committer.waiting (room-link calls handed.items w.primary.link.waiting parts.link.waiting)
                 parts.committing.work);
             aside = ap positions_of_lists it.aside ∙ ap (drop 1) reached_is;
-            stage_is = subst (λ (stage : Stage). StageRefines calls stage w.primary.committer.stage) (ready ∙ sym it.stage) parts.committing.stage_is;
+            stage_is = subst (λ (stage : Stage). StageRefines calls stage w.primary.committer.stage) (may.ready ∙ sym it.stage) parts.committing.stage_is;
             local_is = it.local ∙ parts.committing.local_is;
           } in
           let freeing : FreeingRefines sequencer new.notices new.contents (machine.freed w).primary =
@@ -496,7 +386,9 @@ module _ {E : Type 0} (device : E → State) (contents : E → Contents) (is_fau
           let remembers : Remembers low p calls new.contents waiting'.items after.aside.items sequencer =
           rw (moved, it.aside)
           (remembers-freed low p calls old.contents waiting'.items frees.list frees.rest sequencer (passed-then (Ok ok) frees first second w stands) ended
-          (subst (λ (xs : List FreeList). Remembers low p calls old.contents waiting'.items xs sequencer) frees.is (frees.drains.remembers low p calls old.contents sequencer parts.remembers))) in
+          (rw frees.left
+          (subst (λ (xs : List FreeList). Remembers low p calls old.contents (left_by (link_has_room handed.items) waiting.items) xs sequencer) frees.reached
+          (remembers-reached (link_has_room handed.items) low p calls old.contents waiting.items before.aside.items sequencer may.none parts.remembers)))) in
           search (
             rules,
             parts,
@@ -525,105 +417,82 @@ module _ {E : Type 0} (device : E → State) (contents : E → Contents) (is_fau
       ]
 
       -- it did so, and tells of that
-      pub free-done : (handed' : Waiting Group) (answer : Done) → handed'.items ≡ handed.items → TurnsReady device contents is_faulted LocalTakes before waiting (PIPE_ITEMS - length handed'.items) remote (Ok answer) after waiting'
+      pub free-done : (handed' : Waiting Group) (answer : Done) → Took device contents is_faulted due.Free (link_has_room handed.items) remote before waiting handed (Ok answer) after waiting' handed'
           → (places : Freed) × (answer ≡ done.Freed places)
           × ((given : Freed) (notices' : List Freed) → answer ≡ done.Freed given → notices' ≡ notices ++ given ∷ []
-          → Does old events.Free (Ok true) (pair_with after waiting' notices' handed') × FreesOldest reached (contents before.engine) notices (contents after.engine) notices')
-      free-done handed' answer offered turns = elim (came-free after waiting' handed' (Ok answer) offered turns) [
-        | inl frees ↦
-            let told = frees.frees.answer in (
-              told.0,
-              told.1,
-              λ given notices' is pushed.
-                  let same : told.0 ≡ given = let both = sym told.1 ∙ is in cc in
-                  let more : notices' ≡ notices ++ told.0 ∷ [] = pushed ∙ ap (λ (p : Freed). notices ++ p ∷ []) (sym same) in (
-                    subst (λ (xs : List Freed). Does old events.Free (Ok true) (pair_with after waiting' xs handed')) (sym more)
-                        (subst (λ (h : Waiting Group). Does old events.Free (Ok true) (pair_with after waiting' (notices ++ told.0 ∷ []) h)) (Waiting-same handed handed' (sym offered)) (freed-does answer frees)),
-                    record {
-                      list = frees.list;
-                      rest = frees.rest;
-                      lists_are = frees.drains.reached ∙ frees.is;
-                      freed = frees.frees.moved;
-                      places = told.0;
-                      told = more;
-                      entries = told.2;
-                      extents = told.3;
-                    },
-                  ),
-            )
-        | inr refused ↦ absurd (let no = refused.0 in cc)
-      ]
+          → Does old events.Free (Ok true) (pair_with after waiting' notices' handed')
+          × FreesOldest (reached_now before.aside.items waiting.items handed.items) (contents before.engine) notices (contents after.engine) notices')
+      free-done handed' answer (offered, inl frees) =
+          let told = frees.frees.answer in (
+            told.0,
+            told.1,
+            λ given notices' is pushed.
+                let same : told.0 ≡ given = let both = sym told.1 ∙ is in cc in
+                let more : notices' ≡ notices ++ told.0 ∷ [] = pushed ∙ ap (λ (p : Freed). notices ++ p ∷ []) (sym same) in (
+                  subst (λ (xs : List Freed). Does old events.Free (Ok true) (pair_with after waiting' xs handed')) (sym more)
+                      (subst (λ (h : Waiting Group). Does old events.Free (Ok true) (pair_with after waiting' (notices ++ told.0 ∷ []) h)) (Waiting-same handed handed' (sym offered.offered_is)) (freed-does answer frees)),
+                  record {
+                    list = frees.list;
+                    rest = frees.rest;
+                    lists_are = frees.reached;
+                    freed = frees.frees.moved;
+                    places = told.0;
+                    told = more;
+                    entries = told.2;
+                    extents = told.3;
+                  },
+                ),
+          )
+      free-done handed' answer (offered, inr lacks) = absurd (let no = lacks.answer in cc)
 
       -- it was refused
-      pub free-ends : (handed' : Waiting Group) (refusal : Refusal) → handed'.items ≡ handed.items → TurnsReady device contents is_faulted LocalTakes before waiting (PIPE_ITEMS - length handed'.items) remote (Err refusal) after waiting'
+      pub free-ends : (handed' : Waiting Group) (refusal : Refusal) → Took device contents is_faulted due.Free (link_has_room handed.items) remote before waiting handed (Err refusal) after waiting' handed'
           → Does old events.Free (Err refusal) (pair_with after waiting' notices handed')
-      free-ends handed' refusal offered turns =
-          subst (λ (h : Waiting Group). Does old events.Free (Err refusal) (pair_with after waiting' notices h)) (Waiting-same handed handed' (sym offered))
-          (elim (came-free after waiting' handed' (Err refusal) offered turns) [
+      free-ends handed' refusal (offered, came) =
+          subst (λ (h : Waiting Group). Does old events.Free (Err refusal) (pair_with after waiting' notices h)) (Waiting-same handed handed' (sym offered.offered_is))
+          (elim came [
             | inl frees ↦ broke-does refusal frees
-            | inr refused ↦ refused-does events.Free refl refl before after waiting waiting' notices notices handed handed refusal (let is = refused.0 in cc) refused.1 free_may
+            | inr lacks ↦ refused-does events.Free refl refl before after waiting waiting' notices notices handed handed refusal (let is = lacks.answer in cc) lacks.engine free_may
           ])
 
   -- room for the notice was refused
   pub free-roomless : (before : Committer E) (waiting : Waiting Work) (notices notices' : List Freed) (handed : Waiting Group) (refusal : Refusal) → refusal ≡ Memory
-      → may_free_now before.stage before.aside.items waiting.items handed.items remote ≡ true
+      → due_now contents before waiting (link_has_room handed.items) remote ≡ due.Free
       → Does (pair_with before waiting notices handed) events.Free (Err refusal) (pair_with before waiting notices' handed)
-  free-roomless before waiting notices notices' handed refusal memory may =
-      refused-does events.Free refl refl before before waiting waiting notices notices' handed handed refusal memory refl (free_may before waiting notices handed may)
+  free-roomless before waiting notices notices' handed refusal memory is =
+      refused-does events.Free refl refl before before waiting waiting notices notices' handed handed refusal memory refl (free_may before waiting notices handed is)
 
-  -- it may not free now
-  pub free-idle : (before : Committer E) (waiting : Waiting Work) (notices : List Freed) (handed : Waiting Group) → may_free_now before.stage before.aside.items waiting.items handed.items remote ≡ false
+  -- another step is due
+  pub free-idle : (before : Committer E) (waiting : Waiting Work) (notices : List Freed) (handed : Waiting Group) → (due_now contents before waiting (link_has_room handed.items) remote ≡ due.Free → ⊥)
       → Does (pair_with before waiting notices handed) events.Free (Ok false) (pair_with before waiting notices handed)
-  free-idle before waiting notices handed may =
+  free-idle before waiting notices handed never =
       stays-does (pair_with before waiting notices handed) events.Free refl (λ first second w stands.
-      sym may ∙ free-enabled w (pair_with before waiting notices handed).committing handed.items remote stands.parts.committing stands.parts.link.waiting stands.parts.link.remote_is)
+      free-disabled w (pair_with before waiting notices handed).committing handed.items stands.parts.committing stands.parts.link.waiting remote (length (contents before.engine).current.gaps.items)
+      stands.parts.link.remote_is never)
 
   -- ---- a gap is cleared
 
   module _ (before : Committer E) (waiting : Waiting Work) (notices : List Freed) (handed : Waiting Group)
-      (may : may_clear_now before.stage before.aside.items waiting.items handed.items (length (contents before.engine).current.gaps.items) ≡ true) where
+      (is : due_now contents before waiting (link_has_room handed.items) remote ≡ due.Clear) where
     abbrev from : Pair
     from = pair_with before waiting notices handed
 
     clear_may : (first second : Holder) (w : World) → PairRefines first second from w → may_happen w events.ClearGap ≡ true
     clear_may first second w stands =
-        sym (clear-enabled w from.committing handed.items (length from.contents.current.gaps.items) stands.parts.committing stands.parts.link.waiting stands.parts.freeing.gaps) ∙ may
+        clear-enabled w from.committing handed.items stands.parts.committing stands.parts.link.waiting remote (length from.contents.current.gaps.items) stands.parts.freeing.gaps is
 
-    alone : (link_has_room handed.items ≡ true) × (waiting.items ≡ []) × (before.aside.items ≡ []) × (0 < length (contents before.engine).current.gaps.items)
-    alone = clears_alone before.stage before.aside.items waiting.items handed.items (length (contents before.engine).current.gaps.items) may
+    alone : ClearIsDue before.stage before.aside.items waiting.items (link_has_room handed.items) (nat_lt 0 (length (contents before.engine).current.gaps.items))
+    alone = clear-now contents before waiting (link_has_room handed.items) remote is
 
     -- the oldest gap was cleared, or that came to this
     record ClearsOne (after : Committer E) (waiting' : Waiting Work) (result : Result Done Refusal) : Type 0 where
       pub left : waiting'.items ≡ []
       pub clears : ClearsGap device contents is_faulted before result after
 
-    came-clear : (after : Committer E) (waiting' : Waiting Work) (handed' : Waiting Group) (result : Result Done Refusal) → handed'.items ≡ handed.items
-        → TurnsReady device contents is_faulted LocalTakes before waiting (PIPE_ITEMS - length handed'.items) remote result after waiting'
-        → ClearsOne after waiting' result ⊎ ((result ≡ Err Memory) × (after.engine ≡ before.engine))
-    came-clear after waiting' handed' result offered given = by
-      where
-        turns : TurnsReady device contents is_faulted LocalTakes before waiting (PIPE_ITEMS - length handed.items) remote result after waiting'
-        turns = subst (λ (items : List Group). TurnsReady device contents is_faulted LocalTakes before waiting (PIPE_ITEMS - length items) remote result after waiting') offered given
+    abbrev clears-one : (after : Committer E) (waiting' : Waiting Work) (result : Result Done Refusal) → waiting' ≡ waiting → ClearsGap device contents is_faulted before result after → ClearsOne after waiting' result
+    clears-one after waiting' result queue clears = record { left = ap (λ (pipe : Waiting Work). pipe.items) queue ∙ alone.no_work; clears = clears }
 
-        empty : (turns.lists ≡ []) × (turns.between.items ≡ [])
-        empty = none_there turns.lists turns.between.items (sym alone.1 ∙ TakesLists-items waiting turns.between turns.lists turns.takes)
-
-        none : before.aside.items ++ turns.lists ≡ []
-        none = ap₂ (λ (a b : List FreeList). a ++ b) alone.2 empty.0
-
-        by : ClearsOne after waiting' result ⊎ ((result ≡ Err Memory) × (after.engine ≡ before.engine))
-        by = elim turns.came [
-          | inl (group, some, gives, commits, set_aside) ↦ absurd (let is = sym empty.1 ∙ gives in cc)
-          | inr (inl (drains, list, others, is, due, frees)) ↦ absurd (let no = sym none ∙ is in cc)
-          | inr (inr (inl (some, gives, nothing, clears))) ↦ inl record { left = gives.1; clears = clears }
-          | inr (inr (inr (inl (drains, idle)))) ↦ absurd (elim (idle.none none) [
-            | inl full ↦ let some = ltb-true (length handed.items) PIPE_ITEMS alone.0 in omega (arith, some, full)
-            | inr gapless ↦ let some = alone.3 in let few = ap length gapless in omega (arith, some, few)
-          ])
-          | inr (inr (inr (inr (some, same, refuses)))) ↦ inr (refuses.answer, refuses.engine)
-        ]
-
-    module _ (after : Committer E) (waiting' : Waiting Work) (ready : before.stage ≡ Ready) where
+    module _ (after : Committer E) (waiting' : Waiting Work) where
       below_limit : (ok : Done) → ClearsOne after waiting' (Ok ok) → is_faulted before.engine ≡ false → (contents before.engine).current.number + 1 < COUNTER_LIMIT
       below_limit ok one sound = elim (cases_lt ((contents before.engine).current.number + 1) COUNTER_LIMIT) [
         | inl below ↦ below
@@ -660,9 +529,9 @@ module _ {E : Type 0} (device : E → State) (contents : E → Contents) (is_fau
           let new = pair_with after waiting' (notices ++ places ∷ []) handed in
           let committing : CommittingRefines calls new.committing (machine.cleared w).primary.committer =
           record {
-            work = subst (λ (items : List Work). AreWorkOf calls items w.primary.committer.waiting) (alone.1 ∙ sym one.left) parts.committing.work;
-            aside = ap positions_of_lists (it.aside ∙ sym alone.2) ∙ parts.committing.aside;
-            stage_is = subst (λ (stage : Stage). StageRefines calls stage w.primary.committer.stage) (ready ∙ sym it.stage) parts.committing.stage_is;
+            work = subst (λ (items : List Work). AreWorkOf calls items w.primary.committer.waiting) (alone.no_work ∙ sym one.left) parts.committing.work;
+            aside = ap positions_of_lists (it.aside ∙ sym alone.no_aside) ∙ parts.committing.aside;
+            stage_is = subst (λ (stage : Stage). StageRefines calls stage w.primary.committer.stage) (alone.ready ∙ sym it.stage) parts.committing.stage_is;
             local_is = it.local ∙ parts.committing.local_is;
           } in
           let freeing : FreeingRefines sequencer new.notices new.contents (machine.cleared w).primary =
@@ -673,9 +542,9 @@ module _ {E : Type 0} (device : E → State) (contents : E → Contents) (is_fau
             gaps = ap (λ (r : Record). length r.gaps.items) clears.current ∙ length-drop 1 from.contents.current.gaps.items ∙ ap (λ (n : ℕ). n - 1) gaps;
           } in
           let leads : Leads new.contents waiting'.items after.aside.items sequencer new.notices =
-          rw (one.left, it.aside) (Leads-cleared from.contents new.contents sequencer notices places (rw (alone.1, alone.2) at parts.leads) clears answer.2) in
+          rw (one.left, it.aside) (Leads-cleared from.contents new.contents sequencer notices places (rw (alone.no_work, alone.no_aside) at parts.leads) clears answer.2) in
           let remembers : Remembers low p calls new.contents waiting'.items after.aside.items sequencer =
-          rw (one.left, it.aside) (remembers-same low p calls from.contents new.contents [] [] sequencer clears.versions (rw (alone.1, alone.2) at parts.remembers)) in
+          rw (one.left, it.aside) (remembers-same low p calls from.contents new.contents [] [] sequencer clears.versions (rw (alone.no_work, alone.no_aside) at parts.remembers)) in
           search (
             rules,
             parts,
@@ -721,53 +590,47 @@ module _ {E : Type 0} (device : E → State) (contents : E → Contents) (is_fau
               ))
 
       -- it did so, and tells of that
-      pub clear-done : (handed' : Waiting Group) (answer : Done) → handed'.items ≡ handed.items → TurnsReady device contents is_faulted LocalTakes before waiting (PIPE_ITEMS - length handed'.items) remote (Ok answer) after waiting'
+      pub clear-done : (handed' : Waiting Group) (answer : Done) → Took device contents is_faulted due.Clear (link_has_room handed.items) remote before waiting handed (Ok answer) after waiting' handed'
           → (places : Freed) × (answer ≡ done.Cleared places)
           × ((given : Freed) (notices' : List Freed) → answer ≡ done.Cleared given → notices' ≡ notices ++ given ∷ []
           → Does from events.ClearGap (Ok true) (pair_with after waiting' notices' handed') × ClearsOldest (contents before.engine) notices (contents after.engine) notices')
-      clear-done handed' answer offered turns = elim (came-clear after waiting' handed' (Ok answer) offered turns) [
-        | inl one ↦
-            let told = one.clears.answer in (
-              told.0,
-              told.1,
-              λ given notices' is pushed.
-                  let same : told.0 ≡ given = let both = sym told.1 ∙ is in cc in
-                  let more : notices' ≡ notices ++ told.0 ∷ [] = pushed ∙ ap (λ (p : Freed). notices ++ p ∷ []) (sym same) in (
-                    subst (λ (xs : List Freed). Does from events.ClearGap (Ok true) (pair_with after waiting' xs handed')) (sym more)
-                        (subst (λ (h : Waiting Group). Does from events.ClearGap (Ok true) (pair_with after waiting' (notices ++ told.0 ∷ []) h)) (Waiting-same handed handed' (sym offered)) (cleared-does answer one)),
-                    record {
-                      places = told.0;
-                      told = more;
-                      cleared = told.3;
-                      extents = told.2;
-                    },
-                  ),
-            )
-        | inr refused ↦ absurd (let no = refused.0 in cc)
-      ]
+      clear-done handed' answer (offered, queue, clears) =
+          let one = clears-one after waiting' (Ok answer) queue clears in
+          let told = clears.answer in (
+            told.0,
+            told.1,
+            λ given notices' is pushed.
+                let same : told.0 ≡ given = let both = sym told.1 ∙ is in cc in
+                let more : notices' ≡ notices ++ told.0 ∷ [] = pushed ∙ ap (λ (p : Freed). notices ++ p ∷ []) (sym same) in (
+                  subst (λ (xs : List Freed). Does from events.ClearGap (Ok true) (pair_with after waiting' xs handed')) (sym more)
+                      (subst (λ (h : Waiting Group). Does from events.ClearGap (Ok true) (pair_with after waiting' (notices ++ told.0 ∷ []) h)) (Waiting-same handed handed' (sym offered.offered_is)) (cleared-does answer one)),
+                  record {
+                    places = told.0;
+                    told = more;
+                    cleared = told.3;
+                    extents = told.2;
+                  },
+                ),
+          )
 
       -- it was refused
-      pub clear-ends : (handed' : Waiting Group) (refusal : Refusal) → handed'.items ≡ handed.items → TurnsReady device contents is_faulted LocalTakes before waiting (PIPE_ITEMS - length handed'.items) remote (Err refusal) after waiting'
+      pub clear-ends : (handed' : Waiting Group) (refusal : Refusal) → Took device contents is_faulted due.Clear (link_has_room handed.items) remote before waiting handed (Err refusal) after waiting' handed'
           → Does from events.ClearGap (Err refusal) (pair_with after waiting' notices handed')
-      clear-ends handed' refusal offered turns =
-          subst (λ (h : Waiting Group). Does from events.ClearGap (Err refusal) (pair_with after waiting' notices h)) (Waiting-same handed handed' (sym offered))
-          (elim (came-clear after waiting' handed' (Err refusal) offered turns) [
-            | inl one ↦ cut-clear refusal one
-            | inr refused ↦ refused-does events.ClearGap refl refl before after waiting waiting' notices notices handed handed refusal (let is = refused.0 in cc) refused.1 clear_may
-          ])
+      clear-ends handed' refusal (offered, queue, clears) =
+          subst (λ (h : Waiting Group). Does from events.ClearGap (Err refusal) (pair_with after waiting' notices h)) (Waiting-same handed handed' (sym offered.offered_is))
+          (cut-clear refusal (clears-one after waiting' (Err refusal) queue clears))
 
   -- room for the notice was refused
   pub clear-roomless : (before : Committer E) (waiting : Waiting Work) (notices notices' : List Freed) (handed : Waiting Group) (refusal : Refusal) → refusal ≡ Memory
-      → may_clear_now before.stage before.aside.items waiting.items handed.items (length (contents before.engine).current.gaps.items) ≡ true
+      → due_now contents before waiting (link_has_room handed.items) remote ≡ due.Clear
       → Does (pair_with before waiting notices handed) events.ClearGap (Err refusal) (pair_with before waiting notices' handed)
-  clear-roomless before waiting notices notices' handed refusal memory may =
-      refused-does events.ClearGap refl refl before before waiting waiting notices notices' handed handed refusal memory refl (clear_may before waiting notices handed may)
+  clear-roomless before waiting notices notices' handed refusal memory is =
+      refused-does events.ClearGap refl refl before before waiting waiting notices notices' handed handed refusal memory refl (clear_may before waiting notices handed is)
 
-  -- none may be cleared now
-  pub clear-idle : (before : Committer E) (waiting : Waiting Work) (notices : List Freed) (handed : Waiting Group)
-      → may_clear_now before.stage before.aside.items waiting.items handed.items (length (contents before.engine).current.gaps.items) ≡ false
+  -- another step is due
+  pub clear-idle : (before : Committer E) (waiting : Waiting Work) (notices : List Freed) (handed : Waiting Group) → (due_now contents before waiting (link_has_room handed.items) remote ≡ due.Clear → ⊥)
       → Does (pair_with before waiting notices handed) events.ClearGap (Ok false) (pair_with before waiting notices handed)
-  clear-idle before waiting notices handed may =
+  clear-idle before waiting notices handed never =
       stays-does (pair_with before waiting notices handed) events.ClearGap refl (λ first second w stands.
-      sym may
-      ∙ clear-enabled w (pair_with before waiting notices handed).committing handed.items (length (contents before.engine).current.gaps.items) stands.parts.committing stands.parts.link.waiting stands.parts.freeing.gaps)
+      clear-disabled w (pair_with before waiting notices handed).committing handed.items stands.parts.committing stands.parts.link.waiting remote (length (contents before.engine).current.gaps.items)
+      stands.parts.freeing.gaps never)

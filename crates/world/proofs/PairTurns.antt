@@ -1,55 +1,51 @@
 -- What the turns of the committer do to the pair: its own clauses refine the machine's events.
-use Rattle.std.proofs.Common.{◌≡◌, ◌⊎◌, ◌-◌, ◌<◌, ◌≤◌, ℕ, Bool, true, false, ◌&&◌, List, ◌∷◌, ◌++◌, length, map, Some, Result, Ok, Err, inl, inr, refl, sym, ap, subst, ◌∙◌, append-nil, arith, true≢false, Vec, Global, []}
-use Rattle.std.proofs.lemmas.Bool.{ltb-true}
+use Rattle.std.proofs.Common.{◌≡◌, ◌⊎◌, ◌-◌, ◌≤◌, ℕ, Bool, true, false, nat_lt, List, ◌∷◌, ◌++◌, length, Result, Ok, Err, inl, inr, refl, sym, ap, subst, ◌∙◌, arith, Vec, Global, []}
+use Rattle.std.proofs.lemmas.Bool.{cases_lt, le-ltb, lt-ltb}
 use Rattle.std.specs.Coded.{le_prop}
 use Rattle.pmem.specs.Device.{State}
 use Rattle.kv_types.specs.declared.refusal.Refusal.{Refusal}
 use Rattle.kv_types.specs.declared.refusal.Refusal.TheVariants.{Memory}
-use Rattle.pipes.specs.Waiting.{Waiting, LocalTakes}
+use Rattle.pipes.specs.Waiting.{Waiting}
 use Rattle.pipes.specs.declared.limits.TheConstants as limits
 use Rattle.model.specs.declared.group.Group.{Group}
 use Rattle.model.specs.declared.record.Record.{Record}
 use Rattle.model.specs.declared.work.FreeList.{FreeList}
 use Rattle.model.specs.declared.work.Work.{Work}
-use Rattle.model.specs.declared.work.Work.TheVariants as work
 use Rattle.model.specs.Group.{Contents}
 use Rattle.model.specs.Standing.{Holder}
+use Rattle.wbl_engine.specs.Contents.{Exhausts}
 use Rattle.wbl_engine.specs.declared.freeing.Freed.{Freed}
 use Rattle.redis_core.specs.Sequencing.{Sequencing}
 use Rattle.standby_stream.specs.declared.opening.Opening.{Opening}
 use Rattle.standby_stream.specs.Stream.{Stream}
 use Rattle.group_commit.specs.Committing.{Commits, raised, ready_again}
-use Rattle.group_commit.specs.Working.{IsDrained, RefusesAside, TakesLists, TurnsReady}
+use Rattle.group_commit.specs.Due.{due_now}
+use Rattle.group_commit.specs.Working.{LacksRoom, TakesGroup, Takes}
 use Rattle.group_commit.specs.declared.committer.Committer.{Committer}
+use Rattle.group_commit.specs.declared.due.Due.{Due}
+use Rattle.group_commit.specs.declared.due.Due.TheVariants as due
 use Rattle.group_commit.specs.declared.stage.Done.{Done}
-use Rattle.group_commit.specs.declared.stage.Done.TheVariants.{Raised, Handed, Idle}
-use Rattle.group_commit.specs.declared.stage.Stage.{Stage}
+use Rattle.group_commit.specs.declared.stage.Done.TheVariants.{Handed, Idle}
 use Rattle.group_commit.specs.declared.stage.Stage.TheVariants.{Ready, Durable, Shown}
-use Rattle.group_commit.proofs.WorkLemmas.{EndsLists-none, TakesLists-items}
+use Rattle.group_commit.proofs.DueLemmas.{hand-now, raise-now}
 use Rattle.machine.specs.declared.event.TheConstants.{PIPE_ITEMS}
 use Rattle.machine.specs.declared.event.Event.{Event}
 use Rattle.machine.specs.declared.event.Event.TheVariants as events
-use Rattle.machine.specs.Event.{World, Committer as MachineCommitter, committed_first, from_group, with_committer}
-use Rattle.world.specs.Committing.{EngineStands, CommittingRefines, next_primary}
-use Rattle.world.specs.Queue.{has_group, is_done, is_ready_now, link_has_room, may_commit_now}
+use Rattle.machine.specs.Event.{World, Committer as MachineCommitter, committed_first, from_group, may_happen, with_committer}
+use Rattle.world.specs.Committing.{EngineStands, CommittingRefines, link_has_room, next_primary}
 use Rattle.world.specs.Recalling.{Remembers}
 use Rattle.connections.specs.Session.{SequencerRefines}
 use Rattle.world.specs.Standby.{Arrived, Node}
 use Rattle.world.specs.Pair.{Pair, PartsRefine, PairRefines, Steps, Does}
 use Rattle.connections.specs.declared.connections.Connections.{Connections}
 use Rattle.connections.specs.declared.transcript.Transcript.{Transcript}
-use Rattle.world.proofs.CommittingLemmas.{Leads-committed, Remembers-committed, TakesGroup, commit-ends, commit-goes, commit-moments, hand-goes, hand-none, hand-room, raise-goes, raise-none, takes-group}
+use Rattle.world.proofs.CommittingLemmas.{Leads-committed, Remembers-committed, TakesLawful, commit-ends, commit-goes, commit-moments, hand-goes, hand-none, hand-room, raise-goes, raise-none, takes-lawful}
 use Rattle.world.proofs.LivesLemmas.{enabled-is, nodes-refine, own-runs}
 use Rattle.world.proofs.PairLemmas.{Led, cut-for, cut-same, none-added, rests-standby, stays-does, tells}
 use Rattle.world.proofs.PairCommitting.{commit-steps, ends-commit, hand-does, raise-does, same_closed}
-use Rattle.world.proofs.QueueLemmas.{commit-enabled, no_group-lists}
+use Rattle.world.proofs.QueueLemmas.{commit-disabled, commit-enabled}
 
--- a turn did something
-abbrev pub did_of : Result Done Refusal → Result Bool Refusal
-did_of (Ok done) = Ok (is_done done)
-did_of (Err refusal) = Err refusal
-
--- a turn that was to commit was not refused
+-- a turn that took its step was not refused
 abbrev pub went : Result Done Refusal → Result Bool Refusal
 went (Ok done) = Ok true
 went (Err refusal) = Err refusal
@@ -63,43 +59,68 @@ pub Waiting-same : {T : Type 0} (a b : Waiting T) → a.items ≡ b.items → a 
 Waiting-same a b same =
     subst (λ items. (within : length items ≤ limits.PIPE_ITEMS) → a ≡ record { items = items; within = within }) same (λ within. ap (λ w. record a { within = w }) (le_prop a.within within)) b.within
 
--- ---- where the committer may commit
+-- ---- the room of the link
 
--- nothing is in hand, a group waits, and the link has room
-record MayCommit (stage : Stage) (items : List Work) (handed : List Group) : Type 0 where
-  ready : is_ready_now stage ≡ true
-  some : has_group items ≡ true
-  room : length handed < PIPE_ITEMS
+-- a pipe has room for another group, or none is left
+room-of : (n : ℕ) → nat_lt 0 (PIPE_ITEMS - n) ≡ nat_lt n PIPE_ITEMS
+room-of n = elim (cases_lt n PIPE_ITEMS) [
+  | inl some ↦ lt-ltb 0 (PIPE_ITEMS - n) (omega (arith, some)) ∙ sym (lt-ltb n PIPE_ITEMS some)
+  | inr full ↦ le-ltb 0 (PIPE_ITEMS - n) (omega (arith, full)) ∙ sym (le-ltb n PIPE_ITEMS full)
+]
 
-pub may-parts : (a b c : Bool) → (a && b && c) ≡ true → (a ≡ true) × (b ≡ true) × (c ≡ true)
-may-parts true true true may = (refl, refl, refl)
-may-parts true true false may = absurd (true≢false (sym may))
-may-parts true false c may = absurd (true≢false (sym may))
-may-parts false b c may = absurd (true≢false (sym may))
+module _ {E : Type 0} (device : E → State) (contents : E → Contents) (is_faulted : E → Bool) where
+  -- what a turn came to, whose link is a pipe of this thread
+  abbrev pub Took : Due → Bool → ℕ → Committer E → Waiting Work → Waiting Group → Result Done Refusal → Committer E → Waiting Work → Waiting Group → Type 0
+  Took = Takes device contents is_faulted (λ (pipe : Waiting Group). pipe.items) (λ (pipe : Waiting Group). PIPE_ITEMS - length pipe.items)
 
-may-commit : (stage : Stage) (items : List Work) (handed : List Group) → true ≡ may_commit_now stage items handed → MayCommit stage items handed
-may-commit stage items handed may =
-    let parts = may-parts (is_ready_now stage) (has_group items) (link_has_room handed) (sym may) in
-    record { ready = parts.0; some = parts.1; room = ltb-true (length handed) PIPE_ITEMS parts.2 }
+  module _ (remote : ℕ) (before after : Committer E) (works works' : Waiting Work) (handed handed' : Waiting Group) (result : Result Done Refusal) where
+    -- with no group in hand, none is handed on
+    none-handed : (step : Due) (room : Bool) → before.stage ≡ Ready → Took step room remote before works handed result after works' handed' → handed'.items ≡ handed.items
+    none-handed due.Commit room ready (none, took) = none.offered_is
+    none-handed due.Raise room ready (same, queue, raises) = ap (λ (pipe : Waiting Group). pipe.items) same
+    none-handed due.Hand room ready (queue, hands) = absurd (let in_hand = sym ready ∙ hands.in_hand in cc)
+    none-handed due.Free room ready (none, took) = none.offered_is
+    none-handed due.Clear room ready (none, queue, took) = none.offered_is
+    none-handed due.Nothing room ready (none, queue, answer, same) = none.offered_is
 
-pub is-ready : (stage : Stage) → is_ready_now stage ≡ true → stage ≡ Ready
-is-ready Ready is = refl
-is-ready (Durable group) is = absurd (true≢false (sym is))
-is-ready (Shown group) is = absurd (true≢false (sym is))
+    abbrev now : Bool → Due
+    now room = due_now contents before works room remote
 
-pub ready-now : (stage : Stage) (items : List Work) (handed : List Group) → true ≡ may_commit_now stage items handed → stage ≡ Ready
-ready-now stage items handed may = is-ready stage (may-commit stage items handed may).ready
+    -- the step that is due by the room that there was
+    took-due : Took (now (nat_lt 0 (PIPE_ITEMS - length handed'.items))) (nat_lt 0 (PIPE_ITEMS - length handed'.items)) remote before works handed result after works' handed'
+        → Took (now (link_has_room handed.items)) (link_has_room handed.items) remote before works handed result after works' handed'
+    took-due took = elim before.stage as (λ stage. before.stage ≡ stage → Took (now (link_has_room handed.items)) (link_has_room handed.items) remote before works handed result after works' handed') [
+      | Ready ↦ λ ready.
+          let same : nat_lt 0 (PIPE_ITEMS - length handed'.items) ≡ link_has_room handed.items =
+          room-of (length handed'.items) ∙ ap link_has_room (none-handed (now (nat_lt 0 (PIPE_ITEMS - length handed'.items))) (nat_lt 0 (PIPE_ITEMS - length handed'.items)) ready took) in
+          subst (λ (room : Bool). Took (now room) room remote before works handed result after works' handed') same took
+      | Durable group ↦ λ durable. subst in_room (sym (raise-now contents before works (link_has_room handed.items) remote group durable))
+          (subst by_room (raise-now contents before works (nat_lt 0 (PIPE_ITEMS - length handed'.items)) remote group durable) took)
+      | Shown group ↦ λ shown. subst in_room (sym (hand-now contents before works (link_has_room handed.items) remote group shown))
+          (subst by_room (hand-now contents before works (nat_lt 0 (PIPE_ITEMS - length handed'.items)) remote group shown) took)
+    ] refl
+      where
+        in_room : Due → Type 0
+        in_room step = Took step (link_has_room handed.items) remote before works handed result after works' handed'
 
--- where a group waits, the lists do not end
-none-ended : (before between : Waiting Work) (lists : List FreeList) → TakesLists LocalTakes before lists between → between.items ≡ [] → has_group before.items ≡ true → ⊥
-none-ended before between lists takes none some =
-    true≢false (sym some ∙ ap has_group (TakesLists-items before between lists takes ∙ ap (λ items. map work.Free lists ++ items) none ∙ append-nil (map work.Free lists))
-    ∙ no_group-lists lists)
+        by_room : Due → Type 0
+        by_room step = Took step (nat_lt 0 (PIPE_ITEMS - length handed'.items)) remote before works handed result after works' handed'
 
-none-drained : (room : ℕ) (before between after : Waiting Work) (lists : List FreeList) → TakesLists LocalTakes before lists between → IsDrained LocalTakes room before lists between after → 0 < room
-    → has_group before.items ≡ true → ⊥
-none-drained room before between after lists takes (inl drained) has some = none-ended before between lists takes (EndsLists-none before between after lists takes drained.1).0 some
-none-drained room before between after lists takes (inr full) has some = absurd (omega (arith, full.0, has))
+    -- neither touches the device
+    pub raise-leaves : Took due.Raise (link_has_room handed.items) remote before works handed result after works' handed' → device after.engine ≡ device before.engine
+    raise-leaves took = ap (λ (k : Committer E). device k.engine) took.2.now
+
+    pub hand-leaves : Took due.Hand (link_has_room handed.items) remote before works handed result after works' handed' → device after.engine ≡ device before.engine
+    hand-leaves took = elim took.1.came [
+      | inl handed ↦ ap (λ (k : Committer E). device k.engine) handed.1
+      | inr idle ↦ ap (λ (k : Committer E). device k.engine) idle.1
+    ]
+
+    -- it was taken
+    pub took-step : (step : Due) → now (link_has_room handed.items) ≡ step
+        → Took (now (nat_lt 0 (PIPE_ITEMS - length handed'.items))) (nat_lt 0 (PIPE_ITEMS - length handed'.items)) remote before works handed result after works' handed'
+        → Took step (link_has_room handed.items) remote before works handed result after works' handed'
+    took-step step is took = subst (λ (step : Due). Took step (link_has_room handed.items) remote before works handed result after works' handed') is (took-due took)
 
 module _ {E : Type 0} (device : E → State) (contents : E → Contents) (is_faulted : E → Bool) (sessions : Connections) (transcript : Transcript) (sequencer : Sequencing) (notices : List Freed) (link : Stream) (opening : Opening) (remote : ℕ) (frames : List (Vec ℕ Global)) (arrivals : Arrived) (standby : Node) (primary_runs standby_runs : Bool) where
   -- a pair with this committer, with this work waiting for it, and with these groups at the link
@@ -124,21 +145,25 @@ module _ {E : Type 0} (device : E → State) (contents : E → Contents) (is_fau
     standby_runs = standby_runs;
   }
 
-  -- free lists were taken, and this group behind them
-  record TakesFirst (before after : Committer E) (works works' : Waiting Work) (lists : List FreeList) (group : Group) : Type 0 where
-    taken : works.items ≡ map work.Free lists ++ work.Commit group ∷ works'.items
-    set_aside : after.aside.items ≡ before.aside.items ++ lists
+  -- the step that is due
+  abbrev now-due : Committer E → Waiting Work → Waiting Group → Due
+  now-due before works handed = due_now contents before works (link_has_room handed.items) remote
 
-  takes-first : (before after : Committer E) (works works' : Waiting Work) (handed : Waiting Group) (lists : List FreeList) (group : Group) → TakesFirst before after works works' lists group
+  may-commit : (before : Committer E) (works : Waiting Work) (handed : Waiting Group) → now-due before works handed ≡ due.Commit → (first second : Holder) (w : World) → PartsRefine first second (pair_of before works handed) w
+      → may_happen w events.Commit ≡ true
+  may-commit before works handed is first second w parts =
+      commit-enabled w (pair_of before works handed).committing handed.items parts.committing parts.link.waiting remote (length (contents before.engine).current.gaps.items) is
+
+  -- the free lists that waited first were taken, and the group behind them
+  takes-first : (before after : Committer E) (works works' : Waiting Work) (handed : Waiting Group) (result : Result Done Refusal) (took : TakesGroup device contents is_faulted before works result after works')
       → (first second : Holder) (w : World) → PartsRefine first second (pair_of before works handed) w
-      → TakesGroup (contents before.engine) (pair_of before works handed).committing lists group (pair_of after works' handed).committing
-  takes-first before after works works' handed lists group takes first second w parts =
-      takes-group (contents before.engine) (pair_of before works handed).committing lists group (pair_of after works' handed).committing sequencer notices takes.taken takes.set_aside parts.leads
+      → TakesLawful (contents before.engine) (pair_of before works handed).committing took.lists took.group (pair_of after works' handed).committing
+  takes-first before after works works' handed result took first second w parts =
+      takes-lawful (contents before.engine) (pair_of before works handed).committing took.lists took.group (pair_of after works' handed).committing sequencer notices took.taken took.set_aside parts.leads
 
-  committed : (before after : Committer E) (works works' : Waiting Work) (handed : Waiting Group) (lists : List FreeList) (group : Group) (done : Done) → TakesFirst before after works works' lists group
-      → true ≡ may_commit_now before.stage works.items handed.items → Commits device contents is_faulted before group (Ok done) after
-      → Does (pair_of before works handed) events.Commit (Ok true) (pair_of after works' handed)
-  committed before after works works' handed lists group done takes may commits =
+  committed : (before after : Committer E) (works works' : Waiting Work) (handed : Waiting Group) (done : Done) → now-due before works handed ≡ due.Commit
+      → TakesGroup device contents is_faulted before works (Ok done) after works' → Does (pair_of before works handed) events.Commit (Ok true) (pair_of after works' handed)
+  committed before after works works' handed done is took =
       record { steps = steps; cut = tt; calls = none-added _ _ refl }
     where
       old : Pair
@@ -147,7 +172,16 @@ module _ {E : Type 0} (device : E → State) (contents : E → Contents) (is_fau
       new : Pair
       new = pair_of after works' handed
 
-      parts-after : (first second : Holder) (w : World) (committer : MachineCommitter) → PartsRefine first second old w → TakesGroup old.contents old.committing lists group new.committing
+      lists : List FreeList
+      lists = took.lists
+
+      group : Group
+      group = took.group
+
+      commits : Commits device contents is_faulted before took.group (Ok done) after
+      commits = took.commits
+
+      parts-after : (first second : Holder) (w : World) (committer : MachineCommitter) → PartsRefine first second old w → TakesLawful old.contents old.committing took.lists took.group new.committing
           → CommittingRefines w.primary.calls new.committing committer × EngineStands first w.primary.calls committer.position new.device new.contents new.is_faulted
           → committer.closed ≡ w.primary.committer.closed → Remembers w.standby.position committer.position w.primary.calls new.contents new.committing.waiting.items new.committing.aside sequencer
           → PartsRefine first second new (with_committer committer w)
@@ -158,12 +192,12 @@ module _ {E : Type 0} (device : E → State) (contents : E → Contents) (is_fau
             follow = parts.follow;
             committing = stand.0;
             engine = stand.1;
-            leads = Leads-committed old.contents new.contents old.committing lists group new.committing sequencer notices parts.engine.contents_at.consistent takes commits.moved parts.leads;
+            leads = Leads-committed old.contents new.contents old.committing took.lists took.group new.committing sequencer notices parts.engine.contents_at.consistent takes took.commits.moved parts.leads;
             freeing = record {
               ended = parts.freeing.ended;
               newest = parts.freeing.newest;
               notices_are = parts.freeing.notices_are;
-              gaps = ap (λ (r : Record). length r.gaps.items) commits.moved.current ∙ parts.freeing.gaps;
+              gaps = ap (λ (r : Record). length r.gaps.items) took.commits.moved.current ∙ parts.freeing.gaps;
             };
             remembers = remembers;
             opening = parts.opening;
@@ -177,145 +211,133 @@ module _ {E : Type 0} (device : E → State) (contents : E → Contents) (is_fau
       steps : (first second : Holder) (w : World) → PairRefines first second old w → Steps first second w events.Commit true old new
       steps first second w stands =
           let parts = stands.parts in
-          let takes = takes-first before after works works' handed lists group takes first second w parts in
-          let stand = commit-goes first w old.committing lists group new.committing old.device new.device old.contents new.contents old.is_faulted new.is_faulted
-          takes commits.in_hand commits.local (λ sound would. committed_not_refused (commits.exhausts sound would))
-          commits.moved commits.durable commits.sound.0 parts.committing parts.engine in
+          let commits = took.commits in
+          let takes = takes-first before after works works' handed (Ok done) took first second w parts in
+          let fits = λ (sound : is_faulted before.engine ≡ false) (would : Exhausts (contents before.engine) took.group). committed_not_refused (commits.exhausts sound would) in
+          let stand = commit-goes first w old.committing took.lists took.group new.committing old.device new.device old.contents new.contents old.is_faulted new.is_faulted
+          takes commits.in_hand commits.local fits commits.moved commits.durable commits.sound.0 parts.committing parts.engine in
           commit-steps first second w old new refl stands.sound (own-runs stands events.Commit refl) stands.serves commits.sound.1
-          (commit-moments first w old.committing lists group new.committing old.device new.device old.contents old.is_faulted takes
-          (λ sound would. committed_not_refused (commits.exhausts sound would)) commits.moments parts.committing parts.engine)
-          (may ∙ commit-enabled w old.committing handed.items parts.committing parts.link.waiting)
+          (commit-moments first w old.committing took.lists took.group new.committing old.device new.device old.contents old.is_faulted takes fits commits.moments parts.committing parts.engine)
+          (sym (may-commit before works handed is first second w parts))
           (parts-after first second w (committed_first (from_group w.primary.committer.waiting) w.primary.committer) parts takes stand (same_closed (from_group w.primary.committer.waiting) w)
-          (Remembers-committed first w old.committing lists group new.committing old.contents new.contents sequencer takes commits.moved parts.committing parts.engine.contents_at parts.remembers))
+          (Remembers-committed first w old.committing took.lists took.group new.committing old.contents new.contents sequencer takes commits.moved parts.committing parts.engine.contents_at parts.remembers))
 
-  refused : (before after : Committer E) (works works' : Waiting Work) (handed : Waiting Group) (lists : List FreeList) (group : Group) (refusal : Refusal) → TakesFirst before after works works' lists group
-      → true ≡ may_commit_now before.stage works.items handed.items → Commits device contents is_faulted before group (Err refusal) after
-      → Does (pair_of before works handed) events.Commit (Err refusal) (pair_of after works' handed)
-  refused before after works works' handed lists group refusal takes may commits =
+  refused : (before after : Committer E) (works works' : Waiting Work) (handed : Waiting Group) (refusal : Refusal) → now-due before works handed ≡ due.Commit
+      → TakesGroup device contents is_faulted before works (Err refusal) after works' → Does (pair_of before works handed) events.Commit (Err refusal) (pair_of after works' handed)
+  refused before after works works' handed refusal is took =
       record {
         steps = tt;
         cut = λ first second w stands.
             let old = pair_of before works handed in
             let new = pair_of after works' handed in
             let parts = stands.parts in
-            let takes = takes-first before after works works' handed lists group takes first second w parts in
+            let commits = took.commits in
+            let takes = takes-first before after works works' handed (Err refusal) took first second w parts in
             cut-for first second events.Commit refusal old new w (nodes-refine stands) (tells transcript)
-            (enabled-is (own-runs stands events.Commit refl) ∙ sym (may ∙ commit-enabled w old.committing handed.items parts.committing parts.link.waiting))
+            (enabled-is (own-runs stands events.Commit refl) ∙ may-commit before works handed is first second w parts)
             (ends-commit refusal (λ last _. last first w.primary.calls w.primary.committer.position (next_primary w) old.device new.device) (Led first second old new w)
             (λ last broken. (broken, rests-standby first second old w (nodes-refine stands)))
-            (commit-ends first w old.committing lists group new.committing old.device new.device old.contents old.is_faulted (Err refusal) refusal refl takes
+            (commit-ends first w old.committing took.lists took.group new.committing old.device new.device old.contents old.is_faulted (Err refusal) refusal refl takes
             commits.causes commits.fault (λ cause. let told = commits.exhausted cause in (told.0, ap (λ (e : E). device e) told.1))
             commits.exhausts commits.moments parts.committing parts.engine));
         calls = none-added _ _ refl;
       }
 
-  -- room for a list to stand aside was refused
-  refused-aside : (before after : Committer E) (works works' : Waiting Work) (handed : Waiting Group) (aside : List FreeList) (result : Result Done Refusal)
-      → true ≡ may_commit_now before.stage works.items handed.items → RefusesAside device contents is_faulted before aside result after
-      → Does (pair_of before works handed) events.Commit (went result) (pair_of after works' handed)
-  refused-aside before after works works' handed aside result may refuses =
-      subst (λ (r : Result Done Refusal). Does (pair_of before works handed) events.Commit (went r) (pair_of after works' handed)) (sym refuses.answer)
+  -- room for the lists to stand aside was refused
+  without-room : (before after : Committer E) (works works' : Waiting Work) (handed : Waiting Group) (result : Result Done Refusal) → now-due before works handed ≡ due.Commit
+      → LacksRoom device contents is_faulted before works result after works' → Does (pair_of before works handed) events.Commit (went result) (pair_of after works' handed)
+  without-room before after works works' handed result is lacks =
+      subst (λ (r : Result Done Refusal). Does (pair_of before works handed) events.Commit (went r) (pair_of after works' handed)) (sym lacks.answer)
       (record {
         steps = tt;
         cut = λ first second w stands.
-            let old = pair_of before works handed in
-            let parts = stands.parts in
-            cut-same first second events.Commit Memory old (pair_of after works' handed) w refl refl (ap device refuses.engine) refl (tells transcript) (own-runs stands events.Commit refl)
-            (sym (may ∙ commit-enabled w old.committing handed.items parts.committing parts.link.waiting)) (nodes-refine stands);
+            cut-same first second events.Commit Memory (pair_of before works handed) (pair_of after works' handed) w refl refl (ap device lacks.engine) refl (tells transcript) (own-runs stands events.Commit refl)
+            (may-commit before works handed is first second w stands.parts) (nodes-refine stands);
         calls = none-added _ _ refl;
       })
 
-  -- what a turn does to a pair whose committer may commit
-  pub commit-does : (before after : Committer E) (works works' : Waiting Work) (handed handed' : Waiting Group) (result : Result Done Refusal) → true ≡ may_commit_now before.stage works.items handed.items
-      → handed'.items ≡ handed.items → TurnsReady device contents is_faulted LocalTakes before works (PIPE_ITEMS - length handed'.items) remote result after works'
-      → Does (pair_of before works handed) events.Commit (went result) (pair_of after works' handed')
-  commit-does before after works works' handed handed' result may same turned =
-      subst (λ (h : Waiting Group). Does (pair_of before works handed) events.Commit (went result) (pair_of after works' h)) (Waiting-same handed handed' (sym same))
-      (elim turned.came [
-        | inl took ↦ by result (takes took.0 took.2 took.4) took.3
-        | inr (inl frees) ↦ absurd (none-drained (PIPE_ITEMS - length handed'.items) works turned.between works' turned.lists turned.takes frees.0 room can.some)
-        | inr (inr (inl clears)) ↦ absurd (none-ended works turned.between turned.lists turned.takes clears.1.0 can.some)
-        | inr (inr (inr (inl idle))) ↦ absurd (none-drained (PIPE_ITEMS - length handed'.items) works turned.between works' turned.lists turned.takes idle.0 room can.some)
-        | inr (inr (inr (inr refuses))) ↦ refused-aside before after works works' handed (before.aside.items ++ turned.lists) result may refuses.2
+  -- what a turn does to a pair for which a commit is due
+  pub commit-does : (before after : Committer E) (works works' : Waiting Work) (handed handed' : Waiting Group) (result : Result Done Refusal) → now-due before works handed ≡ due.Commit
+      → Took device contents is_faulted due.Commit (link_has_room handed.items) remote before works handed result after works' handed' → Does (pair_of before works handed) events.Commit (went result) (pair_of after works' handed')
+  commit-does before after works works' handed handed' result is (offered, came) =
+      subst (λ (h : Waiting Group). Does (pair_of before works handed) events.Commit (went result) (pair_of after works' h)) (Waiting-same handed handed' (sym offered.offered_is))
+      (elim came [
+        | inl took ↦ by result took
+        | inr lacking ↦ without-room before after works works' handed result is lacking
       ])
     where
-      can : MayCommit before.stage works.items handed.items
-      can = may-commit before.stage works.items handed.items may
+      by : (result : Result Done Refusal) → TakesGroup device contents is_faulted before works result after works' → Does (pair_of before works handed) events.Commit (went result) (pair_of after works' handed)
+      by (Ok done) took = committed before after works works' handed done is took
+      by (Err refusal) took = refused before after works works' handed refusal is took
 
-      room : 0 < PIPE_ITEMS - length handed'.items
-      room = omega (arith, can.room, ap length same)
-
-      takes : (group : Group) → LocalTakes turned.between (Some (work.Commit group)) works' → after.aside.items ≡ before.aside.items ++ turned.lists → TakesFirst before after works works' turned.lists group
-      takes group gives set_aside = record {
-        taken = TakesLists-items works turned.between turned.lists turned.takes ∙ ap (λ items. map work.Free turned.lists ++ items) gives;
-        set_aside = set_aside;
-      }
-
-      by : {group : Group} (result : Result Done Refusal) → TakesFirst before after works works' turned.lists group → Commits device contents is_faulted before group result after
-          → Does (pair_of before works handed) events.Commit (went result) (pair_of after works' handed)
-      by {group} (Ok done) took commits = committed before after works works' handed turned.lists group done took may commits
-      by {group} (Err refusal) took commits = refused before after works works' handed turned.lists group refusal took may commits
-
-  -- the committer may not commit
-  pub commit-stays : (before : Committer E) (works : Waiting Work) (handed : Waiting Group) → false ≡ may_commit_now before.stage works.items handed.items
+  -- another step is due
+  pub commit-stays : (before : Committer E) (works : Waiting Work) (handed : Waiting Group) → (now-due before works handed ≡ due.Commit → ⊥)
       → Does (pair_of before works handed) events.Commit (Ok false) (pair_of before works handed)
   commit-stays before works handed never =
       stays-does (pair_of before works handed) events.Commit refl
-      (λ first second w stands. never ∙ commit-enabled w (pair_of before works handed).committing handed.items stands.parts.committing stands.parts.link.waiting)
+      (λ first second w stands.
+      commit-disabled w (pair_of before works handed).committing handed.items stands.parts.committing stands.parts.link.waiting remote (length (contents before.engine).current.gaps.items) never)
 
-  -- what a turn that found a group committed does to the pair
-  pub raise-turned : (before after : Committer E) (works works' : Waiting Work) (waiting waiting' : Waiting Group) (group : Group) (result : Result Done Refusal) → before.stage ≡ Durable group
-      → (result ≡ Ok Raised) × (after ≡ raised device contents is_faulted group before) × (works' ≡ works) × (waiting' ≡ waiting)
-      → Does (pair_of before works waiting) events.RaiseLocal (did_of result) (pair_of after works' waiting')
-  raise-turned before after works works' waiting waiting' group result durable turned =
-      subst (λ (r : Result Done Refusal). Does old events.RaiseLocal (did_of r) (pair_of after works' waiting')) (sym turned.0)
-      (subst (λ (c : Committer E). Does old events.RaiseLocal (Ok true) (pair_of c works' waiting')) (sym turned.1)
-      (subst (λ (g : Waiting Work). Does old events.RaiseLocal (Ok true) (pair_of shows g waiting')) (sym turned.2)
-      (subst (λ (l : Waiting Group). Does old events.RaiseLocal (Ok true) (pair_of shows works l)) (sym turned.3)
+  -- what a turn does to a pair for which the local mark is due
+  pub raise-does-so : (before after : Committer E) (works works' : Waiting Work) (waiting waiting' : Waiting Group) (result : Result Done Refusal)
+      → Took device contents is_faulted due.Raise (link_has_room waiting.items) remote before works waiting result after works' waiting'
+      → Does (pair_of before works waiting) events.RaiseLocal (went result) (pair_of after works' waiting')
+  raise-does-so before after works works' waiting waiting' result (link_is, queue, raises) =
+      subst (λ (r : Result Done Refusal). Does old events.RaiseLocal (went r) (pair_of after works' waiting')) (sym raises.answer)
+      (subst (λ (c : Committer E). Does old events.RaiseLocal (Ok true) (pair_of c works' waiting')) (sym raises.now)
+      (subst (λ (g : Waiting Work). Does old events.RaiseLocal (Ok true) (pair_of shows g waiting')) (sym queue)
+      (subst (λ (l : Waiting Group). Does old events.RaiseLocal (Ok true) (pair_of shows works l)) (sym link_is)
       (raise-does old (pair_of shows works waiting).committing true
-      (λ w stands at. raise-goes w old.committing (pair_of shows works waiting).committing group old.contents.current.position
-      (CommittingRefines w.primary.calls (pair_of shows works waiting).committing w.primary.committer) durable refl refl refl refl stands at) refl refl))))
+      (λ w stands at. raise-goes w old.committing (pair_of shows works waiting).committing raises.group old.contents.current.position
+      (CommittingRefines w.primary.calls (pair_of shows works waiting).committing w.primary.committer) raises.in_hand refl refl refl refl stands at) refl refl))))
     where
       old : Pair
       old = pair_of before works waiting
 
       shows : Committer E
-      shows = raised device contents is_faulted group before
+      shows = raised device contents is_faulted raises.group before
 
-  -- what a turn that found a group shown does to the pair
-  pub hand-turned : (before after : Committer E) (works works' : Waiting Work) (waiting waiting' : Waiting Group) (group : Group) (result : Result Done Refusal) → before.stage ≡ Shown group
-      → (works' ≡ works) × (((result ≡ Ok Handed) × (after ≡ ready_again before) × (waiting'.items ≡ waiting.items ++ group ∷ []))
-      ⊎ ((result ≡ Ok Idle) × (after ≡ before) × (PIPE_ITEMS - length waiting.items ≡ 0) × (waiting'.items ≡ waiting.items)))
-      → Does (pair_of before works waiting) events.Hand (did_of result) (pair_of after works' waiting')
-  hand-turned before after works works' waiting waiting' group result shown turned =
-      subst (λ (g : Waiting Work). Does old events.Hand (did_of result) (pair_of after g waiting')) (sym turned.0) (by turned.1)
+  -- what a turn does to a pair for which a group is to be handed on
+  pub hand-does-so : (before after : Committer E) (works works' : Waiting Work) (waiting waiting' : Waiting Group) (result : Result Done Refusal)
+      → Took device contents is_faulted due.Hand (link_has_room waiting.items) remote before works waiting result after works' waiting'
+      → Does (pair_of before works waiting) events.Hand (went result) (pair_of after works' waiting')
+  hand-does-so before after works works' waiting waiting' result (queue, hands) =
+      subst (λ (g : Waiting Work). Does old events.Hand (went result) (pair_of after g waiting')) (sym queue) (by hands.came)
     where
       old : Pair
       old = pair_of before works waiting
 
-      by : ((result ≡ Ok Handed) × (after ≡ ready_again before) × (waiting'.items ≡ waiting.items ++ group ∷ []))
+      by : ((result ≡ Ok Handed) × (after ≡ ready_again before) × (waiting'.items ≡ waiting.items ++ hands.group ∷ []))
           ⊎ ((result ≡ Ok Idle) × (after ≡ before) × (PIPE_ITEMS - length waiting.items ≡ 0) × (waiting'.items ≡ waiting.items))
-          → Does old events.Hand (did_of result) (pair_of after works waiting')
+          → Does old events.Hand (went result) (pair_of after works waiting')
       by (inl handed) =
-          subst (λ (r : Result Done Refusal). Does old events.Hand (did_of r) (pair_of after works waiting')) (sym handed.0)
+          subst (λ (r : Result Done Refusal). Does old events.Hand (went r) (pair_of after works waiting')) (sym handed.0)
           (subst (λ (c : Committer E). Does old events.Hand (Ok true) (pair_of c works waiting')) (sym handed.1)
           (hand-does old (pair_of (ready_again before) works waiting).committing waiting' true
-          (λ w sound stands are. hand-goes w old.committing (pair_of (ready_again before) works waiting).committing group waiting.items waiting'.items shown refl refl refl refl handed.2 stands are) refl refl))
+          (λ w sound stands are. hand-goes w old.committing (pair_of (ready_again before) works waiting).committing hands.group waiting.items waiting'.items hands.in_hand refl refl refl refl handed.2 stands are) refl refl))
       by (inr full) =
-          subst (λ (r : Result Done Refusal). Does old events.Hand (did_of r) (pair_of after works waiting')) (sym full.0)
-          (subst (λ (c : Committer E). Does old events.Hand (Ok false) (pair_of c works waiting')) (sym full.1)
-          (subst (λ (l : Waiting Group). Does old events.Hand (Ok false) (pair_of before works l)) (Waiting-same waiting waiting' (sym full.3))
-          (stays-does old events.Hand refl (λ first second w stands.
-          absurd (omega (arith, full.2, hand-room w before.stage group waiting.items shown stands.sound stands.parts.committing.stage_is stands.parts.link.waiting))))))
+          subst (λ (r : Result Done Refusal). Does old events.Hand (went r) (pair_of after works waiting')) (sym full.0)
+          (record {
+            steps = λ first second w stands.
+                absurd (omega (arith, full.2, hand-room w before.stage hands.group waiting.items hands.in_hand stands.sound stands.parts.committing.stage_is stands.parts.link.waiting));
+            cut = tt;
+            calls = none-added _ _ refl;
+          })
 
   -- another step is due
-  pub raise-none-does : (before : Committer E) (works : Waiting Work) (waiting : Waiting Group) → ((group : Group) → before.stage ≡ Durable group → ⊥) → Does (pair_of before works waiting) events.RaiseLocal (Ok false) (pair_of before works waiting)
-  raise-none-does before works waiting none =
-      stays-does (pair_of before works waiting) events.RaiseLocal refl (λ first second w stands. raise-none w.primary.calls before.stage w.primary.committer.stage none stands.parts.committing.stage_is)
+  pub raise-stays : (before : Committer E) (works : Waiting Work) (waiting : Waiting Group) → (now-due before works waiting ≡ due.Raise → ⊥)
+      → Does (pair_of before works waiting) events.RaiseLocal (Ok false) (pair_of before works waiting)
+  raise-stays before works waiting never =
+      stays-does (pair_of before works waiting) events.RaiseLocal refl (λ first second w stands. raise-none w.primary.calls before.stage w.primary.committer.stage
+      (λ group durable. never (raise-now contents before works (link_has_room waiting.items) remote group durable))
+      stands.parts.committing.stage_is)
 
-  pub hand-none-does : (before : Committer E) (works : Waiting Work) (waiting : Waiting Group) → ((group : Group) → before.stage ≡ Shown group → ⊥) → Does (pair_of before works waiting) events.Hand (Ok false) (pair_of before works waiting)
-  hand-none-does before works waiting none =
-      stays-does (pair_of before works waiting) events.Hand refl (λ first second w stands. hand-none w.primary.calls before.stage w.primary.committer.stage none stands.parts.committing.stage_is)
+  pub hand-stays : (before : Committer E) (works : Waiting Work) (waiting : Waiting Group) → (now-due before works waiting ≡ due.Hand → ⊥)
+      → Does (pair_of before works waiting) events.Hand (Ok false) (pair_of before works waiting)
+  hand-stays before works waiting never =
+      stays-does (pair_of before works waiting) events.Hand refl (λ first second w stands. hand-none w.primary.calls before.stage w.primary.committer.stage
+      (λ group shown. never (hand-now contents before works (link_has_room waiting.items) remote group shown))
+      stands.parts.committing.stage_is)
 
 -- ---- what was answered of it
 

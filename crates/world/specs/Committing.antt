@@ -1,11 +1,12 @@
 -- How the committer and its engine refine the machine's.
-use Rattle.std.specs.Prelude.{◌≡◌, ◌⊎◌, ℕ, ◌≤◌, Bool, false, nat_eq, if◌then◌else◌, List, [], ◌∷◌}
+use Rattle.std.specs.Prelude.{◌≡◌, ◌⊎◌, ℕ, ◌≤◌, Bool, false, nat_eq, nat_lt, if◌then◌else◌, List, [], ◌∷◌, length}
 use Rattle.pmem.specs.Device.{State}
 use Rattle.pmem.specs.Crash.{IsImage, IsSettled, image_of}
 use Rattle.pmem.specs.Runs.{LeavesOnly}
 use Rattle.model.specs.declared.call.Call.{Call}
 use Rattle.model.specs.Call.{keyspace_after, cut_at}
 use Rattle.model.specs.Image.{Image, IsMapOf, entries_of_lines}
+use Rattle.model.specs.declared.group.Group.{Group}
 use Rattle.model.specs.declared.work.FreeList.{FreeList}
 use Rattle.model.specs.declared.work.Work.{Work}
 use Rattle.model.specs.Group.{Contents, IsConsistent}
@@ -15,6 +16,8 @@ use Rattle.wbl_engine.specs.Contents.{IsDurable, Keeps}
 use Rattle.wbl_engine.specs.Formatting.{IsFormatting}
 use Rattle.wbl_engine.specs.Lawful.{AreLawful, IsUndamaged}
 use Rattle.pipes.specs.Waiting.{Waiting}
+use Rattle.pipes.specs.declared.limits.TheConstants.{PIPE_ITEMS}
+use Rattle.group_commit.specs.Due.{reached_by}
 use Rattle.group_commit.specs.declared.stage.Stage.{Stage}
 use Rattle.group_commit.specs.declared.stage.Stage.TheVariants.{Ready, Durable, Shown}
 use Rattle.machine.specs.Event.{Committer as Machine, Stage as MachineStage, Frame as Sent, World, committed_first, from_group}
@@ -100,6 +103,14 @@ abbrev pub next_standby : World → ℕ
 next_standby w = next_from w.standby.position w.standby.waiting
 
 -- ---- the committer
+
+-- the link has room for a group
+abbrev pub link_has_room : List Group → Bool
+link_has_room handed = nat_lt (length handed) PIPE_ITEMS
+
+-- the free lists that the committer has reached
+abbrev pub reached_now : List FreeList → List Work → List Group → List FreeList
+reached_now aside items handed = reached_by (link_has_room handed) aside items
 
 -- what waits for the committer, and what it has beside its engine
 pub record Committing : Type 0 where

@@ -20,8 +20,8 @@ use Rattle.standby.specs.Restarting.{IsReopened}
 use Rattle.machine.specs.declared.event.Event.{Event}
 use Rattle.machine.specs.declared.event.Event.TheVariants.{AcceptFreed, Apply, ClearGap, CloseGroup, Crash, Free, Reopen}
 use Rattle.machine.specs.declared.event.Node.TheVariants as node
+use Rattle.world.specs.Committing.{reached_now}
 use Rattle.world.specs.Pair.{Pair}
-use Rattle.world.specs.Queue.{reached_now}
 use Rattle.world.specs.Standby.{Node}
 
 -- a fact that holds where an event did its step

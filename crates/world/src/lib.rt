@@ -6,7 +6,6 @@ mod form;
 mod history;
 mod pair;
 mod playing;
-mod queue;
 mod restarting;
 mod trace;
 mod waiting;

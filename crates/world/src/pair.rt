@@ -1,9 +1,11 @@
 //! A pair of nodes with their connections, one event at a time.
 ghost use Rattle.std.specs.Prelude.{◌≡◌, ◌<◌, ◌≤◌, [], Ok, None, Some, true, IfErr, IfOk};
 ghost use Rattle.frames.specs.declared.frame.Frame.{Frame};
+ghost use Rattle.group_commit.specs.Due.{due_now};
 ghost use Rattle.standby_stream.specs.Delta.{IsDelta};
 ghost use Rattle.machine.specs.declared.event.Event.TheVariants as events;
 ghost use Rattle.machine.specs.declared.event.Node.TheVariants as nodes;
+ghost use Rattle.world.specs.Committing.{link_has_room};
 ghost use Rattle.world.specs.Pair.{Acts, Does, HasWorld, takes_part};
 ghost use Rattle.world.specs.Pair as specs;
 ghost use Rattle.world.specs.Standby.{arrived_with, node_at};
@@ -12,18 +14,17 @@ ghost use Rattle.world.specs.declared.history.History.{History};
 
 use crate::arrivals::{Arrivals, acknowledge};
 use crate::history::History;
-use crate::queue::{is_step, may_clear, may_commit, may_free};
 use crate::restarting::{Serving, restart_primary};
 use crate::wire::{decode, pass};
 use bytes::Bytes;
 use connections::Connections;
 use frames::Frame;
-use group_commit::{Committer, Done, Stage};
+use group_commit::{Committer, Done, Due};
 use kv_types::Refusal;
 use machine::{Event, Mark, Node};
 use model::{Group, Work};
 use mv_keyspace::Keyspace;
-use pipes::LocalPipe;
+use pipes::{LocalPipe, PIPE_ITEMS};
 use primary::close_next;
 use redis_core::Sequencer;
 use reply_gate::Seen;
@@ -210,15 +211,23 @@ impl<E: Restarting, K: Keyspace + Drop> Pair<E, K> {
         close_next(self.alloc, &mut self.sequencer, &mut self.work)
     }
 
+    /// The committer's step that is due.
+    fn due(&self) -> Due
+        ensures { result ≡ due_now E.contents self.now.committer self.now.work (link_has_room self.now.handed.items) self.now.remote }
+    {
+        self.committer
+            .due(&self.work, self.handed.len() < PIPE_ITEMS, self.remote)
+    }
+
     fn commit(&mut self) -> Result<bool, Refusal>
         requires serves { self.old.primary_runs ≡ true }
         requires world { (history : History) × HasWorld (⟦<Pair<E, K> as Stepper>⟧.parts self.old history) }
         ensures does { (history : History) → Does (⟦<Pair<E, K> as Stepper>⟧.parts self.old history) events.Commit result (⟦<Pair<E, K> as Stepper>⟧.parts self.new history) }
         ensures leaves { (history : History) → Leaves events.Commit result (⟦<Pair<E, K> as Stepper>⟧.parts self.old history) (⟦<Pair<E, K> as Stepper>⟧.parts self.new history) }
     {
-        if !may_commit(&self.committer, &self.work, &self.handed) {
+        let Due::Commit = self.due() else {
             return Ok(false);
-        }
+        };
         self.committer
             .turn(self.alloc, &mut self.work, &mut self.handed, self.remote)?;
         Ok(true)
@@ -228,26 +237,24 @@ impl<E: Restarting, K: Keyspace + Drop> Pair<E, K> {
         ensures does { (history : History) → Does (⟦<Pair<E, K> as Stepper>⟧.parts self.old history) events.RaiseLocal result (⟦<Pair<E, K> as Stepper>⟧.parts self.new history) }
         ensures leaves { (history : History) → Leaves events.RaiseLocal result (⟦<Pair<E, K> as Stepper>⟧.parts self.old history) (⟦<Pair<E, K> as Stepper>⟧.parts self.new history) }
     {
-        let Stage::Durable(_) = self.committer.stage() else {
+        let Due::Raise = self.due() else {
             return Ok(false);
         };
-        let done = self
-            .committer
+        self.committer
             .turn(self.alloc, &mut self.work, &mut self.handed, self.remote)?;
-        Ok(is_step(&done))
+        Ok(true)
     }
 
     fn hand(&mut self) -> Result<bool, Refusal>
         ensures does { (history : History) → Does (⟦<Pair<E, K> as Stepper>⟧.parts self.old history) events.Hand result (⟦<Pair<E, K> as Stepper>⟧.parts self.new history) }
         ensures leaves { (history : History) → Leaves events.Hand result (⟦<Pair<E, K> as Stepper>⟧.parts self.old history) (⟦<Pair<E, K> as Stepper>⟧.parts self.new history) }
     {
-        let Stage::Shown(_) = self.committer.stage() else {
+        let Due::Hand = self.due() else {
             return Ok(false);
         };
-        let done = self
-            .committer
+        self.committer
             .turn(self.alloc, &mut self.work, &mut self.handed, self.remote)?;
-        Ok(is_step(&done))
+        Ok(true)
     }
 
     fn free(&mut self) -> Result<bool, Refusal>
@@ -256,9 +263,9 @@ impl<E: Restarting, K: Keyspace + Drop> Pair<E, K> {
         ensures does { (history : History) → Does (⟦<Pair<E, K> as Stepper>⟧.parts self.old history) events.Free result (⟦<Pair<E, K> as Stepper>⟧.parts self.new history) }
         ensures leaves { (history : History) → Leaves events.Free result (⟦<Pair<E, K> as Stepper>⟧.parts self.old history) (⟦<Pair<E, K> as Stepper>⟧.parts self.new history) }
     {
-        if !may_free(&self.committer, &self.work, &self.handed, self.remote) {
+        let Due::Free = self.due() else {
             return Ok(false);
-        }
+        };
         self.notices.reserve(1)?;
         let done = self
             .committer
@@ -288,9 +295,9 @@ impl<E: Restarting, K: Keyspace + Drop> Pair<E, K> {
         ensures does { (history : History) → Does (⟦<Pair<E, K> as Stepper>⟧.parts self.old history) events.ClearGap result (⟦<Pair<E, K> as Stepper>⟧.parts self.new history) }
         ensures leaves { (history : History) → Leaves events.ClearGap result (⟦<Pair<E, K> as Stepper>⟧.parts self.old history) (⟦<Pair<E, K> as Stepper>⟧.parts self.new history) }
     {
-        if !may_clear(&self.committer, &self.work, &self.handed) {
+        let Due::Clear = self.due() else {
             return Ok(false);
-        }
+        };
         self.notices.reserve(1)?;
         let done = self
             .committer
