@@ -1,1 +1,4 @@
 pub mod Apart
+pub mod Ordered
+pub mod SlideLemmas
+pub mod Stack

@@ -6,10 +6,12 @@ mod moves;
 mod placed;
 mod plan;
 mod pushing;
+mod sliding;
 mod windows;
 
 pub use moves::Move;
 pub use pushing::push_down;
+pub use sliding::slide_down;
 pub use windows::make_window;
 
 #[cfg(test)]

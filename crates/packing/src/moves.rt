@@ -1,5 +1,5 @@
 //! Moves, and whether each goes to free lines.
-ghost use Rattle.std.specs.Prelude.{◌≡◌, ◌+◌, ◌≤◌, ◌↔◌, IsTrue, IfOk, IfSome};
+ghost use Rattle.std.specs.Prelude.{◌≡◌, ◌+◌, ◌≤◌, ◌↔◌, IsTrue, IfOk, IfSome, None};
 ghost use Rattle.packing.specs.Moves.{are_apart, is_free, IsMove, AreMoves, after_moves};
 
 use kv_types::Extent;
@@ -42,7 +42,7 @@ pub(crate) fn is_free(wanted: Extent, extents: &[Extent]) -> bool
 
 /// Whether the move goes to as many lines between `first` and `end`, all of them free.
 fn is_move(first: u64, end: u64, extents: &[Extent], step: Move) -> bool
-    ensures { IsTrue result → IsMove first end extents.now step }
+    ensures { IsTrue result ↔ IsMove first end extents.now step }
 {
     let Some(extent) = extents.get(step.index) else {
         return false;
@@ -62,6 +62,7 @@ pub(crate) fn replay(
     moves: &[Move],
 ) -> Result<Option<Vec<Extent>>, AllocError>
     ensures are { IfOk result (λ after. IfSome after (λ _. AreMoves first end extents.now moves.now)) }
+    ensures none { IfOk result (λ after. after ≡ None → ¬ AreMoves first end extents.now moves.now) }
     ensures after { IfOk result (λ after. IfSome after (λ left. left.items ≡ after_moves extents.now moves.now)) }
 {
     let mut left = extents.to_vec(alloc)?;

@@ -1,4 +1,6 @@
 //! Extents in the order of their lines, and the free lines between them.
+ghost use Rattle.std.specs.Prelude.{◌≡◌, ◌+◌, ◌^◌, ◌<◌, IfOk};
+ghost use Rattle.packing.specs.Sliding.{IsInOrder, to_line};
 
 use crate::moves::Move;
 use kv_types::Extent;
@@ -13,20 +15,28 @@ pub(crate) struct Placed {
 }
 
 impl Placed {
-    pub(crate) fn first_line(&self) -> u64 {
+    pub(crate) fn first_line(&self) -> u64
+        ensures { result ≡ (self.now).extent.first_line }
+    {
         self.extent.first_line
     }
 
-    pub(crate) fn lines(&self) -> u64 {
+    pub(crate) fn lines(&self) -> u64
+        ensures { result ≡ (self.now).extent.lines }
+    {
         self.extent.lines
     }
 
-    pub(crate) fn end(&self) -> u64 {
+    pub(crate) fn end(&self) -> u64
+        ensures { (self.now).extent.first_line + (self.now).extent.lines < 2 ^ 64 → result ≡ (self.now).extent.first_line + (self.now).extent.lines }
+    {
         end_of(self.extent)
     }
 
     /// The move of it to lines from this one on.
-    pub(crate) fn to(&self, first_line: u64) -> Move {
+    pub(crate) fn to(&self, first_line: u64) -> Move
+        ensures { result ≡ to_line self.now first_line }
+    {
         let to = Extent {
             first_line,
             lines: self.extent.lines,
@@ -39,7 +49,9 @@ impl Placed {
 }
 
 /// The line behind the extent.
-pub(crate) fn end_of(extent: Extent) -> u64 {
+pub(crate) fn end_of(extent: Extent) -> u64
+    ensures { extent.first_line + extent.lines < 2 ^ 64 → result ≡ extent.first_line + extent.lines }
+{
     extent.first_line.saturating_add(extent.lines)
 }
 
@@ -52,7 +64,9 @@ pub(crate) fn lines_between(low: u64, high: u64) -> Extent {
 }
 
 /// The extents in the order of their lines.
-pub(crate) fn in_order(alloc: Global, extents: &[Extent]) -> Result<Vec<Placed>, AllocError> {
+pub(crate) fn in_order(alloc: Global, extents: &[Extent]) -> Result<Vec<Placed>, AllocError>
+    ensures { IfOk result (λ placed. IsInOrder extents.now placed.items) }
+{
     let mut placed = Vec::with_capacity(alloc, extents.len())?;
     for (index, extent) in extents.iter().enumerate() {
         placed.push(Placed {

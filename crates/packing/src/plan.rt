@@ -1,6 +1,7 @@
 //! Plans, which are given out only where they were played through and left the run.
-ghost use Rattle.std.specs.Prelude.{IfOk, IfSome};
+ghost use Rattle.std.specs.Prelude.{◌≡◌, IfOk, IfSome, None};
 ghost use Rattle.packing.specs.Moves.{MakesRun};
+ghost use Rattle.packing.specs.Sliding.{LeavesRun};
 
 use crate::moves::{Move, ends_by, is_free, replay};
 use kv_types::Extent;
@@ -25,7 +26,8 @@ pub(crate) fn checked(
     moves: Vec<Move>,
     run: Extent,
 ) -> Result<Option<Vec<Move>>, AllocError>
-    ensures { IfOk result (λ plan. IfSome plan (λ moves. MakesRun bounds.first bounds.end bounds.lines run.lines extents.now moves.items)) }
+    ensures plan { IfOk result (λ plan. IfSome plan (λ moves. MakesRun bounds.first bounds.end bounds.lines run.lines extents.now moves.items)) }
+    ensures none { IfOk result (λ plan. plan ≡ None → ¬ LeavesRun bounds.first bounds.end bounds.lines run extents.now moves.items) }
 {
     if run.first_line < bounds.first || !ends_by(run, bounds.end) {
         return Ok(None);

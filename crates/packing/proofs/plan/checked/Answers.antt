@@ -4,8 +4,8 @@ use Rattle.packing.specs.Moves.{is_free}
 use Rattle.packing.proofs.Apart.{moves_stay_apart}
 use Rattle.packing.proofs.plan.checked.Goals as goal
 
-pub returns-then-is_free : goal.returns-then-is_free
-returns-then-is_free c =
+pub returns-then-is_free-clause-plan : goal.returns-then-is_free-clause-plan
+returns-then-is_free-clause-plan c =
     let moves : c.as_slice.result.now ≡ c.args.moves.items = c.as_slice.ensures.value in
     let are = rw (c.in-Some.is, moves) at c.in_ok-left.ensures.are in
     let after = rw (c.in-Some.is, moves) at c.in_ok-left.ensures.after in
