@@ -124,3 +124,19 @@ def push_from(placed, havens, floor, end, need):
         moves.append((index, floor))
         floor += lines
     return moves, end - floor
+
+
+def slide_down(extents, first, end, need):
+    """Moves that let extents slide down to the first line, straight or by way of `end`, until there are `need` free lines above the last of them, or `None`."""
+    moves, floor = [], first
+    for line, lines, index in in_order(extents):
+        if line - floor >= need:
+            return moves
+        if line <= floor:
+            floor = line + lines
+            continue
+        if floor + lines > line:
+            moves.append((index, end))
+        moves.append((index, floor))
+        floor += lines
+    return moves if end - floor >= need else None

@@ -4,7 +4,7 @@ and of the rule, and of the code only as far as it does what these say.
 
 Both heaps are first fit. The primary gives lines back later than the standby, so the same values lie elsewhere in each. The standby keeps its last lines free
 as a spare place, for as long as they are. It makes room below them: it empties a window, and where there is none it pushes extents down, by way of the spare
-place where they must. Only where that finds no room does it use the whole image."""
+place where they must, and at last lets all slide down. Only where that finds no room does it use the whole image."""
 
 import bisect
 import collections
@@ -121,7 +121,7 @@ class Standby:
 
     def _room_below(self, lines, end):
         line = self.heap.find(lines, end)
-        for way in (self._window, self._push):
+        for way in (self._window, self._push, self._slide):
             line = way(lines, end) if line is None else line
         return line
 
@@ -130,6 +130,11 @@ class Standby:
 
     def _push(self, lines, end):
         return self._make("pushes", packing.push_down(self.heap.extents(), 0, end, self.heap.lines, lines), lines, end)
+
+    def _slide(self, lines, end):
+        if end == self.heap.lines:
+            return None
+        return self._make("slides", packing.slide_down(self.heap.extents(), 0, end, lines), lines, end)
 
     def _make(self, way, moves, lines, end):
         """Makes the moves, one at a time, each to lines that are free then. The room that there is afterwards."""
@@ -270,6 +275,34 @@ class Packing(unittest.TestCase):
                 self.assertEqual(standby.counts["values that found no room below"], 0)
                 moved += standby.counts
         self.assertGreater(moved["pushes"], 0)
+
+    def test_slides(self):
+        """All extents slide down wherever so many lines are free at all, in each order in which they are given."""
+        for seed in range(self.CONTRIVED):
+            draw, heap = random.Random(f"slides {seed}"), Heap(usable(4_096 + MORE_LINES))
+            end, line = heap.lines - SPARE_LINES, 0
+            while line < end:
+                line += draw.choice([0, 0, 1, 2, 30, 400])
+                lines = min(draw.choice([1, 2, 30, 400, SPARE_LINES]), end - line)
+                if lines > 0:
+                    heap.claim(line, lines)
+                    line += lines
+            extents = heap.extents()
+            draw.shuffle(extents)
+            for need in {1, SPARE_LINES, free := end - sum(lines for _, lines in extents), free + 1}:
+                moves = packing.slide_down(extents, 0, end, need)
+                with self.subTest(seed=seed, need=need):
+                    self.assertEqual(moves is not None, need <= free)
+                    left = Heap(heap.lines)
+                    for first_line, lines in extents:
+                        left.claim(first_line, lines)
+                    places = list(extents)
+                    for index, to in moves or []:
+                        first_line, lines = places[index]
+                        left.claim(to, lines)
+                        left.give(first_line)
+                        places[index] = (to, lines)
+                    self.assertTrue(moves is None or left.find(need, end) is not None and left.is_free(end, SPARE_LINES))
 
     def test_no_spare_place(self):
         """A standby of so many lines that keeps none of them free finds no room."""

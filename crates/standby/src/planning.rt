@@ -1,5 +1,7 @@
 //! Which versions are moved, so that a frame finds room.
-ghost use Rattle.std.specs.Prelude.{◌≡◌, [], false, true, Ok, IfErr, OnOk};
+ghost use Rattle.std.specs.Prelude.{◌≡◌, [], false, true, None, Ok, IfOk, IfErr, OnOk};
+ghost use Rattle.model.specs.Image.{first_extent_line};
+ghost use Rattle.packing.specs.Sliding.{CanSlide};
 ghost use Rattle.placing.specs.Below.{HasRoomBelow};
 ghost use Rattle.wbl_engine.specs.Contents.{IsDurable};
 ghost use Rattle.standby.specs.Following.{Follows, IsGapless, WouldExhaust};
@@ -10,7 +12,7 @@ use frames::Frame;
 use kv_types::{Change, Extent, Refusal};
 use model::LAYOUT;
 use mv_keyspace::{Keyspace, Row};
-use packing::{Move, make_window, push_down};
+use packing::{Move, make_window, push_down, slide_down};
 use placing::lines_for;
 use std::alloc::{AllocError, Global};
 use wbl_engine::Durable;
@@ -20,7 +22,7 @@ use wbl_engine::Durable;
 enum Way {
     /// The run with the fewest live lines is emptied.
     Window,
-    /// Versions are pushed down, one behind another.
+    /// Versions are pushed down, one behind another: few where few are enough.
     Down,
 }
 
@@ -128,7 +130,8 @@ impl<E: Durable, K: Keyspace> Standby<E, K> {
     }
 }
 
-/// Moves that leave a run of so many free lines below `end` in an image of `lines` lines, if some are found.
+/// Moves that leave a run of so many free lines below `end` in an image of `lines` lines, if some are found. By `Way::Down` they are wherever the extents
+/// leave so many lines free there, and the lines from `end` on are enough for each.
 ///
 /// # Errors
 ///
@@ -140,11 +143,16 @@ fn plan(
     end: u64,
     lines: u64,
     need: u64,
-) -> Result<Option<Vec<Move>>, AllocError> {
+) -> Result<Option<Vec<Move>>, AllocError>
+    ensures found { way ≡ Way.Down → CanSlide (first_extent_line lines) end lines need extents.now → IfOk result (λ plan. ¬ (plan ≡ None)) }
+{
     let first = LAYOUT.directory_line + LAYOUT.directory_room(lines);
     match way {
         Way::Window => make_window(alloc, extents, first, end, need),
-        Way::Down => push_down(alloc, extents, first, end, lines, need),
+        Way::Down => match push_down(alloc, extents, first, end, lines, need)? {
+            Some(moves) => Ok(Some(moves)),
+            None => slide_down(alloc, extents, first, end, lines, need),
+        },
     }
 }
 
