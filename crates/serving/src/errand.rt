@@ -62,9 +62,10 @@ pub(crate) fn run_errand<R: Clock, E: Durable>(
         mut groups,
         link,
         remote,
-        came: _,
+        came,
         mut pace,
     } = errand;
+    drop(came);
     let start = Instant::now(rt);
     let (mark, came) = take_steps(alloc, &mut back, mark, &mut groups, &link, remote);
     if is_something(&came) {

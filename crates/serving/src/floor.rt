@@ -3,7 +3,7 @@ ghost use Rattle.std.specs.Prelude.{ℕ, ◌≤◌};
 ghost use Rattle.primary.specs.Leading.{KeepsLead};
 ghost use Rattle.wakes.specs.Waiting.{MayWait};
 
-use crate::accepting::Door;
+use crate::door::{Door, leave, next_arrival};
 use crate::guest::Guest;
 use crate::turns::{Served, take_turns};
 use clients::{Asks, Sight, Tells};
@@ -63,7 +63,7 @@ impl Floor {
     ) -> bool
         ensures { KeepsLead front.old.sequencer front.new.sequencer }
     {
-        let Some(arrival) = self.door.lock(rt).waiting() else {
+        let Some(arrival) = next_arrival(rt, &self.door) else {
             return false;
         };
         let number = arrival.seat.number();
@@ -181,7 +181,7 @@ impl Floor {
                 (sight, any)
             }
             Served::Idle => {
-                self.put(number, guest);
+                self.put(number, guest, false);
                 (sight, any)
             }
         }
@@ -205,7 +205,9 @@ impl Floor {
         requests.line.is_over.set();
         replies.writer.ring();
         requests.reader.ring();
-        self.door.lock(rt).leave(seat);
+        leave(rt, &self.door, seat);
+        drop(requests);
+        drop(replies);
     }
 
     /// Takes the connection at a place out of it, to be served.
@@ -216,21 +218,19 @@ impl Floor {
         }
     }
 
-    fn put(&mut self, number: usize, guest: Guest) {
-        if let Some(place) = self.places.get_mut(number) {
-            *place = Some(Guest {
-                is_again: false,
-                ..guest
-            });
+    /// Puts a connection at its place.
+    fn put(&mut self, number: usize, guest: Guest, is_again: bool) {
+        let guest = Guest { is_again, ..guest };
+        match self.places.get_mut(number) {
+            Some(place) => drop(place.replace(guest)),
+            None => drop(guest),
         }
     }
 
     // (there is room for each seat; one that found none would be served when somebody calls)
     fn serve_again(&mut self, number: usize, guest: Guest) {
         let is_again = self.again.push_back(number).is_ok();
-        if let Some(place) = self.places.get_mut(number) {
-            *place = Some(Guest { is_again, ..guest });
-        }
+        self.put(number, guest, is_again);
     }
 
     fn is_again(&self, number: usize) -> bool {

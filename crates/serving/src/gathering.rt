@@ -5,7 +5,7 @@ ghost use Rattle.model.specs.declared.group.TheConstants.{MAX_PARTS};
 use model::MAX_PARTS;
 
 /// How far the changes are closed into groups.
-#[derive(Clone, Copy, Debug)]
+#[derive(Clone, Copy)]
 pub(crate) struct Gathering {
     /// The position of the last change that is in a group.
     pub(crate) closed: u64,

@@ -3,19 +3,23 @@
 
 mod accepting;
 mod committing;
+mod door;
 mod errand;
 mod floor;
 mod gathering;
 mod guest;
 mod local_mark;
+mod making;
 mod needs;
 mod node;
 mod pace;
 mod starting;
 mod stop;
+mod threads;
 mod turns;
 
-pub use accepting::{Acceptor, Door};
+pub use accepting::Acceptor;
+pub use door::Door;
 pub use floor::Floor;
 pub use local_mark::LocalMark;
 pub use node::Node;

@@ -49,6 +49,19 @@ pub(crate) struct Lent<E: Durable> {
     pub(crate) bell: Bell,
 }
 
+/// What the node's thread works with, round by round.
+#[derive(Drop)]
+struct Desk<E: Durable, K: Keyspace> {
+    front: Front<K>,
+    floor: Floor,
+    lender: Lender<Errand<E>, Committing<E>>,
+    /// The bell of the committer's thread.
+    bell: Bell,
+    /// The errand, where it is not lent.
+    home: Option<Errand<E>>,
+    gathering: Gathering,
+}
+
 /// Serves the connections until the engine refuses a step, by `Fault` or `Exhausted`, or no further connection is accepted.
 pub(crate) fn serve<R: Wait + Clock, E: Durable + Drop, K: Keyspace + Drop>(
     rt: &R,
@@ -61,11 +74,11 @@ pub(crate) fn serve<R: Wait + Clock, E: Durable + Drop, K: Keyspace + Drop>(
     requires shown { IsShown E.device E.contents primary.back node.mark }
     requires none { lent.lender ≡ None }
 {
-    let Primary { mut front, back } = primary;
-    let Lent { mut lender, bell } = lent;
+    let Primary { front, back } = primary;
+    let Lent { lender, bell } = lent;
     let Node {
-        mut floor,
-        mut sight,
+        floor,
+        sight,
         mark,
         groups,
         link,
@@ -73,41 +86,85 @@ pub(crate) fn serve<R: Wait + Clock, E: Durable + Drop, K: Keyspace + Drop>(
         mut idle,
         is_deaf,
     } = node;
-    let mut gathering = Gathering {
+    let gathering = Gathering {
         closed: front.position(),
     };
-    let mut home = Some(new_errand(back, mark, groups, link));
+    let mut desk = Desk {
+        front,
+        floor,
+        lender,
+        bell,
+        home: Some(new_errand(back, mark, groups, link)),
+        gathering,
+    };
+    let stop = take_rounds(rt, alloc, &mut desk, sight, &mut idle, &sleeper, &is_deaf);
+    drop(desk);
+    stop
+}
+
+/// Takes rounds, and rests after each in which nothing was done.
+fn take_rounds<R: Wait + Clock, E: Durable + Drop, K: Keyspace>(
+    rt: &R,
+    alloc: Global,
+    desk: &mut Desk<E, K>,
+    sight: Sight,
+    idle: &mut Idle,
+    sleeper: &Sleeper,
+    is_deaf: &Arc<Flag>,
+) -> Stop
+    requires { IsHereOrLent E.device E.contents desk.old.home desk.old.lender desk.old.front.sequencer }
+{
+    let mut sight = sight;
     for _ in rt.forever() {
-        let mut is_busy = match fetch(&mut front, &mut lender, &mut home) {
-            Ok(did) => did,
+        let (next, came) = take_round(rt, alloc, desk, sight);
+        sight = next;
+        let is_busy = match came {
+            Ok(is_busy) => is_busy,
             Err(refusal) => return Stop::Refused(refusal),
         };
-        let is_working = is_room_coming(&home);
-        is_busy |= floor.admit(rt, alloc, &mut front);
-        let (next, did) = floor.serve(rt, alloc, &mut front, is_working, sight);
-        is_busy |= did;
-        let (next, seen) = next.look();
-        sight = next;
-        let did = commit(
-            rt,
-            alloc,
-            &mut front,
-            &mut lender,
-            &bell,
-            &mut home,
-            &mut gathering,
-            seen.remote,
-        );
-        match did {
-            Ok(did) => is_busy |= did,
-            Err(refusal) => return Stop::Refused(refusal),
-        }
         if is_deaf.is_set() {
             return Stop::Deaf;
         }
-        rest(rt, &mut idle, &sleeper, is_busy);
+        rest(rt, idle, sleeper, is_busy);
     }
     unreachable!()
+}
+
+/// Takes the errand back if it is done, takes in who waits at the door, serves who called, and has committed what they changed. Answers whether anything
+/// was done.
+fn take_round<R: Wait + Clock, E: Durable + Drop, K: Keyspace>(
+    rt: &R,
+    alloc: Global,
+    desk: &mut Desk<E, K>,
+    sight: Sight,
+) -> (Sight, Result<bool, Refusal>)
+    requires { IsHereOrLent E.device E.contents desk.old.home desk.old.lender desk.old.front.sequencer }
+    ensures { OnOk result.1 (IsHereOrLent E.device E.contents desk.new.home desk.new.lender desk.new.front.sequencer) }
+{
+    let fetched = match fetch(&mut desk.front, &mut desk.lender, &mut desk.home) {
+        Ok(did) => did,
+        Err(refusal) => return (sight, Err(refusal)),
+    };
+    let is_working = is_room_coming(&desk.home);
+    let admitted = desk.floor.admit(rt, alloc, &mut desk.front);
+    let (sight, served) = desk
+        .floor
+        .serve(rt, alloc, &mut desk.front, is_working, sight);
+    let (sight, seen) = sight.look();
+    let committed = commit(
+        rt,
+        alloc,
+        &mut desk.front,
+        &mut desk.lender,
+        &desk.bell,
+        &mut desk.home,
+        &mut desk.gathering,
+        seen.remote,
+    );
+    match committed {
+        Ok(did) => (sight, Ok(fetched | admitted | served | did)),
+        Err(refusal) => (sight, Err(refusal)),
+    }
 }
 
 /// An errand of which no step was taken yet.
@@ -149,9 +206,9 @@ fn fetch<E: Durable + Drop, K: Keyspace>(
     let Some(errand) = lender.take_back() else {
         return Ok(false);
     };
-    let did = settle(front, &errand)?;
-    *home = Some(errand);
-    Ok(did)
+    let did = settle(front, &errand);
+    drop(home.replace(errand));
+    did
 }
 
 /// Closes what is due. Where there was any of it, and steps take long, the errand is lent; otherwise its steps are taken here. Answers whether there was
@@ -181,9 +238,9 @@ fn commit<R: Clock, E: Durable + Drop, K: Keyspace>(
         return Ok(true);
     }
     let errand = run_errand(rt, alloc, errand);
-    let did = settle(front, &errand)?;
-    *home = Some(errand);
-    Ok(is_closed | did)
+    let did = settle(front, &errand);
+    drop(home.replace(errand));
+    Ok(is_closed | did?)
 }
 
 fn rest<R: Wait + Clock>(rt: &R, idle: &mut Idle, sleeper: &Sleeper, is_busy: bool) {

@@ -6,7 +6,7 @@ use std::time::{Clock, Instant};
 const LONG_MICROSECONDS: u64 = 500;
 
 /// Whether steps take long, as far as is known.
-#[derive(Clone, Copy, Debug)]
+#[derive(Clone, Copy)]
 pub(crate) struct Pace {
     pub(crate) is_long: bool,
 }

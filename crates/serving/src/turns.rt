@@ -15,7 +15,7 @@ use std::alloc::Global;
 const MOST_TURNS: usize = 64;
 
 /// How serving a connection ended.
-#[derive(Clone, Copy, Debug, PartialEq, Eq)]
+#[derive(Clone, Copy)]
 pub(crate) enum Served {
     /// It took as many turns as it may: it is to be served again.
     Busy,
