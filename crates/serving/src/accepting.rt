@@ -177,13 +177,11 @@ impl Acceptor {
             arrival,
             reader,
             writer,
-            stream,
         } = connection;
         match start_both(rt, alloc, reader, writer, &self.exits, running) {
             Some(is_reading) => self.let_in(&rt, door, arrival, is_reading),
             None => turn_away(&rt, door, arrival),
         }
-        drop(stream);
     }
 
     /// Lets a connection wait at the door whose writer runs, and whose reader does or not.
