@@ -183,4 +183,4 @@ returns-in-Err-clause-answered g c =
     (sym (stood_first g (goal.at.returns-in-Err-clause-answered g c).After-on_frame))
     (λ next.
     refused-full c.on_frame.result c.in-Err.refusal c.in-Err.is (c.goes_on.ensures.0 c.if-goes_on.true) (c.on_frame.ensures.causes next)
-    (λ full. let told = c.on_frame.ensures.full full in inr (record { room = told.0; freed = told.1.0; gaps = told.1.1 })))
+    (λ full. let told = c.on_frame.ensures.full full in inr (record { room = told.0; freed = told.1; gaps = told.2 })))
