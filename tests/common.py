@@ -3,8 +3,10 @@ are counted."""
 
 import contextlib
 import fcntl
+import functools
 import os
 import pathlib
+import random
 import re
 import struct
 import subprocess
@@ -22,25 +24,39 @@ ROOMS = [
     ROOT / "tests" / "runs",  # programs over standard input: lists of events, requests
     ROOT / "tests" / "images",  # images and devices that are formatted, damaged and opened again
     ROOT / "tests" / "clients",  # nodes over sockets: pairs, clients of Redis, load, crashes
+    ROOT / "tests" / "faults",  # programs of which calls are refused, and sweeps over each call of a run
     ROOT / "tests" / "pages",  # pages, releases and wrong bodies
 ]
 sys.path[:0] = map(str, ROOMS)
 
-# By the name of a crate: the variable that names its program instead, and what builds it or unpacks its release.
+# By the name of a crate: the variable that names its program instead, the program as it is released, and what builds it.
 PROGRAMS = {
-    "server": ("WBL_SERVER", "bin/wbl-server < /dev/null"),
-    "client": ("WBL_CLI", "bin/wbl-cli < /dev/null"),
-    "simulator": ("WBL_SIM", "bin/wbl-sim < /dev/null"),
-    "bench": ("WBL_BENCH", "cd crates/bench && rt run"),
+    "server": ("WBL_SERVER", "wbl-server", "bin/wbl-server < /dev/null"),
+    "client": ("WBL_CLI", "wbl-cli", "bin/wbl-cli < /dev/null"),
+    "simulator": ("WBL_SIM", "wbl-sim", "bin/wbl-sim < /dev/null"),
+    "bench": ("WBL_BENCH", None, "cd crates/bench && rt run"),
 }
 
+# Each limit in seconds is that of a machine with a core for each process that runs; one that is busier has so many times as long, ten times at most.
+BUSY = min(10, max(1, os.getloadavg()[0] / len(os.sched_getaffinity(0))))
 # A program that takes longer has failed.
-SECONDS = 300
+SECONDS = 300 * BUSY
+
+# Whether the cases of a sweep are all tried (`tests/run --long`), and which share of them otherwise.
+IS_LONG = False
+SHORT_SHARE = 20
+
 # What a node tells while it runs (docs/server.md, "What a node tells").
 NEWS = re.compile(
     rb"(?:opened at position \d+, epoch \d+, with \d+ keys|listening on \S+|link open to \S+ at position \d+"
-    rb"|(?:link to \S+ lost|no link to \S+|link ended|standby ahead|closed a connection from \S+|stopped): [^\n]+"
-    rb"|\S+ at position \d+ ended \d+ links in a row [^\n]+)\n"
+    rb"|(?:link to \S+ lost|no link to \S+|link ended|left the link|standby ahead|closed a connection from \S+|stopped|cannot listen at \S*): [^\n]+"
+    rb"|\S+: the standby is new: [^\n]+|\S+ at position \d+ ended \d+ links in a row [^\n]+)\n"
+)
+# What stands before a refusal on an image: the file, and why it is refused (docs/server.md, "How it ends").
+CAUSE = re.compile(
+    rb"(?P<file>[^\n]*) (?P<cause>is not there|is held by another process|may not be opened by this user, or is no file|could not be made, read, written or synced"
+    rb"|does not begin as an image|is an image of another version|has not as many lines as an image, or as were asked for|has come to the end of a counter"
+    rb"|is in use by another process, and changed while it was read|breaks a rule of an image|is an image of the other role)\n"
 )
 
 
@@ -48,13 +64,20 @@ class MissingProgram(Exception):
     """A program that was not built. The text says how to build it."""
 
 
+@functools.cache
+def released(crate, name):
+    """The path of a crate's program as it was released of these sources, unpacked; an empty text where there is none."""
+    asked = [ROOT / "bin" / "run-program", "--where", crate, name]
+    return subprocess.run(asked, stdin=subprocess.DEVNULL, stdout=subprocess.PIPE, text=True, check=False).stdout.strip()
+
+
 def program(crate):
     """The path of a crate's program: the one that is named, or that was built here, or that was released."""
-    variable, build = PROGRAMS[crate]
-    named, out = os.environ.get(variable), ROOT / "crates" / crate / "out"
-    path = pathlib.Path(named) if named else out / crate
-    if not named and not path.exists():
-        path = next((out / "released").glob("wbl-*"), path)
+    variable, name, build = PROGRAMS[crate]
+    named = os.environ.get(variable)
+    path = pathlib.Path(named) if named else ROOT / "crates" / crate / "out" / crate
+    if not named and not path.exists() and name:
+        path = pathlib.Path(released(crate, name) or path)
     if not os.access(path, os.X_OK) or path.is_dir():
         raise MissingProgram(f"no program at {path}: build it with `{build}`, or name another by {variable}")
     return str(path)
@@ -78,8 +101,15 @@ def run_program(crate, words=(), stdin=b"", seconds=SECONDS, **options):
 
 
 def without_news(errors):
-    """What a node wrote to standard error but for what it told while it ran: why it ended."""
-    return b"".join(line for line in errors.splitlines(keepends=True) if not NEWS.fullmatch(line))
+    """What a node wrote to standard error but for what it told while it ran: why it ended. That an image was refused is told in two lines, of which the
+    first names the file."""
+    return without_cause(b"".join(line for line in errors.splitlines(keepends=True) if not NEWS.fullmatch(line)))
+
+
+def without_cause(errors):
+    """The refusal of an image, without the line before it that names the file."""
+    first, *last = errors.splitlines(keepends=True) or [b""]
+    return last[0] if len(last) == 1 and CAUSE.fullmatch(first) and last[0].startswith(b"refusal ") else errors
 
 
 def run_in_pieces(crate, pieces, seconds=SECONDS):
@@ -111,6 +141,19 @@ def run_in_pieces(crate, pieces, seconds=SECONDS):
 def bytes_unread(pipe):
     """How many bytes wait in a pipe."""
     return struct.unpack("i", fcntl.ioctl(pipe, termios.FIONREAD, b"\0\0\0\0"))[0]
+
+
+def drawn(sweep, cases, least=5):
+    """The cases of the sweep of this name that are tried, in their order: all of them in the long part of the suite, in the short one a twentieth that is
+    drawn by the name, and no fewer than `least`."""
+    cases = list(cases)
+    count = len(cases) if IS_LONG else min(len(cases), max(least, len(cases) // SHORT_SHARE))
+    return [cases[place] for place in sorted(random.Random(sweep).sample(range(len(cases)), count))]
+
+
+def tell(sweep, counted):
+    """Prints how many of the cases of a sweep came out in which way."""
+    print(f"swept: {sweep}: {sum(counted.values())} cases: " + ", ".join(f"{count} {what}" for what, count in sorted(counted.items())), flush=True)
 
 
 SHORT_ESCAPES = {'"': '\\"', "\\": "\\\\", "\r": "\\r", "\n": "\\n", "\t": "\\t"}

@@ -21,10 +21,10 @@ from spelling import spell
 
 LINES = 65_536
 HOST = "127.0.0.1"
-# What is waited for comes within this time on a machine that is busy; else the test has failed.
-PATIENCE = 60
+# What is waited for comes within this time; else the test has failed.
+PATIENCE = 60 * common.BUSY
 # A test that takes longer has failed, and all that it started is ended.
-MOST_SECONDS = 240
+MOST_SECONDS = 240 * common.BUSY
 # Where images are memory-backed files, whose syncs take no time, if the machine has such a folder.
 MEMORY = "/dev/shm"
 # Ports below those that the system gives to sockets that name none.
@@ -212,6 +212,8 @@ class Node:
         self.output, self.errors = image.with_suffix(f".{role}.out"), image.with_suffix(f".{role}.err")
         # the words of what starts the program, where something does
         self.before = []
+        # how much was told before its process was started
+        self.began = 0
         self.process = None
 
     def format(self, lines):
@@ -221,6 +223,7 @@ class Node:
     def start(self, descriptors=DESCRIPTORS):
         """Starts the process over the image as it is."""
         with open(self.output, "ab") as output, open(self.errors, "ab") as errors:
+            self.began = errors.tell()
             self.process = launch([*self.before, common.program("server"), *self.words], descriptors, stdout=output, stderr=errors)
 
     def is_running(self):
@@ -230,6 +233,14 @@ class Node:
         """Whether somebody listens at its address, as the system's table says: a connection would be one more."""
         if not self.is_running():
             raise AssertionError(f"the {self.role} has ended: {self.errors.read_bytes()!r}")
+        if not self.is_in_table():
+            return False
+        # (an address is tried before the image is opened, and let go again)
+        if b"listening on" not in self.errors.read_bytes()[self.began :]:
+            time.sleep(0.05)
+        return self.is_in_table()
+
+    def is_in_table(self):
         table = pathlib.Path("/proc/net/tcp").read_text(encoding="ascii")
         return re.search(rf":{self.port.number:04X} 0+:0+ 0A ", table) is not None
 
@@ -364,12 +375,15 @@ class PairCases(common.Cases):
     ON_DISK = False
 
     def setUp(self):
+        # (the long part has so many times as many cases)
+        most = MOST_SECONDS * (common.SHORT_SHARE if common.IS_LONG else 1)
+
         def stop(*_):
-            raise TakesTooLong(f"the test: more than {MOST_SECONDS} seconds")
+            raise TakesTooLong(f"the test: more than {most} seconds")
 
         before = signal.signal(signal.SIGALRM, stop)
         self.addCleanup(signal.signal, signal.SIGALRM, before)
-        signal.setitimer(signal.ITIMER_REAL, MOST_SECONDS)
+        signal.setitimer(signal.ITIMER_REAL, most)
         self.addCleanup(signal.setitimer, signal.ITIMER_REAL, 0)
 
     def image_folder(self):

@@ -6,6 +6,7 @@ import re
 import subprocess
 import tempfile
 
+from common import BUSY
 from pair import PairCases
 from plain_replies import OK, bulk, integer
 from spelling import spell
@@ -15,7 +16,7 @@ IS_SLOW = True
 
 CLIENTS = pathlib.Path(__file__).resolve().parent / "programs"
 # A client that takes longer has failed; so has an installation.
-SECONDS, INSTALLING_SECONDS = 120, 600
+SECONDS, INSTALLING_SECONDS = 120 * BUSY, 600
 # What redis-benchmark asks for with 50 connections of 16 requests at a time: MSET of ten keys lets 8,000 versions wait.
 BENCHMARK_LINES = 262_144
 BENCHMARK_REQUESTS = 20_000

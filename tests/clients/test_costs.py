@@ -20,7 +20,7 @@ MOST_RATIO = 2
 LINES = 262_144
 AT_A_TIME = 500
 # How often each cost is counted.
-TIMES = 8
+TIMES = 16
 # Connections that watch keys, and how many keys they do together.
 WATCHING, FEW_WATCHED, MANY_WATCHED = 10, 1_000, 10_000
 

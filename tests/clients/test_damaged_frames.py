@@ -1,15 +1,26 @@
 """Damaged frames that come to a standby's socket (docs/replication.md, "Frames")."""
 
+import random
+import select
 import socket
 
-from damaged_frames import SET_A, damaged, written
+from damaged_frames import SET_A, damaged, drawn_group, written
+from pair import PATIENCE
 from plain_image import STANDBY, Writer
-from plain_wire import Acknowledgement, read_stream, text
+from plain_keyspace import Put
+from plain_wire import Acknowledgement, Group, read_stream, text
 from standby_node import ACK_BYTES, LIMIT, Node, StandingBy, with_record
 from test_images import LINES, words_of
 from worked_cases import DELTA
 
 PROGRAMS = ["server"]
+
+# The frame of the transaction of the worked cases, and others of its epoch, drawn by seed, that a standby has taken before.
+TRANSACTION = text(Group(1, 0, 1, (Put((b"a",), b"x"), Put((b"b",), b"y"))))
+DRAWN = [text(drawn_group(random.Random(f"front {seed}"))._replace(epoch=1, before=6, after=9)) for seed in range(20)]
+# How long nothing is to be said of a frame that is no fault yet.
+SILENT_SECONDS = 0.01
+
 
 
 def acknowledged(epoch, position, data):
@@ -21,6 +32,13 @@ def acknowledged(epoch, position, data):
             break
         count += 1
     return count * text(Acknowledgement(epoch, position))
+
+
+def fault_of(data):
+    """How many of these bytes make a fault of their first frame, of which nothing is refused before; or None."""
+    frames, end = read_stream(data)
+    has_epoch, is_old = data[1:9] == bytes(7) + b"\1", int.from_bytes(data[17:25], "big") < LIMIT
+    return end if not frames and end is not None and (end <= 8 or has_epoch) and (end <= 24 or is_old) else None
 
 
 class Damaged(StandingBy):
@@ -59,7 +77,7 @@ class Damaged(StandingBy):
         with self.folder() as folder:
             path = self.made(folder, with_record(Writer(LINES, STANDBY).words, Writer(LINES, STANDBY).record._replace(position=LIMIT - 1)))
             with Node(path) as node:
-                for data in (SET_A, DELTA):
+                for data in (SET_A, DELTA, TRANSACTION, *DRAWN):
                     for end in range(1, len(data)):
                         with self.case("front", bytes=len(data), end=end), node.link() as link:
                             link.sendall(data[:end])
@@ -69,6 +87,27 @@ class Damaged(StandingBy):
                             while more := link.recv(2**16):
                                 found += more
                             self.assertEqual(found, 2 * text(Acknowledgement(1, LIMIT - 1)))
+
+    def test_a_fault_ends_the_link_with_its_byte(self):
+        """And not before it."""
+        rows = [(f"seed {seed}", damaged(seed)[1]) for seed in range(0, 500, 3)]
+        rows += [("from of FF", written(SET_A, 9, 2**64 - 1)), ("key of 3 bytes in a body of 9", written(SET_A, 34, 3, 2))]
+        with self.folder() as folder:
+            record = Writer(LINES, STANDBY).record._replace(position=LIMIT - 1)
+            with Node(self.made(folder, with_record(Writer(LINES, STANDBY).words, record))) as node:
+                shown = set()
+                for name, data in rows:
+                    end = fault_of(data)
+                    if end is not None:
+                        with self.case(name), node.link() as link:
+                            shown.add(end)
+                            link.settimeout(PATIENCE)
+                            link.sendall(data[:end - 1])
+                            self.assertEqual(link.recv(ACK_BYTES, socket.MSG_WAITALL), text(Acknowledgement(1, LIMIT - 1)))
+                            self.assertFalse(select.select([link], [], [], SILENT_SECONDS)[0])
+                            link.sendall(data[end - 1:end])
+                            self.assertEqual(link.recv(1), b"")
+                self.assertLessEqual({1, 17, 36}, shown)
 
     def test_the_first_byte_that_no_frame_has(self):
         """The page and the plain reader agree on where a fault is."""

@@ -19,6 +19,7 @@ from worked_cases import GET_A, NULL, ONE, PONG, SET_A
 
 PROGRAMS = ["server"]
 IS_SLOW = True
+QUICK = ["Seats", "Leaving"]
 
 SEATS = 1_024
 NO_SEAT = b"-ERR max number of clients reached\r\n"

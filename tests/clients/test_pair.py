@@ -10,6 +10,7 @@ from worked_cases import GET_A, NULL, ONE, PONG, SET_A, STORE_IS_FULL
 
 PROGRAMS = ["server"]
 IS_SLOW = True
+QUICK = ["Rows", "Held", "Transactions"]
 
 # A text that no row has: it is answered last, behind all that was asked before.
 LAST = spell("ECHO", "the last of them")
@@ -323,6 +324,10 @@ class Room(PairCases):
     def test_small_image_of_4096_lines_100_keys_over_and_over(self):
         """32,000 SETs of 100 keys into 512 entries."""
         self.check(self.pair(lines=4_096), lambda number, at: f"k{(16 * number + at) % 100}", 100)
+
+    def test_image_of_16384_lines_800_keys_over_and_over(self):
+        """32,000 SETs of 800 keys into 2,048 entries: some of the time there is room for 1,024 more."""
+        self.check(self.pair(lines=16_384), lambda number, at: f"k{number}.{at}", 800)
 
     def test_a_full_image_says_so_and_takes_what_fits_again(self):
         """512 keys fill an image of 4,096 lines. Reads go on; a key that is removed gives its room back."""

@@ -98,7 +98,7 @@ class Named(RoomCases):
             # (three of them have room on the standby)
             self.assertEqual([client.ask("SET", f"k{number}", LONGEST) for number in range(3)], 3 * [OK])
             client.send(spell("SET", "k3", LONGEST))
-            for node, words in ((nodes.standby, b"link ended: refusal 5: full: "), (nodes.primary, b" links in a row and took nothing that was sent on them: ")):
+            for node, words in ((nodes.standby, b"left the link: refusal 5: full: "), (nodes.primary, b" links in a row and took nothing that was sent on them: ")):
                 wait_until(lambda node=node, words=words: words in node.errors.read_bytes(), f"a {node.role} that names it")
                 with self.case("what there is to do", role=node.role):
                     self.assertIn(b'see "A standby without room" in docs/server.md', node.errors.read_bytes())

@@ -8,6 +8,7 @@ import resource
 import threading
 import time
 
+from common import BUSY
 from pair import LINES, PATIENCE, Client, Ended, PairCases
 from plain_replies import OK, bulk, error
 
@@ -144,4 +145,4 @@ class Hoarded(PairCases):
     def assert_served(self, client, value):
         began = time.monotonic()
         self.assertEqual(client.ask("SET", "other", f"{value}"), OK)
-        self.assertLess(time.monotonic() - began, 5)
+        self.assertLess(time.monotonic() - began, 5 * BUSY)

@@ -8,9 +8,11 @@ import collections
 import contextlib
 import importlib.machinery
 import importlib.util
+import itertools
 import os
 import pathlib
 import random
+import re
 import subprocess
 import tempfile
 import time
@@ -67,14 +69,18 @@ class Failing(NotedCases):
         self.least = self.most = 0
 
     def assert_ended(self, node, way):
-        """It has ended with the text of a fault, and asked nothing of its files behind the call that failed."""
+        """It has ended with the text of a fault, and asked nothing of its files behind the call that failed, but what keeps them from being opened."""
         self.assertEqual(node.wait(), 1)
-        told = node.errors.read_bytes()
+        # (another thread may tell of the link in the middle of the last line, which is not written at once)
+        told = re.sub(rb"(?<!\n)link (?:open )?to [^\n]*\n", b"", node.errors.read_bytes())
         self.assertEqual(common.without_news(told), FAULT)
         # another thread tells of the link whenever it opens or is lost
         own = b"".join(line for line in told.splitlines(keepends=True) if not line.startswith(b"link "))
         self.assertEqual(own.endswith(b"\nstopped: device fault\n" + FAULT), b"opened at" in told, told)
         calls = node.noting.calls()
+        if b"opened at" not in told and calls[-1].word == "open":
+            # (why an image could not be opened is looked for at the file)
+            calls.pop()
         self.assertEqual([at for at, call in enumerate(calls) if call.failed], [len(calls) - 1])
         words = ["data", "sync"] if "fails" in way else ["write"]
         self.assertEqual([sum(call.word in words for call in calls)], list(way.values()))
@@ -225,7 +231,8 @@ class PowerCuts(NotedCases):
         noting = Noting(self.loaded, node.image)
         words = [common.program("server"), "promote", "--image", node.image, "--old-primary-stopped"]
         ran = subprocess.run([*noting.words, *words], capture_output=True, timeout=PATIENCE)
-        self.assertEqual((ran.returncode, ran.stderr), (0, b""))
+        self.assertEqual(ran.returncode, 0, ran.stderr)
+        self.assertRegex(ran.stderr, rb"\A[^\n]+ is a primary's now, at position \d+, with \d+ keys\n\Z")
         self.assertRegex(ran.stdout, rb"\Apromoted to epoch \d+\n\Z")
         noting.crash()
         self.assertEqual(node.inspect()["role"], "primary")
@@ -254,13 +261,13 @@ class LoneSets(NotedCases):
             found = []
             for turn in range(6):
                 self.assertEqual(client.ask("SET", "a", f"{turn}"), OK)
-                # (what it replaced is freed a little later, and gaps are cleared while nothing comes)
+                # (the primary frees what it replaced a little later; the standby does with the next, or clears gaps, where nothing comes for a second)
                 time.sleep(0.5)
                 found.append([self.asked(node) for node in both])
         for at, (node, words) in enumerate(both.items()):
             with self.case("node", role=node.role):
                 wanted = collections.Counter(int(word[1:].split("@")[0]) if word[0] == "w" else "data" for word in words.split() if word[0] in "wd")
-                self.assertEqual(found[-1][at] - found[-2][at], wanted)
+                self.assertIn(wanted, [later[at] - earlier[at] for earlier, later in itertools.pairwise(found[1:])])
 
 
 def settled(calls, image):
@@ -325,8 +332,9 @@ class Formatting(NotedCases):
                 noting = Noting(self.loaded, image, fails=fails, keeps=False)
                 words = [common.program("server"), "format", "--image", image, "--lines", str(LINES), "--role", "primary"]
                 ran = subprocess.run([*noting.words, *words], capture_output=True, timeout=PATIENCE)
-                self.assertEqual((ran.returncode, ran.stdout, ran.stderr), (1, b"", FAULT))
-                calls = noting.calls()
+                self.assertEqual((ran.returncode, ran.stdout, common.without_cause(ran.stderr)), (1, b"", FAULT))
+                # (what is held at the file, and why it could not be made, is looked for by opening it)
+                calls = [call for call in noting.calls() if call.word != "open"]
                 self.assertEqual([at for at, call in enumerate(calls) if call.failed], [len(calls) - 1])
                 self.assertIn(calls[-1].word, ("sync", "data"))
                 self.assertEqual(image.exists(), fails > 3)

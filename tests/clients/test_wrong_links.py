@@ -201,7 +201,7 @@ class WrongFrames(StandingBy):
                         with node.link() as link:
                             link.sendall(data)
                             self.assert_ended(link)
-                    wait_until(lambda words=words: b"link ended: " + words + b"\n" in errors.read_bytes(), "a refusal that is told")
+                    wait_until(lambda words=words: b"left the link: " + words + b"\n" in errors.read_bytes(), "a refusal that is told")
                     # (one for each try would be 20; ever more seldom they are some)
                     self.assertLess(lines_with(errors, words), 12)
 
@@ -214,7 +214,7 @@ class WrongFrames(StandingBy):
                 with self.case("head", words=words), node.link() as link:
                     link.sendall(begun + BEGUN_CHANGE)
                     self.assert_ended(link)
-                    wait_until(lambda words=words: b"link ended: " + words + b"\n" in errors.read_bytes(), "a refusal that is told")
+                    wait_until(lambda words=words: b"left the link: " + words + b"\n" in errors.read_bytes(), "a refusal that is told")
 
     def test_one_host_alone(self):
         """A connection from another host is closed at once, with nothing said but to whoever runs the node."""

@@ -13,7 +13,7 @@ import subprocess
 import tempfile
 
 import plain_image
-from common import Cases, program, run_program
+from common import CAUSE, NEWS, Cases, program, run_program, without_cause
 from damaged_images import BASE, ENTRIES_ALONE, ENTRIES_TOGETHER, RECORDS, SLOT, STRANGE, SUPERBLOCKS
 from plain_image import PRIMARY, STANDBY, Words, Writer
 from plain_keyspace import DropKey, Put
@@ -83,8 +83,11 @@ class Images(Cases):
         return run_program("server", words, **options)
 
     def assert_refused(self, words, number, **options):
+        """It is refused so, in the line after one that names the file and the cause."""
         finished = self.run_words(words, **options)
-        self.assertEqual(finished, (FAILED, b"", refusal(number)))
+        first, last = [line for line in finished.errors.splitlines(keepends=True) if not NEWS.fullmatch(line)]
+        self.assertEqual((finished.status, finished.output, last), (FAILED, b"", refusal(number)))
+        self.assertEqual(CAUSE.fullmatch(first)["file"], os.fsencode(words[words.index("--image") + 1]))
 
     def inspect(self, path):
         return self.run_words(["inspect", "--image", str(path)])
@@ -153,7 +156,7 @@ class Formatting(Images):
                     words = [*apart, mount, program("server"), *format_words(folder / "p.img", lines)]
                     ran = subprocess.run(words, capture_output=True, check=False)
                     wanted = (DONE, b"formatted 4096 lines, 512 entries\np.img\n", b"") if lines == LINES else (FAILED, b"", refusal(1))
-                    self.assertEqual((ran.returncode, ran.stdout, ran.stderr), wanted)
+                    self.assertEqual((ran.returncode, ran.stdout, without_cause(ran.stderr)), wanted)
 
     def test_output_that_fails(self):
         with self.folder() as folder, open("/dev/full", "wb") as full:

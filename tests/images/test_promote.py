@@ -8,7 +8,7 @@ import pathlib
 import tempfile
 
 import plain_image
-from common import Cases, run_program, without_news
+from common import CAUSE, NEWS, Cases, run_program, without_news
 from plain_image import PRIMARY, STANDBY, Words, Writer
 from plain_keyspace import DropKey, Put
 from test_images import DONE, FAILED, LINE_BYTES, LINES, MISUSED, format_words, image_bytes, told, words_of
@@ -87,7 +87,18 @@ class Promotions(Cases):
         return run_program("server", ["promote", "--image", str(path), *flags], **options)
 
     def assert_refused(self, finished, number):
-        self.assertEqual(finished, (FAILED, b"", f"refusal {number}: {TEXTS[number]}\n".encode()))
+        """It is refused so, in the line after one that names the file or the option."""
+        first, last = [line for line in finished.errors.splitlines(keepends=True) if not NEWS.fullmatch(line)]
+        self.assertEqual((finished.status, finished.output, last), (FAILED, b"", f"refusal {number}: {TEXTS[number]}\n".encode()))
+        if number == 15:
+            self.assertIn(STOPPED.encode(), first)
+        else:
+            self.assertRegex(first, CAUSE)
+
+    def assert_promotes(self, finished, epoch):
+        """It is promoted to this epoch; what it holds is told beside that."""
+        self.assertEqual((finished.status, finished.output), (DONE, b"promoted to epoch %d\n" % epoch))
+        self.assertRegex(finished.errors, rb"(?s)\A(?:[^\n]+\n)?[^\n]+ is a primary's now, at position \d+, with \d+ keys\n\Z")
 
     def assert_inspected(self, path, text):
         self.assert_written(run_program("server", ["inspect", "--image", str(path)]), text)
@@ -100,7 +111,7 @@ class Promoting(Promotions):
             path, before = folder / "s.img", plain_image.read_image(Words(standby.lines, standby.words))
             path.write_bytes(image_bytes(standby.lines, standby.words))
             standby.promote()
-            self.assert_written(self.promote(path, STOPPED), b"promoted to epoch %d\n" % standby.record.epoch)
+            self.assert_promotes(self.promote(path, STOPPED), standby.record.epoch)
             data = path.read_bytes()
             self.assert_bytes(data, image_bytes(standby.lines, standby.words))
             after = plain_image.read_image(Words(standby.lines, words_of(data)))
@@ -127,7 +138,7 @@ class Promoting(Promotions):
         with self.folder() as folder:
             path = folder / "s.img"
             self.assert_written(run_program("server", format_words(path, role="standby")), b"formatted 4096 lines, 512 entries\n")
-            self.assert_written(self.promote(path, STOPPED), b"promoted to epoch 2\n")
+            self.assert_promotes(self.promote(path, STOPPED), 2)
             text = b"record 3\nposition 0\ncp 4097\ncd 8194\nepoch 2\nrole primary\ngaps 1\ngap 1 4096\nlive 0\n"
             self.assert_inspected(path, text)
 

@@ -321,6 +321,13 @@ class Room:
             return False
         return self.take(changes)
 
+    def surely_takes_below(self, changes):
+        """Whether the spare place is free, and below it as many extents of the longest of these puts can be cut as there are puts, and as many entries are free."""
+        end, counts = self.lines - SPARE_LINES, lines_of_puts(changes)
+        keeps_spare = any(first <= end and self.lines <= last for first, last in self.runs)
+        extents = sum((min(last, end) - first) // max(counts, default=1) for first, last in self.runs if first < end)
+        return keeps_spare and len(counts) <= min(extents, len(self.entries))
+
     def is_enough_for(self, changes):
         """Whether as many entries and lines are free as these changes take, wherever they lie."""
         counts = lines_of_puts(changes)

@@ -51,20 +51,20 @@ def elements(reply):
     at = reply.index(b"\r\n") + 2
     found = []
     while at < len(reply):
-        end = _end(reply, at)
+        end = end_of(reply, at)
         found.append(reply[at:end])
         at = end
     return found
 
 
-def _end(data, at):
+def end_of(data, at):
     """Where the reply that begins here ends."""
     end = data.index(b"\r\n", at) + 2
     kind, count = data[at:at + 1], data[at + 1:end - 2]
     if kind == b"$" and int(count) >= 0:
         return end + int(count) + 2
     for _ in range(int(count) if kind == b"*" else 0):
-        end = _end(data, end)
+        end = end_of(data, end)
     return end
 
 

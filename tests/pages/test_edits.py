@@ -134,7 +134,7 @@ class Untried(common.Cases):
             for it in workers:
                 it.start()
             for it in workers:
-                it.join(5)
+                it.join(common.SECONDS)
         self.assertFalse(any(it.is_alive() for it in workers))
         self.assertEqual([[*trial.found.values()] for trial in work.trials], 2 * [["bad"]])
         self.assertIn("low/renamed: BAD: it cannot be tried: OSError(28, 'the disk is full')", said.getvalue())

@@ -13,6 +13,8 @@ import sources
 PROGRAMS = ["server", "client", "simulator"]
 
 README = common.ROOT / "README.md"
+# Pages whose blocks have tests of their own (tests/clients/test_operating.py).
+OPERATED = [README, common.ROOT / "docs" / "operating.md"]
 SIMULATOR, SESSIONS = (common.ROOT / "docs" / f"{name}.md" for name in ("simulator", "sessions"))
 
 
@@ -50,7 +52,7 @@ class Commands(common.Cases):
             for line, lines in pages.blocks(page):
                 # (what connects needs a server: tests/clients/test_cli.py)
                 is_alone = "[" not in lines[0] and "--connect" not in lines[0]
-                if re.search(r"(^|\| )bin/wbl-\w+", lines[0]) and page != README and is_alone:
+                if re.search(r"(^|\| )bin/wbl-\w+", lines[0]) and page not in OPERATED and is_alone:
                     with self.case("command", page=pages.name_of(page), line=line):
                         self.assertNotEqual(self.run_command(lines[0]), "")
 

@@ -3,6 +3,7 @@ constants. What their commands print is for test_page_commands."""
 
 import os
 import re
+import shutil
 import sys
 
 import common
@@ -23,7 +24,7 @@ NUMBER = re.compile(r"(\d{1,3}(?:,\d{3})+|\d+)(?:\^(\d+))?")
 
 # Names that pages may give though no source has them: calls and definitions that they say come later, which go from here once they are there; and what
 # belongs to Redis, to the toolchain or to the system, or stands for a word of the reader.
-LATER = ["IsFenced", "Promotes", "raise_round", "rejoin"]
+LATER = ["IsFenced", "raise_round", "rejoin"]
 OUTSIDE = {
     "DBSIZE", "FLUSHDB", "QUIT", "HELLO", "Clone", "Copy", "bytes::BufMut", "io::Write", "slab", "indexmap", "clap", "crossbeam_utils", "KEY", "WBLIMG01",
     "dmesg", "smartctl",
@@ -184,6 +185,9 @@ class Names(common.Cases):
                             self.assertIn(option, text_behind(command))
 
     def test_the_toolchain(self):
+        if not shutil.which("rt"):
+            print(f"{self.id()}: skipped, since there is no toolchain", flush=True)
+            return
         # (the logic decides what is proved; kits of one logic may have other names and patch levels)
         logic = wrong_bodies.logic()
         self.assertIn(logic, pages.codes(README))

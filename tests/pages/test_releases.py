@@ -4,6 +4,7 @@ import gzip
 import hashlib
 import os
 import pathlib
+import pty
 import shutil
 import subprocess
 import sys
@@ -24,6 +25,8 @@ mkdir -p out
 printf '#!/bin/sh\\necho built "$@"\\n' > out/server
 chmod +x out/server
 """
+# A user that owns nothing here.
+NOBODY = 65_534
 PROVED, NOT_OF_THESE = "#!/bin/sh\necho proved \"$@\"\n", "the release is not of these sources"
 HINT = "; a green `bin/test --release` writes it anew"
 
@@ -67,11 +70,19 @@ class Repository:
         later = max(it.stat().st_mtime for it in self.root.rglob("*")) + 1
         os.utime(self.root / path, (later, later))
 
-    def run(self, *words, has_toolchain=True):
+    def run(self, *words, has_toolchain=True, **how):
         others = [it for it in os.environ["PATH"].split(os.pathsep) if not pathlib.Path(it, "rt").exists()]
         tools = [str(self.tool.parent)] * has_toolchain
-        ran = subprocess.run(words, cwd=self.root, env={**os.environ, "PATH": os.pathsep.join(tools + others)}, capture_output=True, text=True, check=False)
+        variables = {**os.environ, "PATH": os.pathsep.join(tools + others), **how.pop("variables", {})}
+        ran = subprocess.run(words, cwd=self.root, env=variables, capture_output=True, text=True, check=False, **how)
         return ran.returncode, ran.stdout, ran.stderr
+
+    def lock(self):
+        """Makes it one that nobody but root can write to. Returns how another user, or this one where it is not root, runs something in it."""
+        self.root.chmod(0o755)
+        for it in [self.root, *self.root.rglob("*")]:
+            it.chmod(it.stat().st_mode & ~0o222 | 0o444)
+        return {"user": NOBODY, "group": NOBODY, "extra_groups": []} if os.geteuid() == 0 else {}
 
     def serve(self, **how):
         return self.run("bin/wbl-server", "a", "b c", **how)
@@ -104,6 +115,17 @@ class Releases(common.Cases):
                 for _ in range(2):
                     self.assertEqual(self.it.serve(has_toolchain=has_toolchain), (0, "proved a b c\n", ""))
                 self.assertFalse((self.it.root / "crates" / "server" / "out" / "server").exists())
+
+    def test_at_a_terminal_it_says_what_it_waits_for(self):
+        """Only without arguments."""
+        self.release()
+        main, terminal = pty.openpty()
+        self.addCleanup(os.close, main)
+        self.addCleanup(os.close, terminal)
+        told = "wbl-server: serves the requests of standard input once that has ended (Ctrl-D); --help tells of the nodes of a pair\n"
+        self.assertEqual(self.it.run("bin/wbl-server", stdin=terminal), (0, "proved\n", told))
+        self.assertEqual(self.it.run("bin/wbl-server", "a", stdin=terminal), (0, "proved a\n", ""))
+        self.assertEqual(self.it.run("bin/wbl-server", stdin=subprocess.DEVNULL), (0, "proved\n", ""))
 
     def test_what_was_built_here_goes_first(self):
         self.release()
@@ -266,3 +288,81 @@ class Releases(common.Cases):
                     shutil.rmtree(self.it.root / folder)
                 self.release()
                 self.assertEqual([it.read_bytes() for it in sorted((self.it.root / "releases").iterdir())], known)
+
+
+class FromAnyPlace(common.Cases):
+    """A clone that this user cannot write to: its releases run from a folder of the user's own."""
+
+    def setUp(self):
+        folder, homes = tempfile.TemporaryDirectory(), tempfile.TemporaryDirectory()
+        self.addCleanup(folder.cleanup)
+        self.addCleanup(homes.cleanup)
+        self.it = Repository(folder.name)
+        self.it.gate()
+        self.assertEqual(self.it.run("bin/release")[0], 0)
+        self.it.forget()
+        self.homes = pathlib.Path(homes.name)
+        self.homes.chmod(0o777)
+        self.how = self.it.lock()
+        self.addCleanup(self.unlock)
+
+    def unlock(self):
+        for it in [self.it.root, *self.it.root.rglob("*")]:
+            it.chmod(it.stat().st_mode | 0o200)
+
+    def made(self, name, mode=0o777):
+        made = self.homes / name
+        made.mkdir()
+        made.chmod(mode)
+        return str(made)
+
+    def serve(self, *words, **variables):
+        given = {"HOME": "/nonexistent", "XDG_CACHE_HOME": "", **variables}
+        return self.it.run(*(words or ("bin/wbl-server", "a", "b c")), has_toolchain=False, variables=given, **self.how)
+
+    def test_each_place(self):
+        home, cache, temporary = self.made("home"), self.made("cache"), self.made("temporary")
+        locked = self.made("locked", 0o555)
+        user = self.how.get("user", os.geteuid())
+        for name, variables, wanted in [
+            ("home", {"HOME": home}, f"{home}/.cache/wbl"),
+            ("a cache that is named", {"HOME": home, "XDG_CACHE_HOME": cache}, f"{cache}/wbl"),
+            ("no home", {"HOME": "", "TMPDIR": temporary}, f"{temporary}/wbl-{user}"),
+            ("a home that is locked", {"HOME": locked, "TMPDIR": temporary}, f"{temporary}/wbl-{user}"),
+        ]:
+            with self.case(name):
+                for _ in range(2):
+                    self.assertEqual(self.serve(**variables), (0, "proved a b c\n", ""))
+                path = pathlib.Path(f"{wanted}{self.it.root.resolve()}/wbl-server")
+                self.assertEqual(self.serve("bin/run-program", "--where", "server", "wbl-server", **variables), (0, f"{path}\n", ""))
+                self.assertEqual(pathlib.Path(wanted).stat().st_mode & 0o077, 0)
+
+    def test_nothing_runs_that_somebody_else_put_there(self):
+        """A folder beside what is temporary that is not the user's own is passed over, and so is a link to one that is."""
+        if os.geteuid():
+            print(f"{self.id()}: skipped, since it needs root", flush=True)
+            return
+        temporary, own = self.made("temporary"), self.made("own")
+        os.chown(own, NOBODY, NOBODY)
+        for name, make in [("another user's", lambda it: it.mkdir()), ("a link", lambda it: it.symlink_to(own))]:
+            with self.case(name):
+                place = pathlib.Path(temporary, f"wbl-{NOBODY}")
+                make(place)
+                planted = pathlib.Path(f"{place}{self.it.root.resolve()}/wbl-server")
+                write(planted, "#!/bin/sh\necho planted\n")
+                status, said, errors = self.serve(TMPDIR=temporary)
+                self.assertEqual((status, said), (1, ""))
+                self.assertRegex(errors, rf"\Awbl-server can be unpacked nowhere: .*: Permission denied; .*; {place}: it is another user's\n")
+                self.assertEqual(planted.read_text(encoding="utf-8"), "#!/bin/sh\necho planted\n")
+                if place.is_symlink():
+                    place.unlink()
+                else:
+                    shutil.rmtree(place)
+
+    def test_an_edit_cannot_be_built_in_it(self):
+        self.unlock()
+        self.it.edit("crates/low/src/lib.rt")
+        self.how = self.it.lock()
+        given = {"variables": {"HOME": self.made("home")}, **self.how}
+        said = "wbl-server: no release is of these sources, and this clone cannot be written to, so nothing can be proved or built in it\n"
+        self.assertEqual(self.it.run("bin/wbl-server", "a", **given), (1, "", said))

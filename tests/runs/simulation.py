@@ -286,6 +286,13 @@ class Runs(common.Cases):
 
     def assert_played(self, trace, machine, events, skipped_lines):
         """Events, calls, released bytes and the end are those of the plain machine."""
+        self.assert_events(trace, machine, skipped_lines)
+        at = f"at event {machine.ended}, line {machine.ended_line(skipped_lines)}: refusal 1: device fault"
+        whole = {None: f"after all {events} events", "formatting": "at formatting: refusal 1: device fault"}
+        self.assertEqual(trace.ended, whole.get(machine.ended, at))
+
+    def assert_events(self, trace, machine, skipped_lines):
+        """The same but for the end."""
         wrong = [place for place, (did, should) in enumerate(zip(trace.done, machine.done)) if did != should]
         self.assertEqual(wrong[:5], [], "events that did their step where they should not, or the other way round")
         self.assertEqual(len(trace.done), len(machine.done))
@@ -299,9 +306,6 @@ class Runs(common.Cases):
             self.assert_bytes(trace.released[c], wanted)
         self.assertEqual((trace.frames, trace.acknowledgements), told_between(machine))
         self.assertEqual(trace.texts, texts_between(machine))
-        at = f"at event {machine.ended}, line {machine.ended_line(skipped_lines)}: refusal 1: device fault"
-        whole = {None: f"after all {events} events", "formatting": "at formatting: refusal 1: device fault"}
-        self.assertEqual(trace.ended, whole.get(machine.ended, at))
 
     def assert_image(self, trace, machine, node, lines):
         """The image is, word for word, that of what the node did to it, and it reads so: just these entries are in use. Where places may differ it has

@@ -11,9 +11,10 @@ PROGRAMS = ["server"]
 
 FAILED, MISUSED = 1, 2
 
-# The two messages where memory is refused: to a call, or to the simulated device.
+# The messages where memory is refused: to a call, to the simulated device, or to one end of a connection between the threads.
 NO_MEMORY = b"refusal 14: out of memory\n"
 STARVED = b"refusal 1: device fault\n"
+BROKEN = b"broken connection\n"
 OUT_OF_MEMORY = b"-ERR out of memory\r\n"
 
 PAGE = 4_096
@@ -108,7 +109,7 @@ class Memory(Cases):
     def assert_told(self, finished):
         """Either nothing was written and the cause is told, or each request has its reply or was refused memory."""
         if finished.status == FAILED:
-            self.assertIn(finished.errors, (NO_MEMORY, STARVED))
+            self.assertIn(finished.errors, (NO_MEMORY, STARVED, BROKEN))
             self.assertEqual(finished.output, b"")
             return finished.errors
         self.assertEqual((finished.status, finished.errors), (0, b""))

@@ -77,6 +77,23 @@ class Requests(Parsed):
         self.assert_asked(text, wanted)
         self.assertEqual(spelling.read(text).items, wanted)
 
+    def test_each_front_of_a_transaction(self):
+        """None is a fault: what is whole in it is asked for at once, and the rest once the rest has come."""
+        text = worked.TRANSACTIONS["an_error_among_others"].input()
+        words, schedule, whole = spelling.read(text).items, Schedule(len(text)), []
+        for c in range(len(text)):
+            schedule.feed(c, text[:c])
+            whole.append(len(spelling.read(text[:c]).items))
+            schedule.add(*((whole[c] + 1) * [f"offer {c}", f"turn {c}"]))
+            schedule.feed(c, text[c:])
+            schedule.add(*((len(words) - whole[c] + 1) * [f"offer {c}", f"turn {c}"]))
+            schedule.commit()
+        self.assertEqual(sorted(set(whole)), list(range(len(words))))
+        trace = self.play(schedule)
+        for c in range(len(text)):
+            with self.case("front", bytes=c):
+                self.assertEqual([call.words for call in trace.calls if call.connection == c], words)
+
     def test_words_as_the_simulator_spells_them(self):
         schedule = Schedule(1)
         schedule.add("feed 0 SET a 1", "feed 0  GET   a", "feed 0 PING")

@@ -5,10 +5,8 @@ ghost use Rattle.marks.specs.View.{joined, opening};
 use crate::first_commit::first_commit;
 use crate::rate::a_second;
 use crate::refused::print_refusal;
-use arrayvec::ArrayVec;
 use frames::Ack;
 use marks::{Link, MarkSeat, Marks, Reader};
-use model::{FIRST_EPOCH, Record, Role};
 use std::alloc::Global;
 use std::io;
 use std::rt::Clock;
@@ -36,20 +34,12 @@ struct Found {
     remote: u64,
 }
 
-/// What a standby acknowledges whose record is at this position.
+/// What a standby acknowledges that is at this position, in the first epoch, as it is read of its bytes.
 fn ack_at(position: u64) -> Ack
     ensures { result.position ≡ position }
 {
-    let current = Record {
-        number: 1,
-        position,
-        cp: 0,
-        cd: 1,
-        epoch: FIRST_EPOCH,
-        role: Role::Standby,
-        gaps: ArrayVec::new(),
-    };
-    Ack::of_record(&current)
+    let [a, b, c, d, e, f, g, h] = position.to_be_bytes();
+    Ack::read(&[0, 0, 0, 0, 0, 0, 0, 1, a, b, c, d, e, f, g, h])
 }
 
 /// Raises the remote mark to each position up to `count`.
@@ -62,7 +52,7 @@ fn raise_all(marks: &Marks, seat: MarkSeat, count: u64) -> MarkSeat
 {
     let mut seat = seat;
     for position in 0..count {
-        seat = marks.raise_remote(seat, ack_at(position + 1));
+        marks.raise_remote(&mut seat, ack_at(position + 1));
     }
     seat
 }
@@ -76,8 +66,9 @@ fn raise_and_stop(marks: &Marks, seat: MarkSeat, count: u64) -> MarkSeat
     ensures remote { result.knows.remote ≡ max seat.knows.remote count }
     ensures stop { result.knows.stop ≡ 1 }
 {
-    let seat = raise_all(marks, seat, count);
-    marks.stop(seat)
+    let mut seat = raise_all(marks, seat, count);
+    marks.stop(&mut seat);
+    seat
 }
 
 /// Reads the remote mark until it has reached `count`.
@@ -94,8 +85,7 @@ fn read_until(rt: &impl Wait, marks: &Marks, seat: MarkSeat, count: u64) -> Read
         if last >= count {
             break;
         }
-        let (next, found) = marks.read_remote(seat);
-        seat = next;
+        let found = marks.read_remote(&mut seat);
         rises &= last <= found;
         last = found;
         readings = readings.saturating_add(1);
@@ -115,11 +105,9 @@ fn wait_for_stop(rt: &impl Wait, marks: &Marks, seat: MarkSeat) -> MarkSeat
 {
     let mut seat = seat;
     for _ in rt.forever() {
-        let (next, stopped) = marks.stopped(seat);
-        if stopped {
-            return next;
+        if marks.stopped(&mut seat) {
+            return seat;
         }
-        seat = next;
         thread::yield_now();
     }
     unreachable!()
@@ -225,7 +213,7 @@ fn read_at_end(marks: &Marks, seat: MarkSeat, link: MarkSeat, readers: MarkSeat)
     let mut seat = seat;
     marks.join_seat(&mut seat, link);
     marks.join_seat(&mut seat, readers);
-    let (_, seen) = marks.read(seat);
+    let seen = marks.read(&mut seat);
     (seen.local, seen.remote)
 }
 
@@ -243,7 +231,8 @@ fn raise_and_read<R: Threads + Wait + Sync>(
     ensures local { result.local ≡ committed }
     ensures remote { result.remote ≡ count }
 {
-    let mut seat = marks.raise_local(seat, &committed);
+    let mut seat = seat;
+    marks.raise_local(&mut seat, &committed);
     let first = marks.split_seat::<Reader>(&mut seat);
     let second = marks.split_seat::<Reader>(&mut seat);
     let link = marks.split_seat::<Link>(&mut seat);

@@ -1,8 +1,10 @@
 -- What an outbox knows of its gate after each step.
-use Rattle.std.proofs.Common.{◌≡◌, ℕ, zero, suc, ◌≤◌, ◌&&◌, Bool, true, false, cond, List, [], ◌∷◌, ◌++◌, length, drop, OnOk, OnErr, Result, Ok, Err, refl, sym, ap, subst, ◌∙◌, arith, length-append, length-drop}
+use Rattle.std.proofs.Common.{◌≡◌, ℕ, zero, suc, ◌≤◌, nat_le, ◌&&◌, Bool, true, false, cond, List, [], ◌∷◌, ◌++◌, length, drop, OnOk, OnErr, Result, Ok, Err, refl, sym, ap, subst, ◌∙◌, arith, length-append, length-drop}
 use Rattle.std.specs.Prelude.{All}
-use Rattle.std.proofs.lemmas.Bool.{le-leb, and_from}
+use Rattle.std.proofs.lemmas.Bool.{le-leb, leb-true, and_from, and_parts}
 use Rattle.std.proofs.lemmas.List.{nil_from_length}
+use Rattle.kv_types.specs.declared.seen.Seen.{Seen}
+use Rattle.kv_types.specs.Seen.{covers}
 use Rattle.reply_gate.specs.declared.held_text.HeldText.{HeldText}
 use Rattle.reply_gate.specs.Gate.{Held, held_bytes, covered_bytes, uncovered_rest, is_covered}
 use Rattle.reply_gate.proofs.HeldLemmas.{held_bytes-append, held_bytes-split}
@@ -26,10 +28,6 @@ and-first : (x y : Bool) → (x && y) ≡ true → x ≡ true
 and-first true y e = refl
 and-first false y e = e
 
-and-second : (x y : Bool) → (x && y) ≡ true → y ≡ true
-and-second true y e = e
-and-second false y e = cc
-
 at_most-more : (last last' : ℕ) (replies : List HeldText) (reply : HeldText) → last ≤ last' → reply.position ≤ last' → AreAtMost last replies → AreAtMost last' (replies ++ reply ∷ [])
 at_most-more last last' [] reply le new old = (new, tt)
 at_most-more last last' (first ∷ replies) reply le new old = (omega (arith, old.0, le), at_most-more last last' replies reply le new old.1)
@@ -50,33 +48,36 @@ held-within (Ok a) last last' position old new text le le' within waits replies 
 held-within (Err e) last last' position old new text le le' within waits replies err =
     subst (IsWithin last') (sym err) (record { bounded = all-of last' old.replies (at_most-rises last last' old.replies le (each last old.replies within.bounded)); counted = within.counted })
 
--- all are covered where both marks are at the greatest position
-all-covered : (last local remote : ℕ) (replies : List HeldText) → last ≤ local → last ≤ remote → AreAtMost last replies → uncovered_rest local remote replies ≡ []
-all-covered last local remote [] le le' most = refl
-all-covered last local remote (reply ∷ replies) le le' most =
-    let is : is_covered local remote reply ≡ true = and_from _ _ (le-leb reply.position local (omega (arith, most.0, le))) (le-leb reply.position remote (omega (arith, most.0, le'))) in
-    ap (λ b. cond b (uncovered_rest local remote replies) (reply ∷ replies)) is ∙ all-covered last local remote replies le le' most.1
+-- where a position is covered, so is one that is not above it
+covered-below : (seen : Seen) (position last : ℕ) → position ≤ last → covers seen last ≡ true → covers seen position ≡ true
+covered-below seen position last le both =
+    let parts = and_parts (nat_le last seen.local) (nat_le last seen.remote) both in
+    and_from _ _ (le-leb position seen.local (omega (arith, le, leb-true last seen.local parts.0))) (le-leb position seen.remote (omega (arith, le, leb-true last seen.remote parts.1)))
 
-pub covered-then : (last local remote : ℕ) (replies : List HeldText) (first second : Bool) → (first ≡ true → last ≤ local) → (second ≡ true → last ≤ remote) → All (λ reply. reply.position ≤ last) replies → (first && second) ≡ true
-    → uncovered_rest local remote replies ≡ []
-covered-then last local remote replies first second one two most both =
-    all-covered last local remote replies (one (and-first first second both)) (two (and-second first second both)) (each last replies most)
+-- all are covered where the greatest position is
+all-covered : (last : ℕ) (seen : Seen) (replies : List HeldText) → covers seen last ≡ true → AreAtMost last replies → uncovered_rest seen replies ≡ []
+all-covered last seen [] both most = refl
+all-covered last seen (reply ∷ replies) both most =
+    ap (λ b. cond b (uncovered_rest seen replies) (reply ∷ replies)) (covered-below seen reply.position last most.0 both) ∙ all-covered last seen replies both most.1
 
-rest-at_most : (last local remote : ℕ) (replies : List HeldText) → AreAtMost last replies → AreAtMost last (uncovered_rest local remote replies)
-rest-at_most last local remote [] most = tt
-rest-at_most last local remote (reply ∷ replies) most =
-    elim (is_covered local remote reply) as (λ b. AreAtMost last (cond b (uncovered_rest local remote replies) (reply ∷ replies))) [
-      | true ↦ rest-at_most last local remote replies most.1
+pub covered-then : (last : ℕ) (seen : Seen) (replies : List HeldText) → All (λ reply. reply.position ≤ last) replies → covers seen last ≡ true → uncovered_rest seen replies ≡ []
+covered-then last seen replies most both = all-covered last seen replies both (each last replies most)
+
+rest-at_most : (last : ℕ) (seen : Seen) (replies : List HeldText) → AreAtMost last replies → AreAtMost last (uncovered_rest seen replies)
+rest-at_most last seen [] most = tt
+rest-at_most last seen (reply ∷ replies) most =
+    elim (is_covered seen reply) as (λ b. AreAtMost last (cond b (uncovered_rest seen replies) (reply ∷ replies))) [
+      | true ↦ rest-at_most last seen replies most.1
       | false ↦ most
     ]
 
 -- the covered ones went
-pub released-within : (last local remote : ℕ) (old new : Held) → IsWithin last old → new.waiting ≡ drop (covered_bytes local remote old.replies) old.waiting → new.replies ≡ uncovered_rest local remote old.replies
+pub released-within : (last : ℕ) (seen : Seen) (old new : Held) → IsWithin last old → new.waiting ≡ drop (covered_bytes seen old.replies) old.waiting → new.replies ≡ uncovered_rest seen old.replies
     → IsWithin last new
-released-within last local remote old new within waits replies =
+released-within last seen old new within waits replies =
     record {
-      bounded = all-of last new.replies (subst (AreAtMost last) (sym replies) (rest-at_most last local remote old.replies (each last old.replies within.bounded)));
-      counted = ap length waits ∙ omega (arith, length-drop (covered_bytes local remote old.replies) old.waiting, within.counted, held_bytes-split local remote old.replies) ∙ ap held_bytes (sym replies);
+      bounded = all-of last new.replies (subst (AreAtMost last) (sym replies) (rest-at_most last seen old.replies (each last old.replies within.bounded)));
+      counted = ap length waits ∙ omega (arith, length-drop (covered_bytes seen old.replies) old.waiting, within.counted, held_bytes-split seen old.replies) ∙ ap held_bytes (sym replies);
     }
 
 -- nothing waits where no reply is held

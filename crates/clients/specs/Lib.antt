@@ -1,3 +1,9 @@
 pub mod Asked
+pub mod Piece
+pub mod Places
+pub mod Reader
+pub mod ReplySide
+pub mod RequestSide
+pub mod Rounds
 pub mod Texts
 pub mod LookAhead

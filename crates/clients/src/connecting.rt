@@ -1,158 +1,142 @@
-//! A new connection: its rings, its bells and its two threads.
-ghost use Rattle.std.specs.Prelude.{◌≡◌, ◌<◌, [], IfOk, IfErr};
+//! A new connection: its rings, and what its driver and the thread that serves have of it.
+ghost use Rattle.std.specs.Prelude.{◌≡◌, IfOk, IfErr};
 ghost use Rattle.std.specs.Arc.{arc_value};
-ghost use Rattle.pipes.specs.Ring.{AreEndsOfOne, offered_at, taken_at};
-ghost use Rattle.pipes.specs.declared.limits.TheConstants.{MAX_SEATS};
+ghost use Rattle.pipes.specs.Ring.{AreEndsOfOne};
 
-use crate::cards::Cards;
-use crate::ends::{Asks, Tells};
+use crate::driven::DrivenConnection;
+use crate::intake::DriverEntrance;
 use crate::look_ahead::LookAhead;
 use crate::outbox::Outbox;
-use crate::post::Post;
-use crate::reader::RequestReader;
-use crate::sight::Sight;
-use crate::writer::ReplyWriter;
+use crate::queues::{ReplyQueue, RequestQueue};
+use crate::reading::RequestReader;
+use crate::reply_side::ReplySide;
+use crate::request_side::RequestSide;
+use crate::signals::Signals;
 use kv_types::{Held, Item, Refusal};
 use lobby::Arrival;
-use marks::{MarkSeat, Marks};
-use pipes::{MAX_SEATS, RingPipe, Seat};
+use pipes::{RingPipe, Seat};
 use std::alloc::Global;
 use std::net::TcpStream;
 use std::sync::Arc;
-use wakes::{Idle, Line, ReadyList, Sleeper, bell};
+use wakes::{Calls, ConnectionFlags, ReadyList, SeatNumber, SeatWaker};
 
 /// A connection that is ready to be served.
 #[derive(Drop)]
 pub struct Connection {
     /// What the thread that serves has of it.
-    pub arrival: Arrival<Asks, Tells>,
-    /// What its reader runs.
-    pub reader: RequestReader,
-    /// What its writer runs.
-    pub writer: ReplyWriter,
+    pub arrival: Arrival<RequestQueue, ReplyQueue>,
+    /// What its driver has of it.
+    pub driven: DrivenConnection,
 }
 
-/// The parts of a connection beside its seat.
+/// A connection's seat among those that are served, and its place at its driver.
+#[derive(Debug, Drop)]
+pub struct Admission {
+    /// Its seat.
+    pub seat: Seat,
+    /// Its place.
+    pub place: Seat,
+}
+
+/// The parts of a connection beside its seat and its place.
 #[derive(Drop)]
 struct Parts {
-    asks: Asks,
-    tells: Tells,
-    reader: RequestReader,
-    writer: ReplyWriter,
+    requests: RequestQueue,
+    replies: ReplyQueue,
+    request_side: RequestSide,
+    reply_side: ReplySide,
+    signals: Signals,
 }
 
-/// Makes all that the threads of a connection need. `spin` is how often its writer gives way to other threads before it sleeps.
+/// Makes all that a connection needs. `driver` is the entrance of the driver at which it has its place.
 ///
 /// # Errors
 ///
-/// The seat, if memory is refused. The stream is closed then.
+/// The seat and the place, if memory is refused, or the system refuses a socket that does not block. The stream is closed then.
 pub fn new_connection(
     alloc: Global,
     stream: TcpStream,
-    seat: Seat,
+    admission: Admission,
+    driver: &DriverEntrance,
     ready: &Arc<ReadyList>,
-    cards: &Arc<Cards>,
-    marks: &Arc<Marks>,
-    mark: MarkSeat,
-    spin: u32,
-) -> Result<Connection, Seat>
-    requires marks { mark.marks ≡ arc_value marks.now }
-    ensures seat { IfOk result (λ made. made.arrival.seat ≡ seat) }
-    ensures number { IfOk result (λ made. (made.reader.post.number ≡ seat) × (made.writer.post.number ≡ seat)) }
-    ensures requests { IfOk result (λ made. AreEndsOfOne made.reader.items made.arrival.requests.items.inlet) }
-    ensures replies { IfOk result (λ made. AreEndsOfOne made.arrival.replies.replies made.writer.replies) }
-    ensures returned { IfErr result (λ back. back ≡ seat) }
+) -> Result<Connection, Admission>
+    ensures seat { IfOk result (λ made. (made.arrival.seat ≡ admission.seat) × (made.driven.place ≡ admission.place)) }
+    ensures calls { IfOk result (λ made. made.driven.signals.seat.number ≡ admission.seat) }
+    ensures called { IfOk result (λ made. (made.arrival.requests.reader.number ≡ admission.place) × (made.arrival.replies.writer.number ≡ admission.place)) }
+    ensures requests { IfOk result (λ made. AreEndsOfOne made.driven.requests.items made.arrival.requests.items.inlet) }
+    ensures replies { IfOk result (λ made. AreEndsOfOne made.arrival.replies.replies made.driven.replies.replies) }
+    ensures returned { IfErr result (λ back. back ≡ admission) }
 {
-    match make_parts(
-        alloc,
-        stream,
-        seat.number(),
-        ready,
-        cards,
-        marks,
-        mark,
-        spin,
-    ) {
-        Ok(parts) => Ok(Connection {
-            arrival: Arrival {
-                seat,
-                requests: parts.asks,
-                replies: parts.tells,
-            },
-            reader: parts.reader,
-            writer: parts.writer,
-        }),
-        Err(_) => Err(seat),
+    // A reply is to go out as soon as it is written. A socket that refuses this is slower, and nothing else.
+    let _ = stream.set_nodelay(true);
+    if stream.set_nonblocking(true).is_err() {
+        return Err(admission);
+    }
+    let seat = SeatNumber::of(&admission.seat);
+    let place = SeatNumber::of(&admission.place);
+    match make_parts(alloc, seat, place, driver.calls(), ready) {
+        Ok(parts) => Ok(joined(stream, admission, parts)),
+        Err(_) => Err(admission),
+    }
+}
+
+fn joined(stream: TcpStream, admission: Admission, parts: Parts) -> Connection
+    ensures seat { (result.arrival.seat ≡ admission.seat) × (result.driven.place ≡ admission.place) }
+    ensures arrival { (result.arrival.requests ≡ parts.requests) × (result.arrival.replies ≡ parts.replies) }
+    ensures driven { (result.driven.requests ≡ parts.request_side) × (result.driven.replies ≡ parts.reply_side) × (result.driven.signals ≡ parts.signals) }
+{
+    let Admission { seat, place } = admission;
+    Connection {
+        arrival: Arrival {
+            seat,
+            requests: parts.requests,
+            replies: parts.replies,
+        },
+        driven: DrivenConnection {
+            place,
+            stream,
+            requests: parts.request_side,
+            replies: parts.reply_side,
+            signals: parts.signals,
+            is_noted: false,
+        },
     }
 }
 
 fn make_parts(
     alloc: Global,
-    stream: TcpStream,
-    number: usize,
+    seat: SeatNumber,
+    place: SeatNumber,
+    calls: &Arc<Calls>,
     ready: &Arc<ReadyList>,
-    cards: &Arc<Cards>,
-    marks: &Arc<Marks>,
-    mark: MarkSeat,
-    spin: u32,
 ) -> Result<Parts, Refusal>
-    requires marks { mark.marks ≡ arc_value marks.now }
-    requires number { number < MAX_SEATS }
-    ensures number { IfOk result (λ made. (made.reader.post.number ≡ number) × (made.writer.post.number ≡ number)) }
-    ensures requests { IfOk result (λ made. AreEndsOfOne made.reader.items made.asks.items.inlet) }
-    ensures replies { IfOk result (λ made. AreEndsOfOne made.tells.replies made.writer.replies) }
+    ensures calls { IfOk result (λ made. made.signals.seat ≡ seat) }
+    ensures called { IfOk result (λ made. (made.requests.reader.number ≡ place.number) × (made.replies.writer.number ≡ place.number)) }
+    ensures requests { IfOk result (λ made. AreEndsOfOne made.request_side.items made.requests.items.inlet) }
+    ensures replies { IfOk result (λ made. AreEndsOfOne made.replies.replies made.reply_side.replies) }
 {
     let requests = RingPipe::<Item>::new(alloc)?;
     let replies = RingPipe::<Held>::new(alloc)?;
-    let line = Arc::new(alloc, Line::new())?;
-    let (reader_sleeper, reader_bell) = bell(alloc)?;
-    let (writer_sleeper, writer_bell) = bell(alloc)?;
-    // A reply is to go out as soon as it is written. A socket that refuses this is slower, and nothing else.
-    let _ = stream.set_nodelay(true);
-    let stream = Arc::new(alloc, stream)?;
-    let reader = RequestReader {
-        stream: Arc::try_clone(&stream)?,
-        items: requests.outlet,
-        post: post(reader_sleeper, &line, ready, cards, number)?,
-    };
-    let writer = ReplyWriter {
-        stream,
-        replies: replies.inlet,
-        outbox: Outbox::new(alloc),
-        sight: Sight::new(Arc::try_clone(marks)?, mark),
-        post: post(writer_sleeper, &line, ready, cards, number)?,
-        idle: Idle::new(spin),
+    let flags = Arc::new(alloc, ConnectionFlags::new())?;
+    let reader = SeatWaker::new(Arc::try_clone(calls)?, place);
+    let writer = SeatWaker::new(Arc::try_clone(calls)?, place);
+    let signals = Signals {
+        flags: Arc::try_clone(&flags)?,
+        ready: Arc::try_clone(ready)?,
+        seat,
     };
     Ok(Parts {
-        asks: Asks {
+        requests: RequestQueue {
             items: LookAhead::new(requests.inlet),
-            reader: reader_bell,
-            line,
+            reader,
+            flags,
         },
-        tells: Tells {
+        replies: ReplyQueue {
             replies: replies.outlet,
-            writer: writer_bell,
+            writer,
         },
-        reader,
-        writer,
-    })
-}
-
-fn post(
-    sleeper: Sleeper,
-    line: &Arc<Line>,
-    ready: &Arc<ReadyList>,
-    cards: &Arc<Cards>,
-    number: usize,
-) -> Result<Post, Refusal>
-    requires { number < MAX_SEATS }
-    ensures { IfOk result (λ made. made.number ≡ number) }
-{
-    Ok(Post {
-        sleeper,
-        line: Arc::try_clone(line)?,
-        ready: Arc::try_clone(ready)?,
-        cards: Arc::try_clone(cards)?,
-        number,
+        request_side: RequestSide::new(RequestReader::new(alloc)?, requests.outlet),
+        reply_side: ReplySide::new(replies.inlet, Outbox::new(alloc)),
+        signals,
     })
 }

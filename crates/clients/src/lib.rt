@@ -1,28 +1,36 @@
-//! The two threads of one connection: one reads its requests, the other writes its replies.
+//! Connections, and the threads that drive them: each reads the requests and writes the replies of many.
 #![tactic(auto)]
 
+mod block;
 mod broken_off;
-mod cards;
 mod connecting;
-mod ends;
+mod crossing;
+mod driven;
+mod driven_connections;
+mod driver;
+mod intake;
 mod look_ahead;
 mod outbox;
-mod post;
-mod reader;
+mod places;
+mod queues;
 mod reading;
-mod sight;
-mod writer;
+mod reply_side;
+mod request_side;
+mod signals;
 mod writing;
 
+pub use block::{BLOCK_BYTES, Block, LEAST_ROOM_BYTES};
 pub use broken_off::BrokenOff;
-pub use cards::Cards;
-pub use connecting::{Connection, new_connection};
-pub use ends::{Asks, Tells};
+pub use connecting::{Admission, Connection, new_connection};
+pub use crossing::{driver_is_send, entrance_is_send};
+pub use driven::DrivenConnection;
+pub use driver::Driver;
+pub use intake::DriverEntrance;
 pub use look_ahead::LookAhead;
-pub use outbox::Outbox;
-pub use post::Post;
-pub use reader::RequestReader;
-pub use reading::{BLOCK_BYTES, LEAST_ROOM_BYTES, read_requests};
-pub use sight::Sight;
-pub use writer::ReplyWriter;
-pub use writing::{Ending, write_replies};
+pub use outbox::{Outbox, Taken};
+pub use queues::{ReplyQueue, RequestQueue};
+pub use reading::{LastPiece, Progress, RequestReader, TURN_BLOCKS};
+pub use reply_side::ReplySide;
+pub use request_side::RequestSide;
+pub use signals::{Signals, WasOver};
+pub use writing::{Round, write_round};

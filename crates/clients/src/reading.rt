@@ -1,160 +1,229 @@
 //! From a connection's bytes to the items of its ring.
-ghost use Rattle.std.specs.Prelude.{◌≡◌, ℕ, List, [], ◌++◌, ◌∷◌, ◌<◌, false, length, IfOk, OnOk, OnErr, IfErr};
-ghost use Rattle.std.specs.Io.KnownBytes.{Consumes, IsAtEnd, Keeps};
+ghost use Rattle.std.specs.Prelude.{◌≡◌, ℕ, List, [], ◌++◌, ◌∷◌, ◌<◌, Ok, true, false, length, IsSome, IsTrue, ◌↔◌, IfOk, OnOk, OnErr, IfErr};
+ghost use Rattle.std.specs.Io.KnownBytes.{IsAtEnd};
 ghost use Rattle.kv_types.specs.declared.item.Item.{Item};
-ghost use Rattle.inbound.specs.ToCome.{with_piece, GivesAll};
 ghost use Rattle.clients.specs.Asked.{asked_by};
+ghost use Rattle.clients.specs.Reader.{owed, Offers, Reads};
 
+use crate::block::Block;
 use crate::broken_off::BrokenOff;
-use crate::post::Post;
-use bytes::{Bytes, BytesMut};
+use crate::signals::Signals;
+use bytes::Bytes;
 use inbound::Inbound;
 use kv_types::Item;
 use pipes::Outlet;
-use std::alloc::Global;
-use std::io;
-use std::io::{ErrorKind, Read};
-use std::sync::Wait;
-use std::time::Clock;
+use std::alloc::{AllocError, Global};
+use std::io::Read;
 
-/// How many bytes one block for reading has.
-pub const BLOCK_BYTES: usize = 16 * 1_024;
+/// How many blocks are read of one connection before others have their turn.
+pub const TURN_BLOCKS: usize = 4;
 
-/// With less room than this in its block a reader takes a new one.
-pub const LEAST_ROOM_BYTES: usize = 2 * 1_024;
+/// How far a reader came.
+#[derive(Clone, Copy, Debug, PartialEq, Eq)]
+pub enum Progress {
+    /// All that can be read now was read.
+    Drained,
+    /// There may be more to read.
+    More,
+    /// An item waits for room in its ring.
+    Full,
+    /// The peer has closed the connection, or one of its items has.
+    Ended,
+}
 
-/// Reads a connection and offers the items that its bytes ask for, up to and including one that closes it. Says whether there was one;
-/// otherwise the peer has closed the connection. It waits for bytes, and for room.
-///
-/// # Errors
-///
-/// Why it broke off. What was offered stays offered.
-pub fn read_requests<R: Wait + Clock, S: Read, O: Outlet<Item = Item>>(
-    rt: &R,
-    alloc: Global,
-    stream: &mut S,
-    outlet: &mut O,
-    post: &Post,
-) -> Result<bool, BrokenOff>
-    requires may { (other : O) (item : Item) → O.is_same outlet.old other → O.may_offer other item }
-    ensures asked { OnOk result ((bytes : List ℕ) × Consumes (S.remaining stream.old) (S.remaining stream.new) bytes × (O.offered outlet.new ≡ O.offered outlet.old ++ asked_by bytes)) }
-    ensures end { IfOk result (λ closed. closed ≡ false → IsAtEnd (S.remaining stream.new)) }
-    ensures same { O.is_same outlet.old outlet.new }
-{
-    let mut input = BytesMut::with_capacity(alloc, BLOCK_BYTES)?;
-    let mut inbound = Inbound::new(alloc);
-    for _ in rt.forever() {
-        let piece = read_piece(stream, &mut input)?;
+/// What was read after the last item.
+#[derive(Clone, Copy, Debug, PartialEq, Eq)]
+pub enum LastPiece {
+    /// Bytes. There may be more.
+    Bytes,
+    /// There are none now.
+    NoneNow,
+    /// The peer's end.
+    End,
+}
+
+/// Reads a connection, and offers the items that its bytes ask for. It waits for nothing: what cannot be done now is done in a later turn.
+#[derive(Drop)]
+pub struct RequestReader {
+    inbound: Inbound,
+    block: Block,
+    /// An item that found no room. It is offered before all that come after it.
+    held: Option<Item>,
+}
+
+impl RequestReader {
+    /// Nothing was read yet.
+    ///
+    /// # Errors
+    ///
+    /// Only `AllocError`.
+    pub fn new(alloc: Global) -> Result<RequestReader, AllocError>
+        ensures fresh { IfOk result (λ reader. (bytes : List ℕ) → owed reader bytes ≡ asked_by bytes) }
+    {
+        Ok(RequestReader {
+            inbound: Inbound::new(alloc),
+            block: Block::new(alloc)?,
+            held: None,
+        })
+    }
+
+    /// Whether an item waits for room.
+    pub fn is_held(&self) -> bool
+        ensures { IsTrue result ↔ IsSome self.now.held }
+    {
+        self.held.is_some()
+    }
+
+    /// One turn: reads what is there, up to `TURN_BLOCKS`, and offers the items that the bytes ask for, in order, up to one that closes the connection or
+    /// finds no room. That one is held, and nothing is read until it is offered.
+    ///
+    /// # Errors
+    ///
+    /// Why it broke off. What was offered stays offered.
+    pub fn read<S: Read, O: Outlet<Item = Item>>(
+        &mut self,
+        stream: &mut S,
+        outlet: &mut O,
+        signals: &Signals,
+    ) -> Result<Progress, BrokenOff>
+        requires may { (other : O) (item : Item) → O.is_same outlet.old other → O.may_offer other item }
+        ensures reads { OnOk result (Reads (S.remaining stream.old) (S.remaining stream.new) self.old self.new (O.offered outlet.old) (O.offered outlet.new)) }
+        ensures all { IfOk result (λ progress. (progress ≡ Progress.Full → ⊥) → owed self.new [] ≡ []) }
+        ensures end { IfOk result (λ progress. progress ≡ Progress.Ended → self.new.inbound.is_closed ≡ false → IsAtEnd (S.remaining stream.new)) }
+        ensures same { O.is_same outlet.old outlet.new }
+    {
+        let mut progress = self.offer_all(outlet, signals)?;
+        for _ in 0..TURN_BLOCKS {
+            if progress != Progress::More {
+                return Ok(progress);
+            }
+            progress = self.read_block(stream, outlet, signals)?;
+        }
+        Ok(progress)
+    }
+
+    /// Reads once, and offers all that the bytes ask for. Nothing is held.
+    fn read_block<S: Read, O: Outlet<Item = Item>>(
+        &mut self,
+        stream: &mut S,
+        outlet: &mut O,
+        signals: &Signals,
+    ) -> Result<Progress, BrokenOff>
+        requires may { (other : O) (item : Item) → O.is_same outlet.old other → O.may_offer other item }
+        requires none_owed { owed self.old [] ≡ [] }
+        ensures reads { OnOk result (Reads (S.remaining stream.old) (S.remaining stream.new) self.old self.new (O.offered outlet.old) (O.offered outlet.new)) }
+        ensures all { IfOk result (λ progress. (progress ≡ Progress.Full → ⊥) → owed self.new [] ≡ []) }
+        ensures end { IfOk result (λ progress. progress ≡ Progress.Ended → self.new.inbound.is_closed ≡ false → IsAtEnd (S.remaining stream.new)) }
+        ensures same { O.is_same outlet.old outlet.new }
+    {
+        let room = self.block.make_room()?;
+        let Some(piece) = self.block.read(stream)? else {
+            return Ok(Progress::Drained);
+        };
         if piece.is_empty() {
-            return Ok(false);
+            return Ok(Progress::Ended);
         }
-        if take_piece(rt, &mut inbound, piece, outlet, post)? {
-            return Ok(true);
+        let is_short = piece.len() < room;
+        self.inbound.feed(piece)?;
+        let progress = self.offer_all(outlet, signals)?;
+        Ok(after_block(progress, is_short))
+    }
+
+    /// Offers all items that are to come, in order, and holds the first that finds no room. There is more to read unless one was held, or one closed the
+    /// connection.
+    fn offer_all<O: Outlet<Item = Item>>(
+        &mut self,
+        outlet: &mut O,
+        signals: &Signals,
+    ) -> Result<Progress, BrokenOff>
+        requires may { (other : O) (item : Item) → O.is_same outlet.old other → O.may_offer other item }
+        ensures offers { Offers self.old self.new (O.offered outlet.old) (O.offered outlet.new) }
+        ensures all { IfOk result (λ progress. (progress ≡ Progress.Full → ⊥) → owed self.new [] ≡ []) }
+        ensures end { IfOk result (λ progress. progress ≡ Progress.Ended → self.new.inbound.is_closed ≡ true) }
+        ensures same { O.is_same outlet.old outlet.new }
+    {
+        while self.hold_next()? {
+            if !self.offer_held(outlet, signals) {
+                return Ok(Progress::Full);
+            }
         }
-        post.call(rt);
-    }
-    unreachable!()
-}
-
-/// The next bytes of the stream, and none only at its end.
-fn read_piece<S: Read>(stream: &mut S, input: &mut BytesMut) -> Result<Bytes, BrokenOff>
-    requires empty { input.old.items ≡ [] }
-    ensures empty { OnOk result (input.new.items ≡ []) }
-    ensures read { IfOk result (λ piece. Consumes (S.remaining stream.old) (S.remaining stream.new) piece) }
-    ensures end { IfOk result (λ piece. length piece ≡ 0 → IsAtEnd (S.remaining stream.new)) }
-{
-    // Making room before each read would copy what is there each time.
-    if input.capacity() < LEAST_ROOM_BYTES {
-        input.reserve(BLOCK_BYTES)?;
-    }
-    let count = read_some(stream, input)?;
-    Ok(input.freeze_to(count)?)
-}
-
-/// Reads once into the spare room. A read that a signal interrupted is none.
-pub(crate) fn read_some<S: Read>(stream: &mut S, input: &mut BytesMut) -> io::Result<usize>
-    ensures ok { IfOk result (λ count. (more : List ℕ) × (length more ≡ count) × (input.new.items ≡ input.old.items ++ more)
-        × Consumes (S.remaining stream.old) (S.remaining stream.new) more) }
-    ensures end { IfOk result (λ count. 0 < input.old.spare → count ≡ 0 → IsAtEnd (S.remaining stream.new)) }
-    ensures err { OnErr result ((input.new ≡ input.old) × Keeps (S.remaining stream.old) (S.remaining stream.new)) }
-{
-    for _ in 0..u64::MAX {
-        match input.read_from(stream) {
-            Err(error) if error.kind() == ErrorKind::Interrupted => {}
-            read => return read,
+        if self.inbound.is_closed() {
+            Ok(Progress::Ended)
+        } else {
+            Ok(Progress::More)
         }
     }
-    Err(io::Error::from(ErrorKind::Interrupted))
-}
 
-/// Feeds a piece, and offers all that it asks for. Says whether an item closed the connection.
-fn take_piece<R: Wait + Clock, O: Outlet<Item = Item>>(
-    rt: &R,
-    inbound: &mut Inbound,
-    piece: Bytes,
-    outlet: &mut O,
-    post: &Post,
-) -> Result<bool, BrokenOff>
-    requires may { (other : O) (item : Item) → O.is_same outlet.old other → O.may_offer other item }
-    ensures gives { OnOk result (GivesAll (O.offered outlet.old) (O.offered outlet.new) (with_piece inbound.old piece) inbound.new) }
-    ensures closed { IfOk result (λ closed. closed ≡ inbound.new.is_closed) }
-    ensures same { O.is_same outlet.old outlet.new }
-{
-    inbound.feed(piece)?;
-    pass_on(rt, inbound, outlet, post)?;
-    Ok(inbound.is_closed())
-}
-
-/// Offers all items that are to come, in order.
-pub(crate) fn pass_on<R: Wait + Clock, O: Outlet<Item = Item>>(
-    rt: &R,
-    inbound: &mut Inbound,
-    outlet: &mut O,
-    post: &Post,
-) -> Result<(), BrokenOff>
-    requires may { (other : O) (item : Item) → O.is_same outlet.old other → O.may_offer other item }
-    ensures gives { OnOk result (GivesAll (O.offered outlet.old) (O.offered outlet.new) inbound.old inbound.new) }
-    ensures same { O.is_same outlet.old outlet.new }
-{
-    while let Some(item) = inbound.next()? {
-        put(rt, outlet, item, post)?;
-    }
-    Ok(())
-}
-
-/// Offers an item, and waits for room where there is none.
-///
-/// # Errors
-///
-/// `Over` if the connection is over before there is room. Nothing was offered then.
-fn put<R: Wait + Clock, O: Outlet<Item = Item>>(
-    rt: &R,
-    outlet: &mut O,
-    item: Item,
-    post: &Post,
-) -> Result<(), BrokenOff>
-    requires may { O.may_offer outlet.old item }
-    ensures last { OnOk result (O.offered outlet.new ≡ O.offered outlet.old ++ item ∷ []) }
-    ensures none { OnErr result (O.offered outlet.new ≡ O.offered outlet.old) }
-    ensures same { O.is_same outlet.old outlet.new }
-{
-    let mut item = item;
-    for _ in rt.forever() {
-        match offer_twice(outlet, item, post) {
-            Ok(()) => return Ok(()),
-            Err(back) => item = back,
+    /// Holds the next item that is to come, unless one is held. Says whether one is held then.
+    fn hold_next(&mut self) -> Result<bool, BrokenOff>
+        ensures owes { (more : List ℕ) → owed self.old more ≡ owed self.new more }
+        ensures held { IfOk result (λ is. is ≡ true → IsSome self.new.held) }
+        ensures none { result ≡ Ok false → owed self.new [] ≡ [] }
+    {
+        if self.held.is_none() {
+            self.held = self.inbound.next()?;
         }
-        if post.is_over() {
-            return Err(BrokenOff::Over);
-        }
-        post.call_and_sleep(rt);
+        Ok(self.held.is_some())
     }
-    unreachable!()
+
+    /// Offers the item that is held. Where there is no room, it stays held.
+    fn offer_held<O: Outlet<Item = Item>>(&mut self, outlet: &mut O, signals: &Signals) -> bool
+        requires may { (other : O) (item : Item) → O.is_same outlet.old other → O.may_offer other item }
+        requires held { IsSome self.old.held }
+        ensures offers { Offers self.old self.new (O.offered outlet.old) (O.offered outlet.new) }
+        ensures less { result ≡ true → length (owed self.new []) < length (owed self.old []) }
+        ensures same { O.is_same outlet.old outlet.new }
+    {
+        let Some(item) = self.held.take() else {
+            return false;
+        };
+        match offer_twice(outlet, item, signals) {
+            Ok(()) => true,
+            Err(back) => {
+                self.held = Some(back);
+                false
+            }
+        }
+    }
+
+    /// Reads once, and lets the bytes go.
+    ///
+    /// # Errors
+    ///
+    /// Why nothing more can be read.
+    pub fn let_go<S: Read>(&mut self, stream: &mut S) -> Result<LastPiece, BrokenOff> {
+        self.block.make_room()?;
+        let piece = self.block.read(stream)?;
+        Ok(last_piece(piece))
+    }
+}
+
+fn last_piece(piece: Option<Bytes>) -> LastPiece {
+    match piece {
+        None => LastPiece::NoneNow,
+        Some(bytes) if bytes.is_empty() => LastPiece::End,
+        Some(_) => LastPiece::Bytes,
+    }
+}
+
+/// A read that did not fill the room has drained the socket.
+fn after_block(progress: Progress, is_short: bool) -> Progress
+    ensures full { (result ≡ Progress.Full → ⊥) → progress ≡ Progress.Full → ⊥ }
+    ensures ended { result ≡ Progress.Ended → progress ≡ Progress.Ended }
+{
+    match progress {
+        Progress::More if is_short => Progress::Drained,
+        progress => progress,
+    }
 }
 
 /// Offers an item, and where there is no room says that the reader waits for it and offers the item once more. So whoever makes room after
 /// the second try sees that the reader waits.
-fn offer_twice<O: Outlet<Item = Item>>(outlet: &mut O, item: Item, post: &Post) -> Result<(), Item>
+fn offer_twice<O: Outlet<Item = Item>>(
+    outlet: &mut O,
+    item: Item,
+    signals: &Signals,
+) -> Result<(), Item>
     requires may { O.may_offer outlet.old item }
     ensures last { OnOk result (O.offered outlet.new ≡ O.offered outlet.old ++ item ∷ []) }
     ensures returned { IfErr result (λ back. back ≡ item) }
@@ -164,7 +233,7 @@ fn offer_twice<O: Outlet<Item = Item>>(outlet: &mut O, item: Item, post: &Post) 
     match outlet.offer(item) {
         Ok(()) => Ok(()),
         Err(back) => {
-            post.wait_for_room();
+            signals.wait_for_room();
             outlet.offer(back)
         }
     }

@@ -1,8 +1,10 @@
 -- The outbound half of a connection still refines the machine's after each step.
-use Rattle.std.proofs.Common.{◌≡◌, ◌≢◌, ℕ, ◌+◌, ◌++◌, ◌&&◌, Bool, true, false, cond, nat_le, List, [], ◌∷◌, length, take, drop, Option, Some, None, refl, sym, ap, ap₂, subst, ◌∙◌, append_assoc, append-nil, arith, length-append}
+use Rattle.std.proofs.Common.{◌≡◌, ◌≢◌, ℕ, ◌+◌, ◌++◌, Bool, true, false, cond, List, [], ◌∷◌, length, take, drop, Option, Some, None, refl, sym, ap, ap₂, subst, ◌∙◌, append_assoc, append-nil, arith, length-append}
 use Rattle.std.proofs.lemmas.List.{take_at, drop_at}
 use Rattle.kv_types.specs.declared.reply.Held.{Held}
+use Rattle.kv_types.specs.declared.seen.Seen.{Seen}
 use Rattle.kv_types.specs.Reply.{text_of}
+use Rattle.kv_types.specs.Seen.{covers}
 use Rattle.model.specs.declared.call.Call.{Call}
 use Rattle.model.specs.Call.{is_nonempty}
 use Rattle.machine.specs.Connection.{Outbound as Machine, is_covered, covered_prefix, uncovered_rest, texts_of, held_first, having_released}
@@ -19,68 +21,68 @@ texts_of-append (x ∷ xs) ys = ap (λ text. text_of x.reply ++ text) (texts_of-
 
 -- ---- what is covered
 
-covered_alike : (local remote : ℕ) (text : HeldText) (held : Held) → IsHeld text held → is_text_covered local remote text ≡ is_covered local remote held
-covered_alike local remote text held is = ap (λ p. nat_le p local && nat_le p remote) is.position
+covered_alike : (seen : Seen) (text : HeldText) (held : Held) → IsHeld text held → is_text_covered seen text ≡ is_covered seen held
+covered_alike seen text held is = ap (covers seen) is.position
 
-pub first_covered : (local remote : ℕ) (texts : List HeldText) (helds : List Held) → AreHeld texts helds → is_first_covered local remote texts ≡ is_nonempty (covered_prefix local remote helds)
-first_covered local remote [] [] are = refl
-first_covered local remote [] (held ∷ helds) are = absurd are
-first_covered local remote (text ∷ texts) [] are = absurd are
-first_covered local remote (text ∷ texts) (held ∷ helds) are =
-    covered_alike local remote text held are.0 ∙ chosen (is_covered local remote held)
+pub first_covered : (seen : Seen) (texts : List HeldText) (helds : List Held) → AreHeld texts helds → is_first_covered seen texts ≡ is_nonempty (covered_prefix seen helds)
+first_covered seen [] [] are = refl
+first_covered seen [] (held ∷ helds) are = absurd are
+first_covered seen (text ∷ texts) [] are = absurd are
+first_covered seen (text ∷ texts) (held ∷ helds) are =
+    covered_alike seen text held are.0 ∙ chosen (is_covered seen held)
   where
-    chosen : (b : Bool) → b ≡ is_nonempty (cond b (held ∷ covered_prefix local remote helds) [])
+    chosen : (b : Bool) → b ≡ is_nonempty (cond b (held ∷ covered_prefix seen helds) [])
     chosen true = refl
     chosen false = refl
 
-pub covered_length : (local remote : ℕ) (texts : List HeldText) (helds : List Held) → AreHeld texts helds → covered_bytes local remote texts ≡ length (texts_of (covered_prefix local remote helds))
-covered_length local remote [] [] are = refl
-covered_length local remote [] (held ∷ helds) are = absurd are
-covered_length local remote (text ∷ texts) [] are = absurd are
-covered_length local remote (text ∷ texts) (held ∷ helds) are =
-    let later = covered_length local remote texts helds are.1 in
-    ap (λ b. cond b (text.bytes + covered_bytes local remote texts) 0) (covered_alike local remote text held are.0)
-    ∙ elim (is_covered local remote held) as (λ b. cond b (text.bytes + covered_bytes local remote texts) 0 ≡ length (texts_of (cond b (held ∷ covered_prefix local remote helds) []))) [
-      | true ↦ omega (arith, are.0.bytes, later, length-append (text_of held.reply) (texts_of (covered_prefix local remote helds)))
+pub covered_length : (seen : Seen) (texts : List HeldText) (helds : List Held) → AreHeld texts helds → covered_bytes seen texts ≡ length (texts_of (covered_prefix seen helds))
+covered_length seen [] [] are = refl
+covered_length seen [] (held ∷ helds) are = absurd are
+covered_length seen (text ∷ texts) [] are = absurd are
+covered_length seen (text ∷ texts) (held ∷ helds) are =
+    let later = covered_length seen texts helds are.1 in
+    ap (λ b. cond b (text.bytes + covered_bytes seen texts) 0) (covered_alike seen text held are.0)
+    ∙ elim (is_covered seen held) as (λ b. cond b (text.bytes + covered_bytes seen texts) 0 ≡ length (texts_of (cond b (held ∷ covered_prefix seen helds) []))) [
+      | true ↦ omega (arith, are.0.bytes, later, length-append (text_of held.reply) (texts_of (covered_prefix seen helds)))
       | false ↦ refl
     ]
 
-pub texts-split : (local remote : ℕ) (helds : List Held) → texts_of helds ≡ texts_of (covered_prefix local remote helds) ++ texts_of (uncovered_rest local remote helds)
-texts-split local remote [] = refl
-texts-split local remote (held ∷ helds) =
-    elim (is_covered local remote held) as (λ b. text_of held.reply ++ texts_of helds ≡ texts_of (cond b (held ∷ covered_prefix local remote helds) []) ++ texts_of (cond b (uncovered_rest local remote helds) (held ∷ helds))) [
-      | true ↦ ap (λ text. text_of held.reply ++ text) (texts-split local remote helds) ∙ sym (append_assoc (text_of held.reply) (texts_of (covered_prefix local remote helds)) (texts_of (uncovered_rest local remote helds)))
+pub texts-split : (seen : Seen) (helds : List Held) → texts_of helds ≡ texts_of (covered_prefix seen helds) ++ texts_of (uncovered_rest seen helds)
+texts-split seen [] = refl
+texts-split seen (held ∷ helds) =
+    elim (is_covered seen held) as (λ b. text_of held.reply ++ texts_of helds ≡ texts_of (cond b (held ∷ covered_prefix seen helds) []) ++ texts_of (cond b (uncovered_rest seen helds) (held ∷ helds))) [
+      | true ↦ ap (λ text. text_of held.reply ++ text) (texts-split seen helds) ∙ sym (append_assoc (text_of held.reply) (texts_of (covered_prefix seen helds)) (texts_of (uncovered_rest seen helds)))
       | false ↦ refl
     ]
 
-pub rest_held : (local remote : ℕ) (texts : List HeldText) (helds : List Held) → AreHeld texts helds → AreHeld (uncovered_texts local remote texts) (uncovered_rest local remote helds)
-rest_held local remote [] [] are = tt
-rest_held local remote [] (held ∷ helds) are = absurd are
-rest_held local remote (text ∷ texts) [] are = absurd are
-rest_held local remote (text ∷ texts) (held ∷ helds) are =
-    let later = rest_held local remote texts helds are.1 in
-    subst (λ b. AreHeld (cond b (uncovered_texts local remote texts) (text ∷ texts)) (cond (is_covered local remote held) (uncovered_rest local remote helds) (held ∷ helds)))
-    (sym (covered_alike local remote text held are.0))
-    (elim (is_covered local remote held) as (λ b. AreHeld (cond b (uncovered_texts local remote texts) (text ∷ texts)) (cond b (uncovered_rest local remote helds) (held ∷ helds))) [
+pub rest_held : (seen : Seen) (texts : List HeldText) (helds : List Held) → AreHeld texts helds → AreHeld (uncovered_texts seen texts) (uncovered_rest seen helds)
+rest_held seen [] [] are = tt
+rest_held seen [] (held ∷ helds) are = absurd are
+rest_held seen (text ∷ texts) [] are = absurd are
+rest_held seen (text ∷ texts) (held ∷ helds) are =
+    let later = rest_held seen texts helds are.1 in
+    subst (λ b. AreHeld (cond b (uncovered_texts seen texts) (text ∷ texts)) (cond (is_covered seen held) (uncovered_rest seen helds) (held ∷ helds)))
+    (sym (covered_alike seen text held are.0))
+    (elim (is_covered seen held) as (λ b. AreHeld (cond b (uncovered_texts seen texts) (text ∷ texts)) (cond b (uncovered_rest seen helds) (held ∷ helds))) [
       | true ↦ later
       | false ↦ are
     ])
 
 pub gate-lets_out : (old new : Gate) (machine : Machine) → GateRefines old machine
-    → new.pending ≡ old.pending ++ take (covered_bytes machine.local machine.remote old.replies) old.waiting
-    → new.waiting ≡ drop (covered_bytes machine.local machine.remote old.replies) old.waiting
-    → new.replies ≡ uncovered_texts machine.local machine.remote old.replies
+    → new.pending ≡ old.pending ++ take (covered_bytes machine.seen old.replies) old.waiting
+    → new.waiting ≡ drop (covered_bytes machine.seen old.replies) old.waiting
+    → new.replies ≡ uncovered_texts machine.seen old.replies
     → GateRefines new (having_released machine)
 gate-lets_out old new machine stands pending waiting replies =
-    let prefix = texts_of (covered_prefix machine.local machine.remote machine.held) in
-    let rest = texts_of (uncovered_rest machine.local machine.remote machine.held) in
-    let split : old.waiting ≡ prefix ++ rest = stands.waiting ∙ texts-split machine.local machine.remote machine.held in
-    let count : covered_bytes machine.local machine.remote old.replies ≡ length prefix = covered_length machine.local machine.remote old.replies machine.held stands.held in
+    let prefix = texts_of (covered_prefix machine.seen machine.held) in
+    let rest = texts_of (uncovered_rest machine.seen machine.held) in
+    let split : old.waiting ≡ prefix ++ rest = stands.waiting ∙ texts-split machine.seen machine.held in
+    let count : covered_bytes machine.seen old.replies ≡ length prefix = covered_length machine.seen old.replies machine.held stands.held in
     record {
       pending = pending ∙ ap₂ (λ xs n. xs ++ take n old.waiting) stands.pending count ∙ ap (λ xs. machine.pending ++ take (length prefix) xs) split
           ∙ ap (λ xs. machine.pending ++ xs) (take_at prefix rest (length prefix) refl);
       waiting = waiting ∙ ap (λ n. drop n old.waiting) count ∙ ap (drop (length prefix)) split ∙ drop_at prefix rest (length prefix) refl;
-      held = subst (λ texts. AreHeld texts (uncovered_rest machine.local machine.remote machine.held)) (sym replies) (rest_held machine.local machine.remote old.replies machine.held stands.held);
+      held = subst (λ texts. AreHeld texts (uncovered_rest machine.seen machine.held)) (sym replies) (rest_held machine.seen old.replies machine.held stands.held);
     }
 
 -- ---- what the gate takes

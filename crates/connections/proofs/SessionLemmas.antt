@@ -5,6 +5,7 @@ use Rattle.std.proofs.lemmas.List.{length-map}
 use Rattle.std.specs.Prelude.{slice_index_or, slice_set, OnErr}
 use Rattle.std.specs.Vec.{with_item}
 use Rattle.kv_types.specs.declared.reply.Held.{Held}
+use Rattle.kv_types.specs.declared.seen.Seen.{Seen}
 use Rattle.model.specs.declared.call.Call.{Call}
 use Rattle.machine.specs.declared.event.Mark.{Mark}
 use Rattle.machine.specs.declared.event.Mark.TheVariants.{Local, Remote}
@@ -48,8 +49,7 @@ pub OutboundRefines-grows : (calls more : List Call) (code : Outbound) (machine 
 OutboundRefines-grows calls more code machine stands = record {
   made = AreMade-grows calls more code.made.items machine.made stands.made;
   gate = stands.gate;
-  local = stands.local;
-  remote = stands.remote;
+  seen = stands.seen;
 }
 
 pub ConnectionRefines-grows : (calls more : List Call) (code : Connection) (machine : MachineConnection) → ConnectionRefines calls code machine → ConnectionRefines (calls ++ more) code machine
@@ -259,9 +259,9 @@ outbound-goes test did machines list sessions transcript c client new change kee
       stays = λ not_did. (record { is_open = stands.is_open; inbound = stands.inbound; outbound = goes.stays not_did }, stand.told);
     })
 
-pub seen-kept : (mark : Mark) (local remote : ℕ) (machine : MachineOutbound) → (having_seen mark local remote machine).released ≡ machine.released
-seen-kept Local local remote machine = refl
-seen-kept Remote local remote machine = refl
+pub seen-kept : (mark : Mark) (marks : Seen) (machine : MachineOutbound) → (having_seen mark marks machine).released ≡ machine.released
+seen-kept Local marks machine = refl
+seen-kept Remote marks machine = refl
 
 -- the bytes `old` were released to it, and these are now
 pub written-goes : (n : ℕ) (did : Bool) (machines : List MachineConnection) (list : List Call) (sessions : Connections) (transcript : Transcript) (c : ℕ) (client : Client) (new : Outbound) (old bytes : Vec ℕ Global)

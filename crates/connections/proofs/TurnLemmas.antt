@@ -121,8 +121,7 @@ outbound-made calls call position old new machine stands at made gate seen =
       made = subst (λ (mades : List Made). AreMade calls' mades (machine.made ++ held ∷ [])) (sym made)
           (AreMade-push calls' old.made.items machine.made _ held (AreMade-grows calls (call ∷ []) old.made.items machine.made stands.made) is);
       gate = record { pending = same.pending; waiting = same.waiting; held = same.held };
-      local = ap (λ s. s.local) seen ∙ stands.local;
-      remote = ap (λ s. s.remote) seen ∙ stands.remote;
+      seen = seen ∙ stands.seen;
     }
 
 -- ---- where a turn is enabled
@@ -260,8 +259,7 @@ no-turn-unserved machines list closed c old new transcript code code' s s' lt is
       outbound = record {
         made = subst (λ (mades : List Made). AreMade list mades machine.outbound.made) (sym made_same) here.outbound.made;
         gate = subst (λ g. GateRefines g machine.outbound) (sym rest.gate) here.outbound.gate;
-        local = ap (λ seen. seen.local) rest.seen ∙ here.outbound.local;
-        remote = ap (λ seen. seen.remote) rest.seen ∙ here.outbound.remote;
+        seen = rest.seen ∙ here.outbound.seen;
       };
     } in
     no-turn machines list closed c new transcript s s' (λ e. never (enabled-runs machines list closed c code (seats_of old.connections.items) s sound sequencer follow own here e)) (record {

@@ -40,8 +40,7 @@ pub record GateRefines (gate : Gate) (machine : Machine) : Type 0 where
 pub record OutboundRefines (calls : List Call) (code : Outbound) (machine : Machine) : Type 0 where
   pub made : AreMade calls code.made.items machine.made
   pub gate : GateRefines code.gate machine
-  pub local : code.seen.local ≡ machine.local
-  pub remote : code.seen.remote ≡ machine.remote
+  pub seen : code.seen ≡ machine.seen
 
 -- the gate took the first reply that waited, or there was none
 pub record HoldsFirst (calls : List Call) (new : Outbound) (did : Bool) (machine : Machine) : Type 0 where
@@ -51,7 +50,7 @@ pub record HoldsFirst (calls : List Call) (new : Outbound) (did : Bool) (machine
 
 -- the covered replies went out, or there were none
 pub record LetsOut (calls : List Call) (new : Outbound) (did : Bool) (machine : Machine) : Type 0 where
-  pub done : did ≡ is_nonempty (covered_prefix machine.local machine.remote machine.held)
+  pub done : did ≡ is_nonempty (covered_prefix machine.seen machine.held)
   pub out : did ≡ true → OutboundRefines calls new (having_released machine)
   pub stays : did ≡ false → OutboundRefines calls new machine
 

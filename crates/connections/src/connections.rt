@@ -20,14 +20,14 @@ use crate::connection::{Client, Connection};
 use crate::outbound::{Made, Outbound};
 use crate::transcript::Transcript;
 use bytes::Bytes;
-use kv_types::{Held, Item, Refusal};
+use kv_types::{Held, Item, Refusal, Seen};
 use lobby::Lobby;
 use machine::Mark;
 use model::Call;
 use mv_keyspace::Keyspace;
 use pipes::{Inlet, LocalPipe, Outlet, PIPE_ITEMS, Seat};
-use redis_core::{Sequencer, Turn};
-use reply_gate::Seen;
+use primary::Front;
+use redis_core::Turn;
 use std::alloc::Global;
 use std::collections::VecDeque;
 
@@ -66,17 +66,17 @@ impl Connections {
         &mut self,
         alloc: Global,
         transcript: &mut Transcript,
-        sequencer: &mut Sequencer<K>,
+        front: &mut Front<K>,
     ) -> Result<bool, Refusal>
         ensures goes { IfOk result (λ did. (machines : List Machine) (list : List Call) → SessionsRefine self.old transcript.old machines list
             → Goes (may_enter machines) did (SessionsRefine self.new transcript.new (machines ++ new_connection ∷ []) list) (SessionsRefine self.new transcript.new machines list)) }
         // The sequencer finds the seat open and its session idle, whatever the connection before left there.
         ensures follow { IfOk result (λ did. (machines : List Machine) (list : List Call) → IsListOf machines list → SessionsRefine self.old transcript.old machines list
-            → SeatsFollow list (seats_of self.old.connections.items) sequencer.old → SeatsFollow list (seats_of self.new.connections.items) sequencer.new) }
+            → SeatsFollow list (seats_of self.old.connections.items) front.old.sequencer → SeatsFollow list (seats_of self.new.connections.items) front.new.sequencer) }
         ensures connections { OnErr result (self.new.connections.items ≡ self.old.connections.items) }
-        ensures unmoved { OnErr result (sequencer.new ≡ sequencer.old) }
-        ensures sequencer { (calls : List Call) (closed : ℕ) → SequencerRefines calls closed sequencer.old → SequencerRefines calls closed sequencer.new }
-        ensures stands { StandsStill sequencer.old sequencer.new }
+        ensures unmoved { OnErr result (front.new.sequencer ≡ front.old.sequencer) }
+        ensures sequencer { (calls : List Call) (closed : ℕ) → SequencerRefines calls closed front.old.sequencer → SequencerRefines calls closed front.new.sequencer }
+        ensures stands { StandsStill front.old.sequencer front.new.sequencer }
         ensures same { OnErr result ((machines : List Machine) (list : List Call) → SessionsRefine self.old transcript.old machines list → SessionsRefine self.new transcript.new machines list) }
         ensures told { OnErr result (TellsTheSame transcript.old transcript.new) }
         ensures cause { IfErr result (λ refusal. refusal ≡ Refusal.Memory) }
@@ -91,7 +91,7 @@ impl Connections {
             &mut self.connections,
             &mut transcript.released,
             &seat,
-            sequencer,
+            front,
         ) {
             Ok((inbound, outbound)) => {
                 self.connections.push_reserved(Connection::Open(Client {
@@ -186,7 +186,7 @@ impl Connections {
     pub fn read(&mut self, c: u64, mark: Mark, marks: Seen) -> bool
         ensures goes { (transcript : Transcript) (machines : List Machine) (list : List Call) → SessionsRefine self.old transcript machines list
             → Goes (is_open_at machines c) result
-            (SessionsRefine self.new transcript (changed_at c (with_outbound (having_seen mark marks.local marks.remote)) machines) list)
+            (SessionsRefine self.new transcript (changed_at c (with_outbound (having_seen mark marks)) machines) list)
             (SessionsRefine self.new transcript machines list) }
         ensures seats { KeepsSeats self.old.connections.items self.new.connections.items }
     {
@@ -250,17 +250,17 @@ impl Connections {
 
     /// Ends a connection: what waits at it is dropped, and its seat is free again, closed in the sequencer, which keeps no queue and no watch of it. Its
     /// calls stay, and so does what was written to it. Returns whether it was open.
-    pub fn leave<K: Keyspace>(&mut self, c: u64, sequencer: &mut Sequencer<K>) -> bool
+    pub fn leave<K: Keyspace>(&mut self, c: u64, front: &mut Front<K>) -> bool
         ensures goes { (transcript : Transcript) (machines : List Machine) (list : List Call) → SessionsRefine self.old transcript machines list
             → Goes (is_open_at machines c) result
             (SessionsRefine self.new transcript (changed_at c left machines) list)
             (SessionsRefine self.new transcript machines list) }
-        ensures closed { (seat : ℕ) → HasSeat (seats_of self.old.connections.items) c seat → MovesSeat sequencer.old seat None sequencer.new }
-        ensures stays { result ≡ false → sequencer.new ≡ sequencer.old }
+        ensures closed { (seat : ℕ) → HasSeat (seats_of self.old.connections.items) c seat → MovesSeat front.old.sequencer seat None front.new.sequencer }
+        ensures stays { result ≡ false → front.new.sequencer ≡ front.old.sequencer }
         ensures follow { (transcript : Transcript) (machines : List Machine) (list : List Call) → SessionsRefine self.old transcript machines list
-            → SeatsFollow list (seats_of self.old.connections.items) sequencer.old → SeatsFollow list (seats_of self.new.connections.items) sequencer.new }
-        ensures sequencer { (calls : List Call) (closed : ℕ) → SequencerRefines calls closed sequencer.old → SequencerRefines calls closed sequencer.new }
-        ensures stands { StandsStill sequencer.old sequencer.new }
+            → SeatsFollow list (seats_of self.old.connections.items) front.old.sequencer → SeatsFollow list (seats_of self.new.connections.items) front.new.sequencer }
+        ensures sequencer { (calls : List Call) (closed : ℕ) → SequencerRefines calls closed front.old.sequencer → SequencerRefines calls closed front.new.sequencer }
+        ensures stands { StandsStill front.old.sequencer front.new.sequencer }
         ensures seats { KeepsSeats self.old.connections.items self.new.connections.items }
     {
         let Some(connection) = self.connections.get_mut(c as usize) else {
@@ -269,7 +269,7 @@ impl Connections {
         let Some(seat) = connection.leave() else {
             return false;
         };
-        sequencer.close_seat(&seat);
+        front.close_seat(&seat);
         self.lobby.leave(seat);
         true
     }
@@ -281,14 +281,14 @@ impl Connections {
         alloc: Global,
         transcript: &mut Transcript,
         c: u64,
-        sequencer: &mut Sequencer<K>,
+        front: &mut Front<K>,
     ) -> bool
         requires { vec_len transcript.old.calls < vec_capacity transcript.old.calls }
         ensures turns { (machines : List Machine) (list : List Call) (closed : ℕ) → IsListOf machines list → SessionsRefine self.old transcript.old machines list
-            → SequencerRefines list closed sequencer.old
-            → SeatsFollow list (seats_of self.old.connections.items) sequencer.old
-            → TakesTurn machines list closed c result self.new transcript.new sequencer.old sequencer.new }
-        ensures stands { StandsStill sequencer.old sequencer.new }
+            → SequencerRefines list closed front.old.sequencer
+            → SeatsFollow list (seats_of self.old.connections.items) front.old.sequencer
+            → TakesTurn machines list closed c result self.new transcript.new front.old.sequencer front.new.sequencer }
+        ensures stands { StandsStill front.old.sequencer front.new.sequencer }
         ensures seats { KeepsSeats self.old.connections.items self.new.connections.items }
         ensures calls { AddsOne transcript.old.calls transcript.new.calls }
     {
@@ -302,8 +302,7 @@ impl Connections {
             return false;
         }
         let waiting = &mut client.inbound.waiting;
-        let Some(held) = first_reply(alloc, &client.seat, waiting, &mut self.replies, sequencer)
-        else {
+        let Some(held) = first_reply(alloc, &client.seat, waiting, &mut self.replies, front) else {
             return false;
         };
         // There is room for a position wherever there is room for a call.
@@ -337,24 +336,24 @@ fn prepare<K: Keyspace>(
     connections: &mut Vec<Connection>,
     released: &mut Vec<Vec<u8>>,
     seat: &Seat,
-    sequencer: &mut Sequencer<K>,
+    front: &mut Front<K>,
 ) -> Result<(Asking, Outbound), Refusal>
-    ensures opens { OnOk result (MovesSeat sequencer.old seat.now (Some idle_session) sequencer.new) }
+    ensures opens { OnOk result (MovesSeat front.old.sequencer seat.now (Some idle_session) front.new.sequencer) }
     ensures inbound { IfOk result (λ parts. AskingRefines parts.0 new_connection.inbound) }
     ensures outbound { IfOk result (λ parts. (list : List Call) → OutboundRefines list parts.1 new_connection.outbound) }
     ensures connections { connections.new.items ≡ connections.old.items }
     ensures room { OnOk result (vec_len connections.new < vec_capacity connections.new) }
     ensures released { released.new.items ≡ released.old.items }
     ensures room_released { OnOk result (vec_len released.new < vec_capacity released.new) }
-    ensures err { OnErr result (sequencer.new ≡ sequencer.old) }
+    ensures err { OnErr result (front.new.sequencer ≡ front.old.sequencer) }
     ensures cause { IfErr result (λ refusal. refusal ≡ Refusal.Memory) }
-    ensures stands { StandsStill sequencer.old sequencer.new }
+    ensures stands { StandsStill front.old.sequencer front.new.sequencer }
 {
     connections.reserve(1)?;
     released.reserve(1)?;
     let inbound = Asking::new(alloc)?;
     let outbound = Outbound::new(alloc)?;
-    sequencer.open_seat(alloc, seat)?;
+    front.open_seat(alloc, seat)?;
     Ok((inbound, outbound))
 }
 
@@ -377,15 +376,15 @@ fn first_reply<K: Keyspace>(
     seat: &Seat,
     waiting: &mut LocalPipe<Item>,
     replies: &mut LocalPipe<Held>,
-    sequencer: &mut Sequencer<K>,
+    front: &mut Front<K>,
 ) -> Option<Held>
-    ensures runs { replies.old.items ≡ [] → IfSome result (λ held. Runs sequencer.old seat.now waiting.old.items held waiting.new.items sequencer.new) }
-    ensures stays { replies.old.items ≡ [] → IfNone result ((waiting.new.items ≡ waiting.old.items) × (sequencer.new ≡ sequencer.old)) }
-    ensures otherwise { replies.old.items ≡ [] → is_closed sequencer.old seat.now ≡ false → length (sequencer.old).waiting < MAX_PARTS → waiting.old.items ≢ [] → IsSome result }
+    ensures runs { replies.old.items ≡ [] → IfSome result (λ held. Runs front.old.sequencer seat.now waiting.old.items held waiting.new.items front.new.sequencer) }
+    ensures stays { replies.old.items ≡ [] → IfNone result ((waiting.new.items ≡ waiting.old.items) × (front.new.sequencer ≡ front.old.sequencer)) }
+    ensures otherwise { replies.old.items ≡ [] → is_closed front.old.sequencer seat.now ≡ false → length (front.old.sequencer).waiting < MAX_PARTS → waiting.old.items ≢ [] → IsSome result }
     ensures replies { replies.old.items ≡ [] → replies.new.items ≡ [] }
-    ensures stands { StandsStill sequencer.old sequencer.new }
+    ensures stands { StandsStill front.old.sequencer front.new.sequencer }
 {
-    match sequencer.turn(alloc, seat, waiting, replies) {
+    match front.turn(alloc, seat, waiting, replies) {
         Turn::Served => replies.take(),
         _ => None,
     }

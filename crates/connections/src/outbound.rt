@@ -3,11 +3,11 @@ ghost use Rattle.std.specs.Prelude.{◌≡◌, ◌≢◌, ◌≤◌, List, [], l
 ghost use Rattle.model.specs.declared.call.Call.{Call};
 ghost use Rattle.machine.specs.Connection.{Outbound as Machine, having_seen};
 
-use kv_types::Refusal;
+use kv_types::{Refusal, Seen};
 use machine::Mark;
 use model::Call;
 use pipes::{Inlet, LocalPipe};
-use reply_gate::{Gate, Seen};
+use reply_gate::Gate;
 use std::alloc::{AllocError, Global};
 
 /// A reply that was made: the index of its call in the list, and the position of the list after it.
@@ -65,7 +65,7 @@ impl Outbound {
     /// The gate reads one of the marks; `marks` has their present values.
     pub(crate) fn read(&mut self, mark: Mark, marks: Seen)
         ensures stands { (calls : List Call) (machine : Machine) → OutboundRefines calls self.old machine
-            → OutboundRefines calls self.new (having_seen mark marks.local marks.remote machine) }
+            → OutboundRefines calls self.new (having_seen mark marks machine) }
     {
         match mark {
             Mark::Local => self.seen.local = marks.local,

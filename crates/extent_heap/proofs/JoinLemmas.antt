@@ -10,7 +10,7 @@ use Rattle.extent_heap.specs.Split.{IsSplit, AllBelow, AllFrom}
 use Rattle.extent_heap.proofs.RunsLemmas.{has_line-append, total-append, AreRuns-join, AreRuns-front, AreRuns-back, at_run, AreRuns-some, total-some, has_line-some, line_within}
 
 -- two extents of which one ends where the other begins are one
-joined_lines : (first second : Extent) (line : ℕ) → first.first_line + first.lines ≡ second.first_line
+pub joined_lines : (first second : Extent) (line : ℕ) → first.first_line + first.lines ≡ second.first_line
     → (is_line_of first line || is_line_of second line) ≡ is_line_of (record { first_line = first.first_line; lines = first.lines + second.lines }) line
 joined_lines first second line touch = grind (arith, nat_tests)
 
@@ -91,7 +91,7 @@ end_below low high line (x ∷ xs) runs begin none =
     (runs.0, runs.1, omega arith, end_below (x.first_line + x.lines + 1) high line xs runs.3 begin.1 parts.1)
 
 -- runs that begin at the extent's first line or above, and have none of its lines, begin where it ends or above
-begin_behind : (low high : ℕ) (xs : List Extent) (extent : Extent) → AreRuns low high xs → AllFrom extent.first_line xs → IsApart xs extent → AreRuns (extent.first_line + extent.lines) high xs
+pub begin_behind : (low high : ℕ) (xs : List Extent) (extent : Extent) → AreRuns low high xs → AllFrom extent.first_line xs → IsApart xs extent → AreRuns (extent.first_line + extent.lines) high xs
 begin_behind low high [] extent runs begin apart = tt
 begin_behind low high (x ∷ xs) extent runs begin apart =
     let end : extent.first_line + extent.lines ≤ x.first_line = grind (arith, line_within x x.first_line, apart x.first_line, line_within extent x.first_line, begin.0, runs.1) in

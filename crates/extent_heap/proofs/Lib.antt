@@ -3,11 +3,14 @@ pub mod BitsLemmas
 pub mod Counting
 pub mod EntriesLemmas
 pub mod CutLemmas
+pub mod FindLemmas
 pub mod FitLemmas
 pub mod HeapLemmas
+pub mod InPlaceLemmas
 pub mod JoinLemmas
 pub mod PartLemmas
 pub mod Pools
+pub mod ReplaceLemmas
 pub mod Rooms
 pub mod RunsLemmas
 pub mod SameRuns

@@ -11,7 +11,7 @@ begin_below : (low high line : ℕ) (xs : List Extent) → AreRuns low high xs �
 begin_below low high line [] runs less = tt
 begin_below low high line (x ∷ xs) runs less = let within = runs.2 in (omega arith, begin_below (x.first_line + x.lines + 1) high line xs runs.3 less)
 
-begin_from : (low high line : ℕ) (xs : List Extent) → AreRuns low high xs → line ≤ low → AllFrom line xs
+pub begin_from : (low high line : ℕ) (xs : List Extent) → AreRuns low high xs → line ≤ low → AllFrom line xs
 begin_from low high line [] runs less = tt
 begin_from low high line (x ∷ xs) runs less = let from = runs.0 in (omega arith, begin_from (x.first_line + x.lines + 1) high line xs runs.3 (omega arith))
 

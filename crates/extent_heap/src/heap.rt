@@ -12,7 +12,6 @@ use crate::tree::Tree;
 use kv_types::{EntryNo, Extent, Refusal};
 use std::alloc::{AllocError, Global};
 use std::marker::Model;
-use std::mem;
 
 /// The free lines and entries of an image. A clause sees which they are, as a `Room`.
 ///
@@ -100,8 +99,7 @@ impl ExtentHeap {
         ensures err { OnErr result (self.new ≡ self.old) }
     {
         self.line_forks.make(self.held + 2)?;
-        let lines = mem::replace(&mut self.lines, Tree::new());
-        self.lines = runs::claim(lines, &mut self.line_forks, extent);
+        runs::claim(&mut self.lines, &mut self.line_forks, extent);
         self.free -= extent.lines;
         self.held += 1;
         Ok(())
@@ -130,8 +128,7 @@ impl ExtentHeap {
         ensures after { GivesExtent self.old extent self.new }
         ensures undoes { (before : Room) → TakesExtent before extent self.old → self.new ≡ before }
     {
-        let lines = mem::replace(&mut self.lines, Tree::new());
-        self.lines = runs::give(lines, &mut self.line_forks, extent);
+        runs::give(&mut self.lines, &mut self.line_forks, extent);
         self.free += extent.lines;
         self.held -= 1;
     }

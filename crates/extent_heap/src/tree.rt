@@ -1,12 +1,15 @@
 //! Runs in order, in a balanced tree: each fork knows the length of the longest run at and below it.
 //!
-//! The tree is a treap (Seidel and Aragon, "Randomized search trees", 1996): no fork has a lower rank than those below it. A fork's rank is made from
-//! the line where its run begins, so that it takes no memory, and the ranks are spread as if by chance. So the tree is some 2 log2(runs) deep. Nothing
-//! but the time that a call takes rests on the ranks.
-ghost use Rattle.std.specs.Prelude.{◌≡◌, ◌-◌, ◌<◌, [], ◌∷◌, ◌++◌, MatchOption};
+//! The tree is a treap (Seidel and Aragon, "Randomized search trees", 1996): where two trees are joined, the root of the higher rank comes above. A fork's
+//! rank is made from the line where its run ends, so that it takes no memory, and stays as it is when lines are claimed from the run's front. The ranks
+//! are spread as if by chance, so the tree is some 2 log2(runs) deep. A fork whose run grows at its end keeps its place, though its rank is then another:
+//! the tree is hardly deeper for that. Nothing but the time that a call takes rests on the ranks.
+ghost use Rattle.std.specs.Prelude.{◌≡◌, ◌-◌, ◌<◌, false, IsTrue, [], ◌∷◌, ◌++◌, MatchOption};
 ghost use Rattle.extent_heap.specs.Below.{lines_below, pieces_below};
+ghost use Rattle.extent_heap.specs.OneRun.{FindsRun, Replaces};
 ghost use Rattle.extent_heap.specs.Runs.{longest, pieces, IsFirstFit, TellsPart};
 ghost use Rattle.extent_heap.specs.Split.{IsSplit};
+ghost use Rattle.extent_heap.specs.Tree.{runs_at};
 
 use kv_types::Extent;
 use std::marker::Model;
@@ -64,7 +67,19 @@ impl Fork {
     }
 
     fn rank(&self) -> u64 {
-        rank_of(self.run.first_line)
+        rank_of(self.run.first_line.wrapping_add(self.run.lines))
+    }
+
+    /// Finds the longest run anew, after the fork's own run or those below it changed.
+    #[tactic(auto, using(crate::proofs::RunsLemmas::longest_fork))]
+    fn sum(&mut self)
+        ensures { self.new ≡ record self.old { longest = longest (runs_at self.old) } }
+    {
+        self.longest = self
+            .left
+            .longest()
+            .max(self.run.lines)
+            .max(self.right.longest());
     }
 }
 
@@ -86,15 +101,10 @@ impl Tree {
     }
 
     /// The fork with the runs before and behind it. Its own sum is made anew.
-    #[tactic(auto, using(crate::proofs::RunsLemmas::longest_fork))]
     fn of(mut fork: Box<Fork>) -> Tree
         ensures { result ≡ fork.value.left ++ fork.value.run ∷ fork.value.right }
     {
-        fork.longest = fork
-            .left
-            .longest()
-            .max(fork.run.lines)
-            .max(fork.right.longest());
+        fork.sum();
         Tree { root: Some(fork) }
     }
 
@@ -191,6 +201,43 @@ impl Tree {
         }
     }
 
+    /// Puts another run in the place of this one. Answers whether it was there: where not, nothing changed.
+    pub(crate) fn replace(&mut self, run: Extent, by: Extent) -> bool
+        ensures replaces { IsTrue result → Replaces self.old run by self.new }
+        ensures same { result ≡ false → self.new ≡ self.old }
+    {
+        let Some(fork) = &mut self.root else {
+            return false;
+        };
+        let is_there = if fork.run == run {
+            fork.run = by;
+            true
+        } else if run.first_line < fork.run.first_line {
+            fork.left.replace(run, by)
+        } else {
+            fork.right.replace(run, by)
+        };
+        fork.sum();
+        is_there
+    }
+
+    /// The run that has this line.
+    pub(crate) fn run_at(&self, line: u64) -> Option<Extent>
+        ensures { FindsRun self.now line result }
+    {
+        let mut tree = self;
+        while let Some(fork) = &tree.root {
+            if line < fork.run.first_line {
+                tree = &fork.left;
+            } else if line - fork.run.first_line < fork.run.lines {
+                return Some(fork.run);
+            } else {
+                tree = &fork.right;
+            }
+        }
+        None
+    }
+
     /// The first run of at least this many lines.
     pub(crate) fn first_fit(&self, lines: u64) -> Option<Extent>
         requires { 0 < lines }
@@ -215,19 +262,9 @@ impl Tree {
         requires { 0 < extent.lines }
         ensures { TellsPart self.now extent result }
     {
-        match &self.root {
+        match self.run_at(extent.first_line) {
             None => false,
-            Some(fork) => {
-                if extent.first_line < fork.run.first_line {
-                    return fork.left.holds(extent);
-                }
-                let offset = extent.first_line - fork.run.first_line;
-                if offset < fork.run.lines {
-                    extent.lines <= fork.run.lines - offset
-                } else {
-                    fork.right.holds(extent)
-                }
-            }
+            Some(run) => extent.lines <= run.lines - (extent.first_line - run.first_line),
         }
     }
 
@@ -283,10 +320,10 @@ fn lines_below(run: Extent, end: u64) -> u64
     run.lines.min(end.saturating_sub(run.first_line))
 }
 
-/// The rank of the fork of a run that begins at this line: a number that looks random (Steele, Lea and Flood, "Fast splittable pseudorandom number
+/// The rank of the fork of a run that ends at this line: a number that looks random (Steele, Lea and Flood, "Fast splittable pseudorandom number
 /// generators", 2014).
-fn rank_of(first_line: u64) -> u64 {
-    let spread = first_line.wrapping_mul(0x9E37_79B9_7F4A_7C15);
+fn rank_of(end_line: u64) -> u64 {
+    let spread = end_line.wrapping_mul(0x9E37_79B9_7F4A_7C15);
     let mixed = (spread ^ (spread >> 30)).wrapping_mul(0xBF58_476D_1CE4_E5B9);
     let mixed = (mixed ^ (mixed >> 27)).wrapping_mul(0x94D0_49BB_1331_11EB);
     mixed ^ (mixed >> 31)

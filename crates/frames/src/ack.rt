@@ -1,11 +1,12 @@
 //! What the standby tells the primary.
 ghost use Rattle.std.specs.Prelude.{◌≡◌, ◌^◌, ◌<◌, ◌++◌};
 ghost use Rattle.std.specs.Int.{w64, to_be_bytes};
+ghost use Rattle.wbl_engine.specs.Contents.{IsDurable};
 
-use model::Record;
+use wbl_engine::Durable;
 
-/// The standby's statement that everything up to a position is durable on it, in an epoch. It is made of the commit record of an image, or of bytes
-/// that were read: no call makes one of numbers.
+/// The standby's statement that everything up to a position is durable on it, in an epoch. It is made by an engine whose record is durable, or of bytes
+/// that were read: no call makes one of numbers, nor of a record that somebody put together.
 #[derive(Clone, Copy, Debug, PartialEq, Eq)]
 pub struct Ack {
     epoch: u64,
@@ -13,13 +14,15 @@ pub struct Ack {
 }
 
 impl Ack {
-    /// The acknowledgement of what this commit record makes durable.
-    pub fn of_record(current: &Record) -> Ack
-        ensures { result ≡ record { epoch = current.now.epoch; position = current.now.position } }
+    /// The acknowledgement of what this engine's record makes durable: the record's epoch, and the position that the engine established by the commit, the
+    /// reopening or the formatting that wrote it. Each crash of its device has to leave that record.
+    pub fn of_engine<E: Durable>(engine: &E) -> Ack
+        requires { IsDurable (E.device engine.now) (E.contents engine.now) }
+        ensures { result ≡ record { epoch = (E.contents engine.now).current.epoch; position = (E.contents engine.now).current.position } }
     {
         Ack {
-            epoch: current.epoch,
-            position: current.position,
+            epoch: engine.record().epoch,
+            position: engine.committed().position(),
         }
     }
 

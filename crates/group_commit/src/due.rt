@@ -10,7 +10,7 @@ use pipes::LocalPipe;
 use std::collections::VecDeque;
 
 /// The step that is due.
-#[derive(Debug, Clone, Copy)]
+#[derive(Debug, Clone, Copy, PartialEq, Eq)]
 pub enum Due {
     /// The first group that waits is to be committed. The free lists before it go aside.
     Commit,

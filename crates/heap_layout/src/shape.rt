@@ -8,9 +8,8 @@ ghost use Rattle.heap_layout.specs.Entry.{IsEntry};
 ghost use Rattle.heap_layout.specs.Shape.{IsShape, IsOfKind, IsShort, IsPlaced, record_of};
 
 use crate::entry::{FIELD_KIND, STRING_KIND, load_of};
-use crate::place::lines_of_bytes;
 use kv_types::{EntryNo, Extent, Key, MAX_KEY_BYTES, MAX_VALUE_BYTES, RecordId, Value};
-use model::{FIELD_LENGTH_UNIT, LAYOUT, LINE_WORDS, WORD_BYTES};
+use model::{FIELD_LENGTH_UNIT, LAYOUT, LINE_WORDS, WORD_BYTES, lines_of_bytes};
 use pmem::Pmem;
 use std::alloc::{AllocError, Global};
 

@@ -11,9 +11,9 @@ ghost use Rattle.heap_layout.specs.Put.{word_of_bytes, packed, name_bytes, kind_
 ghost use Rattle.heap_layout.specs.Entry.{IsEntry, ReadsAlike, entry_in};
 
 use crate::entry::{FIELD_KIND, STRING_KIND};
-use crate::place::{entry_word, lines_of_bytes};
+use crate::place::entry_word;
 use kv_types::{Extent, RecordId, Value};
-use model::{FIELD_LENGTH_UNIT, LAYOUT, LINE_WORDS, Put, WORD_BYTES};
+use model::{FIELD_LENGTH_UNIT, LAYOUT, LINE_WORDS, Put, WORD_BYTES, lines_of_bytes};
 use pmem::{Pmem, flush_lines, store_words};
 
 /// How many lines a record with this name and this value takes: at least one.
@@ -126,7 +126,13 @@ fn word_at(key: &[u8], field: &[u8], value: &[u8], at: usize) -> u64
     requires near { at < 2 ^ 32 }
     ensures { result ≡ word_of_bytes (key.now ++ field.now ++ value.now) at }
 {
+    if at + 8 <= key.len() {
+        return word_within(key, at);
+    }
     let name = key.len() + field.len();
+    if name + value.len() <= at {
+        return 0;
+    }
     if name <= at && at + 8 <= name + value.len() {
         return word_within(value, at - name);
     }

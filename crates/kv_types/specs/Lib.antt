@@ -13,3 +13,4 @@ pub mod Reader
 pub mod Reading
 pub mod Reply
 pub mod Refusal
+pub mod Seen

@@ -1,6 +1,6 @@
 //! What a command does to the keyspace.
-ghost use Rattle.std.specs.Prelude.{◌≡◌, ◌+◌, ◌≤◌, ◌↔◌, IsTrue, length};
-ghost use Rattle.kv_types.specs.Change.{short_bytes, long_bytes, changes_size};
+ghost use Rattle.std.specs.Prelude.{◌≡◌, ◌+◌, ◌≤◌, length};
+ghost use Rattle.kv_types.specs.Change.{short_bytes, long_bytes};
 
 use crate::bounded::{Key, Value};
 use crate::limits::{MAX_CHANGE_BYTES, MAX_KEY_BYTES, MAX_VALUE_BYTES};
@@ -71,18 +71,4 @@ fn long_size(value: &Value) -> usize
     ensures bound { result ≤ 4 + MAX_VALUE_BYTES }
 {
     4 + value.len()
-}
-
-/// Whether the changes together have at most `most` bytes in a frame.
-pub fn changes_fit(changes: &[Change], most: usize) -> bool
-    ensures { IsTrue result ↔ (changes_size changes.now ≤ most) }
-{
-    let mut left = most;
-    for change in changes {
-        match left.checked_sub(change.text_size()) {
-            Some(rest) => left = rest,
-            None => return false,
-        }
-    }
-    true
 }

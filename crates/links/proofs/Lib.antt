@@ -1,1 +1,5 @@
+mod SentFrames
 mod Serving
+mod Hearing
+mod FirstPieces
+mod SentRounds

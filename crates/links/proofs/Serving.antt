@@ -1,14 +1,18 @@
 -- What a standby's answer to one frame says of a run.
-use Rattle.std.proofs.Common.{◌≡◌, ◌≢◌, ℕ, ◌⊎◌, inl, inr, List, [], ◌∷◌, ◌++◌, Result, Ok, Err, IfErr, IsErrOf, OnOk, refl, sym, ap, subst, ◌∙◌, append-nil, append_assoc, Option, Some, None}
+use Rattle.std.proofs.Common.{◌≡◌, ◌≢◌, ℕ, Bool, ◌⊎◌, inl, inr, List, [], ◌∷◌, ◌++◌, Result, Ok, Err, IfErr, IsErrOf, OnOk, refl, sym, ap, subst, ◌∙◌, append-nil, append_assoc, Option, Some, None}
 use Rattle.kv_types.specs.declared.refusal.Refusal.{Refusal}
 use Rattle.kv_types.specs.declared.refusal.Refusal.TheVariants.{Fault, Memory}
+use Rattle.pmem.specs.Device.{State}
 use Rattle.frames.specs.declared.frame.Frame.{Frame}
 use Rattle.frames.specs.declared.ack.Ack.{Ack}
 use Rattle.model.specs.declared.record.Record.{Record}
-use Rattle.mv_keyspace.specs.Table.{records}
+use Rattle.model.specs.Group.{Contents}
+use Rattle.mv_keyspace.specs.Table.{Table, records}
+use Rattle.standby.specs.declared.standby.Standby.{Standby}
 use Rattle.standby.specs.Following.{IsHeld, IsTakenNext, HasTaken}
-use Rattle.links.specs.declared.link_end.LinkEnd.{LinkEnd}
-use Rattle.links.specs.declared.link_end.LinkEnd.TheVariants.{Stops}
+use Rattle.standby.specs.Taking.{TakesFrame}
+use Rattle.links.specs.declared.link_error.LinkError.{LinkError}
+use Rattle.links.specs.declared.link_error.LinkError.TheVariants.{Stops}
 use Rattle.std.proofs.lemmas.List.{flat_map_more, map-append}
 use Rattle.stream_codec.specs.declared.message.Message.{Message}
 use Rattle.stream_codec.specs.Message.{Sent, sent_of, sent_of_frame}
@@ -16,19 +20,33 @@ use Rattle.stream_codec.specs.Scanning.{sent_of_all}
 use Rattle.std.specs.Io.KnownBytes.{Appends, Consumes}
 use Rattle.std.proofs.lemmas.Grind.{flat_map-append}
 use Rattle.stream_codec.specs.Stream.{begun as unfed, took, fed}
-use Rattle.links.specs.Serving.{Held, Acknowledges, Answers, IsFreed, IsTidied, Run, none, more, idle, Says, HasRun, Served, ack_text, acks_text, ends_by}
+use Rattle.links.specs.Serving.{Held, Acknowledges, Answers, IsFreed, IsTidied, Run, none, more, idle, Says, HasRun, Served, ack_text, acks_text, ends_by, held}
+
+same_ack : {ack told : Ack} → ◌≡◌ {A = Result Ack Refusal} (Ok ack) (Ok told) → ack ≡ told
+same_ack is = cc
+
+not_refused : {ack : Ack} {refusal : Refusal} → ◌≡◌ {A = Result Ack Refusal} (Ok ack) (Err refusal) → ⊥
+not_refused is = cc
 
 -- what a node says of a frame that it acknowledged
-pub acknowledges : (before : Held) (frame : Frame) (ack : Ack) (after : Held) → ack.epoch ≡ frame.epoch → ack.position ≡ after.contents.current.position
-    → (IsHeld before.contents.current frame × (after ≡ before)) ⊎ IsTakenNext before.contents.current frame
-    → (IsTakenNext before.contents.current frame → HasTaken frame before.contents after.contents before.table after.table) → Acknowledges before frame ack after
-acknowledges before frame ack after epoch_is position_is (inl held) taken = record { epoch_is = epoch_is; position_is = position_is; moves = inl held }
-acknowledges before frame ack after epoch_is position_is (inr next) taken = record { epoch_is = epoch_is; position_is = position_is; moves = inr (next, taken next) }
-
--- what stays of a node stays of what it holds
-pub known : {N P Q : Type 0} {old new : N} (holds : N → Held) → (P × (new ≡ old)) ⊎ Q → (P × (holds new ≡ holds old)) ⊎ Q
-known holds (inl same) = inl (same.0, ap holds same.1)
-known holds (inr next) = inr next
+pub acknowledges : {E K D : Type 0} (device : E → State) (contents : E → Contents) (is_faulted : E → Bool) (table : K → Table) (frame : Frame) (old new : Standby E K D) (ack : Ack)
+    → TakesFrame device contents is_faulted table frame old (Ok ack) new
+    → Acknowledges (held (contents old.engine) (table old.keyspace)) frame ack (held (contents new.engine) (table new.keyspace))
+acknowledges device contents is_faulted table frame old new ack (inl again) =
+    let told = same_ack again.answer in
+    record {
+      epoch_is = ap (λ (a : Ack). a.epoch) told ∙ sym again.held.own;
+      position_is = ap (λ (a : Ack). a.position) told ∙ sym (ap (λ (node : Standby _ _ _). (contents node.engine).current.position) again.same);
+      moves = inl (again.held, ap (λ (node : Standby _ _ _). held (contents node.engine) (table node.keyspace)) again.same);
+    }
+acknowledges device contents is_faulted table frame old new ack (inr (inl whole)) =
+    let told = same_ack whole.answer in
+    record {
+      epoch_is = ap (λ (a : Ack). a.epoch) told;
+      position_is = ap (λ (a : Ack). a.position) told ∙ sym whole.taken.position;
+      moves = inr (whole.due.next, whole.taken);
+    }
+acknowledges device contents is_faulted table frame old new ack (inr (inr refuses)) = absurd (not_refused refuses.answer)
 
 -- what the frame ended is freed after it
 taken-freed : (before : Held) (frame : Frame) (middle after : Held) → IsFreed middle after → HasTaken frame before.contents middle.contents before.table middle.table
@@ -62,16 +80,16 @@ acknowledges-freed before frame ack middle after moved told freed = record {
     after_it (inr taken) = inr (taken.0, taken-freed before frame middle after freed taken.1)
 
 -- a link that does not stop for a fault ends by another refusal
-pub not_fault : (refusal : Refusal) (end : LinkEnd) → end ≡ ends_by refusal → ¬ IsErrOf {T = Ack} {E = LinkEnd} (Err end) (Stops Fault) → ¬ IsErrOf {T = Ack} {E = Refusal} (Err refusal) Fault
+pub not_fault : (refusal : Refusal) (end : LinkError) → end ≡ ends_by refusal → ¬ IsErrOf {T = Ack} {E = LinkError} (Err end) (Stops Fault) → ¬ IsErrOf {T = Ack} {E = Refusal} (Err refusal) Fault
 not_fault refusal end is not_stops fault =
     let same : refusal ≡ Fault = cc in
     let stops : end ≡ Stops Fault = is ∙ ap ends_by same in
-    not_stops (ap (λ (e : LinkEnd). Err e) stops)
+    not_stops (ap (λ (e : LinkError). Err e) stops)
 
 pub not_refused-ok : (ack : Ack) → ¬ IsErrOf {T = Ack} {E = Refusal} (Ok ack) Fault
 not_refused-ok ack is = cc
 
-pub same_end : {T : Type 0} (x y : LinkEnd) → ◌≡◌ {A = Result T LinkEnd} (Err x) (Err y) → x ≡ y
+pub same_end : {T : Type 0} (x y : LinkError) → ◌≡◌ {A = Result T LinkError} (Err x) (Err y) → x ≡ y
 same_end x y e = cc
 
 pub OnOk-into : {T E : Type 0} {P Q : Type 0} (result : Result T E) → (P → Q) → OnOk result P → OnOk result Q
@@ -96,7 +114,7 @@ frees-by (Err refusal) before after no_fault (inl memory) freed same =
 frees-by (Err refusal) before after no_fault (inr fault) freed same = absurd (no_fault (ap Err fault))
 
 -- a link that goes on has not stopped
-pub not_stopped : (x : Unit {0}) → ¬ IsErrOf {T = Unit {0}} {E = LinkEnd} (Ok x) (Stops Fault)
+pub not_stopped : (x : Unit {0}) → ¬ IsErrOf {T = Unit {0}} {E = LinkError} (Ok x) (Stops Fault)
 not_stopped x is = cc
 
 -- one run after another
@@ -110,23 +128,23 @@ Run-join first middle last messages _ acks _ run (more _ between _ others told m
 Run-join first middle last messages others acks told run (idle _ between _ _ _ so_far tidied) =
     idle first between last (messages ++ others) (acks ++ told) (Run-join first middle between messages others acks told run so_far) tidied
 
-Consumes-join : (bytes between left : Option (List ℕ)) (xs ys : List ℕ) → Consumes bytes between xs → Consumes between left ys → Consumes bytes left (xs ++ ys)
+pub Consumes-join : (bytes between left : Option (List ℕ)) (xs ys : List ℕ) → Consumes bytes between xs → Consumes between left ys → Consumes bytes left (xs ++ ys)
 Consumes-join None between left xs ys one two = tt
 Consumes-join (Some b) None left xs ys one two = absurd one
 Consumes-join (Some b) (Some c) None xs ys one two = absurd two
 Consumes-join (Some b) (Some c) (Some d) xs ys one two = one ∙ ap (λ (text : List ℕ). xs ++ text) two ∙ sym (append_assoc xs ys d)
 
-Consumes-none : (bytes : Option (List ℕ)) → Consumes bytes bytes []
+pub Consumes-none : (bytes : Option (List ℕ)) → Consumes bytes bytes []
 Consumes-none None = tt
 Consumes-none (Some b) = refl
 
-Appends-join : (before between after : Option (List ℕ)) (xs ys : List ℕ) → Appends before between xs → Appends between after ys → Appends before after (xs ++ ys)
+pub Appends-join : (before between after : Option (List ℕ)) (xs ys : List ℕ) → Appends before between xs → Appends between after ys → Appends before after (xs ++ ys)
 Appends-join None between after xs ys one two = tt
 Appends-join (Some b) None after xs ys one two = absurd one
 Appends-join (Some b) (Some c) None xs ys one two = absurd two
 Appends-join (Some b) (Some c) (Some d) xs ys one two = two ∙ ap (λ (text : List ℕ). text ++ ys) one ∙ append_assoc b xs ys
 
-Appends-none : (before : Option (List ℕ)) → Appends before before []
+pub Appends-none : (before : Option (List ℕ)) → Appends before before []
 Appends-none None = tt
 Appends-none (Some b) = sym (append-nil b)
 

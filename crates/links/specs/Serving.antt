@@ -1,30 +1,20 @@
 -- How a standby serves a link: which frames it answered, and what it holds then.
-use Rattle.std.specs.Prelude.{◌≡◌, ◌⊎◌, ℕ, Bool, false, nat_eq, nat_lt, nat_le, if◌then◌else◌, List, [], ◌∷◌, ◌++◌, Option, None, Some}
+use Rattle.std.specs.Prelude.{◌≡◌, ◌⊎◌, ℕ, nat_eq, nat_lt, nat_le, if◌then◌else◌, List, [], ◌∷◌, ◌++◌, Option, None, Some}
 use Rattle.std.specs.List.{flat_map}
 use Rattle.std.specs.Io.KnownBytes.{Appends, Consumes}
 use Rattle.stream_codec.specs.Stream.{Reaches}
-use Rattle.kv_types.specs.declared.place.EntryNo.{EntryNo}
 use Rattle.kv_types.specs.declared.refusal.Refusal.{Refusal}
 use Rattle.kv_types.specs.declared.refusal.Refusal.TheVariants.{Fault, Exhausted, PositionGap, WrongEpoch}
-use Rattle.extent_heap.specs.Room.{Room}
-use Rattle.pmem.specs.Device.{State}
 use Rattle.model.specs.declared.record.Record.{Record}
 use Rattle.model.specs.Group.{Contents}
 use Rattle.mv_keyspace.specs.Table.{Table}
-use Rattle.wbl_engine.specs.Contents.{IsDurable}
 use Rattle.frames.specs.declared.frame.Frame.{Frame}
 use Rattle.stream_codec.specs.declared.message.GroupHead.{GroupHead}
 use Rattle.frames.specs.declared.ack.Ack.{Ack}
-use Rattle.standby.specs.Following.{Follows, TakesEpoch, IsHeld, IsNext, IsRearranged, IsTakenNext, HasTaken}
+use Rattle.standby.specs.Following.{TakesEpoch, IsHeld, IsNext, IsRearranged, IsTakenNext, HasTaken}
 use Rattle.stream_codec.specs.Message.{Sent, sent_of_frame, sent_of_ack, sent_text}
-use Rattle.links.specs.declared.link_end.LinkEnd.{LinkEnd}
-use Rattle.links.specs.declared.link_end.LinkEnd.TheVariants.{Refused, Stops}
-
--- A standby that may take frames: its keyspace and its heap are those of its engine, no fence has failed, and what the engine holds is durable.
-pub record Stands (is_faulted : Bool) (device : State) (contents : Contents) (table : Table) (room : Room) (ended : List EntryNo) : Type 0 where
-  pub follows : Follows contents table room ended
-  pub sound : is_faulted ≡ false
-  pub durable : IsDurable device contents
+use Rattle.links.specs.declared.link_error.LinkError.{LinkError}
+use Rattle.links.specs.declared.link_error.LinkError.TheVariants.{Refused, Stops}
 
 -- what frames move of a standby
 pub record Held : Type 0 where
@@ -98,7 +88,7 @@ pub record Served (first : Held) (bytes before : Option (List ℕ)) (last : Held
   pub written : Appends before after (acks_text acks)
 
 -- how a link ends whose frame was refused
-abbrev pub ends_by : Refusal → LinkEnd
+abbrev pub ends_by : Refusal → LinkError
 ends_by Fault = Stops Fault
 ends_by Exhausted = Stops Exhausted
 ends_by refusal = Refused refusal

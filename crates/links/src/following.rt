@@ -9,12 +9,13 @@ ghost use Rattle.stream_codec.specs.Stream.{fed};
 ghost use Rattle.frames.specs.declared.ack.Ack.{Ack as Told};
 ghost use Rattle.stream_codec.specs.declared.message.Message.TheVariants.{Ack as AckMessage};
 ghost use Rattle.links.specs.Reading.{piece_of};
-ghost use Rattle.links.specs.Serving.{Stands, held, Acknowledges, Answers, HasRun, IsFreed, IsTidied, Says, Served, ack_text, refusal_of_ack, refusal_of_head};
-ghost use Rattle.links.specs.declared.link_end.LinkEnd.TheVariants.{Closed, Refused, Stops};
+ghost use Rattle.standby.specs.Taking.{Stands};
+ghost use Rattle.links.specs.Serving.{held, Acknowledges, Answers, HasRun, IsTidied, Says, Served, ack_text, refusal_of_ack, refusal_of_head};
+ghost use Rattle.links.specs.declared.link_error.LinkError.TheVariants.{Closed, Refused, Stops};
 
-use crate::door::Door;
-use crate::link_end::{LinkEnd, ends_by, refusal_of_ack, refusal_of_head};
-use crate::link_reader::{LinkReader, accept};
+use crate::link_acceptor::LinkAcceptor;
+use crate::link_error::{LinkError, ends_by, refusal_of_ack, refusal_of_head};
+use crate::link_reader::LinkReader;
 use crate::link_writer::LinkWriter;
 use crate::log::Log;
 use frames::{Ack, Frame};
@@ -49,20 +50,20 @@ pub fn follow<C: Clock, E: Durable, K: Keyspace, W: Write>(
     host: Option<IpAddr>,
     log: &mut Log<W>,
 ) -> io::Result<Refusal>
-    requires stands { Stands (E.is_faulted node.old.engine) (E.device node.old.engine) (E.contents node.old.engine) (K.table node.old.keyspace) node.old.heap node.old.ended.items }
-    ensures stands { ¬ (result ≡ Ok Fault) → Stands (E.is_faulted node.new.engine) (E.device node.new.engine) (E.contents node.new.engine) (K.table node.new.keyspace) node.new.heap node.new.ended.items }
+    requires stands { Stands E.device E.contents E.is_faulted K.table node.old }
+    ensures stands { ¬ (result ≡ Ok Fault) → Stands E.device E.contents E.is_faulted K.table node.new }
 {
-    let mut door = Door::new(host, clock, log);
+    let mut acceptor = LinkAcceptor::new(listener, host, clock, log);
     let mut newer = None;
     for _ in 0..u64::MAX {
         let stream = match newer.take() {
             Some(stream) => stream,
-            None => accept(clock, listener)?,
+            None => acceptor.accept()?,
         };
-        if !door.admits(&stream) {
+        if !acceptor.admits(&stream) {
             continue;
         }
-        let (later, stopped) = serve_next(alloc, node, &stream, listener, &mut door);
+        let (later, stopped) = serve_next(alloc, node, &stream, &mut acceptor);
         if let Some(refusal) = stopped {
             return Ok(refusal);
         }
@@ -77,37 +78,36 @@ fn serve_next<C: Clock, E: Durable, K: Keyspace, W: Write>(
     alloc: Global,
     node: &mut Standby<E, K>,
     stream: &TcpStream,
-    listener: &TcpListener,
-    door: &mut Door<'_, C, W>,
+    acceptor: &mut LinkAcceptor<'_, C, W>,
 ) -> (Option<TcpStream>, Option<Refusal>)
-    requires stands { Stands (E.is_faulted node.old.engine) (E.device node.old.engine) (E.contents node.old.engine) (K.table node.old.keyspace) node.old.heap node.old.ended.items }
-    ensures stands { ¬ (result.1 ≡ Some Fault) → Stands (E.is_faulted node.new.engine) (E.device node.new.engine) (E.contents node.new.engine) (K.table node.new.keyspace) node.new.heap node.new.ended.items }
+    requires stands { Stands E.device E.contents E.is_faulted K.table node.old }
+    ensures stands { ¬ (result.1 ≡ Some Fault) → Stands E.device E.contents E.is_faulted K.table node.new }
 {
     let written = Cell::new(0);
-    let mut from = LinkReader::new(stream, listener, door, &written);
+    let mut from = LinkReader::new(stream, acceptor, &written);
     let mut to = LinkWriter::new(stream, &written);
     let served = serve_link(alloc, node, &mut from, &mut to);
     let stopped = stop_of(served);
     let newer = from.into_newer();
     if let Err(end) = served {
-        door.tell_end(end);
+        acceptor.tell_end(end, newer.is_some());
     }
     (newer, stopped)
 }
 
 /// Why the node stops whose link ended so, if it does.
-fn stop_of(served: Result<(), LinkEnd>) -> Option<Refusal>
+fn stop_of(served: Result<(), LinkError>) -> Option<Refusal>
     ensures { (result ≡ Some Fault) ↔ IsErrOf served (Stops Fault) }
 {
     match served {
-        Err(LinkEnd::Stops(refusal)) => Some(refusal),
+        Err(LinkError::Stops(refusal)) => Some(refusal),
         _ => None,
     }
 }
 
 /// Serves one link: says where the node is, and then answers each frame that comes, in order, until the primary closes the connection. Then what was written is the
 /// acknowledgement of where the node was, and those with which it answered the frames that were read, in order. Each is sent as soon as its frame is
-/// durable, before what that frame ended is freed.
+/// durable. What a frame ended is freed with the next one, or once nothing has come for a second.
 ///
 /// # Errors
 ///
@@ -117,9 +117,9 @@ pub fn serve_link<E: Durable, K: Keyspace, I: Read, O: Write>(
     node: &mut Standby<E, K>,
     from: &mut I,
     to: &mut O,
-) -> Result<(), LinkEnd>
-    requires stands { Stands (E.is_faulted node.old.engine) (E.device node.old.engine) (E.contents node.old.engine) (K.table node.old.keyspace) node.old.heap node.old.ended.items }
-    ensures stands { ¬ IsErrOf result (Stops Fault) → Stands (E.is_faulted node.new.engine) (E.device node.new.engine) (E.contents node.new.engine) (K.table node.new.keyspace) node.new.heap node.new.ended.items }
+) -> Result<(), LinkError>
+    requires stands { Stands E.device E.contents E.is_faulted K.table node.old }
+    ensures stands { ¬ IsErrOf result (Stops Fault) → Stands E.device E.contents E.is_faulted K.table node.new }
     ensures served { OnOk result ((opened : Option (List ℕ)) × (unread : Option (List ℕ))
         × Appends (O.contents to.old) opened (ack_text (record { epoch = (E.contents node.old.engine).current.epoch; position = (E.contents node.old.engine).current.position }))
         × Served (held (E.contents node.old.engine) (K.table node.old.keyspace)) (I.remaining from.old) opened (held (E.contents node.new.engine) (K.table node.new.keyspace)) (I.remaining from.new) (O.contents to.new) unread) }
@@ -132,7 +132,7 @@ pub fn serve_link<E: Durable, K: Keyspace, I: Read, O: Write>(
 }
 
 /// Says where the node is.
-fn say_position<O: Write>(ack: Ack, to: &mut O, out: &mut Vec<u8>) -> Result<(), LinkEnd>
+fn say_position<O: Write>(ack: Ack, to: &mut O, out: &mut Vec<u8>) -> Result<(), LinkError>
     requires empty { out.old.items ≡ [] }
     ensures said { OnOk result (Appends (O.contents to.old) (O.contents to.new) (ack_text ack)) }
     ensures emptied { OnOk result (out.new.items ≡ []) }
@@ -155,10 +155,10 @@ fn answer_until_closed<E: Durable, K: Keyspace, I: Read, O: Write>(
     to: &mut O,
     block: &mut Vec<u8>,
     out: &mut Vec<u8>,
-) -> Result<(), LinkEnd>
-    requires stands { Stands (E.is_faulted node.old.engine) (E.device node.old.engine) (E.contents node.old.engine) (K.table node.old.keyspace) node.old.heap node.old.ended.items }
+) -> Result<(), LinkError>
+    requires stands { Stands E.device E.contents E.is_faulted K.table node.old }
     requires empty { out.old.items ≡ [] }
-    ensures stands { ¬ IsErrOf result (Stops Fault) → Stands (E.is_faulted node.new.engine) (E.device node.new.engine) (E.contents node.new.engine) (K.table node.new.keyspace) node.new.heap node.new.ended.items }
+    ensures stands { ¬ IsErrOf result (Stops Fault) → Stands E.device E.contents E.is_faulted K.table node.new }
     ensures served { OnOk result ((unread : Option (List ℕ)) × Served (held (E.contents node.old.engine) (K.table node.old.keyspace)) (I.remaining from.old) (O.contents to.old)
         (held (E.contents node.new.engine) (K.table node.new.keyspace)) (I.remaining from.new) (O.contents to.new) unread) }
 {
@@ -188,22 +188,22 @@ enum Came<'a> {
 }
 
 /// Reads what has come.
-fn read_piece<'a, I: Read>(from: &mut I, block: &'a mut Vec<u8>) -> Result<Came<'a>, LinkEnd>
+fn read_piece<'a, I: Read>(from: &mut I, block: &'a mut Vec<u8>) -> Result<Came<'a>, LinkError>
     ensures { IfOk result (λ came. Consumes (I.remaining from.old) (I.remaining from.new) (piece_of came)) }
 {
     match from.read(block) {
         Ok(0) => Ok(Came::End),
         Ok(count) => Ok(Came::Piece(&block[..count])),
         Err(error) if error.kind() == ErrorKind::WouldBlock => Ok(Came::Nothing),
-        Err(_) => Err(LinkEnd::Closed),
+        Err(_) => Err(LinkError::Closed),
     }
 }
 
 /// Uses a time in which nothing comes: frees what has ended, and clears the oldest gap of the record. What there is no memory for is left. A fence that
 /// fails stops the node.
-fn tidy<E: Durable, K: Keyspace>(alloc: Global, node: &mut Standby<E, K>) -> Result<(), LinkEnd>
-    requires stands { Stands (E.is_faulted node.old.engine) (E.device node.old.engine) (E.contents node.old.engine) (K.table node.old.keyspace) node.old.heap node.old.ended.items }
-    ensures stands { ¬ IsErrOf result (Stops Fault) → Stands (E.is_faulted node.new.engine) (E.device node.new.engine) (E.contents node.new.engine) (K.table node.new.keyspace) node.new.heap node.new.ended.items }
+fn tidy<E: Durable, K: Keyspace>(alloc: Global, node: &mut Standby<E, K>) -> Result<(), LinkError>
+    requires stands { Stands E.device E.contents E.is_faulted K.table node.old }
+    ensures stands { ¬ IsErrOf result (Stops Fault) → Stands E.device E.contents E.is_faulted K.table node.new }
     ensures tidied { OnOk result (IsTidied (held (E.contents node.old.engine) (K.table node.old.keyspace)) (held (E.contents node.new.engine) (K.table node.new.keyspace))) }
     ensures cause { IfErr result (λ end. end ≡ Stops Fault) }
 {
@@ -211,16 +211,16 @@ fn tidy<E: Durable, K: Keyspace>(alloc: Global, node: &mut Standby<E, K>) -> Res
 }
 
 /// Writes what was put into `out`, and empties it.
-fn send<O: Write>(to: &mut O, out: &mut Vec<u8>) -> Result<(), LinkEnd>
+fn send<O: Write>(to: &mut O, out: &mut Vec<u8>) -> Result<(), LinkError>
     ensures written { OnOk result (Appends (O.contents to.old) (O.contents to.new) out.old.items) }
     ensures emptied { out.new.items ≡ [] }
-    ensures cause { OnErr result (result ≡ Err LinkEnd.Closed) }
+    ensures cause { OnErr result (result ≡ Err LinkError.Closed) }
 {
     let written = to.write_all(out);
     out.clear();
     match written {
         Ok(()) => Ok(()),
-        Err(_) => Err(LinkEnd::Closed),
+        Err(_) => Err(LinkError::Closed),
     }
 }
 
@@ -233,10 +233,10 @@ fn answer_piece<E: Durable, K: Keyspace, O: Write>(
     piece: &[u8],
     out: &mut Vec<u8>,
     to: &mut O,
-) -> Result<(), LinkEnd>
-    requires stands { Stands (E.is_faulted node.old.engine) (E.device node.old.engine) (E.contents node.old.engine) (K.table node.old.keyspace) node.old.heap node.old.ended.items }
+) -> Result<(), LinkError>
+    requires stands { Stands E.device E.contents E.is_faulted K.table node.old }
     requires empty { out.old.items ≡ [] }
-    ensures stands { ¬ IsErrOf result (Stops Fault) → Stands (E.is_faulted node.new.engine) (E.device node.new.engine) (E.contents node.new.engine) (K.table node.new.keyspace) node.new.heap node.new.ended.items }
+    ensures stands { ¬ IsErrOf result (Stops Fault) → Stands E.device E.contents E.is_faulted K.table node.new }
     ensures all { OnOk result (HasRun (held (E.contents node.old.engine) (K.table node.old.keyspace)) (fed decoder.old piece.now).messages (O.contents to.old)
         (held (E.contents node.new.engine) (K.table node.new.keyspace)) (O.contents to.new)) }
     ensures unread { OnOk result (decoder.new ≡ (fed decoder.old piece.now).unread) }
@@ -247,14 +247,14 @@ fn answer_piece<E: Durable, K: Keyspace, O: Write>(
 {
     let messages = match decoder.feed(piece) {
         Ok(messages) => messages,
-        Err(refusal) => return Err(LinkEnd::Refused(refusal)),
+        Err(refusal) => return Err(LinkError::Refused(refusal)),
     };
     answer_all(alloc, node, messages, out, to)?;
     if decoder.is_broken() {
-        return Err(LinkEnd::Refused(Refusal::FrameFault));
+        return Err(LinkError::Refused(Refusal::FrameFault));
     }
     if let Some(refusal) = refusal_of_begun(node, decoder.group_begun()) {
-        return Err(LinkEnd::Refused(refusal));
+        return Err(LinkError::Refused(refusal));
     }
     Ok(())
 }
@@ -280,10 +280,10 @@ fn answer_all<E: Durable, K: Keyspace, O: Write>(
     messages: Vec<Message>,
     out: &mut Vec<u8>,
     to: &mut O,
-) -> Result<(), LinkEnd>
-    requires stands { Stands (E.is_faulted node.old.engine) (E.device node.old.engine) (E.contents node.old.engine) (K.table node.old.keyspace) node.old.heap node.old.ended.items }
+) -> Result<(), LinkError>
+    requires stands { Stands E.device E.contents E.is_faulted K.table node.old }
     requires empty { out.old.items ≡ [] }
-    ensures stands { ¬ IsErrOf result (Stops Fault) → Stands (E.is_faulted node.new.engine) (E.device node.new.engine) (E.contents node.new.engine) (K.table node.new.keyspace) node.new.heap node.new.ended.items }
+    ensures stands { ¬ IsErrOf result (Stops Fault) → Stands E.device E.contents E.is_faulted K.table node.new }
     ensures all { OnOk result (HasRun (held (E.contents node.old.engine) (K.table node.old.keyspace)) (sent_of_all messages.items) (O.contents to.old)
         (held (E.contents node.new.engine) (K.table node.new.keyspace)) (O.contents to.new)) }
     ensures emptied { OnOk result (out.new.items ≡ []) }
@@ -295,7 +295,7 @@ fn answer_all<E: Durable, K: Keyspace, O: Write>(
     Ok(())
 }
 
-/// Answers what came: a frame by its acknowledgement, which is sent before what the frame ended is freed. An acknowledgement from the primary is
+/// Answers what came: a frame by its acknowledgement. An acknowledgement from the primary is
 /// refused, with nothing changed: `PositionGap` where it is of the node's epoch, else `WrongEpoch`.
 fn answer<E: Durable, K: Keyspace, O: Write>(
     alloc: Global,
@@ -303,10 +303,10 @@ fn answer<E: Durable, K: Keyspace, O: Write>(
     message: Message,
     out: &mut Vec<u8>,
     to: &mut O,
-) -> Result<(), LinkEnd>
-    requires stands { Stands (E.is_faulted node.old.engine) (E.device node.old.engine) (E.contents node.old.engine) (K.table node.old.keyspace) node.old.heap node.old.ended.items }
+) -> Result<(), LinkError>
+    requires stands { Stands E.device E.contents E.is_faulted K.table node.old }
     requires empty { out.old.items ≡ [] }
-    ensures stands { ¬ IsErrOf result (Stops Fault) → Stands (E.is_faulted node.new.engine) (E.device node.new.engine) (E.contents node.new.engine) (K.table node.new.keyspace) node.new.heap node.new.ended.items }
+    ensures stands { ¬ IsErrOf result (Stops Fault) → Stands E.device E.contents E.is_faulted K.table node.new }
     ensures answered { OnOk result ((ack : Told) × Answers (held (E.contents node.old.engine) (K.table node.old.keyspace)) (sent_of message) ack (held (E.contents node.new.engine) (K.table node.new.keyspace))
         × Appends (O.contents to.old) (O.contents to.new) (ack_text ack)) }
     ensures emptied { OnOk result (out.new.items ≡ []) }
@@ -316,34 +316,29 @@ fn answer<E: Durable, K: Keyspace, O: Write>(
 {
     match message {
         Message::Group(frame) => answer_frame(alloc, node, frame, out, to),
-        Message::Ack(ack) => Err(LinkEnd::Refused(refusal_of_ack(node.epoch(), &ack))),
+        Message::Ack(ack) => Err(LinkError::Refused(refusal_of_ack(node.epoch(), &ack))),
     }
 }
 
-/// Takes a frame, sends its acknowledgement, and then frees what the frame ended.
+/// Takes a frame and sends its acknowledgement. What the frame ended is freed by the fences of the next one, or once nothing comes for a while.
 fn answer_frame<E: Durable, K: Keyspace, O: Write>(
     alloc: Global,
     node: &mut Standby<E, K>,
     frame: Frame,
     out: &mut Vec<u8>,
     to: &mut O,
-) -> Result<(), LinkEnd>
-    requires stands { Stands (E.is_faulted node.old.engine) (E.device node.old.engine) (E.contents node.old.engine) (K.table node.old.keyspace) node.old.heap node.old.ended.items }
+) -> Result<(), LinkError>
+    requires stands { Stands E.device E.contents E.is_faulted K.table node.old }
     requires empty { out.old.items ≡ [] }
-    ensures stands { ¬ IsErrOf result (Stops Fault) → Stands (E.is_faulted node.new.engine) (E.device node.new.engine) (E.contents node.new.engine) (K.table node.new.keyspace) node.new.heap node.new.ended.items }
+    ensures stands { ¬ IsErrOf result (Stops Fault) → Stands E.device E.contents E.is_faulted K.table node.new }
     ensures answered { OnOk result ((ack : Told) × Acknowledges (held (E.contents node.old.engine) (K.table node.old.keyspace)) frame ack (held (E.contents node.new.engine) (K.table node.new.keyspace))
         × Appends (O.contents to.old) (O.contents to.new) (ack_text ack)) }
     ensures emptied { OnOk result (out.new.items ≡ []) }
     ensures says { ¬ IsErrOf result Closed → Says (held (E.contents node.old.engine) (K.table node.old.keyspace)) (O.contents to.old) (O.contents to.new) }
 {
-    let position = node.position();
     let ack = take_frame(alloc, node, frame)?;
     put_ack(ack, out)?;
     send(to, out)?;
-    if ack.position() == position {
-        return Ok(());
-    }
-    free_ended(alloc, node)?;
     Ok(())
 }
 
@@ -352,9 +347,9 @@ fn take_frame<E: Durable, K: Keyspace>(
     alloc: Global,
     node: &mut Standby<E, K>,
     frame: Frame,
-) -> Result<Ack, LinkEnd>
-    requires stands { Stands (E.is_faulted node.old.engine) (E.device node.old.engine) (E.contents node.old.engine) (K.table node.old.keyspace) node.old.heap node.old.ended.items }
-    ensures stands { ¬ IsErrOf result (Stops Fault) → Stands (E.is_faulted node.new.engine) (E.device node.new.engine) (E.contents node.new.engine) (K.table node.new.keyspace) node.new.heap node.new.ended.items }
+) -> Result<Ack, LinkError>
+    requires stands { Stands E.device E.contents E.is_faulted K.table node.old }
+    ensures stands { ¬ IsErrOf result (Stops Fault) → Stands E.device E.contents E.is_faulted K.table node.new }
     ensures acknowledges { IfOk result (λ ack. Acknowledges (held (E.contents node.old.engine) (K.table node.old.keyspace)) frame ack (held (E.contents node.new.engine) (K.table node.new.keyspace))) }
 {
     match node.take_frame(alloc, frame) {
@@ -363,34 +358,20 @@ fn take_frame<E: Durable, K: Keyspace>(
     }
 }
 
-/// Frees what has ended. Where there is no memory to free it, it is left for the next frame. A fence that fails stops the node.
-fn free_ended<E: Durable, K: Keyspace>(
-    alloc: Global,
-    node: &mut Standby<E, K>,
-) -> Result<(), LinkEnd>
-    requires stands { Stands (E.is_faulted node.old.engine) (E.device node.old.engine) (E.contents node.old.engine) (K.table node.old.keyspace) node.old.heap node.old.ended.items }
-    ensures stands { ¬ IsErrOf result (Stops Fault) → Stands (E.is_faulted node.new.engine) (E.device node.new.engine) (E.contents node.new.engine) (K.table node.new.keyspace) node.new.heap node.new.ended.items }
-    ensures frees { OnOk result (IsFreed (held (E.contents node.old.engine) (K.table node.old.keyspace)) (held (E.contents node.new.engine) (K.table node.new.keyspace))) }
-    ensures cause { IfErr result (λ end. end ≡ Stops Fault) }
-{
-    only_fault(node.free_ended(alloc))?;
-    Ok(())
-}
-
 /// A link stops for a fault alone: what there was no memory for is left for later.
-fn only_fault<T: Drop>(done: Result<T, Refusal>) -> Result<(), LinkEnd>
+fn only_fault<T: Drop>(done: Result<T, Refusal>) -> Result<(), LinkError>
     ensures fault { IsErrOf result (Stops Fault) ↔ IsErrOf done Fault }
     ensures cause { IfErr result (λ end. end ≡ Stops Fault) }
 {
     match done {
-        Err(Refusal::Fault) => Err(LinkEnd::Stops(Refusal::Fault)),
+        Err(Refusal::Fault) => Err(LinkError::Stops(Refusal::Fault)),
         _ => Ok(()),
     }
 }
 
 /// Puts an acknowledgement last, or nothing where memory is refused.
 #[tactic(auto, unfolding(crate::specs::Serving::ack_text))]
-fn put_ack(ack: Ack, out: &mut Vec<u8>) -> Result<(), LinkEnd>
+fn put_ack(ack: Ack, out: &mut Vec<u8>) -> Result<(), LinkError>
     ensures put { OnOk result (out.new.items ≡ out.old.items ++ ack_text ack) }
     ensures refused { OnErr result (out.new.items ≡ out.old.items) }
     ensures cause { IfErr result (λ end. end ≡ Refused Memory) }

@@ -1,29 +1,29 @@
 //! The link between the two nodes: the threads that serve it.
 #![tactic(auto)]
 
-mod door;
 mod following;
-mod link_end;
+mod link_acceptor;
+mod link_error;
 mod link_reader;
 mod link_writer;
 mod listening;
 mod log;
 mod opening;
-mod outgoing;
 mod reading;
 mod receiver;
-mod remote_mark;
-mod seldom;
+mod refused_links;
+mod same_end;
 mod sender;
-mod unanswered;
-mod watch;
+mod sending;
+mod standing;
+mod throttle;
+mod writing;
 
 pub use following::{follow, serve_link};
-pub use link_end::LinkEnd;
+pub use link_error::LinkError;
 pub use listening::is_lasting;
 pub use log::{Log, Lost, News};
-pub use outgoing::Outgoing;
 pub use receiver::AckReceiver;
-pub use remote_mark::{RemoteMark, Standing};
 pub use sender::LinkSender;
-pub use watch::Watch;
+pub use sending::{put_delta, put_frames, put_next};
+pub use standing::Standing;

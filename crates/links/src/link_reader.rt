@@ -1,17 +1,9 @@
 //! A standby's link, which ends where nothing comes of it and another connection waits.
-use crate::door::Door;
-use crate::listening::is_lasting;
+use crate::link_acceptor::LinkAcceptor;
 use std::cell::Cell;
-use std::io::{ErrorKind, Read, Write};
-use std::net::{TcpListener, TcpStream};
+use std::io::{self, ErrorKind, Read, Write};
+use std::net::TcpStream;
 use std::time::{Clock, Duration, Instant};
-use std::{io, thread};
-
-/// How many seconds nothing comes on a link before the node looks for a newer connection.
-const SILENCE_SECONDS: u64 = 1;
-
-/// How long it rests where a connection was refused it, in milliseconds.
-const PAUSE_MILLISECONDS: u64 = 100;
 
 /// In how many seconds something has to come of what comes on a link, or the node looks for a newer connection.
 const PATIENCE_SECONDS: u64 = 5;
@@ -25,8 +17,7 @@ const LEAST_BYTES: u64 = 65_536;
 #[derive(Drop)]
 pub(crate) struct LinkReader<'a, 'b, C, W> {
     stream: &'a TcpStream,
-    listener: &'a TcpListener,
-    door: &'a mut Door<'b, C, W>,
+    acceptor: &'a mut LinkAcceptor<'b, C, W>,
     newer: Option<TcpStream>,
     /// How many acknowledgements were written.
     written: &'a Cell<u64>,
@@ -37,18 +28,16 @@ pub(crate) struct LinkReader<'a, 'b, C, W> {
 }
 
 impl<'a, 'b, C: Clock, W: Write> LinkReader<'a, 'b, C, W> {
-    /// What comes on this link, with the listener at which others wait. A write that is not taken for some seconds fails from now on.
+    /// What comes on this link, with what accepts the others. A write that is not taken for some seconds fails from now on.
     pub(crate) fn new(
         stream: &'a TcpStream,
-        listener: &'a TcpListener,
-        door: &'a mut Door<'b, C, W>,
+        acceptor: &'a mut LinkAcceptor<'b, C, W>,
         written: &'a Cell<u64>,
     ) -> LinkReader<'a, 'b, C, W> {
         let _ = stream.set_write_timeout(Some(Duration::from_secs(PATIENCE_SECONDS)));
         LinkReader {
             stream,
-            listener,
-            door,
+            acceptor,
             newer: None,
             written,
             since: None,
@@ -64,8 +53,8 @@ impl<'a, 'b, C: Clock, W: Write> LinkReader<'a, 'b, C, W> {
 
     /// Whether another connection waits that may be a link, and is kept then.
     fn finds_newer(&mut self) -> bool {
-        if let Some(newer) = waiting(self.listener) {
-            if self.door.admits(&newer) {
+        if let Some(newer) = self.acceptor.waiting() {
+            if self.acceptor.admits(&newer) {
                 self.newer = Some(newer);
                 return true;
             }
@@ -75,7 +64,7 @@ impl<'a, 'b, C: Clock, W: Write> LinkReader<'a, 'b, C, W> {
 
     /// Whether nothing has come of the link for some seconds. It is looked at anew after something has.
     fn makes_no_way(&mut self) -> bool {
-        let Ok(now) = Instant::now(self.door.clock()) else {
+        let Ok(now) = Instant::now(self.acceptor.clock()) else {
             return false;
         };
         let Some(since) = self.since else {
@@ -120,59 +109,5 @@ impl<C: Clock, W: Write> Read for LinkReader<'_, '_, C, W> {
             }
         }
         Err(io::Error::from(ErrorKind::TimedOut))
-    }
-}
-
-/// Waits for a connection. One that ended before it was taken, or for which descriptors or memory are refused, is passed over after a rest.
-///
-/// # Errors
-///
-/// That of the listener, which takes no further connection.
-pub(crate) fn accept<C: Clock>(clock: &C, listener: &TcpListener) -> io::Result<TcpStream> {
-    for _ in 0..u64::MAX {
-        match accept_next(listener) {
-            Err(error) if !is_lasting(&error) => {
-                thread::sleep(clock, Duration::from_millis(PAUSE_MILLISECONDS));
-            }
-            taken => return taken,
-        }
-    }
-    Err(io::Error::from(ErrorKind::TimedOut))
-}
-
-/// Takes the next connection, with the time for which a read of it waits.
-fn accept_next(listener: &TcpListener) -> io::Result<TcpStream> {
-    let (stream, _) = listener.accept()?;
-    let _ = stream.set_nodelay(true);
-    let _ = stream.set_read_timeout(Some(Duration::from_secs(SILENCE_SECONDS)));
-    Ok(stream)
-}
-
-/// The connection that waits, if one does and is not over yet.
-fn waiting(listener: &TcpListener) -> Option<TcpStream> {
-    if listener.set_nonblocking(true).is_err() {
-        return None;
-    }
-    let found = accept_next(listener);
-    let blocks = listener.set_nonblocking(false);
-    match found {
-        Ok(stream) if blocks.is_ok() && is_open(&stream) => Some(stream),
-        _ => None,
-    }
-}
-
-/// Whether the other side has not closed the connection yet.
-fn is_open(stream: &TcpStream) -> bool {
-    let mut first = [0];
-    if stream.set_nonblocking(true).is_err() {
-        return false;
-    }
-    let found = stream.peek(&mut first);
-    if stream.set_nonblocking(false).is_err() {
-        return false;
-    }
-    match found {
-        Ok(count) => count > 0,
-        Err(error) => error.kind() == ErrorKind::WouldBlock,
     }
 }

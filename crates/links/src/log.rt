@@ -1,5 +1,5 @@
 //! What a node tells of itself, a line at a time.
-use crate::link_end::LinkEnd;
+use crate::link_error::LinkError;
 use kv_types::Refusal;
 use std::alloc::Global;
 use std::fmt;
@@ -9,6 +9,12 @@ use std::net::IpAddr;
 /// What a node tells whose standby holds what it never had itself.
 const STANDBY_AHEAD: &str =
     "standby ahead: this node takes no acknowledgement any more, and answers nothing that waits for one; it was not formatted with this standby, or was restored from an older copy: see \"A standby that is ahead\" in docs/server.md";
+
+/// What a node tells whose standby is another one than before, and empty.
+const STANDBY_NEW: &str = "the standby is new: start this primary again, so that it gets all";
+
+/// What a standby tells that takes the next link.
+const LINK_LEFT: &str = "left the link: nothing came on it, and another connection waits";
 
 /// What follows the refusal of a frame for which there is no room.
 const NO_ROOM: &str =
@@ -59,10 +65,16 @@ pub enum News<'a> {
         position: u64,
         links: u32,
     },
+    /// The standby at this address holds nothing, where this node knew of one that held more: it gets nothing until the node is started again.
+    StandbyNew {
+        address: &'a str,
+    },
     /// A link from a primary has ended that the primary did not close.
     LinkEnded {
-        why: LinkEnd,
+        why: LinkError,
     },
+    /// A link on which nothing came was left for another connection.
+    LinkLeft,
     /// Somebody connected from a host whose links are not taken.
     Stranger {
         host: IpAddr,
@@ -76,7 +88,7 @@ pub enum News<'a> {
 }
 
 /// Why there is no link.
-#[derive(Clone, Copy)]
+#[derive(Clone, Copy, Debug, PartialEq, Eq)]
 pub enum Lost {
     /// Nobody takes a connection there.
     Unreachable,
@@ -144,7 +156,9 @@ impl<'a> fmt::Display for News<'a> {
                     "{address} at position {position} ended {links} links in a row and took nothing that was sent on them{NOT_TAKEN}"
                 )
             }
-            News::LinkEnded { why } => write!(f, "link ended: {why}"),
+            News::StandbyNew { address } => write!(f, "{address}: {STANDBY_NEW}"),
+            News::LinkEnded { why } => write!(f, "{} {why}", word_of(why)),
+            News::LinkLeft => f.write_str(LINK_LEFT),
             News::Stranger { host } => {
                 write!(
                     f,
@@ -162,26 +176,33 @@ impl fmt::Display for Lost {
         match self {
             Lost::Unreachable => f.write_str("nobody takes a connection"),
             Lost::Silent => f.write_str("no standby says where it is"),
-            Lost::Refused(refusal) => write!(f, "{refusal}"),
+            Lost::Refused(refusal) => {
+                let number = refusal.number();
+                write!(f, "refusal {number}: {refusal}")
+            }
             Lost::Ended => f.write_str("the connection ended"),
             Lost::Unwritten => f.write_str("a write failed"),
         }
     }
 }
 
-impl fmt::Display for LinkEnd {
+impl fmt::Display for LinkError {
     fn fmt<W: fmt::Write>(&self, f: &mut fmt::Formatter<W>) -> fmt::Result {
         match self {
-            LinkEnd::Closed => {
-                f.write_str(
-                    "a read or a write failed, or nothing came of it and another connection waits",
-                )
-            }
-            LinkEnd::Refused(refusal) | LinkEnd::Stops(refusal) => {
+            LinkError::Closed => f.write_str("a read or a write failed"),
+            LinkError::Refused(refusal) | LinkError::Stops(refusal) => {
                 let number = refusal.number();
                 write!(f, "refusal {number}: {refusal}{}", advice(*refusal))
             }
         }
+    }
+}
+
+/// How a line begins that says so of a link: the node left it, or it ended.
+fn word_of(why: &LinkError) -> &'static str {
+    match why {
+        LinkError::Closed => "link ended:",
+        LinkError::Refused(_) | LinkError::Stops(_) => "left the link:",
     }
 }
 

@@ -1,6 +1,16 @@
-//! What the standby says first.
+//! How a link opens: what the standby says first.
+ghost use Rattle.std.specs.Prelude.{◌≡◌, ◌⊎◌, ℕ, List, [], ◌∷◌, Option, None, OnErr, IfOk, IfSome};
+ghost use Rattle.frames.specs.declared.ack.Ack.{Ack as Told};
+ghost use Rattle.stream_codec.specs.declared.message.Message.TheVariants.{Ack as AckMessage};
+ghost use Rattle.links.specs.Hearing.{RefusesAck, Takes};
+ghost use Rattle.links.specs.Marking.{StaysFinal};
+ghost use Rattle.links.specs.Opening.{Opens, SaysFirst};
+
+use crate::log::Lost;
 use crate::reading::{new_block, read_messages};
+use crate::receiver::AckReceiver;
 use frames::Ack;
+use standby_stream::Outgoing;
 use std::alloc::Global;
 use std::io::Read;
 use stream_codec::{ACK_BYTES, Decoder, Message};
@@ -8,18 +18,65 @@ use stream_codec::{ACK_BYTES, Decoder, Message};
 /// How many bytes are read at once.
 const BLOCK_BYTES: usize = 256;
 
+/// Opens the link: reads the standby's first acknowledgement, which counts as any other, has what is due from there sent, and takes note of it. Answers
+/// where the standby is, and what reads on behind that.
+///
+/// # Errors
+///
+/// `Silent` where none came; `Refused` by the receiver, or by `Outgoing::open_at`.
+pub(crate) fn open_link<I: Read>(
+    alloc: Global,
+    outgoing: &mut Outgoing,
+    receiver: &mut AckReceiver,
+    from: &mut I,
+) -> Result<(u64, Decoder), Lost>
+    ensures opened { IfOk result (λ opened. (ack : Told) × SaysFirst (I.remaining from.old) (I.remaining from.new) ack opened.1 × (opened.0 ≡ ack.position)
+        × Opens ack receiver.old receiver.new outgoing.old outgoing.new) }
+    ensures refused { OnErr result ((receiver.new ≡ receiver.old) ⊎ ((ack : Told) × (held : Option (List ℕ)) × SaysFirst (I.remaining from.old) (I.remaining from.new) ack held
+        × (RefusesAck receiver.old ack receiver.new ⊎ Takes receiver.old ack receiver.new))) }
+    ensures link { OnErr result (outgoing.new.link ≡ outgoing.old.link) }
+    ensures epoch { receiver.new.epoch ≡ receiver.old.epoch }
+    ensures sends { (outgoing.new.link).epoch ≡ (outgoing.old.link).epoch }
+    ensures stays { StaysFinal receiver.old receiver.new }
+{
+    let Some((ack, decoder)) = read_opening(alloc, from) else {
+        return Err(Lost::Silent);
+    };
+    if let Err(refusal) = receiver.hear(ack) {
+        return Err(Lost::Refused(refusal));
+    }
+    if let Err(refusal) = outgoing.open_at(alloc, ack.position()) {
+        return Err(Lost::Refused(refusal));
+    }
+    outgoing.note(alloc, ack.position());
+    Ok((ack.position(), decoder))
+}
+
 /// Reads the standby's opening acknowledgement: what it says, and what reads on behind it. `None` where the connection ended first or something else came.
-pub(crate) fn read_opening<I: Read>(alloc: Global, from: &mut I) -> Option<(Ack, Decoder)> {
+fn read_opening<I: Read>(alloc: Global, from: &mut I) -> Option<(Ack, Decoder)>
+    ensures { IfSome result (λ opened. SaysFirst (I.remaining from.old) (I.remaining from.new) opened.0 opened.1) }
+{
     let mut block = new_block(alloc, BLOCK_BYTES).ok()?;
     let mut decoder = Decoder::new(alloc);
     // it may come in as many pieces as it has bytes
     for _ in 0..ACK_BYTES {
         let messages = read_messages(from, &mut decoder, &mut block)?;
-        match messages.as_slice() {
-            [] => {}
-            [Message::Ack(ack)] => return Some((*ack, decoder)),
-            _ => return None,
+        if let Some(ack) = only_ack(&messages) {
+            return Some((ack, decoder));
+        }
+        if !messages.is_empty() {
+            return None;
         }
     }
     None
+}
+
+/// The acknowledgement, where it is all that came: only a primary sends a group, and the standby says nothing more until one has come.
+fn only_ack(messages: &[Message]) -> Option<Ack>
+    ensures { IfSome result (λ ack. messages.now ≡ AckMessage ack ∷ []) }
+{
+    match messages {
+        [Message::Ack(ack)] => Some(*ack),
+        _ => None,
+    }
 }

@@ -1,21 +1,18 @@
 //! The thread that takes the standby's acknowledgements while one connection lasts.
-ghost use Rattle.std.specs.Prelude.{◌≡◌, ◌⊎◌, ◌↔◌, ◌≤◌, max, true, false, Err, OnOk, OnErr, IfErr, IsTrue, IsErrOf};
-ghost use Rattle.kv_types.specs.declared.refusal.Refusal.TheVariants.{StandbyAhead, WrongEpoch};
-ghost use Rattle.standby_stream.specs.Stream.{counts};
-ghost use Rattle.links.specs.Marking.{StaysFinal};
-ghost use Rattle.links.specs.declared.remote_mark.Standing.TheVariants.{Ahead, Behind};
+ghost use Rattle.std.specs.Prelude.{◌≡◌, true};
 
 use crate::reading::{new_block, read_messages};
-use crate::remote_mark::RemoteMark;
+use crate::standing::Standing;
 use frames::Ack;
 use kv_types::Refusal;
-use standby_stream::counts;
+use marks::ThreadMarks;
+use standby_stream::{Outgoing, judge};
 use std::alloc::Global;
 use std::io::Read;
 use std::net::TcpStream;
 use std::sync::Arc;
 use stream_codec::{Decoder, Message};
-use wakes::{Bell, DueOut, Flag};
+use wakes::{DueOut, Flag, Waker};
 
 /// How many bytes of acknowledgements are read at once.
 const BLOCK_BYTES: usize = 4_096;
@@ -23,136 +20,200 @@ const BLOCK_BYTES: usize = 4_096;
 /// What takes acknowledgements: each raises the remote mark and wakes whoever may go on by it.
 #[derive(Drop)]
 pub struct AckReceiver {
-    /// The remote mark.
-    pub mark: RemoteMark,
+    /// The marks, of which it raises the remote one.
+    pub marks: ThreadMarks,
+    /// How the standby stands to this node.
+    pub standing: Standing,
     /// The writers that wait for both marks.
     pub due: DueOut,
     /// The primary's epoch.
     pub epoch: u64,
-    /// The bell of the link's sender.
-    pub link: Bell,
-    /// The bell of the node's thread.
-    pub node: Bell,
+    /// Wakes the link's sender.
+    pub link: Waker,
+    /// Wakes the node's thread.
+    pub node: Waker,
     /// Set once the connection brings nothing more.
     pub is_broken: Arc<Flag>,
+    ghost raises: { marks.raises_remote ≡ true },
 }
 
 impl AckReceiver {
+    ghost use Rattle.std.specs.Prelude.{◌⊎◌, ◌↔◌, ◌<◌, ◌≤◌, ℕ, List, Option, max, false, Ok, Err, OnOk, OnErr, IfErr, IsTrue, IsErrOf};
+    ghost use Rattle.kv_types.specs.declared.refusal.Refusal.TheVariants.{FrameFault, StandbyAhead, WrongEpoch};
+    ghost use Rattle.frames.specs.declared.ack.Ack.{Ack as Told};
+    ghost use Rattle.stream_codec.specs.Message.{sent_of, sent_of_ack};
+    ghost use Rattle.stream_codec.specs.Scanning.{sent_of_all};
+    ghost use Rattle.standby_stream.specs.Stream.{counts};
+    ghost use Rattle.links.specs.Hearing.{HasHeard, Hears, Refuses, RefusesAck, StopsAt, Takes};
+    ghost use Rattle.links.specs.Marking.{StaysFinal};
+    ghost use Rattle.links.specs.declared.standing.Standing.TheVariants.{Ahead, Behind};
+
+    /// What takes the acknowledgements of the standby to which this is sent: those of the epoch of its frames. The standby was never ahead.
+    pub fn new(
+        outgoing: &Outgoing,
+        marks: ThreadMarks,
+        due: DueOut,
+        link: Waker,
+        node: Waker,
+        is_broken: Arc<Flag>,
+    ) -> AckReceiver
+        requires raises { marks.raises_remote ≡ true }
+        ensures epoch { result.epoch ≡ (outgoing.now.link).epoch }
+        ensures behind { result.standing ≡ Behind }
+        ensures marks { result.marks ≡ marks }
+    {
+        AckReceiver {
+            marks,
+            standing: Standing::Behind,
+            due,
+            epoch: outgoing.epoch(),
+            link,
+            node,
+            is_broken,
+        }
+    }
+
     /// Takes acknowledgements until the connection ends or one of them is refused. The decoder has been fed what was read before.
     pub fn run(self, alloc: Global, stream: Arc<TcpStream>, decoder: Decoder) -> AckReceiver
-        ensures stays { StaysFinal self.mark result.mark }
+        ensures stays { StaysFinal self result }
+        ensures epoch { result.epoch ≡ self.epoch }
+        ensures heard { (bytes : Option (List ℕ)) × (left : Option (List ℕ)) × HasHeard self decoder bytes result left }
     {
-        let own = self.hear_link(alloc, &mut &*stream, decoder);
+        let mut own = self;
+        own.hear_link(alloc, &mut &*stream, decoder);
         own.is_broken.set();
-        own.link.ring();
+        own.link.wake();
         own
     }
 
     /// Whether the standby was once above this node, so that nothing that it acknowledges counts any more.
     pub fn is_final(&self) -> bool
-        ensures { IsTrue result ↔ (self.now.mark.standing ≡ Ahead) }
+        ensures { IsTrue result ↔ (self.now.standing ≡ Ahead) }
     {
-        self.mark.is_final()
+        match self.standing {
+            Standing::Behind => false,
+            Standing::Ahead => true,
+        }
     }
 
-    /// Takes acknowledgements until this reader ends or one of them is refused.
-    fn hear_link<I: Read>(self, alloc: Global, from: &mut I, decoder: Decoder) -> AckReceiver
-        ensures epoch { result.epoch ≡ self.epoch }
-        ensures stays { StaysFinal self.mark result.mark }
+    /// Takes the acknowledgements that come, in order, until this reader ends or one of them is refused.
+    fn hear_link<I: Read>(&mut self, alloc: Global, from: &mut I, decoder: Decoder)
+        ensures epoch { self.new.epoch ≡ self.old.epoch }
+        ensures stays { StaysFinal self.old self.new }
+        ensures heard { HasHeard self.old decoder (I.remaining from.old) self.new (I.remaining from.new) }
     {
         let Ok(mut block) = new_block(alloc, BLOCK_BYTES) else {
-            return self;
+            return;
         };
-        let mut own = self;
         let mut decoder = decoder;
         for _ in 0..u64::MAX {
             let Some(messages) = read_messages(from, &mut decoder, &mut block) else {
-                return own;
+                return;
             };
-            let (next, goes_on) = own.hear_all(&messages);
-            own = next;
-            if !goes_on || decoder.is_broken() {
-                return own;
+            match self.hear_all(messages) {
+                Ok(()) => {}
+                Err(_) => return,
+            }
+            if decoder.is_broken() {
+                return;
             }
         }
-        own
     }
 
-    /// Takes what came, in order, up to the first that is refused. Answers whether none was.
-    fn hear_all(self, messages: &[Message]) -> (AckReceiver, bool)
-        ensures epoch { result.0.epoch ≡ self.epoch }
-        ensures stays { StaysFinal self.mark result.0.mark }
-    {
-        let mut own = self;
-        for message in messages {
-            let (next, heard) = own.hear_message(message);
-            own = next;
-            if !heard {
-                return (own, false);
-            }
-        }
-        (own, true)
-    }
-
-    /// Takes an acknowledgement. Nothing else comes from a standby.
-    fn hear_message(self, message: &Message) -> (AckReceiver, bool)
-        ensures epoch { result.0.epoch ≡ self.epoch }
-        ensures stays { StaysFinal self.mark result.0.mark }
-    {
-        match message {
-            Message::Ack(ack) => match self.hear(*ack) {
-                (own, Ok(())) => (own, true),
-                (own, Err(_)) => (own, false),
-            },
-            Message::Group(_) => (self, false),
-        }
-    }
-
-    /// Takes an acknowledgement: raises the remote mark to it, and wakes the writers that are due, the link's sender and the node's thread.
+    /// Takes what came, in order, up to the first that is refused.
     ///
     /// # Errors
     ///
-    /// `WrongEpoch` for one of another epoch, unless it is of position 0 and of a lower epoch; `StandbyAhead` for one above the local mark, and from
-    /// then on for each later one that would count. The remote mark stays.
-    pub fn hear(self, ack: Ack) -> (AckReceiver, Result<(), Refusal>)
-        ensures epoch { result.0.epoch ≡ self.epoch }
-        ensures stays { StaysFinal self.mark result.0.mark }
-        ensures heard { OnOk result.1 ((counts self.epoch ack ≡ true) × (result.0.mark.seat.knows.remote ≡ max self.mark.seat.knows.remote ack.position)
-            × (ack.position ≤ result.0.mark.seat.knows.local)) }
-        ensures behind { OnOk result.1 ((self.mark.standing ≡ Behind) × (result.0.mark.standing ≡ Behind)) }
-        ensures ahead { IsErrOf result.1 StandbyAhead → result.0.mark.standing ≡ Ahead }
-        ensures refused { OnErr result.1 (result.0.mark.seat.knows.remote ≡ self.mark.seat.knows.remote) }
-        ensures wrong { counts self.epoch ack ≡ false ↔ (result.1 ≡ Err WrongEpoch) }
-        ensures causes { IfErr result.1 (λ refusal. (refusal ≡ WrongEpoch) ⊎ (refusal ≡ StandbyAhead)) }
+    /// Those of `hear_message`.
+    fn hear_all(&mut self, messages: Vec<Message>) -> Result<(), Refusal>
+        ensures epoch { self.new.epoch ≡ self.old.epoch }
+        ensures stays { StaysFinal self.old self.new }
+        ensures all { OnOk result (Hears self.old (sent_of_all messages.items) self.new) }
+        ensures refused { OnErr result (StopsAt self.old (sent_of_all messages.items) self.new) }
     {
-        if !counts(self.epoch, ack) {
-            return (self, Err(Refusal::WrongEpoch));
+        for message in messages {
+            self.hear_message(&message)?;
         }
-        let AckReceiver {
-            mark,
-            due,
-            epoch,
-            link,
-            node,
-            is_broken,
-        } = self;
-        let (mark, is_raised, both) = mark.raise(ack);
-        let mut due = due;
-        due.wake_up_to(both);
-        link.ring();
-        node.ring();
-        let own = AckReceiver {
-            mark,
-            due,
-            epoch,
-            link,
-            node,
-            is_broken,
-        };
-        if is_raised {
-            (own, Ok(()))
-        } else {
-            (own, Err(Refusal::StandbyAhead))
+        Ok(())
+    }
+
+    /// Takes an acknowledgement. Nothing else comes from a standby.
+    ///
+    /// # Errors
+    ///
+    /// Those of `hear`, and `FrameFault` for a group, which only a primary sends.
+    fn hear_message(&mut self, message: &Message) -> Result<(), Refusal>
+        ensures epoch { self.new.epoch ≡ self.old.epoch }
+        ensures stays { StaysFinal self.old self.new }
+        ensures taken { OnOk result ((ack : Told) × (sent_of message.now ≡ sent_of_ack ack) × Takes self.old ack self.new) }
+        ensures refused { OnErr result (Refuses self.old (sent_of message.now) self.new) }
+    {
+        match message {
+            Message::Ack(ack) => self.hear(*ack),
+            Message::Group(_) => Err(Refusal::FrameFault),
         }
+    }
+
+    /// Takes an acknowledgement: raises the remote mark to it, and wakes the writers that are due, the link's sender and the node's thread. The local mark is
+    /// read first.
+    ///
+    /// # Errors
+    ///
+    /// `WrongEpoch` for one of another epoch, unless it is of position 0 and of a lower epoch; `StandbyAhead` just for one that counts and is above the
+    /// local mark, and from then on for each later one that would count. The remote mark stays.
+    pub fn hear(&mut self, ack: Ack) -> Result<(), Refusal>
+        ensures epoch { self.new.epoch ≡ self.old.epoch }
+        ensures stays { StaysFinal self.old self.new }
+        ensures taken { OnOk result (Takes self.old ack self.new) }
+        ensures refused { OnErr result (RefusesAck self.old ack self.new) }
+        ensures local { self.old.marks.local ≤ self.new.marks.local }
+        ensures within { counts self.old.epoch ack ≡ true → self.old.standing ≡ Behind → ack.position ≤ self.new.marks.local → result ≡ Ok tt }
+        ensures above { counts self.old.epoch ack ≡ true → self.new.marks.local < ack.position → result ≡ Err StandbyAhead }
+        ensures once_ahead { counts self.old.epoch ack ≡ true → self.old.standing ≡ Ahead → result ≡ Err StandbyAhead }
+        ensures ahead { IsErrOf result StandbyAhead → self.new.standing ≡ Ahead }
+        ensures wrong { counts self.old.epoch ack ≡ false ↔ (result ≡ Err WrongEpoch) }
+        ensures causes { IfErr result (λ refusal. (refusal ≡ WrongEpoch) ⊎ (refusal ≡ StandbyAhead)) }
+    {
+        let seen = self.marks.read();
+        match self.judge(ack, seen.local) {
+            Ok(()) => {
+                self.marks.raise_remote(ack);
+                self.wake(seen.local.min(seen.remote.max(ack.position())));
+                Ok(())
+            }
+            Err(Refusal::StandbyAhead) => {
+                self.standing = Standing::Ahead;
+                Err(Refusal::StandbyAhead)
+            }
+            Err(refusal) => Err(refusal),
+        }
+    }
+
+    /// Whether it takes an acknowledgement, where the local mark is `own`: as `standby_stream::judge` says, and none that counts of a standby that was
+    /// ahead.
+    fn judge(&self, ack: Ack, own: u64) -> Result<(), Refusal>
+        ensures taken { OnOk result ((self.now.standing ≡ Behind) × (counts self.now.epoch ack ≡ true) × (ack.position ≤ own)) }
+        ensures within { counts self.now.epoch ack ≡ true → self.now.standing ≡ Behind → ack.position ≤ own → result ≡ Ok tt }
+        ensures above { counts self.now.epoch ack ≡ true → own < ack.position → result ≡ Err StandbyAhead }
+        ensures once_ahead { counts self.now.epoch ack ≡ true → self.now.standing ≡ Ahead → result ≡ Err StandbyAhead }
+        ensures why { OnErr result ((counts self.now.epoch ack ≡ false) ⊎ ((self.now.standing ≡ Ahead) ⊎ (own < ack.position))) }
+        ensures wrong { counts self.now.epoch ack ≡ false ↔ (result ≡ Err WrongEpoch) }
+        ensures causes { IfErr result (λ refusal. (refusal ≡ WrongEpoch) ⊎ (refusal ≡ StandbyAhead)) }
+    {
+        match judge(self.epoch, ack, own) {
+            Ok(()) if self.is_final() => Err(Refusal::StandbyAhead),
+            judged => judged,
+        }
+    }
+
+    /// Wakes whoever may go on where both nodes hold this position.
+    fn wake(&mut self, both: u64)
+        ensures marks { self.new.marks ≡ self.old.marks }
+        ensures standing { self.new.standing ≡ self.old.standing }
+        ensures epoch { self.new.epoch ≡ self.old.epoch }
+    {
+        self.due.wake_up_to(both);
+        self.link.wake();
+        self.node.wake();
     }
 }

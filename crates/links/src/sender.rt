@@ -1,26 +1,33 @@
 //! The thread that opens the link to the standby and sends on it.
-ghost use Rattle.std.specs.Prelude.{◌≡◌, OnOk};
+ghost use Rattle.std.specs.Prelude.{◌≡◌, OnOk, IfOk};
+ghost use Rattle.frames.specs.declared.ack.Ack.{Ack as Told};
+ghost use Rattle.links.specs.Ends.{AreOfOneEpoch};
 ghost use Rattle.links.specs.Marking.{StaysFinal};
-ghost use Rattle.links.specs.declared.remote_mark.Standing.TheVariants.{Behind};
+ghost use Rattle.links.specs.Opening.{Opens};
+ghost use Rattle.links.specs.declared.standing.Standing.TheVariants.{Behind};
 
 use crate::log::{Log, Lost, News};
-use crate::opening::read_opening;
-use crate::outgoing::Outgoing;
+use crate::opening::open_link;
 use crate::receiver::AckReceiver;
-use crate::unanswered::Unanswered;
-use crate::watch::Watch;
+use crate::refused_links::RefusedLinks;
+use crate::same_end::SameEnd;
+use crate::sending::{Surroundings, send_all};
+use crate::throttle::Throttle;
 use kv_types::Refusal;
+use marks::ThreadMarks;
 use model::Group;
 use pipes::RingInlet;
+use standby_stream::Outgoing;
 use std::alloc::Global;
 use std::io::Write;
 use std::net::{Net, Shutdown, TcpStream};
+use std::snapshot::Snapshot;
 use std::sync::{Arc, Wait};
 use std::thread::Threads;
 use std::time::{Clock, Duration};
 use std::{io, thread};
 use stream_codec::Decoder;
-use wakes::{Bell, Flag, Idle, Sleeper};
+use wakes::{Flag, Sleeper, Waker};
 
 /// How long the link waits at least and at most before it is opened again, in pauses of 100 milliseconds: doubled each time that nothing came of it.
 const FIRST_PAUSES: u32 = 1;
@@ -48,12 +55,12 @@ pub struct LinkSender {
     pub groups: RingInlet<Group>,
     /// Where this thread sleeps.
     pub sleeper: Sleeper,
-    /// The bell of the node's thread, which waits for room in the ring of groups.
-    pub node: Bell,
+    /// Wakes the node's thread, which waits for room in the ring of groups.
+    pub node: Waker,
     /// Set by the receiver once the connection brings nothing more.
     pub is_broken: Arc<Flag>,
     /// The marks, of which it reads the remote one.
-    pub watch: Watch,
+    pub marks: ThreadMarks,
     /// How often it gives way before it sleeps.
     pub spin: u32,
 }
@@ -72,36 +79,96 @@ struct Opened {
 #[derive(Drop)]
 struct Telling<W> {
     log: Log<W>,
-    unanswered: Unanswered,
+    refused: RefusedLinks,
+    /// Why no link came up, as it was told since the last one was open.
+    told: Option<Lost>,
+    /// How often it is told that the standby is new.
+    new: Throttle,
+}
+
+impl<W: Write> Telling<W> {
+    /// A link is open to the standby at this address and position.
+    fn tell_open(&mut self, address: &str, position: u64) {
+        self.told = None;
+        self.log.say(News::LinkOpen { address, position });
+    }
+
+    /// That link is no more. If `is_new`, the standby holds nothing and took nothing, where this node knew of one that held more: it never will. That is told
+    /// at once, and then ever more seldom.
+    fn tell_lost<C: Clock>(&mut self, clock: &C, lost: News<'_>, is_new: bool, address: &str) {
+        self.log.say(lost);
+        if is_new && self.new.is_due(clock) {
+            self.log.say(News::StandbyNew { address });
+        }
+    }
+
+    /// No link comes up: that is told where the reason is another one than before.
+    fn tell_none(&mut self, address: &str, why: Lost) {
+        if self.told != Some(why) {
+            self.told = Some(why);
+            self.log.say(News::NoLink { address, why });
+        }
+    }
 }
 
 impl LinkSender {
+    /// What sends this on links to the standby at this address, and the groups that come here.
+    pub fn new(
+        address: String,
+        outgoing: Outgoing,
+        groups: RingInlet<Group>,
+        sleeper: Sleeper,
+        node: Waker,
+        is_broken: Arc<Flag>,
+        marks: ThreadMarks,
+        spin: u32,
+    ) -> LinkSender
+        ensures outgoing { result.outgoing ≡ outgoing }
+        ensures groups { result.groups ≡ groups }
+        ensures marks { result.marks ≡ marks }
+    {
+        LinkSender {
+            address,
+            outgoing,
+            groups,
+            sleeper,
+            node,
+            is_broken,
+            marks,
+            spin,
+        }
+    }
+
+    /// The epoch of the frames that it sends.
+    pub fn epoch(&self) -> u64
+        ensures { result ≡ (self.now.outgoing.link).epoch }
+    {
+        self.outgoing.epoch()
+    }
+
     /// Keeps the link open for good: opens it, sends on it while it lasts, and opens it again after a pause. It tells when a link is
-    /// open and when it is lost, of several in a row that do not come up the first, and of several in a row on which the standby took nothing that they did.
-    /// Once the standby was ahead of this node no link is opened any more: it tells that, again and again.
+    /// open and when it is lost, of several in a row that do not come up each new reason, and of several in a row on which the standby took nothing that they
+    /// did.
+    /// Once the standby was ahead of this node no link is opened any more: it tells that, again and again. On each of these links the acknowledgements that
+    /// count are of the epoch of the frames that are sent.
     pub fn run<
         R: Threads + Wait + Clock + Net<Stream = TcpStream> + Copy + Send + 'static,
         W: Write + Drop,
-    >(self, rt: R, alloc: Global, receiver: AckReceiver, log: Log<W>) {
+    >(self, rt: R, alloc: Global, receiver: AckReceiver, log: Log<W>)
+        requires { AreOfOneEpoch self receiver }
+    {
         let mut own = self;
         let mut receiver = receiver;
         let mut telling = Telling {
             log,
-            unanswered: Unanswered::new(),
+            refused: RefusedLinks::new(),
+            told: None,
+            new: Throttle::new(),
         };
-        let mut is_up = true;
         let mut pauses = FIRST_PAUSES;
         for _ in rt.forever() {
-            let (next, next_receiver, got_on, came_up) = own.serve_link(
-                &rt,
-                alloc,
-                receiver,
-                &mut telling,
-                is_up,
-            );
-            own = next;
-            receiver = next_receiver;
-            is_up = came_up;
+            let (next, got_on) = own.serve_link(&rt, alloc, receiver, &mut telling);
+            receiver = next;
             if receiver.is_final() {
                 return stay_apart(&rt, &mut telling.log);
             }
@@ -113,80 +180,105 @@ impl LinkSender {
         }
     }
 
-    /// Serves one link. Answers whether the standby acknowledged more than before, and whether the link came up.
+    /// Serves one link. Answers whether the standby acknowledged more than before.
     fn serve_link<R: Threads + Wait + Clock + Net<Stream = TcpStream>, W: Write>(
-        self,
+        &mut self,
         rt: &R,
         alloc: Global,
         receiver: AckReceiver,
         telling: &mut Telling<W>,
-        was_up: bool,
-    ) -> (LinkSender, AckReceiver, bool, bool)
-        ensures stays { StaysFinal receiver.mark result.1.mark }
+    ) -> (AckReceiver, bool)
+        requires { AreOfOneEpoch self.old receiver }
+        ensures epoch { AreOfOneEpoch self.new result.0 }
+        ensures stays { StaysFinal receiver result.0 }
     {
-        let mut own = self;
-        let (receiver, opened) = own.open(rt, alloc, receiver);
-        match opened {
+        let mut receiver = receiver;
+        match self.open(rt, alloc, &mut receiver) {
             Ok(opened) => {
-                let (own, receiver, got_on) = own.keep_up(rt, alloc, receiver, opened, telling);
-                (own, receiver, got_on, true)
+                let (receiver, got_on) = self.keep_up(rt, alloc, receiver, opened, telling);
+                (receiver, got_on)
             }
             Err(why) => {
-                if was_up {
-                    let address = own.address.as_str();
-                    telling.log.say(News::NoLink { address, why });
-                }
-                (own, receiver, false, false)
+                telling.tell_none(self.address.as_str(), why);
+                (receiver, false)
             }
         }
     }
 
     /// Sends on a link that is open while it lasts. Answers whether the standby acknowledged more than before.
     fn keep_up<R: Threads + Wait + Clock, W: Write>(
-        self,
+        &mut self,
         rt: &R,
         alloc: Global,
         receiver: AckReceiver,
         opened: Opened,
         telling: &mut Telling<W>,
-    ) -> (LinkSender, AckReceiver, bool) {
-        let own = self;
-        let known = own.outgoing.known();
+    ) -> (AckReceiver, bool)
+        requires { AreOfOneEpoch self.old receiver }
+        ensures epoch { AreOfOneEpoch self.new result.0 }
+        ensures stays { StaysFinal receiver result.0 }
+    {
+        let known = self.outgoing.known();
         let Opened {
             position,
             stream,
             theirs,
             decoder,
         } = opened;
-        telling.log.say(News::LinkOpen {
-            address: own.address.as_str(),
-            position,
-        });
-        own.is_broken.take();
-        match thread::spawn(rt, move || receiver.run(alloc, theirs, decoder)) {
+        telling.tell_open(self.address.as_str(), position);
+        self.is_broken.take();
+        let same = SameEnd(Snapshot::of(&receiver));
+        match thread::spawn_with(rt, same, move || receiver.run(alloc, theirs, decoder)) {
             Ok(child) => {
-                let (own, has_sent, why) = own.send_all(rt, alloc, &mut &*stream);
+                let (has_sent, why) = self.send_on(rt, alloc, &stream);
                 let _ = stream.shutdown(Shutdown::Both);
-                let address = own.address.as_str();
-                let reached = own.outgoing.known();
+                let address = self.address.as_str();
+                let reached = self.outgoing.known();
                 let got_on = reached > known;
-                telling.log.say(News::LinkLost { address, why });
                 let is_refused = has_sent && !got_on && why.is_by_peer();
+                let is_new = is_refused && position == 0 && known > 0;
+                telling.tell_lost(rt, News::LinkLost { address, why }, is_new, address);
                 telling
-                    .unanswered
+                    .refused
                     .note(rt, &mut telling.log, address, reached, is_refused);
-                (own, child.join(rt), got_on)
+                (child.join(rt), got_on)
             }
             Err(error) => {
                 // where the connection has ended, the receiver comes back at once
                 let _ = stream.shutdown(Shutdown::Both);
                 telling.log.say(News::LinkLost {
-                    address: own.address.as_str(),
+                    address: self.address.as_str(),
                     why: Lost::Refused(Refusal::Memory),
                 });
-                (own, (error.value)(), false)
+                ((error.value)(), false)
             }
         }
+    }
+
+    /// Sends what is due until the link breaks. Answers whether it sent something, and why it ended.
+    fn send_on<R: Wait + Clock>(
+        &mut self,
+        rt: &R,
+        alloc: Global,
+        stream: &TcpStream,
+    ) -> (bool, Lost)
+        ensures { (self.new.outgoing.link).epoch ≡ (self.old.outgoing.link).epoch }
+    {
+        let around = Surroundings {
+            is_broken: &self.is_broken,
+            sleeper: &self.sleeper,
+            node: &self.node,
+            spin: self.spin,
+        };
+        send_all(
+            rt,
+            alloc,
+            &mut self.outgoing,
+            &mut self.marks,
+            &mut self.groups,
+            around,
+            &mut &*stream,
+        )
     }
 
     /// Opens a link: the standby says first where it is, which counts as any other acknowledgement.
@@ -194,91 +286,24 @@ impl LinkSender {
         &mut self,
         rt: &R,
         alloc: Global,
-        receiver: AckReceiver,
-    ) -> (AckReceiver, Result<Opened, Lost>)
-        ensures stays { StaysFinal receiver.mark result.0.mark }
-        ensures behind { OnOk result.1 (receiver.mark.standing ≡ Behind) }
+        receiver: &mut AckReceiver,
+    ) -> Result<Opened, Lost>
+        ensures epoch { AreOfOneEpoch self.old receiver.old → AreOfOneEpoch self.new receiver.new }
+        ensures stays { StaysFinal receiver.old receiver.new }
+        ensures behind { OnOk result (receiver.old.standing ≡ Behind) }
+        ensures opened { IfOk result (λ opened. (ack : Told) × (opened.position ≡ ack.position) × Opens ack receiver.old receiver.new self.old.outgoing self.new.outgoing) }
     {
         let Ok(stream) = dial(rt, &self.address) else {
-            return (receiver, Err(Lost::Unreachable));
+            return Err(Lost::Unreachable);
         };
-        let Some((ack, decoder)) = read_opening(alloc, &mut &stream) else {
-            return (receiver, Err(Lost::Silent));
+        let opened = open_link(alloc, &mut self.outgoing, receiver, &mut &stream);
+        let (position, decoder) = match opened {
+            Ok(opened) => opened,
+            Err(why) => return Err(why),
         };
-        let (receiver, heard) = receiver.hear(ack);
-        if let Err(refusal) = heard {
-            return (receiver, Err(Lost::Refused(refusal)));
-        }
-        if let Err(refusal) = self.outgoing.open_at(alloc, ack.position()) {
-            return (receiver, Err(Lost::Refused(refusal)));
-        }
-        match share(alloc, stream, decoder, ack.position()) {
-            Ok(opened) => (receiver, Ok(opened)),
-            Err(_) => (receiver, Err(Lost::Ended)),
-        }
-    }
-
-    /// Sends what is due until the link breaks. Answers whether it sent something, and why it ended.
-    fn send_all<R: Wait + Clock, O: Write>(
-        self,
-        rt: &R,
-        alloc: Global,
-        to: &mut O,
-    ) -> (LinkSender, bool, Lost) {
-        let mut own = self;
-        let mut idle = Idle::new(own.spin);
-        let mut has_sent = false;
-        let mut out = Vec::new(alloc);
-        if let Err(refusal) = own.outgoing.put_delta(&mut out) {
-            return (own, has_sent, Lost::Refused(refusal));
-        }
-        for _ in rt.forever() {
-            if own.is_broken.is_set() {
-                return (own, has_sent, Lost::Ended);
-            }
-            own = own.note_acknowledged(alloc);
-            if let Err(refusal) = own.outgoing.put_frames(alloc, &mut own.groups, &mut out) {
-                return (own, has_sent, Lost::Refused(refusal));
-            }
-            if out.is_empty() {
-                idle.wait(rt, &own.sleeper);
-            } else {
-                // the groups were taken, so there is room for more, whatever becomes of the frames
-                own.node.ring();
-                has_sent = true;
-                if to.write_all(&out).is_err() {
-                    return (own, has_sent, Lost::Unwritten);
-                }
-                out.clear();
-                idle.busy();
-            }
-        }
-        (own, has_sent, Lost::Ended)
-    }
-
-    /// Lets the frames go that the standby has acknowledged.
-    fn note_acknowledged(self, alloc: Global) -> LinkSender {
-        let LinkSender {
-            address,
-            mut outgoing,
-            groups,
-            sleeper,
-            node,
-            is_broken,
-            watch,
-            spin,
-        } = self;
-        let (watch, remote) = watch.remote();
-        outgoing.note(alloc, remote);
-        LinkSender {
-            address,
-            outgoing,
-            groups,
-            sleeper,
-            node,
-            is_broken,
-            watch,
-            spin,
+        match share(alloc, stream, decoder, position) {
+            Ok(opened) => Ok(opened),
+            Err(_) => Err(Lost::Ended),
         }
     }
 }
@@ -310,7 +335,10 @@ fn dial<R: Net<Stream = TcpStream>>(rt: &R, address: &String) -> io::Result<TcpS
 }
 
 /// The connection for two threads. An acknowledgement may come at any time from now on.
-fn share(alloc: Global, stream: TcpStream, decoder: Decoder, position: u64) -> io::Result<Opened> {
+fn share(alloc: Global, stream: TcpStream, decoder: Decoder, position: u64) -> io::Result<Opened>
+    ensures position { IfOk result (λ opened. opened.position ≡ position) }
+    ensures decoder { IfOk result (λ opened. opened.decoder ≡ decoder) }
+{
     stream.set_read_timeout(None)?;
     let stream = Arc::new(alloc, stream)?;
     let theirs = Arc::try_clone(&stream)?;

@@ -1,23 +1,27 @@
 -- A released call was covered at one moment since it was made: when the first byte of its reply was written.
-use Rattle.std.proofs.Common.{◌≡◌, ◌⊎◌, ℕ, ◌<◌, Bool, true, false, List, [], ◌∷◌, ◌++◌, length, refl, sym, ap, subst, ◌∙◌, arith, append_assoc, inl, inr}
+use Rattle.std.proofs.Common.{◌≡◌, ◌⊎◌, ℕ, ◌<◌, Bool, true, false, List, [], ◌∷◌, ◌++◌, length, map, refl, sym, ap, subst, ◌∙◌, arith, append_assoc, inl, inr}
 use Rattle.std.proofs.lemmas.Bool.{cases_eq}
 use Rattle.model.specs.declared.call.Call.{Call}
-use Rattle.model.specs.Call.{IsPrefix, replies_to}
+use Rattle.model.specs.Call.{IsPrefix, cut_at, replies_to}
 use Rattle.model.proofs.CallsLemmas.{IsPrefix-cut_at}
 use Rattle.model.proofs.PrefixLemmas.{IsPrefix-itself, IsPrefix-none, IsPrefix-cons, IsPrefix-length, IsPrefix-of_append}
 use Rattle.model.proofs.ServesLemmas.{IsPrefix-replies_to}
+use Rattle.machine.specs.declared.event.Cut.{Cut}
+use Rattle.machine.specs.declared.event.Cut.TheVariants as cut
+use Rattle.machine.specs.declared.event.Node.{Node}
 use Rattle.machine.specs.declared.event.Node.TheVariants as nodes
 use Rattle.machine.specs.declared.event.Event.{Event}
-use Rattle.machine.specs.declared.event.Event.TheVariants.{Enter, Feed, Offer, Turn, CloseGroup, Apply, Hold, Read, Release, Write, Leave, Crash, Reopen}
+use Rattle.machine.specs.declared.event.Event.TheVariants.{Enter, Feed, Offer, Turn, CloseGroup, Apply, Commit, Free, ClearGap, Hold, Read, Release, Write, Leave, FailFence, Crash, Reopen, Fence, Promote}
 use Rattle.machine.specs.declared.event.Mark.{Mark}
 use Rattle.machine.specs.declared.event.Mark.TheVariants.{Local, Remote}
-use Rattle.machine.specs.Event.{Connection, World, is_open, changed_at, with_inbound, with_outbound, with_connections, on_inbound, with_call, fed_with, offered_next, taken_first, held_first, having_read, having_released, written, left, may_happen, Happens, Step, Run, start_with, last_world}
+use Rattle.machine.specs.Event.{Connection, Remains, At, AsPrimary, World, get_connection, crashed, promoted, OpensPrimary, Fails, is_open, changed_at, with_inbound, with_outbound, with_connections, on_inbound, with_call, fed_with, offered_next, taken_first, held_first, having_read, having_released, written, left, may_happen, Happens, Step, Run, start_with, last_world}
 use Rattle.machine.specs.Promise.{SomeWorld, HasMarks, IsReleased, released_in}
 use Rattle.machine.specs.Sound.{Sound}
 use Rattle.machine.proofs.ConnectionLemmas.{get-changed_other, get-entered, same-changed}
 use Rattle.machine.proofs.CrashLemmas.{get-over}
 use Rattle.machine.proofs.SoundConnection.{both}
 use Rattle.machine.proofs.WorkLemmas.{closes-queues}
+use Rattle.machine.proofs.StandingLemmas.{Rests, rests-Fails, rests-Fence, rests-asked}
 use Rattle.machine.proofs.SoundEvents.{enabled-may, sound-step}
 use Rattle.machine.proofs.RunLemmas.{sound-start}
 use Rattle.machine.proofs.PromiseLemmas.{released-begins, released-covered}
@@ -42,6 +46,37 @@ changed : (c d : ℕ) (old new : World) (change : Connection → Connection) →
 changed c d old new change keeps now =
     subst (Unwritten c old) (sym now) (record { calls = inl (IsPrefix-itself _); released = same-changed (λ connection. connection.outbound.released) d change old.primary.connections keeps c })
 
+unwritten-rests : (c : ℕ) (w new : World) → Rests w new → Unwritten c w new
+unwritten-rests c w new rests =
+    record {
+      calls = subst (Moved w.primary.calls) (sym rests.calls) (inl (IsPrefix-itself w.primary.calls));
+      released = ap (λ connections. (get_connection connections c).outbound.released) rests.connections;
+    }
+
+-- the list is cut, and all connections are over
+unwritten-over : (c position : ℕ) (w new : World) → new.primary.calls ≡ cut_at w.primary.calls position → new.primary.connections ≡ map left w.primary.connections → Unwritten c w new
+unwritten-over c position w new calls connections =
+    record {
+      calls = subst (Moved w.primary.calls) (sym calls) (inr (IsPrefix-cut_at w.primary.calls position));
+      released = ap (λ connections. (get_connection connections c).outbound.released) connections ∙ ap (λ (connection : Connection). connection.outbound.released) (get-over w.primary.connections c);
+    }
+
+unwritten-promoted : (c : ℕ) (w : World) → Unwritten c w (promoted w)
+unwritten-promoted c w = unwritten-over c w.standby.position w (promoted w) refl refl
+
+unwritten-crashed : (c : ℕ) (w : World) (node : Node) (remain : Remains) → Unwritten c w (crashed node remain w)
+unwritten-crashed c w nodes.Primary (At position) = unwritten-over c position w (crashed nodes.Primary (At position) w) refl refl
+unwritten-crashed c w nodes.Primary AsPrimary = unchanged c w
+unwritten-crashed c w nodes.Standby (At position) = search (unchanged c w)
+unwritten-crashed c w nodes.Standby AsPrimary = unwritten-promoted c w
+
+-- a primary's image that is opened
+unwritten-opens : {made : ℕ} (c : ℕ) (old w new : World) → OpensPrimary made w new → Unwritten c old w → Unwritten c old new
+unwritten-opens c old w new opens unwritten = subst (Unwritten c old) (sym opens.now) (search unwritten)
+
+unwritten-fails : (c : ℕ) (w new : World) (node : Node) (call : Cut) → Fails w node call new → Unwritten c w new
+unwritten-fails c w new node call fails = unwritten-rests c w new (rests-Fails w new node call fails)
+
 keeps-read : (mark : Mark) (w : World) (connection : Connection) → (with_outbound (having_read mark w) connection).outbound.released ≡ connection.outbound.released
 keeps-read Local w connection = refl
 keeps-read Remote w connection = refl
@@ -63,7 +98,11 @@ writes-happens w (Turn d) new c e h =
           ∙ same-changed (λ connection. connection.outbound.released) d (with_inbound taken_first) w.primary.connections (λ connection. refl) c;
     }))
 writes-happens w CloseGroup new c e h = inl (subst (Unwritten c w) (sym (closes-queues w new h).now) (search (unchanged c w)))
-writes-happens w Apply new c e h = inl (subst (Unwritten c w) (sym h.now) (search (unchanged c w)))
+writes-happens w Commit new c e h = elim h [ inl now ↦ inl (subst (Unwritten c w) (sym now) (search (unchanged c w))) | inr fails ↦ inl (unwritten-fails c w new nodes.Primary cut.Commit fails) ]
+writes-happens w Free new c e h = elim h [ inl now ↦ inl (subst (Unwritten c w) (sym now) (search (unchanged c w))) | inr fails ↦ inl (unwritten-fails c w new nodes.Primary cut.Free fails) ]
+writes-happens w ClearGap new c e h = elim h [ inl now ↦ inl (subst (Unwritten c w) (sym now) (search (unchanged c w))) | inr fails ↦ inl (unwritten-fails c w new nodes.Primary cut.ClearGap fails) ]
+writes-happens w Apply new c e h =
+    elim h [ inl applies ↦ inl (subst (Unwritten c w) (sym applies.now) (search (unchanged c w))) | inr fails ↦ inl (unwritten-fails c w new nodes.Standby cut.Apply fails) ]
 writes-happens w (Hold d) new c e h = inl (changed c d w new (with_outbound held_first) (λ connection. refl) h)
 writes-happens w (Read d mark) new c e h = inl (changed c d w new (with_outbound (having_read mark w)) (keeps-read mark w) h)
 writes-happens w (Release d) new c e h = inl (changed c d w new (with_outbound having_released) (λ connection. refl) h)
@@ -82,12 +121,14 @@ writes-happens w (Write d n) new c e h =
       })
     ]
 writes-happens w (Leave d) new c e h = inl (changed c d w new left (λ connection. refl) h)
-writes-happens w (Crash nodes.Primary picks) new c e h =
-    inl (subst (Unwritten c w) (sym h) (record {
-      calls = inr (IsPrefix-cut_at w.primary.calls w.primary.committer.position);
-      released = ap (λ (connection : Connection). connection.outbound.released) (get-over w.primary.connections c);
-    }))
-writes-happens w (Reopen nodes.Primary) new c e h = inl (subst (Unwritten c w) (sym h.1) (search (unchanged c w)))
+writes-happens w (FailFence node n) new c e h = inl (unwritten-rests c w new (rests-asked w new node n h))
+writes-happens w (Crash node call k picks) new c e h = inl (subst (Unwritten c w) (sym h.now) (unwritten-crashed c w node h.remain))
+writes-happens w (Reopen nodes.Primary) new c e h = elim h [ inl opens ↦ inl (unwritten-opens c w w new opens (unchanged c w)) | inr fails ↦ inl (unwritten-fails c w new nodes.Primary cut.Reopen fails) ]
+writes-happens w (Reopen nodes.Standby) new c e h =
+    elim h [ inl now ↦ inl (subst (Unwritten c w) (sym now) (search (unchanged c w))) | inr fails ↦ inl (unwritten-fails c w new nodes.Standby cut.Reopen fails) ]
+writes-happens w Fence new c e h = inl (unwritten-rests c w new (rests-Fence w new h))
+writes-happens w Promote new c e h =
+    elim h [ inl opens ↦ inl (unwritten-opens c w (promoted w) new opens (unwritten-promoted c w)) | inr fails ↦ inl (unwritten-fails c w new nodes.Standby cut.Promote fails) ]
 writes-happens w event new c e h = inl (subst (Unwritten c w) (sym h) (search (unchanged c w)))
 
 -- ---- what was released before
@@ -148,10 +189,10 @@ no-call : (prefix : List Call) (call : Call) (rest : List Call) → [] ≡ prefi
 no-call [] call rest e = cc
 no-call (x ∷ prefix) call rest e = cc
 
-pub covered-run : (restarts : Bool) (events : List Event) (done : List Bool) (worlds : List World) → Run (start_with restarts) events done worlds → (prefix : List Call) (call : Call)
-    → let last = last_world (start_with restarts) worlds in IsReleased last.primary.calls (released_in last) prefix call → SomeWorld (HasMarks prefix call) (start_with restarts ∷ worlds)
-covered-run restarts events done worlds run prefix call released =
-    elim (covered-from (start_with restarts) events done worlds run (sound-start restarts) prefix call released) [
+pub covered-run : (restarts failovers : Bool) (events : List Event) (done : List Bool) (worlds : List World) → Run (start_with restarts failovers) events done worlds → (prefix : List Call) (call : Call)
+    → let last = last_world (start_with restarts failovers) worlds in IsReleased last.primary.calls (released_in last) prefix call → SomeWorld (HasMarks prefix call) (start_with restarts failovers ∷ worlds)
+covered-run restarts failovers events done worlds run prefix call released =
+    elim (covered-from (start_with restarts failovers) events done worlds run (sound-start restarts failovers) prefix call released) [
       | inl some ↦ some
       | inr before ↦ absurd (no-call prefix call before.rest before.stands)
     ]

@@ -1,5 +1,5 @@
 -- Every run keeps the promise; and the laws of every run, from what holds between any two events.
-use Rattle.std.proofs.Common.{ℕ, Bool, List, refl, ap, ◌∙◌, arith, ◌≡◌, ◌+◌, ◌<◌, ◌≤◌, true, false, ◌&&◌, ◌||◌, cond, nat_lt, [], ◌∷◌, ◌++◌, length, take, sym, subst, append_assoc, le-ltb, inl, inr}
+use Rattle.std.proofs.Common.{ℕ, Bool, List, refl, ap, ◌∙◌, arith, ◌≡◌, ◌+◌, ◌<◌, ◌≤◌, true, false, ◌&&◌, ◌||◌, not, cond, nat_lt, [], ◌∷◌, ◌++◌, length, take, sym, subst, append_assoc, le-ltb, inl, inr}
 use Rattle.std.proofs.Common.{Option, Some, None, slice_get}
 use mathlib.Core.Path.{fun_ext}
 use Rattle.kv_types.specs.declared.limits.TheConstants.{REQUEST_LIMITS}
@@ -7,75 +7,80 @@ use Rattle.kv_types.specs.Reading.{items_at}
 use Rattle.model.specs.declared.call.Call.{Call}
 use Rattle.model.specs.Call.{Serves, is_nonempty, state_after, position_of}
 use Rattle.machine.specs.declared.event.Event.{Event}
-use Rattle.machine.specs.Event.{World, is_open, Run, start_with, last_world, asked, Span, Frame, Acknowledgement, Link, next_to_send, told, nodes_run, may_happen, is_enabled, Happens}
+use Rattle.machine.specs.Event.{World, Connection, Life, Retired, Remains, At, AsPrimary, is_open, Run, start_with, last_world, asked, Span, Frame, Acknowledgement, Link, next_to_send, told, nodes_run, may_happen, may_cut, is_between, is_enabled, is_retired, is_running, crashed, promoted, Fails, OpensPrimary, with_primary, Happens}
 use Rattle.machine.specs.Event.{Step}
 use Rattle.machine.specs.Promise.{Tells, IsPromised, EveryRunIsPromised, fed_to, SomeWorld, HasMarks}
 use Rattle.machine.proofs.GroupLemmas.{chain-le, frames_within-weaker}
-use Rattle.machine.proofs.SoundEvents.{sound-items, sent-marks}
-use Rattle.machine.proofs.RunLemmas.{sound-run}
+use Rattle.machine.proofs.SoundEvents.{enabled-may, sound-items, sent-marks}
+use Rattle.machine.proofs.RunLemmas.{sound-run, sound-start}
 use Rattle.machine.proofs.FedLemmas.{fed-run}
 use Rattle.machine.proofs.PromiseLemmas.{released-begins, released-held}
 use Rattle.machine.proofs.CoverLemmas.{covered-run}
 use Rattle.std.proofs.lemmas.Bool.{lt-ltb}
 use Rattle.std.proofs.lemmas.List.Elements.{All-weaker}
 use Rattle.model.specs.State.{start_state}
-use Rattle.machine.specs.declared.event.Event.TheVariants.{Turn, CloseGroup, Send, Deliver, Apply, AckDelivered, RaiseRemote, Crash, Reopen}
+use Rattle.machine.specs.declared.event.Event.TheVariants.{Turn, CloseGroup, Commit, Free, ClearGap, OpenLink, Send, Deliver, Apply, AckDelivered, RaiseRemote, FailFence, Crash, Reopen, Fence, Promote}
 use Rattle.machine.specs.declared.event.TheConstants.{KEPT_GROUPS}
-use Rattle.machine.specs.Sound.{IsFrameWithin, IsToldWithin, Sound, answers_from}
-use Rattle.machine.specs.Law.{IsInOrder, FramesAreCommitted, AnswersBearPositions, RaisesNoRemote, NothingIsReleasedUnacknowledged, OnlyWhatWasMadeIsDelivered, WhoIsBehindGetsADelta}
+use Rattle.machine.specs.Sound.{IsFrameWithin, Sound, answers_from}
+use Rattle.machine.specs.Law.{IsInOrder, IsSucceededBy, NothingHappensFenced, OnlyFencedIsSucceeded, PromotionsSucceed, FramesAreCommitted, AnswersBearPositions, RaisesNoRemote, NothingIsReleasedUnacknowledged, OnlyWhatWasMadeIsDelivered, WhoIsBehindGetsADelta}
 use Rattle.machine.proofs.AnswerLemmas.{answers_from-append, answers_to-push_own}
 use Rattle.machine.proofs.WorkLemmas.{closes-queues}
+use Rattle.machine.specs.declared.event.Cut.{Cut}
+use Rattle.machine.specs.declared.event.Cut.TheVariants as cut
+use Rattle.machine.specs.declared.event.Node.{Node}
 use Rattle.machine.specs.declared.event.Node.TheVariants as nodes
+use Rattle.machine.proofs.StandingLemmas.{Rests, rests-Fails, rests-Fence, rests-asked}
+use Rattle.machine.proofs.CrashLemmas.{all-over, get-over}
+use Rattle.machine.proofs.SoundConnection.{both, both_ways}
+use Rattle.machine.proofs.GrowLemmas.{released-stays}
 
-pub serves-run : (restarts : Bool) (events : List Event) (done : List Bool) (worlds : List World) → Run (start_with restarts) events done worlds → Serves (λ c. items_at REQUEST_LIMITS (fed_to c events done)) (last_world (start_with restarts) worlds).primary.calls
-serves-run restarts events done worlds run = λ c.
-    let w = last_world (start_with restarts) worlds in
-    let prefix = sound-items w (sound-run restarts events done worlds run) c in
-    record { rest = prefix.rest; joined = prefix.joined ∙ ap asked (fed-run restarts events done worlds c run) }
+pub serves-run : (restarts failovers : Bool) (events : List Event) (done : List Bool) (worlds : List World) → Run (start_with restarts failovers) events done worlds → Serves (λ c. items_at REQUEST_LIMITS (fed_to c events done)) (last_world (start_with restarts failovers) worlds).primary.calls
+serves-run restarts failovers events done worlds run = λ c.
+    let w = last_world (start_with restarts failovers) worlds in
+    let prefix = sound-items w (sound-run restarts failovers events done worlds run) c in
+    record { rest = prefix.rest; joined = prefix.joined ∙ ap asked (fed-run restarts failovers events done worlds c run) }
 
 pub every_run_is_promised : EveryRunIsPromised
-every_run_is_promised restarts events done worlds run =
-    let w = last_world (start_with restarts) worlds in
-    let s = sound-run restarts events done worlds run in
+every_run_is_promised restarts failovers events done worlds run =
+    let w = last_world (start_with restarts failovers) worlds in
+    let s = sound-run restarts failovers events done worlds run in
     record {
       worlds = worlds;
       run = run;
       tells = record { list = refl; bytes = λ c. refl; primary_position = refl; standby_position = refl };
       legal = s.legal;
-      serves = serves-run restarts events done worlds run;
+      serves = serves-run restarts failovers events done worlds run;
       begins = released-begins w s;
-      covered = covered-run restarts events done worlds run;
+      covered = covered-run restarts failovers events done worlds run;
+      stays = λ prefix call some. released-stays (start_with restarts failovers) events done worlds prefix call run (sound-start restarts failovers) some;
       held = λ prefix call released. (released-held w s prefix call released).1;
       behind = omega (arith, s.standby.behind, chain-le _ _ _ s.link.waiting);
       within = omega (arith, s.committer.closed, chain-le _ _ _ s.committer.waiting);
     }
 
 -- the promise of whatever tells the last world of a run
-pub promised-told : (restarts : Bool) (events : List Event) (done : List Bool) (worlds : List World) (calls : List Call) (released : ℕ → List ℕ) (primary standby : ℕ) → Run (start_with restarts) events done worlds
-    → Tells (last_world (start_with restarts) worlds) calls released primary standby → IsPromised restarts events done calls released primary standby
-promised-told restarts events done worlds calls released primary standby run tells =
-    rw (tells.list, fun_ext tells.bytes, tells.primary_position, tells.standby_position) (every_run_is_promised restarts events done worlds run)
+pub promised-told : (restarts failovers : Bool) (events : List Event) (done : List Bool) (worlds : List World) (calls : List Call) (released : ℕ → List ℕ) (primary standby : ℕ) → Run (start_with restarts failovers) events done worlds
+    → Tells (last_world (start_with restarts failovers) worlds) calls released primary standby → IsPromised restarts failovers events done calls released primary standby
+promised-told restarts failovers events done worlds calls released primary standby run tells =
+    rw (tells.list, fun_ext tells.bytes, tells.primary_position, tells.standby_position) (every_run_is_promised restarts failovers events done worlds run)
 
 -- ---- the laws
 
 pub in_order : (w : World) → Sound w → IsInOrder w
 in_order w s =
-    let kept = All-weaker (IsToldWithin w.primary.epoch w.standby.position) in
     search (
       arith,
       chain-le _ _ _ s.committer.waiting,
       chain-le _ _ _ s.link.waiting,
-      kept (λ (ack : Acknowledgement). ack.position ≤ w.standby.position) (λ ack h. h.within) w.wire.acknowledgements s.wire.acknowledged,
-      All-weaker (IsFrameWithin w.primary.epoch s.sent) (λ (frame : Frame). frame.epoch ≡ w.primary.epoch) (λ frame h. h.epoch_is) w.wire.frames s.wire.frames,
-      kept (λ (ack : Acknowledgement). ack.epoch ≡ w.primary.epoch) (λ ack h. h.epoch_is) w.wire.acknowledgements s.wire.acknowledged,
+      All-weaker (IsFrameWithin w.primary.epoch s.sent) (λ (frame : Frame). frame.epoch ≤ w.primary.epoch) (λ frame h. h.epoch_is) w.wire.frames s.wire.frames,
       λ (c : ℕ) (is_one : is_open w c ≡ true). (s.outbound c is_one).local_read,
       λ (c : ℕ) (is_one : is_open w c ≡ true). (s.outbound c is_one).remote_read,
     )
 
 pub frames_are_committed : FramesAreCommitted
-frames_are_committed restarts events done worlds run =
-    let w = last_world (start_with restarts) worlds in
-    let s = sound-run restarts events done worlds run in
+frames_are_committed restarts failovers events done worlds run =
+    let w = last_world (start_with restarts failovers) worlds in
+    let s = sound-run restarts failovers events done worlds run in
     let le = chain-le _ _ _ s.link.waiting in
     (frames_within-weaker w.primary.epoch s.sent w.primary.committer.position w.wire.frames le s.wire.frames, frames_within-weaker w.primary.epoch s.sent w.primary.committer.position w.standby.waiting le s.standby.frames)
 
@@ -94,17 +99,36 @@ told-remote : (epoch own : ℕ) (ack : Option Acknowledgement) (link : Link) →
 told-remote epoch own None link = refl
 told-remote epoch own (Some ack) link = grind arith
 
+remote-rests : (w new : World) → Rests w new → new.primary.link.remote ≤ w.primary.link.remote
+remote-rests w new rests = omega (arith, ap (λ (x : Link). x.remote) rests.link)
+
+remote-fails : (w new : World) (node : Node) (call : Cut) → Fails w node call new → new.primary.link.remote ≤ w.primary.link.remote
+remote-fails w new node call fails = remote-rests w new (rests-Fails w new node call fails)
+
+remote-crashed : (w : World) (node : Node) (remain : Remains) → (crashed node remain w).primary.link.remote ≤ w.primary.link.remote
+remote-crashed w nodes.Primary (At position) = omega arith
+remote-crashed w nodes.Primary AsPrimary = omega arith
+remote-crashed w nodes.Standby (At position) = omega arith
+remote-crashed w nodes.Standby AsPrimary = omega arith
+
 -- no other event raises the remote mark
 remote-happens : (w : World) (event : Event) (new : World) → RaisesNoRemote (event ∷ []) (true ∷ []) → Happens w event new → new.primary.link.remote ≤ w.primary.link.remote
 remote-happens w (Turn c) new none h = omega (arith, ap (λ x. x.primary.link.remote) h.now)
 remote-happens w CloseGroup new none h = omega (arith, ap (λ x. x.primary.link.remote) (closes-queues w new h).now)
 remote-happens w Send new none h = omega (arith, ap (λ x. x.primary.link.remote) h ∙ (sent-marks w.primary.link.delta w.primary.link).1)
-remote-happens w Apply new none h = omega (arith, ap (λ x. x.primary.link.remote) h.now)
+remote-happens w Commit new none h = elim h [ inl now ↦ omega (arith, ap (λ x. x.primary.link.remote) now) | inr fails ↦ remote-fails w new nodes.Primary cut.Commit fails ]
+remote-happens w Free new none h = elim h [ inl now ↦ omega (arith, ap (λ x. x.primary.link.remote) now) | inr fails ↦ remote-fails w new nodes.Primary cut.Free fails ]
+remote-happens w ClearGap new none h = elim h [ inl now ↦ omega (arith, ap (λ x. x.primary.link.remote) now) | inr fails ↦ remote-fails w new nodes.Primary cut.ClearGap fails ]
+remote-happens w Apply new none h = elim h [ inl applies ↦ omega (arith, ap (λ x. x.primary.link.remote) applies.now) | inr fails ↦ remote-fails w new nodes.Standby cut.Apply fails ]
 remote-happens w (AckDelivered a) new none h =
     omega (arith, ap (λ x. x.primary.link.remote) h ∙ told-remote w.primary.epoch w.primary.committer.position (slice_get w.wire.acknowledgements a) w.primary.link)
 remote-happens w RaiseRemote new none h = absurd none
-remote-happens w (Crash nodes.Primary picks) new none h = omega (arith, ap (λ x. x.primary.link.remote) h)
-remote-happens w (Reopen nodes.Primary) new none h = omega (arith, ap (λ x. x.primary.link.remote) h.1)
+remote-happens w (FailFence node n) new none h = remote-rests w new (rests-asked w new node n h)
+remote-happens w (Crash node call k picks) new none h = omega (arith, ap (λ x. x.primary.link.remote) h.now, remote-crashed w node h.remain)
+remote-happens w (Reopen nodes.Primary) new none h = elim h [ inl opens ↦ omega (arith, ap (λ x. x.primary.link.remote) opens.now) | inr fails ↦ remote-fails w new nodes.Primary cut.Reopen fails ]
+remote-happens w (Reopen nodes.Standby) new none h = elim h [ inl now ↦ omega (arith, ap (λ x. x.primary.link.remote) now) | inr fails ↦ remote-fails w new nodes.Standby cut.Reopen fails ]
+remote-happens w Fence new none h = remote-rests w new (rests-Fence w new h)
+remote-happens w Promote new none h = elim h [ inl opens ↦ omega (arith, ap (λ x. x.primary.link.remote) opens.now) | inr fails ↦ remote-fails w new nodes.Standby cut.Promote fails ]
 remote-happens w event new none h = omega (arith, ap (λ x. x.primary.link.remote) h)
 
 raises-parts : (event : Event) (did : Bool) (events : List Event) (done : List Bool) → RaisesNoRemote (event ∷ events) (did ∷ done) → RaisesNoRemote (event ∷ []) (did ∷ []) × RaisesNoRemote events done
@@ -129,8 +153,8 @@ low-marks w (event ∷ events) (did ∷ done) (new ∷ worlds) prefix call run n
 low-marks w events done worlds prefix call run none some = absurd run
 
 pub nothing_is_released_unacknowledged : NothingIsReleasedUnacknowledged
-nothing_is_released_unacknowledged restarts events done worlds run none prefix call released =
-    omega (arith, low-marks (start_with restarts) events done worlds prefix call run none (covered-run restarts events done worlds run prefix call released))
+nothing_is_released_unacknowledged restarts failovers events done worlds run none prefix call released =
+    omega (arith, low-marks (start_with restarts failovers) events done worlds prefix call run none (covered-run restarts failovers events done worlds run prefix call released))
 
 -- ---- what was not made
 
@@ -160,3 +184,71 @@ who_is_behind_gets_a_delta old new step behind =
     let delta : Span = record { before = position; after = opened } in
     subst (λ (w : World). (next_to_send w.primary.link ≡ delta ∷ []) × (may_happen w Send ≡ true)) (sym (step.happens refl))
     (delta-first position opened link (is_nonempty link.kept || (is_nonempty link.waiting && nat_lt (length link.kept) KEPT_GROUPS)) behind)
+
+-- ---- fenced failover
+
+-- a primary that was fenced does not run
+retired-stands : (life : Life) → is_retired life ≡ true → is_running life ≡ false
+retired-stands Retired e = refl
+retired-stands _ e = cc
+
+-- nor is it in any condition in which a crash may come to it
+retired-uncut : (w : World) (call : Cut) → is_retired w.primary.life ≡ true → may_cut w nodes.Primary call ≡ false
+retired-uncut w call e = none w.primary.life call e w
+  where
+    none : (life : Life) (call : Cut) → is_retired life ≡ true → (w : World) → may_cut (with_primary (record w.primary { life = life }) w) nodes.Primary call ≡ false
+    none Retired cut.Between e w = refl
+    none Retired cut.Commit e w = refl
+    none Retired cut.Free e w = refl
+    none Retired cut.ClearGap e w = refl
+    none Retired cut.Reopen e w = refl
+    none Retired cut.Apply e w = refl
+    none Retired cut.Promote e w = refl
+    none _ call e w = cc
+
+not-run : (w : World) (event : Event) → nodes_run w event ≡ false → is_enabled w event ≡ false
+not-run w event e = ap (λ b. b && may_happen w event) e
+
+and-false : (b c : Bool) → c ≡ false → (b && c) ≡ false
+and-false true c e = e
+and-false false c e = refl
+
+pub nothing_happens_fenced : NothingHappensFenced
+nothing_happens_fenced w OpenLink fenced other = not-run w OpenLink (ap (λ b. b && is_running w.standby.life) (retired-stands w.primary.life fenced))
+nothing_happens_fenced w (Deliver frame piece) fenced other = cc
+nothing_happens_fenced w Apply fenced other = cc
+nothing_happens_fenced w (FailFence nodes.Primary n) fenced other = not-run w (FailFence nodes.Primary n) (retired-stands w.primary.life fenced)
+nothing_happens_fenced w (FailFence nodes.Standby n) fenced other = cc
+nothing_happens_fenced w (Crash nodes.Primary call k picks) fenced other =
+    let uncut : ((is_between call || w.failovers) && may_cut w nodes.Primary call) ≡ false = and-false (is_between call || w.failovers) _ (retired-uncut w call fenced) in
+    and-false w.restarts ((is_between call || w.failovers) && may_cut w nodes.Primary call) uncut
+nothing_happens_fenced w (Crash nodes.Standby call k picks) fenced other = cc
+nothing_happens_fenced w (Reopen nodes.Primary) fenced other = and-false w.restarts _ (retired-uncut w cut.Reopen fenced)
+nothing_happens_fenced w (Reopen nodes.Standby) fenced other = cc
+nothing_happens_fenced w Fence fenced other = and-false w.failovers _ (ap not fenced)
+nothing_happens_fenced w Promote fenced other = cc
+nothing_happens_fenced w event fenced other = not-run w event (retired-stands w.primary.life fenced)
+
+pub only_fenced_is_succeeded : OnlyFencedIsSucceeded
+only_fenced_is_succeeded w unfenced = not-enabled w Promote (and-false w.failovers _ unfenced)
+
+succeeded-by : (w : World) → Sound w → (new : World) → OpensPrimary 0 (promoted w) new → IsSucceededBy w new
+succeeded-by w s new opens =
+    subst (IsSucceededBy w) (sym opens.now) (record {
+      calls = refl;
+      position = refl;
+      local = refl;
+      remote = refl;
+      epoch = ap (λ n. n + 1) s.standby.epoch_is;
+      over = all-over w.primary.connections;
+      released = λ c. ap (λ (connection : Connection). connection.outbound.released) (get-over w.primary.connections c);
+    })
+
+pub promotions_succeed : PromotionsSucceed
+promotions_succeed restarts failovers events done worlds run new step runs =
+    let w = last_world (start_with restarts failovers) worlds in
+    let fenced = (both w.failovers (is_retired w.primary.life) (enabled-may w Promote (sym step.done))).1 in
+    elim (step.happens refl) [
+      | inl opens ↦ succeeded-by w (sound-run restarts failovers events done worlds run) new opens
+      | inr fails ↦ absurd (both_ways (is_running new.primary.life) runs (ap (λ (x : World). is_running x.primary.life) fails.now ∙ retired-stands w.primary.life fenced))
+    ]

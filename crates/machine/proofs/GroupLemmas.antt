@@ -59,13 +59,19 @@ IsGroupWithin-weaker le g = record { rising = g.rising; within = omega (arith, g
 
 pub frames_within-weaker : (epoch low high : ℕ) (frames : List Frame) → low ≤ high → All (IsFrameWithin epoch low) frames → All (IsFrameWithin epoch high) frames
 frames_within-weaker epoch low high frames le all =
-    All-weaker (IsFrameWithin epoch low) (IsFrameWithin epoch high) (λ frame h. record { epoch_is = h.epoch_is; span = IsGroupWithin-weaker le h.span }) frames all
+    All-weaker (IsFrameWithin epoch low) (IsFrameWithin epoch high) (λ frame h. record { epoch_is = h.epoch_is; span = λ same. IsGroupWithin-weaker le (h.span same) }) frames all
+
+-- those of earlier epochs are of earlier ones than any later epoch
+pub frames-earlier : (epoch low later high : ℕ) (frames : List Frame) → epoch < later → All (IsFrameWithin epoch low) frames → All (IsFrameWithin later high) frames
+frames-earlier epoch low later high frames lt all =
+    All-weaker (IsFrameWithin epoch low) (IsFrameWithin later high)
+    (λ frame h. record { epoch_is = omega (arith, h.epoch_is, lt); span = λ same. absurd (omega (arith, h.epoch_is, lt, same)) }) frames all
 
 -- the frames of groups
 pub framed-within : (epoch position : ℕ) (groups : List Span) → All (IsGroupWithin position) groups → All (IsFrameWithin epoch position) (framed epoch groups)
 framed-within epoch position groups all =
     All-map (IsFrameWithin epoch position) (λ group. record { epoch = epoch; span = group }) groups
-    (All-weaker (IsGroupWithin position) (λ group. IsFrameWithin epoch position (record { epoch = epoch; span = group })) (λ group h. record { epoch_is = refl; span = h }) groups all)
+    (All-weaker (IsGroupWithin position) (λ group. IsFrameWithin epoch position (record { epoch = epoch; span = group })) (λ group h. record { epoch_is = le_refl epoch; span = λ same. h }) groups all)
 
 -- ---- the link after each event
 

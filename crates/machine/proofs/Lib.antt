@@ -5,8 +5,10 @@ pub mod InboundLemmas
 pub mod OverLemmas
 pub mod CrashLemmas
 pub mod WorkLemmas
+pub mod StandingLemmas
 pub mod StandbyLemmas
 pub mod SoundConnection
+pub mod SureLemmas
 pub mod SoundEvents
 pub mod RunLemmas
 pub mod FedLemmas

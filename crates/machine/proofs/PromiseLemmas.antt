@@ -7,7 +7,7 @@ use Rattle.model.specs.declared.call.Call.{Call}
 use Rattle.model.specs.State.{start_state}
 use Rattle.model.specs.Call.{IsPrefix, position_of, replies_to, state_after}
 use Rattle.model.proofs.PrefixLemmas.{IsPrefix-length, IsPrefix-trans}
-use Rattle.machine.specs.Event.{World, connection_of, is_open, texts_of}
+use Rattle.machine.specs.Event.{World, connection_of, is_open, seen_of, texts_of}
 use Rattle.machine.specs.Promise.{IsReleased, HasMarks, released_in}
 use Rattle.machine.specs.Sound.{IsCoveredBy, IsHeldAt, Sound, answers_from, answers_to}
 use Rattle.machine.proofs.AnswerLemmas.{answers_from-append, answers_to-push_own, texts_of-answers_to, texts_of-append}
@@ -17,7 +17,7 @@ use Rattle.machine.proofs.GroupLemmas.{chain-le}
 -- ---- what was released
 
 -- the replies released are a prefix of all replies: one that begins within their texts is among them
-among : (P : Held → Type 0) (out others prefix : List Held) (reply : Held) (more : List Held) → out ++ others ≡ prefix ++ reply ∷ more → length (texts_of prefix) < length (texts_of out) → All P out → P reply
+pub among : (P : Held → Type 0) (out others prefix : List Held) (reply : Held) (more : List Held) → out ++ others ≡ prefix ++ reply ∷ more → length (texts_of prefix) < length (texts_of out) → All P out → P reply
 among P [] others prefix reply more e lt all = absurd (omega arith)
 among P (x ∷ out) others [] reply more e lt all = let same : x ≡ reply = cc in subst P same (All-head P x out all)
 among P (x ∷ out) others (y ∷ prefix) reply more e lt all =
@@ -55,7 +55,7 @@ released-covered w s prefix call is_one released =
     let c = call.connection in
     let outbound = (connection_of w c).outbound in
     let o = s.outbound c is_one in
-    let covered = released-reply (IsCoveredBy w.primary.committer.local w.primary.link.remote) w prefix call o.out released
+    let covered = released-reply (IsCoveredBy (seen_of w)) w prefix call o.out released
     (record { rest = outbound.held ++ outbound.made; joined = o.replies }) (record { rest = outbound.pending; joined = o.texts }) o.covered in
     record { made = record { rest = released.rest; joined = append_assoc prefix (call ∷ []) released.rest ∙ sym released.stands }; local = covered.on_primary; remote = covered.on_standby }
 

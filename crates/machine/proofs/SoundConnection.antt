@@ -1,6 +1,8 @@
 -- What each event of one connection leaves sound.
-use Rattle.std.proofs.Common.{◌≡◌, ◌≢◌, ℕ, ◌+◌, ◌≤◌, Bool, true, false, ◌&&◌, nat_lt, List, [], ◌∷◌, ◌++◌, length, take, refl, sym, ap, subst, ◌∙◌, arith, le_refl}
+use Rattle.std.proofs.Common.{◌≡◌, ◌≢◌, ℕ, ◌+◌, ◌≤◌, Bool, true, false, ◌&&◌, nat_lt, List, [], ◌∷◌, ◌++◌, length, take, All, refl, sym, ap, subst, ◌∙◌, arith, le_refl}
 use Rattle.std.proofs.lemmas.Bool.{ltb-true}
+use Rattle.std.proofs.lemmas.List.Elements.{All-weaker}
+use Rattle.kv_types.specs.declared.seen.Seen.{Seen}
 use Rattle.model.specs.declared.call.Call.{Call}
 use Rattle.kv_types.specs.declared.item.Item.{Item}
 use Rattle.kv_types.specs.Reading.{items_at}
@@ -8,8 +10,8 @@ use Rattle.model.specs.Call.{IsPrefix, MayReply, is_nonempty, items_of, state_af
 use Rattle.model.proofs.CallsLemmas.{IsLegal-push, position_of-push, position_of_grows}
 use Rattle.machine.specs.declared.event.TheConstants.{SEATS, PIPE_ITEMS, OPEN_CHANGES}
 use Rattle.machine.specs.declared.event.Event.TheVariants.{Enter, Turn, Leave}
-use Rattle.machine.specs.Event.{Inbound, Outbound, Connection, World, no_connection, connection_of, count_open, changed_at, with_inbound, with_outbound, with_connections, on_inbound, on_outbound, asked, is_open, open_changes, has_room, may_happen, entered, with_call, taken_first, with_made, called, left}
-use Rattle.machine.specs.Sound.{SoundInbound, SoundOutbound, SoundOver, Sound}
+use Rattle.machine.specs.Event.{Inbound, Outbound, Connection, Remains, At, AsPrimary, World, torn, no_connection, connection_of, count_open, changed_at, with_inbound, with_outbound, with_connections, on_inbound, on_outbound, asked, is_open, seen_of, open_changes, has_room, may_happen, entered, with_call, taken_first, with_made, called, left}
+use Rattle.machine.specs.Sound.{IsPrimaryLeft, IsStandbyLeft, SoundInbound, SoundOutbound, SoundOver, Sound}
 use Rattle.machine.proofs.ConnectionLemmas.{changed-twice, get-past, each-changed, each-entered, open-lt, count-entered, count-changed, count-left}
 use Rattle.machine.proofs.InboundLemmas.{inbound-new, inbound-called_own, inbound-called_other}
 use Rattle.machine.proofs.AnswerLemmas.{outbound-called_own, outbound-called_other}
@@ -40,15 +42,15 @@ four _ _ _ d e = cc
 abbrev ItemsStand : List Call → ℕ → Connection → Type 0
 ItemsStand calls c connection = connection.is_open ≡ true → SoundInbound calls c connection.inbound
 
-abbrev OpenStands : List Call → ℕ → ℕ → ℕ → Connection → Type 0
-OpenStands calls local remote c connection = connection.is_open ≡ true → SoundOutbound calls c local remote connection.outbound
+abbrev OpenStands : List Call → Seen → ℕ → Connection → Type 0
+OpenStands calls seen c connection = connection.is_open ≡ true → SoundOutbound calls c seen connection.outbound
 
 abbrev OverStands : List Call → ℕ → ℕ → Connection → Type 0
 OverStands calls position c connection = connection.is_open ≡ false → SoundOver calls c position connection
 
 -- a change to one of them that is open and stays so
 sound-changed : (w : World) (c : ℕ) (change : Connection → Connection) → ((connection : Connection) → (change connection).is_open ≡ connection.is_open) → is_open w c ≡ true
-    → SoundInbound w.primary.calls c (change (connection_of w c)).inbound → SoundOutbound w.primary.calls c w.primary.committer.local w.primary.link.remote (change (connection_of w c)).outbound → Sound w
+    → SoundInbound w.primary.calls c (change (connection_of w c)).inbound → SoundOutbound w.primary.calls c (seen_of w) (change (connection_of w c)).outbound → Sound w
     → Sound (with_connections (changed_at c change w.primary.connections) w)
 sound-changed w c change keeps is_one in_stands out_stands s =
     let connections = w.primary.connections in
@@ -58,14 +60,14 @@ sound-changed w c change keeps is_one in_stands out_stands s =
       arith,
       count-changed c change connections keeps,
       each-changed (ItemsStand w.primary.calls) c change connections lt (λ e. in_stands) (λ d differ. s.inbound d),
-      each-changed (OpenStands w.primary.calls w.primary.committer.local w.primary.link.remote) c change connections lt (λ e. out_stands) (λ d differ. s.outbound d),
+      each-changed (OpenStands w.primary.calls (seen_of w)) c change connections lt (λ e. out_stands) (λ d differ. s.outbound d),
       each-changed (OverStands w.primary.calls w.standby.position) c change connections lt (λ e. absurd (shut e)) (λ d differ. s.over d),
     )
 
 pub sound-inbound : (w : World) (c : ℕ) (change : Inbound → Inbound) → is_open w c ≡ true → SoundInbound w.primary.calls c (change (connection_of w c).inbound) → Sound w → Sound (on_inbound c change w)
 sound-inbound w c change is_one own s = sound-changed w c (with_inbound change) (λ connection. refl) is_one own (s.outbound c is_one) s
 
-pub sound-outbound : (w : World) (c : ℕ) (change : Outbound → Outbound) → is_open w c ≡ true → let out : Outbound → Type 0 = SoundOutbound w.primary.calls c w.primary.committer.local w.primary.link.remote in
+pub sound-outbound : (w : World) (c : ℕ) (change : Outbound → Outbound) → is_open w c ≡ true → let out : Outbound → Type 0 = SoundOutbound w.primary.calls c (seen_of w) in
     (out (connection_of w c).outbound → out (change (connection_of w c).outbound)) → Sound w → Sound (on_outbound c change w)
 sound-outbound w c change is_one own s = sound-changed w c (with_outbound change) (λ connection. refl) is_one (s.inbound c is_one) (own (s.outbound c is_one)) s
 
@@ -94,7 +96,7 @@ sound-Enter w e s =
       count-entered connections,
       ltb-true (count_open connections) SEATS e,
       each-entered (ItemsStand w.primary.calls) connections s.inbound (λ is_one. inbound-new w.primary.calls (length connections) none),
-      each-entered (OpenStands w.primary.calls w.primary.committer.local w.primary.link.remote) connections s.outbound (λ is_one. outbound-new w.primary.calls (length connections) _ _ none),
+      each-entered (OpenStands w.primary.calls (seen_of w)) connections s.outbound (λ is_one. outbound-new w.primary.calls (length connections) (seen_of w) none),
       each-entered (OverStands w.primary.calls w.standby.position) connections s.over (λ e. cc),
     )
 
@@ -102,14 +104,30 @@ pub sound-Leave : (w : World) (c : ℕ) → may_happen w (Leave c) ≡ true → 
 sound-Leave w c e s =
     let connections = w.primary.connections in
     let lt = open-lt connections c e in
-    let own = over-left w.primary.calls c w.primary.committer.local w.primary.link.remote w.standby.position (connection_of w c) (omega (arith, s.link.remote, s.standby.known)) (s.inbound c e) (s.outbound c e) in
+    let own = over-left w.primary.calls c (seen_of w) w.standby.position (connection_of w c) (omega (arith, s.link.remote, s.standby.known)) (s.inbound c e) (s.outbound c e) in
     search (
       arith,
       count-left c left connections e (λ connection. refl),
       each-changed (ItemsStand w.primary.calls) c left connections lt (λ shut. cc) (λ d differ. s.inbound d),
-      each-changed (OpenStands w.primary.calls w.primary.committer.local w.primary.link.remote) c left connections lt (λ shut. cc) (λ d differ. s.outbound d),
+      each-changed (OpenStands w.primary.calls (seen_of w)) c left connections lt (λ shut. cc) (λ d differ. s.outbound d),
       each-changed (OverStands w.primary.calls w.standby.position) c left connections lt (λ shut. own) (λ d differ. s.over d),
     )
+
+-- what a call of the primary may have left is within a longer list
+pub primary_left-grown : (low high high' : ℕ) (remains : List Remains) → high ≤ high' → All (IsPrimaryLeft low high) remains → All (IsPrimaryLeft low high') remains
+primary_left-grown low high high' remains le all = All-weaker (IsPrimaryLeft low high) (IsPrimaryLeft low high') (weaker low high high' le) remains all
+  where
+    weaker : (low high high' : ℕ) → high ≤ high' → (remain : Remains) → IsPrimaryLeft low high remain → IsPrimaryLeft low high' remain
+    weaker low high high' le (At position) h = (h.0, omega (arith, h.1, le))
+    weaker low high high' le AsPrimary h = h
+
+-- and what one of the standby may have left, where more was sent
+pub standby_left-grown : (low high high' : ℕ) (remains : List Remains) → high ≤ high' → All (IsStandbyLeft low high) remains → All (IsStandbyLeft low high') remains
+standby_left-grown low high high' remains le all = All-weaker (IsStandbyLeft low high) (IsStandbyLeft low high') (weaker low high high' le) remains all
+  where
+    weaker : (low high high' : ℕ) → high ≤ high' → (remain : Remains) → IsStandbyLeft low high remain → IsStandbyLeft low high' remain
+    weaker low high high' le (At position) h = (h.0, omega (arith, h.1, le))
+    weaker low high high' le AsPrimary h = h
 
 position_of-push_le : (calls : List Call) (call : Call) → position_of (calls ++ call ∷ []) ≤ position_of calls + 1
 position_of-push_le calls call = grind (arith, position_of-push calls call)
@@ -119,8 +137,7 @@ pub sound-called : (w : World) (c : ℕ) (call : Call) → call.connection ≡ c
 sound-called w c call own first may e s =
     let connection = connection_of w c in
     let connections = w.primary.connections in
-    let local = w.primary.committer.local in
-    let remote = w.primary.link.remote in
+    let seen = seen_of w in
     let old = w.primary.calls in
     let calls = old ++ call ∷ [] in
     let parts = four (is_open w c) (is_nonempty connection.inbound.waiting) (has_room connection.outbound.made) (nat_lt (open_changes w) OPEN_CHANGES) e in
@@ -135,10 +152,11 @@ sound-called w c call own first may e s =
       IsLegal-push old call s.legal may,
       each-changed (ItemsStand calls) c both_of connections lt (λ is_one. inbound-called_own old c connection.inbound call own first (s.inbound c parts.0))
           (λ d differ is_one. inbound-called_other old d (connection_of w d).inbound call (other d differ) (s.inbound d is_one)),
-      each-changed (OpenStands calls local remote) c both_of connections lt
-          (λ is_one. outbound-called_own old c local remote connection.outbound call own (ltb-true (length connection.outbound.made) PIPE_ITEMS parts.2) (s.outbound c parts.0))
-          (λ d differ is_one. outbound-called_other old d local remote (connection_of w d).outbound call (other d differ) (s.outbound d is_one)),
+      each-changed (OpenStands calls seen) c both_of connections lt
+          (λ is_one. outbound-called_own old c seen connection.outbound call own (ltb-true (length connection.outbound.made) PIPE_ITEMS parts.2) (s.outbound c parts.0))
+          (λ d differ is_one. outbound-called_other old d seen (connection_of w d).outbound call (other d differ) (s.outbound d is_one)),
       each-changed (OverStands calls w.standby.position) c both_of connections lt (λ shut. absurd (both_ways connection.is_open parts.0 shut))
           (λ d differ shut. over-called old d w.standby.position (connection_of w d) call (other d differ) (s.over d shut)),
+      primary_left-grown w.primary.committer.position (position_of old) (position_of calls) (torn w.primary.life) (position_of_grows old (call ∷ [])) s.primary_left,
       committer-called (position_of old) (position_of calls) w.primary.committer (position_of_grows old (call ∷ [])) (position_of-push_le old call) (ltb-true (open_changes w) OPEN_CHANGES parts.3) s.committer,
     ))

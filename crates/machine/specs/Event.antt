@@ -1,17 +1,20 @@
 -- The pair of nodes as a machine (this project's profile): which event may happen, what it does, and what a run is. The state is defined in
 -- `Connection` and `World`, whose definitions this file re-exports.
 pub use Rattle.machine.specs.Connection.{may_enter, may_feed, may_offer, may_turn, may_hold, may_release, may_write, fed_with, offered_next, taken_first, with_made, held_first, having_seen, having_released, written, left_inbound, left_outbound, left}
-pub use Rattle.machine.specs.World.{Inbound, Outbound, Connection, Span, Frame, Acknowledgement, Stage, Ready, Durable, Shown, Work, Commits, Frees, Committer, Link, Life, Running, Stopped, Crashed, Primary, Standby, Wire, World, no_connection, new_connection, new_committer, new_link, start_at, start_with, start, is_running, is_crashed, get_connection, connection_of, is_open, is_open_at, count_open, changed_at, with_inbound, with_outbound, with_primary, with_connections, on_inbound, on_outbound, with_committer, with_link, with_standby, with_sent, with_acknowledged, asked, is_closed_by, open_changes, has_room, spans_of, lists_of, lists_before, from_group, is_ready, is_durable, is_shown, is_covered, covered_prefix, uncovered_rest, texts_of}
-use Rattle.std.specs.Prelude.{◌≡◌, ◌⊎◌, ℕ, ◌+◌, ◌-◌, ◌<◌, ◌≤◌, Bool, true, false, not, ◌&&◌, ◌||◌, nat_lt, nat_le, nat_eq, if◌then◌else◌, max, List, [], ◌∷◌, ◌++◌, length, take, drop, map, filter, ◌≢◌, slice_get, Option, Some, None}
+pub use Rattle.machine.specs.World.{Inbound, Outbound, Connection, Span, Frame, Acknowledgement, Stage, Ready, Durable, Shown, Work, Commits, Frees, Committer, Link, Remains, At, AsPrimary, Life, Running, Stopped, Crashed, Retired, Disk, Primary, Standby, Wire, World, no_connection, new_connection, new_committer, new_link, new_disk, start_at, start_with, start, is_running, is_stopped, is_crashed, is_retired, torn, IsSure, safe_position, get_connection, connection_of, is_open, is_open_at, count_open, changed_at, with_inbound, with_outbound, with_primary, with_connections, on_inbound, on_outbound, with_committer, with_link, with_standby, with_sent, with_acknowledged, asked, is_closed_by, seen_of, open_changes, has_room, spans_of, lists_of, lists_before, from_group, is_ready, is_durable, is_shown, is_covered, covered_prefix, uncovered_rest, texts_of}
+use Rattle.std.specs.Prelude.{◌≡◌, ◌⊎◌, ℕ, ◌+◌, ◌-◌, ◌<◌, ◌≤◌, Bool, true, false, not, ◌&&◌, ◌||◌, nat_lt, nat_le, nat_eq, if◌then◌else◌, max, List, [], ◌∷◌, ◌++◌, length, take, drop, map, filter, Contains, ◌≢◌, slice_get, Option, Some, None}
 use Rattle.model.specs.declared.call.Call.{Call}
 use Rattle.model.specs.declared.record.TheConstants.{MAX_GAPS}
 use Rattle.model.specs.Call.{MayReply, cut_at, is_nonempty, position_of, state_after}
 use Rattle.machine.specs.declared.event.Event.{Event}
-use Rattle.machine.specs.declared.event.Event.TheVariants.{Enter, Feed, Offer, Turn, CloseGroup, Commit, RaiseLocal, Hand, Free, AcceptFreed, ClearGap, OpenLink, Send, Deliver, Apply, AckDelivered, RaiseRemote, Hold, Read, Release, Write, Leave, Crash, Reopen}
+use Rattle.machine.specs.declared.event.Event.TheVariants.{Enter, Feed, Offer, Turn, CloseGroup, Commit, RaiseLocal, Hand, Free, AcceptFreed, ClearGap, OpenLink, Send, Deliver, Apply, AckDelivered, RaiseRemote, Hold, Read, Release, Write, Leave, FailFence, Crash, Reopen, Fence, Promote}
 use Rattle.machine.specs.declared.event.Node.{Node}
 use Rattle.machine.specs.declared.event.Node.TheVariants as node
+use Rattle.machine.specs.declared.event.Cut.{Cut}
+use Rattle.machine.specs.declared.event.Cut.TheVariants as cut
 use Rattle.machine.specs.declared.event.Mark.{Mark}
 use Rattle.machine.specs.declared.event.TheConstants.{KEPT_GROUPS}
+pub use Rattle.machine.specs.Row.{are_running, row}
 
 -- ---- which event may happen
 
@@ -20,14 +23,13 @@ abbrev pub life_of : World → Node → Life
 life_of w node.Primary = w.primary.life
 life_of w node.Standby = w.standby.life
 
--- the nodes that take part in the event are running; to crash, or to be opened again, none needs to run
+abbrev pub disk_of : World → Node → Disk
+disk_of w node.Primary = w.primary.disk
+disk_of w node.Standby = w.standby.disk
+
+-- The nodes that take part in the event are running. None needs to run to crash or to be opened again, nor the primary to be fenced.
 abbrev pub nodes_run : World → Event → Bool
-nodes_run w OpenLink = is_running w.primary.life && is_running w.standby.life
-nodes_run w (Deliver frame piece) = is_running w.standby.life
-nodes_run w Apply = is_running w.standby.life
-nodes_run w (Crash node picks) = true
-nodes_run w (Reopen node) = true
-nodes_run w event = is_running w.primary.life
+nodes_run w event = are_running (row event).runners (is_running w.primary.life) (is_running w.standby.life)
 
 -- nothing is in the committer's hand, a group waits for it, and the link has room for that group
 abbrev pub may_commit : World → Bool
@@ -45,6 +47,33 @@ abbrev pub first_is_within : ℕ → List ℕ → Bool
 first_is_within high [] = false
 first_is_within high (position ∷ positions) = nat_le position high
 
+-- the first free list that the committer has reached is covered by the remote mark, and it may not commit
+abbrev pub may_free : World → Bool
+may_free w = is_ready w.primary.committer.stage && not (may_commit w) && first_is_within w.primary.link.remote (reached_lists w)
+
+-- nothing waits for the committer, and the record has a gap
+abbrev pub may_clear : World → Bool
+may_clear w =
+    let committer = w.primary.committer in
+    is_ready committer.stage && has_room w.primary.link.waiting && not (is_nonempty committer.waiting) && not (is_nonempty committer.aside) && nat_lt 0 w.primary.gaps
+
+-- the crash comes between two events
+abbrev pub is_between : Cut → Bool
+is_between cut.Between = true
+is_between call = false
+
+-- A crash may come to this node in this call: the node runs and the call has something to do, or it opens its image. Between two events it may come to one
+-- that runs or has stopped.
+abbrev pub may_cut : World → Node → Cut → Bool
+may_cut w node cut.Between = is_running (life_of w node) || is_stopped (life_of w node)
+may_cut w node cut.Reopen = is_crashed (life_of w node)
+may_cut w node.Primary cut.Commit = is_running w.primary.life && may_commit w
+may_cut w node.Primary cut.Free = is_running w.primary.life && may_free w
+may_cut w node.Primary cut.ClearGap = is_running w.primary.life && may_clear w
+may_cut w node.Standby cut.Apply = is_running w.standby.life && is_nonempty w.standby.waiting
+may_cut w node.Standby cut.Promote = is_running w.standby.life && is_retired w.primary.life
+may_cut w node call = false
+
 -- there is something for the event to do, and room for what it makes
 abbrev pub may_happen : World → Event → Bool
 may_happen w Enter = may_enter w.primary.connections
@@ -55,11 +84,9 @@ may_happen w CloseGroup = (nat_lt 0 (open_changes w) || nat_lt 0 w.primary.ended
 may_happen w Commit = may_commit w
 may_happen w RaiseLocal = is_durable w.primary.committer.stage
 may_happen w Hand = is_shown w.primary.committer.stage
-may_happen w Free = is_ready w.primary.committer.stage && not (may_commit w) && first_is_within w.primary.link.remote (reached_lists w)
+may_happen w Free = may_free w
 may_happen w AcceptFreed = nat_lt 0 w.primary.notices
-may_happen w ClearGap =
-    let committer = w.primary.committer in
-    is_ready committer.stage && has_room w.primary.link.waiting && not (is_nonempty committer.waiting) && not (is_nonempty committer.aside) && nat_lt 0 w.primary.gaps
+may_happen w ClearGap = may_clear w
 may_happen w OpenLink = true
 may_happen w Send =
     let link = w.primary.link in
@@ -73,8 +100,12 @@ may_happen w (Read c mark) = is_open w c
 may_happen w (Release c) = may_release w.primary.connections c
 may_happen w (Write c n) = may_write w.primary.connections c n
 may_happen w (Leave c) = is_open w c
-may_happen w (Crash node picks) = w.restarts && not (is_crashed (life_of w node))
+may_happen w (FailFence node n) = w.failovers
+may_happen w (Crash node call k picks) = w.restarts && ((is_between call || w.failovers) && may_cut w node call)
 may_happen w (Reopen node) = w.restarts && is_crashed (life_of w node)
+may_happen w Fence = w.failovers && not (is_retired w.primary.life)
+-- the primary was fenced
+may_happen w Promote = w.failovers && is_retired w.primary.life
 
 abbrev pub is_enabled : World → Event → Bool
 is_enabled w event = nodes_run w event && may_happen w event
@@ -269,7 +300,7 @@ abbrev pub raised_remote : Link → Link
 raised_remote link = record link { remote = link.known }
 
 abbrev pub having_read : Mark → World → Outbound → Outbound
-having_read mark w outbound = having_seen mark w.primary.committer.local w.primary.link.remote outbound
+having_read mark w outbound = having_seen mark (seen_of w) outbound
 
 abbrev pub option_items : {X : Type 0} → Option X → List X
 option_items None = []
@@ -277,64 +308,137 @@ option_items (Some x) = x ∷ []
 
 -- ---- a crash, and what comes after it
 
--- What is left of a primary is its image, which stands at the position of its record: the calls after that are gone, all connections are over, and
--- whatever was on its way to the committer or the link is gone, and so is what was known of versions that have ended. The gaps are in the record.
-abbrev pub crashed_primary : Primary → Primary
-crashed_primary primary =
+-- What is left of a primary is its image, which stands at this position: the calls after that are gone, all connections are over, and whatever was on its way
+-- to the committer or the link is gone, and so is what was known of versions that have ended.
+abbrev pub crashed_primary : ℕ → Primary → Primary
+crashed_primary position primary =
     record primary {
       life = Crashed;
-      opened = primary.committer.position;
+      opened = position;
       connections = map left primary.connections;
-      calls = cut_at primary.calls primary.committer.position;
-      committer = new_committer primary.committer.position;
+      calls = cut_at primary.calls position;
+      committer = new_committer position;
       link = new_link;
       ended = 0;
-      newest = primary.committer.position;
+      newest = position;
       notices = 0;
     }
 
 -- what is left of a standby is its image
-abbrev pub crashed_standby : Standby → Standby
-crashed_standby standby = record standby { life = Crashed; waiting = [] }
+abbrev pub crashed_standby : ℕ → Standby → Standby
+crashed_standby position standby = record standby { life = Crashed; position = position; waiting = [] }
 
--- how many gaps a record has when it is opened again: one more, where it has room for it
-abbrev pub gaps_reopened : ℕ → ℕ
-gaps_reopened gaps = if nat_eq gaps MAX_GAPS then MAX_GAPS else gaps + 1
+-- the image of the standby is that of a primary, whose list the former primary's is up to the standby's position
+abbrev pub succeeding : Standby → Primary → Primary
+succeeding standby primary = record (crashed_primary standby.position primary) { disk = standby.disk; epoch = standby.epoch + 1 }
 
--- an image with this many versions that have ended is opened again
-abbrev pub reopened_primary : ℕ → Primary → Primary
-reopened_primary ended primary = record primary { life = Running; ended = ended; gaps = gaps_reopened primary.gaps }
+abbrev pub succeeded : Standby → Standby
+succeeded standby = record standby { life = Retired; epoch = standby.epoch + 1; waiting = [] }
+
+-- The standby's image has become that of the primary, which is to be opened.
+abbrev pub promoted : World → World
+promoted w = with_standby (succeeded w.standby) (with_primary (succeeding w.standby w.primary) w)
+
+abbrev pub crashed : Node → Remains → World → World
+crashed node.Primary (At position) w = with_primary (crashed_primary position w.primary) w
+crashed node.Standby (At position) w = with_standby (crashed_standby position w.standby) w
+crashed node.Standby AsPrimary w = promoted w
+-- (nothing leaves this)
+crashed node.Primary AsPrimary w = w
+
+-- an image with this many gaps, and this many versions that have ended, is opened
+abbrev pub reopened_primary : ℕ → ℕ → Primary → Primary
+reopened_primary ended gaps primary = record primary { life = Running; ended = ended; gaps = gaps }
 
 abbrev pub reopened_standby : Standby → Standby
 reopened_standby standby = record standby { life = Running }
 
-abbrev pub crashed : Node → World → World
-crashed node.Primary w = with_primary (crashed_primary w.primary) w
-crashed node.Standby w = with_standby (crashed_standby w.standby) w
+-- The primary's image is opened. How many versions in it have ended, and how many gaps its record has then, is for the image to tell; the opening of an image that
+-- was closed by a crash makes one.
+pub record OpensPrimary (made : ℕ) (w new : World) : Type 0 where
+  pub ended : ℕ
+  pub gaps : ℕ
+  pub some : made ≤ gaps
+  pub few : gaps ≤ MAX_GAPS
+  pub now : new ≡ with_primary (reopened_primary ended gaps w.primary) w
 
--- how many versions in the image have ended is for the image to tell
 abbrev pub Reopens : Node → World → World → Type 0
-Reopens node.Primary w new = (ended : ℕ) × (new ≡ with_primary (reopened_primary ended w.primary) w)
+Reopens node.Primary w new = OpensPrimary 1 w new
 Reopens node.Standby w new = new ≡ with_standby (reopened_standby w.standby) w
 
--- what an enabled event may do
+-- ---- a call that is cut
+
+-- where the standby stands once it took the first of these frames
+abbrev pub next_from : Standby → List Frame → ℕ
+next_from standby [] = standby.position
+next_from standby (frame ∷ frames) = if nat_eq frame.epoch standby.epoch && nat_eq frame.span.before standby.position then frame.span.after else standby.position
+
+-- where the standby stands after the first frame that waits, and the primary after the group that it commits next
+abbrev pub next_standby : World → ℕ
+next_standby w = next_from w.standby w.standby.waiting
+
+abbrev pub next_primary : World → ℕ
+next_primary w = (committed_first (from_group w.primary.committer.waiting) w.primary.committer).position
+
+-- What a call that is cut may leave of its node, besides the image from before it. The others move no image.
+abbrev pub left_by : World → Node → Cut → List Remains
+left_by w node.Primary cut.Commit = At (next_primary w) ∷ []
+left_by w node.Standby cut.Apply = At (next_standby w) ∷ []
+left_by w node.Standby cut.Promote = AsPrimary ∷ []
+left_by w node call = []
+
+abbrev pub position_at : World → Node → ℕ
+position_at w node.Primary = w.primary.committer.position
+position_at w node.Standby = w.standby.position
+
+-- what a crash in this call may leave of the node: its image from before the call, what a fence that failed has left, and the image from after the call
+abbrev pub may_remain : World → Node → Cut → List Remains
+may_remain w node call = At (position_at w node) ∷ (torn (life_of w node) ++ left_by w node call)
+
+pub record Crashes (w : World) (node : Node) (call : Cut) (new : World) : Type 0 where
+  pub remain : Remains
+  pub one : Contains (may_remain w node call) remain
+  pub now : new ≡ crashed node remain w
+
+abbrev pub asked_to_fail : ℕ → Disk → Disk
+asked_to_fail n disk = record disk { failing = nat_lt 0 n }
+
+-- a fence that failed will not fail again
+abbrev pub failed : Disk → Disk
+failed disk = record disk { failing = false }
+
+abbrev pub on_disk : Node → (Disk → Disk) → World → World
+on_disk node.Primary change w = with_primary (record w.primary { disk = change w.primary.disk }) w
+on_disk node.Standby change w = with_standby (record w.standby { disk = change w.standby.disk }) w
+
+abbrev pub with_life : Node → Life → World → World
+with_life node.Primary life w = with_primary (record w.primary { life = life }) w
+with_life node.Standby life w = with_standby (record w.standby { life = life }) w
+
+-- A fence failed in the call, as it was asked to: the node stops, and does nothing of what the call does. Its image may be that from before the call or that
+-- from after it, for a crash to show.
+pub record Fails (w : World) (node : Node) (call : Cut) (new : World) : Type 0 where
+  pub asked : (disk_of w node).failing ≡ true
+  pub now : new ≡ with_life node (Stopped (left_by w node call)) (on_disk node failed w)
+
+-- what an enabled event may do; in one that writes to a device, a fence may fail
 abbrev pub Happens : World → Event → World → Type 0
 Happens w Enter new = new ≡ entered w
 Happens w (Feed c piece) new = new ≡ on_inbound c (fed_with piece) w
 Happens w (Offer c) new = new ≡ on_inbound c offered_next w
 Happens w (Turn c) new = Turns w c new
 Happens w CloseGroup new = Closes w new
-Happens w Commit new = new ≡ with_committer (committed_first (from_group w.primary.committer.waiting) w.primary.committer) w
+Happens w Commit new = (new ≡ with_committer (committed_first (from_group w.primary.committer.waiting) w.primary.committer) w) ⊎ Fails w node.Primary cut.Commit new
 Happens w RaiseLocal new = new ≡ with_committer (raised_local w.primary.committer) w
 Happens w Hand new = new ≡ with_link (handed_to (handed w.primary.committer.stage) w.primary.link) (with_committer (ready_again w.primary.committer) w)
-Happens w Free new = new ≡ freed w
+Happens w Free new = (new ≡ freed w) ⊎ Fails w node.Primary cut.Free new
 Happens w AcceptFreed new = new ≡ accepted w
-Happens w ClearGap new = new ≡ cleared w
+Happens w ClearGap new = (new ≡ cleared w) ⊎ Fails w node.Primary cut.ClearGap new
 Happens w OpenLink new =
     new ≡ with_link (opened_link (due_delta w.standby.position w.primary.opened) w.primary.link) (with_acknowledged (acknowledgement_of w.standby ∷ []) w)
 Happens w Send new = new ≡ sent w
 Happens w (Deliver frame piece) new = new ≡ with_standby (delivered (option_items (slice_get w.wire.frames frame)) w.standby) w
-Happens w Apply new = Applies w new
+Happens w Apply new = Applies w new ⊎ Fails w node.Standby cut.Apply new
 Happens w (AckDelivered a) new = new ≡ with_link (told w.primary.epoch w.primary.committer.position (slice_get w.wire.acknowledgements a) w.primary.link) w
 Happens w RaiseRemote new = new ≡ with_link (raised_remote w.primary.link) w
 Happens w (Hold c) new = new ≡ on_outbound c held_first w
@@ -342,8 +446,11 @@ Happens w (Read c mark) new = new ≡ on_outbound c (having_read mark w) w
 Happens w (Release c) new = new ≡ on_outbound c having_released w
 Happens w (Write c n) new = new ≡ on_outbound c (written n) w
 Happens w (Leave c) new = new ≡ with_connections (changed_at c left w.primary.connections) w
-Happens w (Crash node picks) new = new ≡ crashed node w
-Happens w (Reopen node) new = Reopens node w new
+Happens w (FailFence node n) new = new ≡ on_disk node (asked_to_fail n) w
+Happens w (Crash node call k picks) new = Crashes w node call new
+Happens w (Reopen node) new = Reopens node w new ⊎ Fails w node cut.Reopen new
+Happens w Fence new = new ≡ with_life node.Primary Retired w
+Happens w Promote new = OpensPrimary 0 (promoted w) new ⊎ Fails w node.Standby cut.Promote new
 
 -- One event: it does its step exactly where it is enabled, and otherwise changes nothing.
 pub record Step (old : World) (event : Event) (did : Bool) (new : World) : Type 0 where

@@ -1,25 +1,26 @@
 -- The laws of every run, stated.
-use Rattle.std.specs.Prelude.{◌≡◌, ℕ, ◌<◌, ◌≤◌, Bool, true, false, List, [], ◌∷◌, ◌++◌, length, take, drop, All}
+use Rattle.std.specs.Prelude.{◌≡◌, ◌⊎◌, ℕ, ◌+◌, ◌<◌, ◌≤◌, Bool, true, false, List, [], ◌∷◌, ◌++◌, length, take, drop, All}
 use Rattle.kv_types.specs.declared.limits.TheConstants.{REQUEST_LIMITS}
 use Rattle.kv_types.specs.declared.reply.Held.{Held}
 use Rattle.kv_types.specs.Reading.{items_at}
 use Rattle.model.specs.declared.call.Call.{Call}
 use Rattle.model.specs.Call.{IsLegal, IsPrefix, Serves, calls_of, cut_at, items_of, keyspace_after, position_of, replies_to}
 use Rattle.machine.specs.declared.event.Event.{Event}
-use Rattle.machine.specs.declared.event.Event.TheVariants.{AckDelivered, Deliver, OpenLink, RaiseRemote, Send}
-use Rattle.machine.specs.Event.{World, Span, Step, may_happen, next_to_send, Run, start_with, last_world, connection_of, is_open, count_open, asked, spans_of, texts_of, is_enabled}
+use Rattle.machine.specs.declared.event.Event.TheVariants.{AckDelivered, Apply, Crash, Deliver, FailFence, OpenLink, Promote, RaiseRemote, Reopen, Send}
+use Rattle.machine.specs.declared.event.Node.TheVariants as node
+use Rattle.machine.specs.Event.{World, Span, Step, may_happen, next_to_send, Run, start_with, last_world, connection_of, is_open, count_open, asked, spans_of, texts_of, is_enabled, is_retired, is_running, safe_position}
 use Rattle.machine.specs.Promise.{IsReleased, released_in, fed_to}
-use Rattle.machine.specs.Sound.{HasNothing, IsChain, IsFrameWithin, Sound, answers_to}
+use Rattle.machine.specs.Sound.{HasNothing, IsChain, IsFrameWithin, IsToldWithin, Sound, answers_to}
 use Rattle.machine.specs.declared.event.TheConstants.{SEATS}
 
 -- `P` holds of the world after every run, and so of each world of a run, since a prefix of a run is a run
 abbrev pub AfterEveryRun : (World → Type 0) → Type 0
-AfterEveryRun P = (restarts : Bool) (events : List Event) (done : List Bool) (worlds : List World) → Run (start_with restarts) events done worlds → P (last_world (start_with restarts) worlds)
+AfterEveryRun P = (restarts failovers : Bool) (events : List Event) (done : List Bool) (worlds : List World) → Run (start_with restarts failovers) events done worlds → P (last_world (start_with restarts failovers) worlds)
 
 -- ---- runs
 
 abbrev pub EveryWorldIsSound : Type 0
-EveryWorldIsSound = (restarts : Bool) (events : List Event) (done : List Bool) (worlds : List World) → Run (start_with restarts) events done worlds → All Sound (start_with restarts ∷ worlds)
+EveryWorldIsSound = (restarts failovers : Bool) (events : List Event) (done : List Bool) (worlds : List World) → Run (start_with restarts failovers) events done worlds → All Sound (start_with restarts failovers ∷ worlds)
 
 -- a prefix of a run is a run, and the rest is a run from where the prefix ends
 abbrev pub PrefixesAreRuns : Type 0
@@ -33,26 +34,34 @@ RunsGoOn =
     (w : World) (events : List Event) (done : List Bool) (worlds : List World) (event : Event) (did : Bool) (new : World)
     → Run w events done worlds → Step (last_world w worlds) event did new → Run w (events ++ event ∷ []) (done ++ did ∷ []) (worlds ++ new ∷ [])
 
--- A later world: what the primary's image holds of the list of calls stays in it, and other lists only grow at the end; no position falls.
+-- A later world of the same primary: what its image holds of the list of calls stays in it, and its position does not fall.
+abbrev pub GrowsWithin : World → World → Type 0
+GrowsWithin old new =
+    IsPrefix (cut_at old.primary.calls old.primary.committer.position) new.primary.calls × (old.primary.committer.position ≤ new.primary.committer.position)
+
+-- A later world, perhaps of a later primary: the list keeps its calls up to the position that is safe, and other lists only grow at the end.
 pub record Grows (old new : World) : Type 0 where
-  pub calls : IsPrefix (cut_at old.primary.calls old.primary.committer.position) new.primary.calls
+  pub epoch : old.primary.epoch ≤ new.primary.epoch
+  pub safe : safe_position old ≤ safe_position new
+  pub kept : IsPrefix (cut_at old.primary.calls (safe_position old)) new.primary.calls
   pub released : (c : ℕ) → IsPrefix (released_in old c) (released_in new c)
   pub frames : IsPrefix old.wire.frames new.wire.frames
   pub acknowledgements : IsPrefix old.wire.acknowledgements new.wire.acknowledgements
-  pub primary_position : old.primary.committer.position ≤ new.primary.committer.position
-  pub standby_position : old.standby.position ≤ new.standby.position
+  -- of the same primary
+  pub within : new.primary.epoch ≡ old.primary.epoch → GrowsWithin old new
 
 abbrev pub WorldsGrow : Type 0
 WorldsGrow =
-    (restarts : Bool) (n : ℕ) (events : List Event) (done : List Bool) (worlds : List World) → Run (start_with restarts) events done worlds → Grows (last_world (start_with restarts) (take n worlds)) (last_world (start_with restarts) worlds)
+    (restarts failovers : Bool) (n : ℕ) (events : List Event) (done : List Bool) (worlds : List World) → Run (start_with restarts failovers) events done worlds → Grows (last_world (start_with restarts failovers) (take n worlds)) (last_world (start_with restarts failovers) worlds)
 
--- the keyspace at a position that the primary's image has reached stays the same, whatever happens later
+-- the keyspace at a position that is safe stays the same, whatever happens later; and of the same primary that at a position which its image has reached
 abbrev pub CutsStay : Type 0
 CutsStay =
-    (restarts : Bool) (n : ℕ) (events : List Event) (done : List Bool) (worlds : List World) → Run (start_with restarts) events done worlds
-    → let old = (last_world (start_with restarts) (take n worlds)).primary in
-    let new = (last_world (start_with restarts) worlds).primary in
-    (p : ℕ) → p ≤ old.committer.position → keyspace_after (cut_at new.calls p) ≡ keyspace_after (cut_at old.calls p)
+    (restarts failovers : Bool) (n : ℕ) (events : List Event) (done : List Bool) (worlds : List World) → Run (start_with restarts failovers) events done worlds
+    → let old = last_world (start_with restarts failovers) (take n worlds) in
+    let new = last_world (start_with restarts failovers) worlds in
+    (p : ℕ) → (p ≤ safe_position old) ⊎ ((new.primary.epoch ≡ old.primary.epoch) × (p ≤ old.primary.committer.position))
+    → keyspace_after (cut_at new.primary.calls p) ≡ keyspace_after (cut_at old.primary.calls p)
 
 -- ---- calls
 
@@ -62,8 +71,8 @@ EveryListIsLegal = AfterEveryRun (λ w. IsLegal w.primary.calls)
 -- each connection's calls take the requests of the bytes that were fed to it, in order
 abbrev pub EveryListServes : Type 0
 EveryListServes =
-    (restarts : Bool) (events : List Event) (done : List Bool) (worlds : List World) → Run (start_with restarts) events done worlds
-    → Serves (λ c. items_at REQUEST_LIMITS (fed_to c events done)) (last_world (start_with restarts) worlds).primary.calls
+    (restarts failovers : Bool) (events : List Event) (done : List Bool) (worlds : List World) → Run (start_with restarts failovers) events done worlds
+    → Serves (λ c. items_at REQUEST_LIMITS (fed_to c events done)) (last_world (start_with restarts failovers) worlds).primary.calls
 
 -- the items of an open connection that were handed to the sequencer are those of its calls and then those that wait
 abbrev pub ItemsComeInOrder : Type 0
@@ -105,9 +114,9 @@ pub record StaysOver (c : ℕ) (old new : World) : Type 0 where
 
 abbrev pub ConnectionsStayOver : Type 0
 ConnectionsStayOver =
-    (restarts : Bool) (n : ℕ) (events : List Event) (done : List Bool) (worlds : List World) → Run (start_with restarts) events done worlds
-    → let old = last_world (start_with restarts) (take n worlds) in
-    (c : ℕ) → c < length old.primary.connections → is_open old c ≡ false → StaysOver c old (last_world (start_with restarts) worlds)
+    (restarts failovers : Bool) (n : ℕ) (events : List Event) (done : List Bool) (worlds : List World) → Run (start_with restarts failovers) events done worlds
+    → let old = last_world (start_with restarts failovers) (take n worlds) in
+    (c : ℕ) → c < length old.primary.connections → is_open old c ≡ false → StaysOver c old (last_world (start_with restarts failovers) worlds)
 
 -- nothing of it waits
 abbrev pub NothingWaitsOver : Type 0
@@ -115,7 +124,7 @@ NothingWaitsOver = AfterEveryRun (λ w. (c : ℕ) → is_open w c ≡ false → 
 
 -- no more connections enter than events happen
 abbrev pub ConnectionsAreFew : Type 0
-ConnectionsAreFew = (restarts : Bool) (events : List Event) (done : List Bool) (worlds : List World) → Run (start_with restarts) events done worlds → length (last_world (start_with restarts) worlds).primary.connections ≤ length events
+ConnectionsAreFew = (restarts failovers : Bool) (events : List Event) (done : List Bool) (worlds : List World) → Run (start_with restarts failovers) events done worlds → length (last_world (start_with restarts failovers) worlds).primary.connections ≤ length events
 
 -- there is a seat for each open connection
 abbrev pub OpenOnesHaveSeats : Type 0
@@ -131,14 +140,13 @@ pub record IsInOrder (w : World) : Type 0 where
   pub remote : w.primary.link.remote ≤ w.primary.link.known
   pub known : w.primary.link.known ≤ w.standby.position
   pub standby : w.standby.position ≤ w.primary.committer.position
-  pub acknowledged : All (λ acknowledgement. acknowledgement.position ≤ w.standby.position) w.wire.acknowledgements
-  -- there is one epoch
+  pub acknowledged : All (IsToldWithin w.primary.epoch w.standby.position) w.wire.acknowledgements
+  -- both nodes are of one epoch, and nothing on the wire is of a later one
   pub epoch : w.standby.epoch ≡ w.primary.epoch
-  pub frames : All (λ frame. frame.epoch ≡ w.primary.epoch) w.wire.frames
-  pub told : All (λ acknowledgement. acknowledgement.epoch ≡ w.primary.epoch) w.wire.acknowledgements
+  pub frames : All (λ frame. frame.epoch ≤ w.primary.epoch) w.wire.frames
   -- the numbers of an open connection's gate are at most the marks
-  pub read_local : (c : ℕ) → is_open w c ≡ true → (connection_of w c).outbound.local ≤ w.primary.committer.local
-  pub read_remote : (c : ℕ) → is_open w c ≡ true → (connection_of w c).outbound.remote ≤ w.primary.link.remote
+  pub read_local : (c : ℕ) → is_open w c ≡ true → (connection_of w c).outbound.seen.local ≤ w.primary.committer.local
+  pub read_remote : (c : ℕ) → is_open w c ≡ true → (connection_of w c).outbound.seen.remote ≤ w.primary.link.remote
 
 abbrev pub PositionsAreInOrder : Type 0
 PositionsAreInOrder = AfterEveryRun IsInOrder
@@ -149,7 +157,7 @@ PositionsAreInOrder = AfterEveryRun IsInOrder
 abbrev pub GroupsAreInOrder : Type 0
 GroupsAreInOrder = AfterEveryRun (λ w. IsChain w.primary.committer.position (spans_of w.primary.committer.waiting) w.primary.committer.closed)
 
--- each frame, sent or waiting at the standby, is of the primary's epoch and tells only changes that the primary committed
+-- each frame of the primary's epoch, sent or waiting at the standby, tells only changes that the primary committed
 abbrev pub FramesAreCommitted : Type 0
 FramesAreCommitted = AfterEveryRun (λ w. All (IsFrameWithin w.primary.epoch w.primary.committer.position) w.wire.frames × All (IsFrameWithin w.primary.epoch w.primary.committer.position) w.standby.waiting)
 
@@ -171,11 +179,51 @@ RaisesNoRemote events done = Unit {0}
 -- unless one did, no reply is released that rests on a change
 abbrev pub NothingIsReleasedUnacknowledged : Type 0
 NothingIsReleasedUnacknowledged =
-    (restarts : Bool) (events : List Event) (done : List Bool) (worlds : List World) → Run (start_with restarts) events done worlds → RaisesNoRemote events done
-    → let w = last_world (start_with restarts) worlds in
+    (restarts failovers : Bool) (events : List Event) (done : List Bool) (worlds : List World) → Run (start_with restarts failovers) events done worlds → RaisesNoRemote events done
+    → let w = last_world (start_with restarts failovers) worlds in
     (prefix : List Call) (call : Call) → IsReleased w.primary.calls (released_in w) prefix call → position_of (prefix ++ call ∷ []) ≡ 0
 
 -- a frame that was not sent is not delivered, and neither is an acknowledgement that was not made
 abbrev pub OnlyWhatWasMadeIsDelivered : Type 0
 OnlyWhatWasMadeIsDelivered =
     (w : World) (n piece : ℕ) → (length w.wire.frames ≤ n → is_enabled w (Deliver n piece) ≡ false) × (length w.wire.acknowledgements ≤ n → is_enabled w (AckDelivered n) ≡ false)
+
+-- ---- fenced failover
+
+-- what may still happen where the primary was fenced, or else is gone: what the standby does by itself, until it is promoted
+abbrev pub is_of_standby : Event → Bool
+is_of_standby (Deliver frame piece) = true
+is_of_standby Apply = true
+is_of_standby (FailFence node.Standby n) = true
+is_of_standby (Crash node.Standby call k picks) = true
+is_of_standby (Reopen node.Standby) = true
+is_of_standby Promote = true
+is_of_standby event = false
+
+-- no event of a primary that was fenced happens
+abbrev pub NothingHappensFenced : Type 0
+NothingHappensFenced = (w : World) (event : Event) → is_retired w.primary.life ≡ true → is_of_standby event ≡ false → is_enabled w event ≡ false
+
+-- a standby is promoted only where its primary was fenced
+abbrev pub OnlyFencedIsSucceeded : Type 0
+OnlyFencedIsSucceeded = (w : World) → is_retired w.primary.life ≡ false → is_enabled w Promote ≡ false
+
+-- What a promotion makes: the list up to the standby's position, no open connection, no reply that is covered yet, and the next epoch.
+pub record IsSucceededBy (old new : World) : Type 0 where
+  pub calls : new.primary.calls ≡ cut_at old.primary.calls old.standby.position
+  pub position : new.primary.committer.position ≡ old.standby.position
+  pub local : new.primary.committer.local ≡ old.standby.position
+  pub remote : new.primary.link.remote ≡ 0
+  pub epoch : new.primary.epoch ≡ old.primary.epoch + 1
+  pub over : (c : ℕ) → is_open new c ≡ false
+  pub released : (c : ℕ) → released_in new c ≡ released_in old c
+
+abbrev pub PromotionsSucceed : Type 0
+PromotionsSucceed =
+    AfterEveryRun (λ old. (new : World) → Step old Promote true new → is_running new.primary.life ≡ true → IsSucceededBy old new)
+
+-- what a crash makes of the list: a beginning of it, which holds each call that was released
+pub record IsCutBy (old new : World) : Type 0 where
+  pub position : ℕ
+  pub calls : new.primary.calls ≡ cut_at old.primary.calls position
+  pub safe : safe_position old ≤ position

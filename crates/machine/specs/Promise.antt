@@ -38,21 +38,26 @@ pub record HasMarks (prefix : List Call) (call : Call) (w : World) : Type 0 wher
 abbrev pub released_in : World → ℕ → List ℕ
 released_in w c = (connection_of w c).outbound.released
 
--- a world has this list of calls, these released bytes, and these positions of the two records
+-- The call is in the world's list, and the first byte of its reply was written.
+abbrev pub IsReleasedIn : List Call → Call → World → Type 0
+IsReleasedIn prefix call w = IsReleased w.primary.calls (released_in w) prefix call
+
+-- A world has this list of calls, these released bytes, and these positions of the two records. The list is that of the primary which serves now, and the bytes
+-- are those of all connections that ever were. Where the standby was promoted, its position is the one at which it was.
 pub record Tells (w : World) (calls : List Call) (released : ℕ → List ℕ) (primary standby : ℕ) : Type 0 where
   pub list : calls ≡ w.primary.calls
   pub bytes : (c : ℕ) → released c ≡ released_in w c
   pub primary_position : primary ≡ w.primary.committer.position
   pub standby_position : standby ≡ w.standby.position
 
--- What is promised of the list of calls and the bytes released to each connection, where `done` says which of these events did their step, and
--- `restarts` whether nodes may crash between two events and be opened again.
-pub record IsPromised (restarts : Bool) (events : List Event) (done : List Bool) (calls : List Call) (released : ℕ → List ℕ) (primary standby : ℕ) : Type 0 where
+-- What is promised of the list of calls and the bytes released to each connection, where `done` says which of these events did their step, `restarts` whether nodes
+-- may crash between two events and be opened again, and `failovers` whether fences may fail, nodes may crash inside a call, and the standby may be promoted.
+pub record IsPromised (restarts failovers : Bool) (events : List Event) (done : List Bool) (calls : List Call) (released : ℕ → List ℕ) (primary standby : ℕ) : Type 0 where
   -- the machine's run: the world after each event
   pub worlds : List World
-  pub run : Run (start_with restarts) events done worlds
+  pub run : Run (start_with restarts failovers) events done worlds
   -- the list, the bytes and the positions are those of the last of them
-  pub tells : Tells (last_world (start_with restarts) worlds) calls released primary standby
+  pub tells : Tells (last_world (start_with restarts failovers) worlds) calls released primary standby
   -- one sequential Redis answers this list
   pub legal : IsLegal calls
   -- it takes the requests of each connection in order
@@ -60,7 +65,9 @@ pub record IsPromised (restarts : Bool) (events : List Event) (done : List Bool)
   -- what was released begins the replies
   pub begins : (c : ℕ) → IsPrefix (released c) (replies_to c calls)
   -- each released call was covered at one moment since it was made
-  pub covered : (prefix : List Call) (call : Call) → IsReleased calls released prefix call → SomeWorld (HasMarks prefix call) (start_with restarts ∷ worlds)
+  pub covered : (prefix : List Call) (call : Call) → IsReleased calls released prefix call → SomeWorld (HasMarks prefix call) (start_with restarts failovers ∷ worlds)
+  -- no crash, reopening or failover took it from the list, since it was released
+  pub stays : (prefix : List Call) (call : Call) → SomeWorld (IsReleasedIn prefix call) (start_with restarts failovers ∷ worlds) → IsReleased calls released prefix call
   -- and it is in what both nodes hold
   pub held : (prefix : List Call) (call : Call) → IsReleased calls released prefix call → position_of (prefix ++ call ∷ []) ≤ standby
   pub behind : standby ≤ primary
@@ -69,6 +76,6 @@ pub record IsPromised (restarts : Bool) (events : List Event) (done : List Bool)
 -- every run keeps the promise
 abbrev pub EveryRunIsPromised : Type 0
 EveryRunIsPromised =
-    (restarts : Bool) (events : List Event) (done : List Bool) (worlds : List World) → Run (start_with restarts) events done worlds
-    → let w = last_world (start_with restarts) worlds in
-    IsPromised restarts events done w.primary.calls (released_in w) w.primary.committer.position w.standby.position
+    (restarts failovers : Bool) (events : List Event) (done : List Bool) (worlds : List World) → Run (start_with restarts failovers) events done worlds
+    → let w = last_world (start_with restarts failovers) worlds in
+    IsPromised restarts failovers events done w.primary.calls (released_in w) w.primary.committer.position w.standby.position

@@ -1,11 +1,12 @@
 -- What holds of the pair of nodes between any two events (this project's profile): the facts from which the promise follows.
 use Rattle.std.specs.Prelude.{◌≡◌, ℕ, ◌+◌, ◌<◌, ◌≤◌, max, true, false, nat_eq, if◌then◌else◌, List, [], ◌∷◌, ◌++◌, length, take, All}
 use Rattle.kv_types.specs.declared.reply.Held.{Held}
+use Rattle.kv_types.specs.declared.seen.Seen.{Seen}
 use Rattle.model.specs.declared.call.Call.{Call}
 use Rattle.model.specs.State.{State, start_state}
 use Rattle.model.specs.Call.{IsLegal, IsPrefix, after_call, is_changing, items_of, position_of}
 use Rattle.machine.specs.declared.event.TheConstants.{SEATS, PIPE_ITEMS, OPEN_CHANGES, KEPT_GROUPS}
-use Rattle.machine.specs.Event.{Span, Frame, Acknowledgement, Stage, Ready, Durable, Shown, Inbound, Outbound, Connection, Committer, Link, Standby, Wire, World, asked, connection_of, is_open, count_open, spans_of, texts_of}
+use Rattle.machine.specs.Event.{Span, Frame, Acknowledgement, Stage, Ready, Durable, Shown, Inbound, Outbound, Connection, Committer, Link, Remains, At, AsPrimary, Standby, Wire, World, asked, connection_of, is_open, count_open, safe_position, seen_of, spans_of, texts_of, torn}
 
 -- ---- replies
 
@@ -26,9 +27,9 @@ abbrev pub answers_to : ℕ → List Call → List Held
 answers_to = answers_from start_state 0
 
 -- both marks cover the reply
-pub record IsCoveredBy (local remote : ℕ) (reply : Held) : Type 0 where
-  pub on_primary : reply.position ≤ local
-  pub on_standby : reply.position ≤ remote
+pub record IsCoveredBy (seen : Seen) (reply : Held) : Type 0 where
+  pub on_primary : reply.position ≤ seen.local
+  pub on_standby : reply.position ≤ seen.remote
 
 -- ---- groups
 
@@ -42,15 +43,15 @@ pub record IsGroupWithin (position : ℕ) (group : Span) : Type 0 where
   pub rising : group.before < group.after
   pub within : group.after ≤ position
 
--- a frame of this epoch, whose span ends at this position or below
+-- a frame of this epoch, whose span ends at this position or below, or one of an earlier epoch
 pub record IsFrameWithin (epoch position : ℕ) (frame : Frame) : Type 0 where
-  pub epoch_is : frame.epoch ≡ epoch
-  pub span : IsGroupWithin position frame.span
+  pub epoch_is : frame.epoch ≤ epoch
+  pub span : frame.epoch ≡ epoch → IsGroupWithin position frame.span
 
--- an acknowledgement of this epoch, with this position or one below it
+-- an acknowledgement of this epoch, with this position or one below it, or one of an earlier epoch
 pub record IsToldWithin (epoch position : ℕ) (acknowledgement : Acknowledgement) : Type 0 where
-  pub epoch_is : acknowledgement.epoch ≡ epoch
-  pub within : acknowledgement.position ≤ position
+  pub epoch_is : acknowledgement.epoch ≤ epoch
+  pub within : acknowledgement.epoch ≡ epoch → acknowledgement.position ≤ position
 
 -- the group that the committer has in hand
 abbrev pub in_hand : Stage → List Span
@@ -79,22 +80,22 @@ pub record SoundInbound (calls : List Call) (c : ℕ) (inbound : Inbound) : Type
   pub few : length inbound.waiting ≤ PIPE_ITEMS
 
 -- of an open connection: the replies to its calls are those that were released and then those that wait, and both marks cover what was released
-pub record SoundOutbound (calls : List Call) (c : ℕ) (local remote : ℕ) (outbound : Outbound) : Type 0 where
+pub record SoundOutbound (calls : List Call) (c : ℕ) (seen : Seen) (outbound : Outbound) : Type 0 where
   -- what was released
   pub out : List Held
   pub replies : out ++ (outbound.held ++ outbound.made) ≡ answers_to c calls
   pub texts : outbound.released ++ outbound.pending ≡ texts_of out
-  pub covered : All (IsCoveredBy local remote) out
-  pub local_read : outbound.local ≤ local
-  pub remote_read : outbound.remote ≤ remote
+  pub covered : All (IsCoveredBy seen) out
+  pub local_read : outbound.seen.local ≤ seen.local
+  pub remote_read : outbound.seen.remote ≤ seen.remote
   pub few : length outbound.made ≤ PIPE_ITEMS
 
 -- the call of the reply is in what an image at this position holds
 abbrev pub IsHeldAt : ℕ → Held → Type 0
 IsHeldAt position reply = reply.position ≤ position
 
--- of any connection: what was written to it is of the first replies to its calls, of the last of them perhaps a part only, and the standby, at this
--- position, holds these calls
+-- of any connection: what was written to it is of the first replies to its calls, of the last of them perhaps a part only, and these calls lie within the
+-- position up to which no call is lost
 pub record SoundReleased (calls : List Call) (c : ℕ) (position : ℕ) (outbound : Outbound) : Type 0 where
   -- what was released
   pub out : List Held
@@ -109,7 +110,7 @@ pub record HasNothing (connection : Connection) : Type 0 where
   pub held : connection.outbound.held ≡ []
   pub pending : connection.outbound.pending ≡ []
 
--- what holds of a connection that is over, and of a number that no connection has yet, given the position of the standby's record
+-- what holds of a connection that is over, and of a number that no connection has yet, given the position up to which no call is lost
 pub record SoundOver (calls : List Call) (c : ℕ) (position : ℕ) (connection : Connection) : Type 0 where
   pub nothing : HasNothing connection
   -- its calls take its items in order
@@ -162,15 +163,27 @@ pub record SoundWire (epoch sent position : ℕ) (wire : Wire) : Type 0 where
 pub record SoundConnections (connections : List Connection) : Type 0 where
   pub seats : count_open connections ≤ SEATS
 
+-- what a call of the primary may have left, given the position of its record and that of the list
+abbrev pub IsPrimaryLeft : ℕ → ℕ → Remains → Type 0
+IsPrimaryLeft low high (At position) = (low ≤ position) × (position ≤ high)
+IsPrimaryLeft low high AsPrimary = ⊥
+
+-- what a call of the standby may have left, given the position of its record and the one up to which the link has sent groups
+abbrev pub IsStandbyLeft : ℕ → ℕ → Remains → Type 0
+IsStandbyLeft low high (At position) = (low ≤ position) × (position ≤ high)
+IsStandbyLeft low high AsPrimary = Unit {0}
+
 pub record Sound (w : World) : Type 0 where
   pub connections : SoundConnections w.primary.connections
   pub legal : IsLegal w.primary.calls
   pub inbound : (c : ℕ) → is_open w c ≡ true → SoundInbound w.primary.calls c (connection_of w c).inbound
-  pub outbound : (c : ℕ) → is_open w c ≡ true → SoundOutbound w.primary.calls c w.primary.committer.local w.primary.link.remote (connection_of w c).outbound
-  pub over : (c : ℕ) → is_open w c ≡ false → SoundOver w.primary.calls c w.standby.position (connection_of w c)
+  pub outbound : (c : ℕ) → is_open w c ≡ true → SoundOutbound w.primary.calls c (seen_of w) (connection_of w c).outbound
+  pub over : (c : ℕ) → is_open w c ≡ false → SoundOver w.primary.calls c (safe_position w) (connection_of w c)
   pub committer : SoundCommitter (position_of w.primary.calls) w.primary.committer
   -- groups were sent up to this position
   pub sent : ℕ
   pub link : SoundLink w.primary.opened w.primary.committer.stage w.primary.committer.position sent w.primary.link
   pub standby : SoundStandby w.primary.epoch sent w.primary.link.known w.standby
   pub wire : SoundWire w.primary.epoch sent w.standby.position w.wire
+  pub primary_left : All (IsPrimaryLeft w.primary.committer.position (position_of w.primary.calls)) (torn w.primary.life)
+  pub standby_left : All (IsStandbyLeft w.standby.position sent) (torn w.standby.life)

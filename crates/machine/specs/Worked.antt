@@ -1,10 +1,14 @@
--- The first worked case as a run written out: one connection sends SET a 1. Each kind of event happens in it but those
--- that free what has ended, and crashes and reopenings.
-use Rattle.std.specs.Prelude.{◌≡◌, ℕ, Bool, true, false, List, [], ◌∷◌, take, codes, All}
+-- Two cases as runs written out. The first: one connection sends SET a 1. Each kind of event happens in it but those that free what has ended, and those of failing
+-- fences, crashes and failover. The second: its change is durable on the primary alone, the primary is fenced, and the standby promoted, at the second attempt.
+use Rattle.std.specs.Prelude.{◌≡◌, ℕ, Bool, true, false, List, [], ◌∷◌, take, codes, All, Vec}
+use Rattle.std.specs.Global.{Global}
 use Rattle.machine.specs.declared.event.Event.{Event}
-use Rattle.machine.specs.declared.event.Event.TheVariants.{Enter, Feed, Offer, Turn, CloseGroup, Commit, RaiseLocal, Hand, OpenLink, Send, Deliver, Apply, AckDelivered, RaiseRemote, Hold, Read, Release, Write, Leave}
+use Rattle.machine.specs.declared.event.Event.TheVariants.{Enter, Feed, Offer, Turn, CloseGroup, Commit, RaiseLocal, Hand, OpenLink, Send, Deliver, Apply, AckDelivered, RaiseRemote, Hold, Read, Release, Write, Leave, FailFence, Crash, Reopen, Fence, Promote}
+use Rattle.machine.specs.declared.event.Node.TheVariants as node
+use Rattle.machine.specs.declared.event.Cut.TheVariants as cut
 use Rattle.machine.specs.declared.event.Mark.TheVariants.{Local, Remote}
-use Rattle.machine.specs.Event.{World, Run, start, last_world, count_open}
+use Rattle.model.specs.Call.{position_of}
+use Rattle.machine.specs.Event.{World, Run, start, start_with, last_world, count_open, is_open}
 use Rattle.machine.specs.Promise.{released_in}
 
 abbrev pub set_request : List ℕ
@@ -44,3 +48,42 @@ pub record FirstCaseIsARun : Type 0 where
   pub remote : (last_world start worlds).primary.link.remote ≡ 1
   pub reply : released_in (last_world start worlds) 0 ≡ codes "+OK\r\n"
   pub seats : count_open (last_world start worlds).primary.connections ≡ 0
+
+-- ---- failover
+
+-- (the picks of its crashes decide nothing here)
+abbrev pub failover_events : Vec ℕ Global → List Event
+failover_events picks =
+    -- the call is durable on the primary, and not on the standby
+    Enter ∷ Feed 0 set_request ∷ Offer 0 ∷ Turn 0 ∷ CloseGroup ∷ Commit ∷ RaiseLocal ∷ Hand
+    -- the standby's next fence is to fail; it is not promoted while nothing was fenced
+    ∷ FailFence node.Standby 1 ∷ Promote
+    -- nothing happens to a primary that was fenced
+    ∷ Fence ∷ Fence ∷ Hold 0 ∷ Crash node.Primary cut.Between 0 picks
+    -- the fence fails in the promotion; a crash shows that it has left the standby as it was, which is opened again
+    ∷ Promote ∷ Promote ∷ Crash node.Standby cut.Between 0 picks ∷ Reopen node.Standby
+    -- the second promotion is cut, and has left the image of a primary; the opening of that is cut too
+    ∷ Crash node.Standby cut.Promote 9 picks ∷ Crash node.Primary cut.Reopen 1 picks ∷ Reopen node.Primary
+    -- it serves, of the next epoch, and has no standby
+    ∷ Enter ∷ Promote ∷ OpenLink ∷ []
+
+abbrev pub failover_done : List Bool
+failover_done =
+    true ∷ true ∷ true ∷ true ∷ true ∷ true ∷ true ∷ true
+    ∷ true ∷ false
+    ∷ true ∷ false ∷ false ∷ false
+    ∷ true ∷ false ∷ true ∷ true
+    ∷ true ∷ true ∷ true
+    ∷ true ∷ false ∷ false ∷ []
+
+-- The call is gone from the list, as its change was not on the standby, and nothing was released of it. Its connection is over, and the next has the next number.
+pub record FailoverIsARun (picks : Vec ℕ Global) : Type 0 where
+  pub worlds : List World
+  pub run : Run (start_with true true) (failover_events picks) failover_done worlds
+  pub before : position_of (last_world (start_with true true) (take 8 worlds)).primary.calls ≡ 1
+  pub calls : (last_world (start_with true true) worlds).primary.calls ≡ []
+  pub epoch : (last_world (start_with true true) worlds).primary.epoch ≡ 2
+  pub disk : (last_world (start_with true true) worlds).primary.disk.number ≡ 1
+  pub released : released_in (last_world (start_with true true) worlds) 0 ≡ []
+  pub over : is_open (last_world (start_with true true) worlds) 0 ≡ false
+  pub entered : is_open (last_world (start_with true true) worlds) 1 ≡ true

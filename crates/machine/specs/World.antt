@@ -1,7 +1,8 @@
 -- The state of the pair of nodes and their connections (this project's profile), and definitions on it. Calls are appended to the list as the
 -- sequencer runs them; groups and frames are named by the positions of the list that they lie between.
 pub use Rattle.machine.specs.Connection.{Inbound, Outbound, Connection, no_connection, new_connection, get_connection, is_open_at, count_open, changed_at, with_inbound, with_outbound, asked, is_closed_by, has_room, is_covered, covered_prefix, uncovered_rest, texts_of}
-use Rattle.std.specs.Prelude.{ℕ, Bool, true, false, List, [], ◌∷◌, ◌++◌, ◌-◌}
+use Rattle.std.specs.Prelude.{◌≡◌, ℕ, Bool, true, false, List, [], ◌∷◌, ◌++◌, ◌-◌}
+use Rattle.kv_types.specs.declared.seen.Seen.{Seen}
 use Rattle.model.specs.declared.call.Call.{Call}
 use Rattle.model.specs.Call.{position_of}
 use Rattle.model.specs.declared.record.TheConstants.{FIRST_EPOCH}
@@ -68,16 +69,34 @@ pub record Link : Type 0 where
   -- the remote mark
   pub remote : ℕ
 
+-- what a crash may leave of a node
+pub data Remains : Type 0 where
+  -- the image of such a node as it was, at this position
+  At : ℕ → Remains
+  -- of a standby that was being promoted: the image of a primary of the next epoch, at the standby's position
+  AsPrimary : Remains
+
 -- the condition of a node
 pub data Life : Type 0 where
   Running : Life
-  -- one of its fences failed: a device fault
-  Stopped : Life
+  -- A fence of its device failed in a call, and it does nothing more until it has crashed and was opened again. These are what a crash may leave of it besides
+  -- the image from before that call.
+  Stopped : List Remains → Life
   Crashed : Life
+  -- nothing happens to it any more: a primary that was fenced, or a standby that was promoted
+  Retired : Life
+
+-- the device of a node
+pub record Disk : Type 0 where
+  -- its place among the devices of a run
+  pub number : ℕ
+  -- a fence of it was asked to fail, and has not failed yet
+  pub failing : Bool
 
 -- the node that serves
 pub record Primary : Type 0 where
   pub life : Life
+  pub disk : Disk
   pub epoch : ℕ
   -- the position of the list at which it was opened last or, once it crashed, will be
   pub opened : ℕ
@@ -95,9 +114,11 @@ pub record Primary : Type 0 where
   -- how many gaps the record has
   pub gaps : ℕ
 
--- the node that follows it
+-- The node that follows it. Of one that was promoted nothing happens any more; its position stays the one at which it was promoted, and its epoch is that of the
+-- primary which it became.
 pub record Standby : Type 0 where
   pub life : Life
+  pub disk : Disk
   pub epoch : ℕ
   -- frames that arrived and have not been taken yet
   pub waiting : List Frame
@@ -110,8 +131,10 @@ pub record Wire : Type 0 where
   pub acknowledgements : List Acknowledgement
 
 pub record World : Type 0 where
-  -- the nodes may crash between two events, and be opened again
+  -- nodes may crash between two events and be opened again
   pub restarts : Bool
+  -- fences may fail, nodes may crash inside a call, and the primary may be fenced and its standby promoted
+  pub failovers : Bool
   pub primary : Primary
   pub standby : Standby
   pub wire : Wire
@@ -126,12 +149,18 @@ new_committer position = record { closed = position; waiting = []; aside = []; s
 abbrev pub new_link : Link
 new_link = record { delta = []; waiting = []; kept = []; again = []; known = 0; remote = 0 }
 
--- two nodes that were formatted together, with this epoch
-abbrev pub start_at : ℕ → Bool → World
-start_at epoch restarts = record {
+-- the device with this number, of which no fence was asked to fail
+abbrev pub new_disk : ℕ → Disk
+new_disk number = record { number = number; failing = false }
+
+-- two nodes that were formatted together, with this epoch, the primary on the first device and the standby on the second
+abbrev pub start_at : ℕ → Bool → Bool → World
+start_at epoch restarts failovers = record {
   restarts = restarts;
+  failovers = failovers;
   primary = record {
     life = Running;
+    disk = new_disk 0;
     epoch = epoch;
     opened = 0;
     connections = [];
@@ -143,28 +172,61 @@ start_at epoch restarts = record {
     notices = 0;
     gaps = 0;
   };
-  standby = record { life = Running; epoch = epoch; waiting = []; position = 0 };
+  standby = record { life = Running; disk = new_disk 1; epoch = epoch; waiting = []; position = 0 };
   wire = record { frames = []; acknowledgements = [] };
 }
 
-abbrev pub start_with : Bool → World
-start_with restarts = start_at FIRST_EPOCH restarts
+abbrev pub start_with : Bool → Bool → World
+start_with restarts failovers = start_at FIRST_EPOCH restarts failovers
 
--- two nodes that do not crash
+-- two nodes whose fences do not fail and that do not crash
 abbrev pub start : World
-start = start_with false
+start = start_with false false
 
 -- ---- definitions on it
 
 abbrev pub is_running : Life → Bool
 is_running Running = true
-is_running Stopped = false
+is_running (Stopped remains) = false
 is_running Crashed = false
+is_running Retired = false
+
+abbrev pub is_stopped : Life → Bool
+is_stopped Running = false
+is_stopped (Stopped remains) = true
+is_stopped Crashed = false
+is_stopped Retired = false
 
 abbrev pub is_crashed : Life → Bool
 is_crashed Running = false
-is_crashed Stopped = false
+is_crashed (Stopped remains) = false
 is_crashed Crashed = true
+is_crashed Retired = false
+
+abbrev pub is_retired : Life → Bool
+is_retired Running = false
+is_retired (Stopped remains) = false
+is_retired Crashed = false
+is_retired Retired = true
+
+-- what a crash may leave of a node in this condition besides its image: something only where a fence failed in a call
+abbrev pub torn : Life → List Remains
+torn Running = []
+torn (Stopped remains) = remains
+torn Crashed = []
+torn Retired = []
+
+-- no failover comes: no fence was asked to fail, and none has failed
+pub record IsSure (w : World) : Type 0 where
+  pub failovers : w.failovers ≡ false
+  pub primary_sure : w.primary.disk.failing ≡ false
+  pub standby_sure : w.standby.disk.failing ≡ false
+  pub primary_whole : torn w.primary.life ≡ []
+  pub standby_whole : torn w.standby.life ≡ []
+
+-- Whatever crash or failover comes, the list keeps its calls up to this position: that of the standby's record, or the one at which it was promoted.
+abbrev pub safe_position : World → ℕ
+safe_position w = w.standby.position
 
 -- connection c, or `no_connection` where there is none
 abbrev pub connection_of : World → ℕ → Connection
@@ -201,6 +263,10 @@ with_sent frames w = record w { wire = record w.wire { frames = w.wire.frames ++
 -- more acknowledgements were made
 abbrev pub with_acknowledged : List Acknowledgement → World → World
 with_acknowledged acknowledgements w = record w { wire = record w.wire { acknowledgements = w.wire.acknowledgements ++ acknowledgements } }
+
+-- the marks
+abbrev pub seen_of : World → Seen
+seen_of w = record { local = w.primary.committer.local; remote = w.primary.link.remote }
 
 -- how many changing commands wait to be closed into a group
 abbrev pub open_changes : World → ℕ

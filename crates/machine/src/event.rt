@@ -1,7 +1,13 @@
 //! What may happen to a pair of nodes and their connections.
+ghost use Rattle.std.specs.Prelude.{◌≡◌, IfOk};
+ghost use Rattle.machine.specs.Copy.{IsCopy};
+ghost use Rattle.machine.specs.Event.{is_between};
+ghost use Rattle.machine.specs.Row.{are_running, row};
+
 use bytes::Bytes;
 use model::MAX_PARTS;
 use pipes::MAX_SEATS;
+use std::alloc::AllocError;
 
 /// The most connections at a time.
 pub const SEATS: u64 = MAX_SEATS as u64;
@@ -29,6 +35,56 @@ pub enum Mark {
 pub enum Node {
     Primary,
     Standby,
+}
+
+/// A call that writes to a node's device, and that a crash may cut anywhere.
+#[derive(Clone, Copy, Debug, PartialEq, Eq)]
+pub enum Cut {
+    /// None: the crash comes between two events.
+    Between,
+    Commit,
+    Apply,
+    Free,
+    ClearGap,
+    Reopen,
+    Promote,
+}
+
+impl Cut {
+    /// Whether the crash comes between two events.
+    pub fn is_between(self) -> bool
+        ensures { result ≡ is_between self }
+    {
+        match self {
+            Cut::Between => true,
+            Cut::Commit | Cut::Apply | Cut::Free | Cut::ClearGap | Cut::Reopen | Cut::Promote =>
+                false,
+        }
+    }
+}
+
+/// Which nodes have to run for an event.
+#[derive(Clone, Copy, Debug, PartialEq, Eq)]
+pub enum Runners {
+    /// None: a node crashes, or is opened again, or the primary is fenced.
+    Neither,
+    Primary,
+    Standby,
+    Both,
+}
+
+impl Runners {
+    /// Whether they run, where the primary and the standby do so or not.
+    pub fn are_running(self, primary: bool, standby: bool) -> bool
+        ensures { result ≡ are_running self primary standby }
+    {
+        match self {
+            Runners::Neither => true,
+            Runners::Primary => primary,
+            Runners::Standby => standby,
+            Runners::Both => primary && standby,
+        }
+    }
 }
 
 /// One turn of one actor. A connection is named by its number, which stays its own when it is over: connections count from 0, in the
@@ -83,9 +139,95 @@ pub enum Event {
     Write(u64, u64),
     /// A connection is over. Its calls stay; what it asked for and was not called, and what was not written to it, is dropped. Its seat is free again.
     Leave(u64),
-    /// A node that runs, or that stopped, crashes between two events. What its device has not made durable is as these picks say, and all that the node
-    /// held elsewhere is gone.
-    Crash(Node, Vec<u64>),
+    /// The n-th fence of a node's device from now fails, counted from 1; this replaces what was asked for before, and 0 asks for none. The call that meets it
+    /// stops the node.
+    FailFence(Node, u64),
+    /// A node crashes: one that runs or has stopped between two events, or one that may make this call in the middle of it, after so many stores, flushes and
+    /// fences of its device. What its device has not made durable is as these picks say, and all that the node held elsewhere is gone.
+    Crash(Node, Cut, u64, Vec<u64>),
     /// A node that crashed opens its image again.
     Reopen(Node),
+    /// The primary does nothing more, whatever its condition.
+    Fence,
+    /// After the fence of its primary the standby becomes the primary of the next epoch. All connections of the former one are over.
+    Promote,
+}
+
+impl Event {
+    /// The nodes that have to run for it.
+    pub fn runners(&self) -> Runners
+        ensures { result ≡ (row self.now).runners }
+    {
+        match self {
+            Event::Crash(_, _, _, _) | Event::Reopen(_) | Event::Fence => Runners::Neither,
+            Event::FailFence(Node::Primary, _) => Runners::Primary,
+            Event::FailFence(Node::Standby, _) => Runners::Standby,
+            Event::Promote => Runners::Standby,
+            Event::OpenLink => Runners::Both,
+            Event::Deliver(_, _) | Event::Apply => Runners::Standby,
+            Event::Enter
+            | Event::Feed(_, _)
+            | Event::Offer(_)
+            | Event::Turn(_)
+            | Event::CloseGroup
+            | Event::Commit
+            | Event::RaiseLocal
+            | Event::Hand
+            | Event::Free
+            | Event::AcceptFreed
+            | Event::ClearGap
+            | Event::Send
+            | Event::AckDelivered(_)
+            | Event::RaiseRemote
+            | Event::Hold(_)
+            | Event::Read(_, _)
+            | Event::Release(_)
+            | Event::Write(_, _)
+            | Event::Leave(_) => Runners::Primary,
+        }
+    }
+
+    /// A copy of the event. Bytes are shared, picks are not.
+    ///
+    /// # Errors
+    ///
+    /// Only `AllocError`, of the picks of a crash.
+    pub fn try_clone(&self) -> Result<Event, AllocError>
+        ensures { IfOk result (IsCopy self.now) }
+    {
+        match self {
+            Event::Enter => Ok(Event::Enter),
+            Event::Feed(connection, piece) => Ok(Event::Feed(*connection, piece.clone()?)),
+            Event::Offer(connection) => Ok(Event::Offer(*connection)),
+            Event::Turn(connection) => Ok(Event::Turn(*connection)),
+            Event::CloseGroup => Ok(Event::CloseGroup),
+            Event::Commit => Ok(Event::Commit),
+            Event::RaiseLocal => Ok(Event::RaiseLocal),
+            Event::Hand => Ok(Event::Hand),
+            Event::Free => Ok(Event::Free),
+            Event::AcceptFreed => Ok(Event::AcceptFreed),
+            Event::ClearGap => Ok(Event::ClearGap),
+            Event::OpenLink => Ok(Event::OpenLink),
+            Event::Send => Ok(Event::Send),
+            Event::Deliver(frame, piece) => Ok(Event::Deliver(*frame, *piece)),
+            Event::Apply => Ok(Event::Apply),
+            Event::AckDelivered(number) => Ok(Event::AckDelivered(*number)),
+            Event::RaiseRemote => Ok(Event::RaiseRemote),
+            Event::Hold(connection) => Ok(Event::Hold(*connection)),
+            Event::Read(connection, mark) => Ok(Event::Read(*connection, *mark)),
+            Event::Release(connection) => Ok(Event::Release(*connection)),
+            Event::Write(connection, count) => Ok(Event::Write(*connection, *count)),
+            Event::Leave(connection) => Ok(Event::Leave(*connection)),
+            Event::FailFence(node, fence) => Ok(Event::FailFence(*node, *fence)),
+            Event::Crash(node, cut, after, picks) => Ok(Event::Crash(
+                *node,
+                *cut,
+                *after,
+                picks.clone()?,
+            )),
+            Event::Reopen(node) => Ok(Event::Reopen(*node)),
+            Event::Fence => Ok(Event::Fence),
+            Event::Promote => Ok(Event::Promote),
+        }
+    }
 }

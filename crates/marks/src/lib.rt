@@ -4,8 +4,10 @@
 mod marks;
 mod rule;
 mod seat;
+mod thread_marks;
 mod view;
 
 pub use marks::Marks;
 pub use seat::MarkSeat;
+pub use thread_marks::ThreadMarks;
 pub use view::{Committer, Cut, Link, MarkView, Reader};

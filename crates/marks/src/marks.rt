@@ -7,8 +7,7 @@ use crate::seat::MarkSeat;
 use crate::view::{Both, Cut, Halves, MarkView};
 use atomic_table::Table;
 use frames::Ack;
-use kv_types::Refusal;
-use reply_gate::Seen;
+use kv_types::{Refusal, Seen};
 use std::alloc::Global;
 use std::marker::Model;
 use wbl_engine::Committed;
@@ -78,81 +77,71 @@ impl Marks {
     }
 
     /// Raises the local mark to the position of a commit. A position below the mark leaves it unchanged. The seat is the committer's.
-    pub fn raise_local(&self, seat: MarkSeat, committed: &Committed) -> MarkSeat
-        requires marks { seat.marks ≡ self.now }
-        requires raises { seat.knows.raises_local ≡ true }
-        ensures marks { result.marks ≡ seat.marks }
-        ensures knows { result.knows ≡ record seat.knows { local = max seat.knows.local committed.now } }
+    pub fn raise_local(&self, seat: &mut MarkSeat, committed: &Committed)
+        requires marks { seat.old.marks ≡ self.now }
+        requires raises { seat.old.knows.raises_local ≡ true }
+        ensures marks { seat.new.marks ≡ seat.old.marks }
+        ensures knows { seat.new.knows ≡ record seat.old.knows { local = max seat.old.knows.local committed.now } }
     {
-        let MarkSeat { mut seat } = seat;
         self.table
             .shared
-            .fetch_max::<RaiseLocal>(&mut seat, LOCAL, committed.position());
-        MarkSeat { seat }
+            .fetch_max::<RaiseLocal>(&mut seat.seat, LOCAL, committed.position());
     }
 
     /// Raises the remote mark to the position that the standby acknowledged. A position below the mark leaves it unchanged. The seat is the link's.
-    pub fn raise_remote(&self, seat: MarkSeat, ack: Ack) -> MarkSeat
-        requires marks { seat.marks ≡ self.now }
-        requires raises { seat.knows.raises_remote ≡ true }
-        ensures marks { result.marks ≡ seat.marks }
-        ensures knows { result.knows ≡ record seat.knows { remote = max seat.knows.remote ack.position } }
+    pub fn raise_remote(&self, seat: &mut MarkSeat, ack: Ack)
+        requires marks { seat.old.marks ≡ self.now }
+        requires raises { seat.old.knows.raises_remote ≡ true }
+        ensures marks { seat.new.marks ≡ seat.old.marks }
+        ensures knows { seat.new.knows ≡ record seat.old.knows { remote = max seat.old.knows.remote ack.position } }
     {
-        let MarkSeat { mut seat } = seat;
         self.table
             .shared
-            .fetch_max::<RaiseRemote>(&mut seat, REMOTE, ack.position());
-        MarkSeat { seat }
+            .fetch_max::<RaiseRemote>(&mut seat.seat, REMOTE, ack.position());
     }
 
     /// Both marks. Neither is below what the seat had seen, and one that the seat raises is exactly what it knew.
-    pub fn read(&self, seat: MarkSeat) -> (MarkSeat, Seen)
-        requires marks { seat.marks ≡ self.now }
-        ensures marks { result.0.marks ≡ seat.marks }
-        ensures knows { result.0.knows ≡ record seat.knows { local = result.1.local; remote = result.1.remote } }
-        ensures rises { (seat.knows.local ≤ result.1.local) × (seat.knows.remote ≤ result.1.remote) }
-        ensures local { seat.knows.raises_local ≡ true → result.1.local ≡ seat.knows.local }
-        ensures remote { seat.knows.raises_remote ≡ true → result.1.remote ≡ seat.knows.remote }
+    pub fn read(&self, seat: &mut MarkSeat) -> Seen
+        requires marks { seat.old.marks ≡ self.now }
+        ensures marks { seat.new.marks ≡ seat.old.marks }
+        ensures knows { seat.new.knows ≡ record seat.old.knows { local = result.local; remote = result.remote } }
+        ensures rises { (seat.old.knows.local ≤ result.local) × (seat.old.knows.remote ≤ result.remote) }
+        ensures local { seat.old.knows.raises_local ≡ true → result.local ≡ seat.old.knows.local }
+        ensures remote { seat.old.knows.raises_remote ≡ true → result.remote ≡ seat.old.knows.remote }
     {
-        let MarkSeat { mut seat } = seat;
-        let local = self.table.shared.load::<FindLocal>(&mut seat, LOCAL);
-        let remote = self.table.shared.load::<FindRemote>(&mut seat, REMOTE);
-        (MarkSeat { seat }, Seen { local, remote })
+        let local = self.table.shared.load::<FindLocal>(&mut seat.seat, LOCAL);
+        let remote = self.table.shared.load::<FindRemote>(&mut seat.seat, REMOTE);
+        Seen { local, remote }
     }
 
     /// The remote mark, in one step.
-    pub fn read_remote(&self, seat: MarkSeat) -> (MarkSeat, u64)
-        requires marks { seat.marks ≡ self.now }
-        ensures marks { result.0.marks ≡ seat.marks }
-        ensures knows { result.0.knows ≡ record seat.knows { remote = result.1 } }
-        ensures rises { seat.knows.remote ≤ result.1 }
-        ensures remote { seat.knows.raises_remote ≡ true → result.1 ≡ seat.knows.remote }
+    pub fn read_remote(&self, seat: &mut MarkSeat) -> u64
+        requires marks { seat.old.marks ≡ self.now }
+        ensures marks { seat.new.marks ≡ seat.old.marks }
+        ensures knows { seat.new.knows ≡ record seat.old.knows { remote = result } }
+        ensures rises { seat.old.knows.remote ≤ result }
+        ensures remote { seat.old.knows.raises_remote ≡ true → result ≡ seat.old.knows.remote }
     {
-        let MarkSeat { mut seat } = seat;
-        let remote = self.table.shared.load::<FindRemote>(&mut seat, REMOTE);
-        (MarkSeat { seat }, remote)
+        self.table.shared.load::<FindRemote>(&mut seat.seat, REMOTE)
     }
 
     /// Asks all threads to stop. The stop word is 1 from now on.
-    pub fn stop(&self, seat: MarkSeat) -> MarkSeat
-        requires marks { seat.marks ≡ self.now }
-        ensures marks { result.marks ≡ seat.marks }
-        ensures knows { result.knows ≡ record seat.knows { stop = 1 } }
+    pub fn stop(&self, seat: &mut MarkSeat)
+        requires marks { seat.old.marks ≡ self.now }
+        ensures marks { seat.new.marks ≡ seat.old.marks }
+        ensures knows { seat.new.knows ≡ record seat.old.knows { stop = 1 } }
     {
-        let MarkSeat { mut seat } = seat;
-        self.table.shared.store::<Stop>(&mut seat, STOP, 1);
-        MarkSeat { seat }
+        self.table.shared.store::<Stop>(&mut seat.seat, STOP, 1);
     }
 
     /// Whether somebody has asked to stop: yes whenever the seat knew it, and only if the stop word is 1.
-    pub fn stopped(&self, seat: MarkSeat) -> (MarkSeat, bool)
-        requires marks { seat.marks ≡ self.now }
-        ensures marks { result.0.marks ≡ seat.marks }
-        ensures knows { result.0.knows ≡ record seat.knows { stop = (if result.1 then 1 else 0) } }
-        ensures known { seat.knows.stop ≡ 1 → result.1 ≡ true }
+    pub fn stopped(&self, seat: &mut MarkSeat) -> bool
+        requires marks { seat.old.marks ≡ self.now }
+        ensures marks { seat.new.marks ≡ seat.old.marks }
+        ensures knows { seat.new.knows ≡ record seat.old.knows { stop = (if result then 1 else 0) } }
+        ensures known { seat.old.knows.stop ≡ 1 → result ≡ true }
     {
-        let MarkSeat { mut seat } = seat;
-        let found = self.table.shared.load::<FindStop>(&mut seat, STOP);
-        (MarkSeat { seat }, found == 1)
+        let found = self.table.shared.load::<FindStop>(&mut seat.seat, STOP);
+        found == 1
     }
 }

@@ -6,6 +6,7 @@ pub mod ServesLemmas
 pub mod MapLemmas
 pub mod VersionsLemmas
 pub mod GroupsLemmas
+pub mod DirectoryLemmas
 pub mod RecordLemmas
 pub mod StandingLemmas
 pub mod SessionLemmas

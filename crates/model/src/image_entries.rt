@@ -19,16 +19,11 @@ struct Shape {
     line: u64,
 }
 
-/// How many lines the given number of bytes takes: at least one.
-fn lines_of_bytes(bytes: u64) -> u64
-    requires { bytes < 1_000_000 }
+/// How many lines so many bytes take: at least one.
+pub fn lines_of_bytes(bytes: u64) -> u64
     ensures { result ≡ images.lines_of_bytes bytes }
 {
-    if bytes == 0 {
-        1
-    } else {
-        (bytes + (LINE_BYTES - 1)) / LINE_BYTES
-    }
+    bytes.div_ceil(LINE_BYTES).max(1)
 }
 
 /// The shape of the record in entry `i`, or `None` where its lengths exceed the limits or its extent runs past the end of the image.

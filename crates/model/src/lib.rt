@@ -18,6 +18,7 @@ pub use effect::{Effect, closes, outcome_of};
 pub use group::{Group, MAX_PARTS, Part, PlacedChange, Put};
 pub use image::{COUNTER_LIMIT, MAGIC, MAX_LINES, MIN_LINES, STAMP_WINDOW};
 pub use image_contents::{ImageContents, read_image};
+pub use image_entries::lines_of_bytes;
 pub use laws::{
     calls_see_their_own_session, changes_lead_from_position_to_position,
     changes_stay_within_limits, cut_is_the_longest_prefix, images_hold_one_keyspace,

@@ -60,13 +60,6 @@ impl Sessions {
         }
     }
 
-    /// Whether a number is open.
-    pub fn is_opened(&self, number: SessionNo) -> bool
-        ensures { IsTrue result ↔ IsSome (slot self.now number.0) }
-    {
-        self.sessions.contains(number.0)
-    }
-
     /// Opens an idle session, under a number that was not open.
     ///
     /// # Errors

@@ -1,6 +1,6 @@
 -- The versions that ended, as the code keeps them.
 use Rattle.std.proofs.Common.{◌≡◌, ℕ, zero, suc, ◌+◌, ◌<◌, ◌≤◌, Bool, true, false, cond, not, ◌||◌, ◌==◌, List, [], ◌∷◌, ◌++◌, length, take, drop, get_or, Some, IsTrue, nat_lt, refl, sym, ap, subst, ◌∙◌, add-one, arith}
-use Rattle.std.specs.Prelude.{filter}
+use Rattle.std.specs.Prelude.{filter, max}
 use Rattle.std.specs.List.{AllByRecursion}
 use Rattle.kv_types.specs.declared.record_id.RecordId.{RecordId}
 use Rattle.kv_types.proofs.LookUpLemmas.{is_same}
@@ -8,7 +8,7 @@ use Rattle.mv_keyspace.specs.declared.row.Row.{Row}
 use Rattle.mv_keyspace.specs.declared.past.Ended.{Ended}
 use Rattle.mv_keyspace.specs.Table.{Table, cell_at, with_cell}
 use Rattle.mv_keyspace.specs.Row.{cell_of_row, table_of}
-use Rattle.mv_keyspace.specs.Versions.{Span, Versions, is_pinned, is_shown, reclaimed, version_of, versions_of, with_past, without_pin}
+use Rattle.mv_keyspace.specs.Versions.{Span, Versions, is_pinned, is_shown, last_among, reclaimed, version_of, versions_of, with_past, without_pin}
 use Rattle.mv_keyspace.proofs.TableLemmas.{cell_at-with_cell}
 
 -- ---- pins
@@ -30,6 +30,15 @@ up_to-next (first ∷ rows) (suc i) row low high lt is rise at all = (omega (ari
 
 pub up_to-more : (rows : List Row) (i : ℕ) (row : Row) (low high : ℕ) → i < length rows → row ≡ get_or rows i row → low ≤ high → row.position ≤ high → AreUpTo low (table_of (take i rows)) → AreUpTo high (table_of (take (i + 1) rows))
 up_to-more rows i row low high lt is rise at all = subst (λ n. AreUpTo high (table_of (take n rows))) (sym (add-one i)) (up_to-next rows i row low high lt is rise at all)
+
+last-next : (rows : List Row) (i : ℕ) (row : Row) (low high : ℕ) → i < length rows → row ≡ get_or rows i row → high ≡ max low row.position → last_among high (table_of (drop (suc i) rows)) ≡ last_among low (table_of (drop i rows))
+last-next [] i row low high lt is rise = absurd (omega arith)
+last-next (first ∷ rows) zero row low high lt is rise = ap (λ n. last_among n (table_of rows)) (rise ∙ ap (λ (r : Row). max low r.position) is)
+last-next (first ∷ rows) (suc i) row low high lt is rise = last-next rows i row low high (omega arith) is rise
+
+-- the last change among the rows that are left, once one of them is taken note of
+pub last-step : (rows : List Row) (i : ℕ) (row : Row) (low high : ℕ) → i < length rows → row ≡ get_or rows i row → high ≡ max low row.position → last_among high (table_of (drop (i + 1) rows)) ≡ last_among low (table_of (drop i rows))
+last-step rows i row low high lt is rise = subst (λ n. last_among high (table_of (drop n rows)) ≡ last_among low (table_of (drop i rows))) (sym (add-one i)) (last-next rows i row low high lt is rise)
 
 -- ---- what is shown
 

@@ -1,5 +1,5 @@
 -- The versions that a keyspace keeps beside the live ones, and the table as it was at a position.
-use Rattle.std.specs.Prelude.{ℕ, ◌≤◌, Bool, false, ◌&&◌, ◌||◌, ◌==◌, if◌then◌else◌, cond, List, [], ◌∷◌, map, filter, nat_le, nat_lt, IsTrue}
+use Rattle.std.specs.Prelude.{ℕ, ◌≤◌, Bool, false, ◌&&◌, ◌||◌, ◌==◌, if◌then◌else◌, cond, List, [], ◌∷◌, map, filter, max, nat_le, nat_lt, IsTrue}
 use Rattle.std.specs.List.{AllByRecursion}
 use Rattle.std.specs.FinMap.Entries.{is_sorted, where_key}
 use Rattle.kv_types.specs.declared.record_id.RecordId.{RecordId}
@@ -79,6 +79,13 @@ reclaimed horizon pins = filter (λ version. nat_lt horizon version.1.end || is_
 abbrev pub without_pin : ℕ → List ℕ → List ℕ
 without_pin position [] = []
 without_pin position (pin ∷ pins) = if pin == position then pins else pin ∷ without_pin position pins
+
+-- ---- the last change
+
+-- this position or the greatest at which a row of the table began
+abbrev pub last_among : ℕ → Table → ℕ
+last_among position [] = position
+last_among position (row ∷ rows) = last_among (max position row.1.position) rows
 
 -- ---- as the code has them
 

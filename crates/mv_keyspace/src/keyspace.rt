@@ -1,12 +1,12 @@
 //! The keyspace as a sequencer and a standby see it.
-ghost use Rattle.std.specs.Prelude.{◌≡◌, ℕ, ◌+◌, ◌-◌, ◌^◌, ◌<◌, ◌++◌, [], ◌∷◌, List, length, min, Contains, None, Some, OnOk, OnErr, IfErr, IfOk, MatchOption};
+ghost use Rattle.std.specs.Prelude.{◌≡◌, ℕ, ◌+◌, ◌-◌, ◌^◌, ◌<◌, ◌++◌, [], ◌∷◌, List, length, max, min, Contains, None, Some, OnOk, OnErr, IfErr, IfOk, MatchOption};
 ghost use Rattle.kv_types.specs.declared.place.EntryNo.{EntryNo};
 ghost use Rattle.kv_types.specs.declared.refusal.Refusal.TheVariants.{Memory};
 ghost use Rattle.mv_keyspace.specs.Loading.{AreCompatible, HasRows};
 ghost use Rattle.mv_keyspace.specs.Row.{table_of};
 ghost use Rattle.mv_keyspace.specs.Table.{Table, cell_at, records, place_all, puts_of, since, AreEnded, AreFresh, IsLawful};
 ghost use Rattle.mv_keyspace.specs.Version.{cell_of_shown};
-ghost use Rattle.mv_keyspace.specs.Versions.{Versions, kept, reclaimed, shown, without_pin};
+ghost use Rattle.mv_keyspace.specs.Versions.{Versions, kept, last_among, reclaimed, shown, without_pin};
 
 use crate::pin::Pin;
 use crate::row::Row;
@@ -28,11 +28,15 @@ pub trait Keyspace: Lookup {
     /// The positions that are pinned, each as often as it is.
     ghost pins: { Self → List ℕ };
 
+    /// The position of the last change: the greatest at which changes were made, or at which a row began that was loaded, 0 before the first.
+    ghost last: { Self → ℕ };
+
     /// A keyspace without records. It takes no memory.
     fn empty(alloc: Global) -> Self
         ensures none { table result ≡ [] }
         ensures past { past result ≡ [] }
-        ensures pins { pins result ≡ [] };
+        ensures pins { pins result ≡ [] }
+        ensures last { last result ≡ 0 };
 
     /// Makes all changes of a command or of a frame at this position of the list, and appends the entries that they ended, each once, to
     /// those in `ended`. While a position is pinned, the versions that end are kept, and a position below this one shows what it showed.
@@ -54,6 +58,8 @@ pub trait Keyspace: Lookup {
         ensures pins { pins self.new ≡ pins self.old }
         ensures past { OnOk result (past self.new ≡ past self.old ++ kept (pins self.old) position changes.now (table self.old)) }
         ensures past_stays { OnErr result (past self.new ≡ past self.old) }
+        ensures last { OnOk result (last self.new ≡ max (last self.old) position) }
+        ensures last_stays { OnErr result (last self.new ≡ last self.old) }
         ensures shown { OnOk result ((pin : ℕ) → Contains (pins self.old) pin → pin < position
             → shown pin (table self.new) (past self.new) ≡ shown pin (table self.old) (past self.old)) };
 
@@ -66,7 +72,8 @@ pub trait Keyspace: Lookup {
         ensures err { OnErr result (table self.new ≡ []) }
         ensures cause { IfErr result (λ refusal. refusal ≡ Memory) }
         ensures past { past self.new ≡ past self.old }
-        ensures pins { pins self.new ≡ pins self.old };
+        ensures pins { pins self.new ≡ pins self.old }
+        ensures last { last self.new ≡ last_among (last self.old) (table_of rows.items) };
 
     /// What a live record holds.
     fn version(&self, id: &RecordId) -> Option<Shown<'_>>
@@ -83,6 +90,8 @@ pub trait Keyspace: Lookup {
     fn pin(&mut self) -> Result<Pin, Refusal>
         ensures table { table self.new ≡ table self.old }
         ensures past { past self.new ≡ past self.old }
+        ensures position { IfOk result (λ pin. pin.position ≡ last self.old) }
+        ensures last { last self.new ≡ last self.old }
         ensures pins { IfOk result (λ pin. pins self.new ≡ pins self.old ++ pin.position ∷ []) }
         ensures shown { IfOk result (λ pin. shown pin.position (table self.new) (past self.new) ≡ table self.old) }
         ensures err { OnErr result (pins self.new ≡ pins self.old) }
@@ -103,12 +112,14 @@ pub trait Keyspace: Lookup {
     fn unpin(&mut self, pin: Pin)
         ensures table { table self.new ≡ table self.old }
         ensures past { past self.new ≡ past self.old }
+        ensures last { last self.new ≡ last self.old }
         ensures pins { pins self.new ≡ without_pin pin.position (pins self.old) };
 
     /// Drops the versions that ended by the position `horizon` and that no pin shows.
     fn reclaim(&mut self, horizon: u64)
         ensures table { table self.new ≡ table self.old }
         ensures pins { pins self.new ≡ pins self.old }
+        ensures last { last self.new ≡ last self.old }
         ensures past { past self.new ≡ reclaimed horizon (pins self.old) (past self.old) }
         ensures shown { (pin : ℕ) → Contains (pins self.old) pin → shown pin (table self.new) (past self.new) ≡ shown pin (table self.old) (past self.old) };
 

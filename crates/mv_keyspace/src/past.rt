@@ -1,10 +1,10 @@
 //! The versions that ended while a position was pinned.
-ghost use Rattle.std.specs.Prelude.{◌≡◌, false, None, Some, ℕ, ◌+◌, ◌<◌, ◌≤◌, ◌++◌, [], ◌∷◌, List, map, length, IsTrue, OnOk, OnErr, IfOk, MatchOption, vec_len, vec_capacity};
+ghost use Rattle.std.specs.Prelude.{◌≡◌, false, None, Some, ℕ, ◌+◌, ◌<◌, ◌≤◌, ◌++◌, [], ◌∷◌, List, map, length, max, IsTrue, OnOk, OnErr, IfOk, MatchOption, vec_len, vec_capacity};
 ghost use Rattle.std.specs.List.{AllByRecursion, remove};
 ghost use Rattle.mv_keyspace.specs.Row.{table_of};
 ghost use Rattle.mv_keyspace.specs.Table.{cell_at};
 ghost use Rattle.mv_keyspace.specs.Version.{cell_of_shown};
-ghost use Rattle.mv_keyspace.specs.Versions.{ended_at, is_pinned, is_shown, past_of, pins_of, reclaimed, table_in, version_of, with_past, without_pin};
+ghost use Rattle.mv_keyspace.specs.Versions.{ended_at, is_pinned, is_shown, last_among, past_of, pins_of, reclaimed, table_in, version_of, with_past, without_pin};
 
 use crate::gathering::put_shared;
 use crate::pin::Pin;
@@ -56,6 +56,7 @@ impl Past {
     pub(crate) fn new(alloc: Global) -> Past
         ensures versions { past_of result ≡ [] }
         ensures pins { pins_of result ≡ [] }
+        ensures position { result.position ≡ 0 }
     {
         Past {
             ended: Vec::new(alloc),
@@ -125,12 +126,13 @@ impl Past {
         self.ended.reserve(count)
     }
 
-    /// Takes rows that ended at this position, for which there is room.
+    /// Takes rows that ended at this position, for which there is room, and takes note of the change that ended them.
     pub(crate) fn keep(&mut self, rows: BTreeMap<RecordId, Row>, position: u64)
         requires room { vec_len self.old.ended + length rows.entries ≤ vec_capacity self.old.ended }
         ensures versions { past_of self.new ≡ past_of self.old ++ map (ended_at position) (table_in rows.entries) }
         ensures pins { pins_of self.new ≡ pins_of self.old }
-        ensures position { (self.old.position ≤ self.new.position) × (position ≤ self.new.position) }
+        ensures position { self.new.position ≡ max self.old.position position }
+        ensures rises { (self.old.position ≤ self.new.position) × (position ≤ self.new.position) }
     {
         if !rows.is_empty() {
             self.keep_all(rows, position);
@@ -155,7 +157,8 @@ impl Past {
     pub(crate) fn reach(&mut self, position: u64)
         ensures versions { past_of self.new ≡ past_of self.old }
         ensures pins { pins_of self.new ≡ pins_of self.old }
-        ensures position { (self.old.position ≤ self.new.position) × (position ≤ self.new.position) }
+        ensures position { self.new.position ≡ max self.old.position position }
+        ensures rises { (self.old.position ≤ self.new.position) × (position ≤ self.new.position) }
     {
         self.position = self.position.max(position);
     }
@@ -164,7 +167,8 @@ impl Past {
     pub(crate) fn reach_rows(&mut self, rows: &[Row])
         ensures versions { past_of self.new ≡ past_of self.old }
         ensures pins { pins_of self.new ≡ pins_of self.old }
-        ensures position { self.old.position ≤ self.new.position }
+        ensures position { self.new.position ≡ last_among self.old.position (table_of rows.now) }
+        ensures rises { self.old.position ≤ self.new.position }
         ensures rows { AllByRecursion (λ row. row.1.position ≤ self.new.position) (table_of rows.now) }
     {
         for row in rows {

@@ -80,8 +80,18 @@ impl Slot {
         Ok(())
     }
 
+    /// Puts a row behind the others, which nothing awaited.
+    pub(crate) fn add_last(&mut self, alloc: Global, row: Row) -> Result<(), AllocError>
+        requires { IsTrue (is_sorted record_cmp (records_of (rows_of (key_of row.id) self.old ++ row ∷ []))) }
+        ensures { OnOk result (rows_of (key_of row.id) self.new ≡ rows_of (key_of row.id) self.old ++ row ∷ []) }
+    {
+        self.expect(alloc, &row.id)?;
+        self.put_last(row);
+        Ok(())
+    }
+
     /// Puts a row that is awaited behind the others.
-    pub(crate) fn put_last(&mut self, row: Row)
+    fn put_last(&mut self, row: Row)
         requires order { IsTrue (is_sorted record_cmp (records_of (rows_of (key_of row.id) self.old ++ row ∷ []))) }
         requires awaited { 1 ≤ awaited_in self.old }
         requires list { IsTrue (is_field row.id) → IsTrue (is_list self.old) }

@@ -40,6 +40,7 @@ impl<L: Live> Versioned<L> {
         ensures none { L.table result.live ≡ [] }
         ensures past { past_of result.past ≡ [] }
         ensures pins { pins_of result.past ≡ [] }
+        ensures last { result.past.position ≡ 0 }
     {
         Versioned {
             live: L::empty(alloc),
@@ -100,6 +101,8 @@ impl<L: Live> Keyspace for Versioned<L> {
     ghost past = { λ keyspace. past_of keyspace.past };
 
     ghost pins = { λ keyspace. pins_of keyspace.past };
+
+    ghost last = { λ keyspace. keyspace.past.position };
 
     ghost reads = { λ keyspace. L.reads keyspace.live };
 

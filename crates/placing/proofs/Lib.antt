@@ -13,3 +13,6 @@ pub mod RebuiltLemmas
 pub mod ReadLemmas
 pub mod FreedPlaces
 pub mod BelowLemmas
+pub mod EndedLemmas
+pub mod WithoutLemmas
+pub mod ShownLemmas

@@ -4,8 +4,9 @@ ghost use Rattle.extent_heap.specs.Room.{has_room};
 ghost use Rattle.placing.specs.Fitting.{fits_surely, lines_wanted, most};
 ghost use Rattle.placing.specs.Place.{HasRoomFor};
 
-use crate::places::{give_back, lines_for, place_all};
+use crate::places::{give_back, place_all};
 use extent_heap::ExtentHeap;
+use heap_layout::lines_for;
 use kv_types::{Change, Refusal};
 use std::alloc::Global;
 

@@ -15,5 +15,4 @@ pub use fitting::{fits_surely, has_room_for};
 pub use giving::give_all;
 pub use laws::images_are_read_by_entries;
 pub use performing::{empty_part, perform};
-pub use places::lines_for;
 pub use rebuilding::{Rebuilt, rebuild};

@@ -9,12 +9,10 @@ ghost use Rattle.model.specs.declared.group.Put.{Put};
 ghost use Rattle.model.specs.declared.group.PlacedChange.{PlacedChange};
 
 use extent_heap::ExtentHeap;
+use heap_layout::lines_for;
 use kv_types::{Change, RecordId, Refusal, Value};
 use model::{PlacedChange, Put};
 use std::alloc::Global;
-
-/// How many bytes a line of an image has.
-const LINE_BYTES: usize = 64;
 
 /// Appends the changes to `placed`, each put with a place taken from the heap, in turn. `Refusal::Full` where the heap has no room for all of them,
 /// `Refusal::Memory` where a growth was refused; then heap and list are as they were.
@@ -109,13 +107,4 @@ fn give_place_back(heap: &mut ExtentHeap, change: PlacedChange)
         heap.give(put.extent);
         heap.give_entry(put.entry);
     }
-}
-
-/// How many lines a record takes: at least one.
-pub fn lines_for(id: &RecordId, value: &Value) -> u64
-    ensures { result ≡ lines_of_bytes (bytes_of_id id.now + length value.now) }
-{
-    let name = id.key().len() + id.field().map_or(0, |field| field.len());
-    let bytes = name + value.len();
-    bytes.div_ceil(LINE_BYTES).max(1) as u64
 }

@@ -13,11 +13,9 @@ use crate::notes::Notes;
 use crate::opening::Opening;
 use crate::run::LINES_A_WRITE;
 use kv_types::Refusal;
-use model::{MAX_LINES, MIN_LINES};
+use model::{LINE_BYTES, MAX_LINES, MIN_LINES};
 use std::alloc::Global;
 use std::fs::{File, Files};
-
-const LINE_BYTES: u64 = 64;
 
 const BLOCK_BYTES: usize = 65_536;
 
@@ -77,8 +75,8 @@ impl FilePmem {
     /// # Errors
     ///
     /// `WrongSize` where `lines` is not 4,096 to 2^31, and then no file was touched, or where a file that is there has another size;
-    /// `Fault` where the file cannot be made, opened, locked, read, written or synced; `Memory` where memory for its words was refused. A file
-    /// that was made and locked is removed again, where that can be done; the bytes of another one are as they were.
+    /// `Fault` where the file cannot be made, opened, locked, read, written or synced; `Memory` where memory for its words, or to find its
+    /// folder, was refused. A file that was made and locked is removed again, where that can be done; the bytes of another one are as they were.
     pub fn create<R: Files<File = File> + Alloc<A = Global>>(
         rt: &R,
         path: &str,
@@ -164,15 +162,12 @@ fn settle<R: Files<File = File> + Alloc<A = Global>>(
     opening: &mut Opening,
 ) -> Result<(), Refusal>
     ensures noted { IfOk result (λ _. steps_of opening.new.calls ≡ FolderSynced true ∷ FileSynced true ∷ steps_of opening.old.calls) }
-    ensures causes { IfErr result (λ refusal. refusal ≡ Refusal.Fault) }
+    ensures causes { IfErr result (λ refusal. (refusal ≡ Refusal.Fault) ⊎ (refusal ≡ Refusal.Memory)) }
 {
     if !opening.sync_file() {
         return Err(Refusal::Fault);
     }
-    if !opening.sync_folder(rt, path) {
-        return Err(Refusal::Fault);
-    }
-    Ok(())
+    opening.sync_folder(rt, path)
 }
 
 /// How many lines a file has.

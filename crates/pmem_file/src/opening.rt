@@ -1,5 +1,6 @@
 // A file that is to become a device, with the list of what was asked of it.
-ghost use Rattle.std.specs.Prelude.{◌≡◌, [], ◌∷◌, true, false, is_some, if◌then◌else◌, vec_len, IfOk, IfErr};
+ghost use Rattle.std.specs.Prelude.{◌≡◌, ◌⊎◌, ◌↔◌, [], ◌∷◌, true, false, is_ok, is_some, if◌then◌else◌, vec_len, IfOk, IfErr};
+ghost use Rattle.std.specs.IoError.{error_kind};
 ghost use Rattle.kv_types.specs.declared.refusal.Refusal;
 ghost use Rattle.pmem_file.specs.Opening.{steps_of, Made, Opened, Locked, Resized, FileSynced, FolderSynced, Found, ReadAt, WroteBack, DataSynced, with_block};
 
@@ -107,16 +108,24 @@ impl Opening {
     }
 
     /// Makes the file's name in its folder durable.
+    ///
+    /// # Errors
+    ///
+    /// `Memory` where there was none to find the folder; else `Fault`. The file is as it was.
     pub fn sync_folder<R: Files<File = File> + Alloc<A = Global>>(
         &mut self,
         rt: &R,
         path: &str,
-    ) -> bool
-        ensures { steps_of self.new.calls ≡ FolderSynced result ∷ steps_of self.old.calls }
+    ) -> Result<(), Refusal>
+        ensures noted { steps_of self.new.calls ≡ FolderSynced (is_ok result) ∷ steps_of self.old.calls }
+        ensures causes { IfErr result (λ refusal. (refusal ≡ Refusal.Fault) ⊎ (refusal ≡ Refusal.Memory)) }
     {
-        let done = sync_folder_of(rt, path).is_ok();
-        self.calls.note(&OpeningCall::SyncFolder(done));
-        done
+        let synced = sync_folder_of(rt, path);
+        self.calls.note(&OpeningCall::SyncFolder(synced.is_ok()));
+        match synced {
+            Ok(()) => Ok(()),
+            Err(error) => Err(refusal_of(&error)),
+        }
     }
 
     /// How many bytes the file has, where that can be told.
@@ -215,6 +224,17 @@ fn make_file<R: Files<File = File> + Alloc<A = Global>>(
         Ok(file) => Ok(Some(file)),
         Err(error) if error.kind() == ErrorKind::AlreadyExists => Ok(None),
         Err(_) => Err(Refusal::Fault),
+    }
+}
+
+/// What refuses a device for this error of the system.
+fn refusal_of(error: &io::Error) -> Refusal
+    ensures memory { (result ≡ Refusal.Memory) ↔ (error_kind error.now ≡ ErrorKind.OutOfMemory) }
+    ensures causes { (result ≡ Refusal.Fault) ⊎ (result ≡ Refusal.Memory) }
+{
+    match error.kind() {
+        ErrorKind::OutOfMemory => Refusal::Memory,
+        _ => Refusal::Fault,
     }
 }
 

@@ -20,16 +20,16 @@ use Rattle.placing.specs.Read.{LiesIn}
 use Rattle.placing.proofs.FreedPlaces.{AreEnded-after_parts, comes-back-cleared, comes-back-freed, extents-after_parts}
 use Rattle.placing.proofs.LeftLemmas.{AllGood, HasGood, good_parts, left-after_parts}
 use Rattle.placing.proofs.TakenLemmas.{All-map}
+use Rattle.placing.proofs.WithoutLemmas.{left-without, still_none, table-without}
 use Rattle.wbl_engine.specs.Contents.{IsDurable}
 use Rattle.wbl_engine.specs.Freeing.{Clears, record_after_clearing}
 use Rattle.wbl_engine.specs.Lawful.{AreLawful}
 use Rattle.wbl_engine.proofs.ApartLemmas.{AreVersionsApart, IsFresh, parts_apart}
+use Rattle.wbl_engine.proofs.InsideLemmas.{inside-from_keeps}
 use Rattle.wbl_engine.proofs.WithoutLemmas.{AllEnded, versions_without}
 use Rattle.redis_core.specs.Sequencing.{Expects, IsAheadOf, Sequencing, contents_ahead, puts_of_parts}
 use Rattle.group_commit.specs.Group.{AreGroups, after_groups}
 use Rattle.primary.specs.Leading.{AreLaid, LiesInside}
-use Rattle.standby.proofs.EndedLemmas.{inside-from_keeps}
-use Rattle.standby.proofs.FreedLemmas.{left-without, still_none, table-without}
 use Rattle.group_commit.proofs.FreedLemmas.{free_without, unused_without, AllEnded-listed, AllEnded-parts, AreEnded-after_group, AreParts-without, NonePut, NonePut-unused, parts-without}
 
 -- ---- versions in the lines of the extents

@@ -1,5 +1,6 @@
 -- What is left of a primary where a group or a list is closed, and where a call is made.
-use Rattle.std.proofs.Common.{rules, ◌≡◌, Bool, true, false, List, [], Result, Ok, Err, IfOk, OnErr, refl, sym, ap, subst, inl, inr}
+use Rattle.std.proofs.Common.{rules, ◌≡◌, Bool, true, false, List, [], Option, Some, None, Result, Ok, Err, IfOk, OnErr, refl, sym, ap, subst, inl, inr, arith}
+use Rattle.std.proofs.lemmas.Bool.{both_ways}
 use Rattle.pmem.specs.Device.{State}
 use Rattle.heap_layout.specs.declared.entry.Entry.{Entry}
 use Rattle.kv_types.specs.declared.place.EntryNo.{EntryNo}
@@ -8,6 +9,7 @@ use Rattle.kv_types.specs.declared.refusal.Refusal.{Refusal}
 use Rattle.model.specs.declared.work.FreeList.{FreeList}
 use Rattle.model.specs.declared.work.Work.{Work}
 use Rattle.model.specs.Group.{AreEnded, Contents, IsConsistent}
+use Rattle.model.specs.Image.{Version}
 use Rattle.wbl_engine.specs.Contents.{IsDurable}
 use Rattle.redis_core.specs.declared.turn.Turn.{Turn}
 use Rattle.redis_core.specs.declared.turn.Turn.TheVariants as turn
@@ -63,3 +65,14 @@ laid-read contents counted gapped are = record {
   inside = λ i version begun. let placed = are.lawful.placed i version begun in record { above = placed.above; within = placed.within };
   apart = are.lawful.apart;
 }
+
+-- and no entry that is free, or is in no directory, has one
+pub consistent-read : (contents : Contents) (counted : List (EntryNo × Entry)) (gapped : List EntryNo) → AreOf contents counted gapped → IsConsistent contents
+consistent-read contents counted gapped are = record {
+  free = λ i is. never (contents.versions i) (λ version begun. both_ways (contents.is_free i) (are.lawful.begun i version begun).1 is);
+  beyond = λ i past. never (contents.versions i) (λ version begun. omega (arith, past, (are.lawful.begun i version begun).0));
+}
+  where
+    never : (held : Option Version) → ((version : Version) → held ≡ Some version → ⊥) → held ≡ None
+    never None begun = refl
+    never (Some version) begun = absurd (begun version refl)

@@ -1,5 +1,8 @@
 //! What of a primary commits.
-ghost use Rattle.std.specs.Prelude.{◌≡◌, ◌↔◌, ◌≤◌, ◌++◌, false, nat_lt, ℕ, List, [], IfOk, IsErrOf};
+ghost use Rattle.std.specs.Prelude.{◌≡◌, ◌↔◌, ◌≤◌, ◌++◌, false, true, nat_lt, ℕ, List, [], IfOk, IsErrOf};
+ghost use Rattle.pmem.specs.Device.{newest_at};
+ghost use Rattle.pmem.specs.Crash.{IsImage, IsSettled, image_of, picked};
+ghost use Rattle.pmem.specs.Runs.{LeavesOnly};
 ghost use Rattle.model.specs.declared.group.Group.{Group};
 ghost use Rattle.wbl_engine.specs.declared.freeing.Freed.{Freed};
 ghost use Rattle.redis_core.specs.Sequencing.{Sequencing};
@@ -14,7 +17,7 @@ use kv_types::Refusal;
 use model::{Group, Work};
 use pipes::{LocalPipe, Outlet};
 use std::alloc::Global;
-use wbl_engine::{Committed, Durable};
+use wbl_engine::{Committed, Durable, Restarting};
 
 /// A primary's committer, and the queue of what it is to do.
 #[derive(Drop)]
@@ -24,6 +27,20 @@ pub struct Back<E> {
 }
 
 impl<E: Durable> Back<E> {
+    /// The position up to which everything is durable on this node.
+    pub fn position(&self) -> u64
+        ensures { result ≡ (E.contents self.now.committer.engine).current.position }
+    {
+        self.committer.position()
+    }
+
+    /// The local mark: the position up to which this node told that everything is durable.
+    pub fn local(&self) -> u64
+        ensures { result ≡ self.now.committer.local }
+    {
+        self.committer.local()
+    }
+
     /// The position up to which everything is durable on this node, as its engine established it.
     pub fn committed(&self) -> Committed
         requires { (s : Sequencing) × BackStands E.device E.contents self.now s [] }
@@ -92,5 +109,27 @@ impl<E: Durable> Back<E> {
         ensures { E.Device.state result ≡ E.device self.committer.engine }
     {
         self.committer.into_device()
+    }
+}
+
+impl<E: Restarting> Back<E> {
+    /// Crashes the engine's device now, as `Committer::crash` does. The engine is faulted until the primary is restarted, and what waits or is in hand
+    /// stays until then.
+    pub fn crash(&mut self, picks: &[u64])
+        ensures settled { IsSettled (E.device self.new.committer.engine).words }
+        ensures image { IsImage (E.device self.old.committer.engine).words (image_of (E.device self.new.committer.engine).words) }
+        // where the device had the memory to do so
+        ensures picked { (E.device self.new.committer.engine).starved ≡ false
+            → (word : ℕ) → newest_at (E.device self.new.committer.engine) word ≡ picked (E.device self.old.committer.engine).words picks.now word }
+        ensures lines { (E.device self.new.committer.engine).lines ≡ (E.device self.old.committer.engine).lines }
+        ensures failures { (E.device self.new.committer.engine).failures ≡ (E.device self.old.committer.engine).failures }
+        ensures faulted { E.is_faulted self.new.committer.engine ≡ true }
+        ensures moments { LeavesOnly (E.device self.old.committer.engine) (E.device self.new.committer.engine) (IsImage (E.device self.old.committer.engine).words) }
+        ensures stage { self.new.committer.stage ≡ self.old.committer.stage }
+        ensures local { self.new.committer.local ≡ self.old.committer.local }
+        ensures aside { self.new.committer.aside ≡ self.old.committer.aside }
+        ensures work { self.new.work ≡ self.old.work }
+    {
+        self.committer.crash(picks);
     }
 }

@@ -13,7 +13,7 @@ use std::alloc::Global;
 /// if there is room for it. Answers whether it did.
 ///
 /// `Memory` where a growth was refused, and then nothing changed.
-pub fn close_next<K: Keyspace>(
+pub(crate) fn close_next<K: Keyspace>(
     alloc: Global,
     sequencer: &mut Sequencer<K>,
     work: &mut LocalPipe<Work>,

@@ -1,12 +1,15 @@
 //! What of a primary serves the connections.
-ghost use Rattle.std.specs.Prelude.{◌≡◌, ◌<◌, ◌++◌, ◌∷◌, ◌↔◌, [], List, length, false, true, Some, None, IfErr, OnOk, OnErr};
+ghost use Rattle.std.specs.Prelude.{◌≡◌, ◌≢◌, ◌<◌, ◌++◌, ◌∷◌, ◌↔◌, [], List, length, false, true, Some, None, IfErr, OnOk, OnErr};
 ghost use Rattle.extent_heap.specs.Room.{has_room};
 ghost use Rattle.kv_types.specs.declared.item.Item.{Item};
+ghost use Rattle.kv_types.specs.declared.place.EntryNo.{EntryNo};
+ghost use Rattle.kv_types.specs.declared.place.Extent.{Extent};
 ghost use Rattle.kv_types.specs.declared.reply.Held.{Held};
 ghost use Rattle.kv_types.specs.declared.reply.Reply.{Reply};
 ghost use Rattle.model.specs.declared.group.TheConstants.{MAX_PARTS};
+ghost use Rattle.model.specs.Group.{Contents};
 ghost use Rattle.multi_watch.specs.Session.{idle_session};
-ghost use Rattle.redis_core.specs.Sequencing.{MovesSeat, is_closed};
+ghost use Rattle.redis_core.specs.Sequencing.{Expects, IsAheadOf, MovesSeat, TakesBack, is_closed};
 ghost use Rattle.redis_core.specs.Turn.{Answers, OnServed, OnIdle, OnBlocked, OnGroupFull, OnEnded, OnUnserved};
 ghost use Rattle.primary.specs.Leading.{KeepsLead};
 ghost use Rattle.primary.specs.Settled.{HasNothingOpen};
@@ -16,6 +19,7 @@ use mv_keyspace::Keyspace;
 use pipes::{Inlet, Outlet, Seat};
 use redis_core::{Sequencer, Turn};
 use std::alloc::Global;
+use wbl_engine::Freed;
 
 /// A primary's sequencer. Whatever the committer has in hand meanwhile, each call leaves the sequencer ahead of it, if it was (`KeepsLead`).
 #[derive(Drop)]
@@ -47,6 +51,13 @@ impl<K: Keyspace> Front<K> {
         self.sequencer.has_open() | self.sequencer.has_ended()
     }
 
+    /// How many versions that have ended wait to be listed.
+    pub fn count_ended(&self) -> usize
+        ensures { result ≡ length (self.now.sequencer).ended }
+    {
+        self.sequencer.count_ended()
+    }
+
     /// Opens a seat for the connection that was given it, as `Sequencer::open_seat` does.
     ///
     /// # Errors
@@ -56,6 +67,9 @@ impl<K: Keyspace> Front<K> {
         ensures ok { OnOk result (MovesSeat self.old.sequencer seat.now (Some idle_session) self.new.sequencer) }
         ensures cause { IfErr result (λ refusal. refusal ≡ Refusal.Memory) }
         ensures err { OnErr result (self.new ≡ self.old) }
+        ensures stands { (contents : Contents) → IsAheadOf self.old.sequencer contents → IsAheadOf self.new.sequencer contents }
+        ensures expects { (contents : Contents) (entries : List EntryNo) (extents : List Extent) → IsAheadOf self.old.sequencer contents
+            → Expects self.old.sequencer contents entries extents → Expects self.new.sequencer contents entries extents }
         ensures keeps { KeepsLead self.old.sequencer self.new.sequencer }
     {
         self.sequencer.open_seat(alloc, seat)
@@ -64,6 +78,9 @@ impl<K: Keyspace> Front<K> {
     /// Closes the seat of a connection that has left. It takes no memory.
     pub fn close_seat(&mut self, seat: &Seat)
         ensures closed { MovesSeat self.old.sequencer seat.now None self.new.sequencer }
+        ensures stands { (contents : Contents) → IsAheadOf self.old.sequencer contents → IsAheadOf self.new.sequencer contents }
+        ensures expects { (contents : Contents) (entries : List EntryNo) (extents : List Extent) → IsAheadOf self.old.sequencer contents
+            → Expects self.old.sequencer contents entries extents → Expects self.new.sequencer contents entries extents }
         ensures keeps { KeepsLead self.old.sequencer self.new.sequencer }
     {
         self.sequencer.close_seat(seat);
@@ -86,9 +103,29 @@ impl<K: Keyspace> Front<K> {
         ensures group_full { OnGroupFull result ((length (self.old.sequencer).waiting ≡ MAX_PARTS) × (inlet.new ≡ inlet.old)) }
         ensures ended { OnEnded result ((is_closed self.old.sequencer seat.now ≡ true) × (inlet.new ≡ inlet.old)) }
         ensures unserved { OnUnserved result ((self.new.sequencer ≡ self.old.sequencer) × (O.offered outlet.new ≡ O.offered outlet.old)) }
+
+        // Conversely, a turn is served only where the seat is open and the group not full, and always where room and an item are known too.
+        ensures open { OnServed result ((is_closed self.old.sequencer seat.now ≡ false) × (length (self.old.sequencer).waiting < MAX_PARTS)) }
+        ensures otherwise { is_closed self.old.sequencer seat.now ≡ false → length (self.old.sequencer).waiting < MAX_PARTS → 0 < O.known_room outlet.old
+            → I.known_items inlet.old ≢ [] → result ≡ Turn.Served }
         ensures same { O.is_same outlet.old outlet.new }
+        ensures stands { (contents : Contents) → IsAheadOf self.old.sequencer contents → IsAheadOf self.new.sequencer contents }
+        ensures expects { (contents : Contents) (entries : List EntryNo) (extents : List Extent) → IsAheadOf self.old.sequencer contents
+            → Expects self.old.sequencer contents entries extents → Expects self.new.sequencer contents entries extents }
         ensures keeps { KeepsLead self.old.sequencer self.new.sequencer }
     {
         self.sequencer.turn(alloc, seat, inlet, outlet)
+    }
+
+    /// What was freed on the image is free in the heap again. It takes no memory.
+    pub fn take_back(&mut self, freed: &Freed)
+        requires expected { (contents : Contents) × (rest : List EntryNo) × (others : List Extent) × IsAheadOf self.old.sequencer contents
+            × Expects self.old.sequencer contents (freed.now.entries.items ++ rest) (freed.now.extents.items ++ others) }
+        ensures back { TakesBack self.old.sequencer freed.now.entries.items freed.now.extents.items self.new.sequencer }
+        ensures stands { (contents : Contents) (rest : List EntryNo) (others : List Extent) → IsAheadOf self.old.sequencer contents
+            → Expects self.old.sequencer contents (freed.now.entries.items ++ rest) (freed.now.extents.items ++ others)
+            → IsAheadOf self.new.sequencer contents × Expects self.new.sequencer contents rest others }
+    {
+        self.sequencer.accept_freed(&freed.entries, &freed.extents);
     }
 }

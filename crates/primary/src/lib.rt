@@ -6,11 +6,10 @@ mod closing;
 mod front;
 mod opening;
 mod primary;
+mod restarting;
 mod resuming;
 
 pub use back::Back;
-pub use closing::close_next;
 pub use front::Front;
 pub use opening::{Opened, open};
 pub use primary::{Primary, close, take_back};
-pub use resuming::{Resumed, resume};

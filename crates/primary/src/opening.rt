@@ -1,23 +1,22 @@
 //! A primary that is made of its image.
-ghost use Rattle.std.specs.Prelude.{◌≡◌, ◌<◌, ℕ, IfOk};
+ghost use Rattle.std.specs.Prelude.{◌≡◌, ◌⊎◌, ◌<◌, ℕ, [], IfOk, IfErr};
 ghost use Rattle.pmem.specs.Device.{Only};
 ghost use Rattle.pmem.specs.Crash.{image_of};
 ghost use Rattle.model.specs.declared.image.TheConstants.{COUNTER_LIMIT};
-ghost use Rattle.model.specs.Group.{Contents};
+ghost use Rattle.group_commit.specs.declared.stage.Stage.TheVariants.{Ready};
 ghost use Rattle.wbl_engine.specs.Contents.{IsDurable};
-ghost use Rattle.mv_keyspace.specs.Row.{numbers_of};
+ghost use Rattle.wbl_engine.specs.Reopening.{RefusesReopening};
+ghost use Rattle.wbl_engine.specs.Restarting.{IsReopened};
 ghost use Rattle.placing.specs.Read.{AreOf};
-ghost use Rattle.placing.specs.Rebuilt.{AreEndedOf, IsRebuilt};
-ghost use Rattle.standby_stream.specs.Delta.{AreIdsEnded, IsOpening};
+ghost use Rattle.primary.specs.Resuming.{IsOpened};
 ghost use Rattle.primary.specs.Standing.{Stands};
 
 use crate::primary::Primary;
 use crate::resuming::{Resumed, resume};
-use kv_types::{RecordId, Refusal};
+use kv_types::Refusal;
 use mv_keyspace::Keyspace;
-use placing::{Rebuilt, rebuild};
 use pmem::Pmem;
-use standby_stream::{Opening, records_ended};
+use standby_stream::Opening;
 use std::alloc::Global;
 use std::hash::RandomState;
 use wbl_engine::{Durable, Role, Versions, WblEngine};
@@ -36,7 +35,8 @@ pub struct Opened<E, K: Keyspace> {
     pub keys: u64,
 }
 
-/// Opens a primary's image again: its keyspace, its heap and what a standby is told are made of the versions that are there.
+/// Opens a primary's image again: its keyspace, its heap and what a standby is told are made of the versions that are there. Nothing waits, and no seat is
+/// open.
 ///
 /// # Errors
 ///
@@ -48,6 +48,14 @@ pub fn open<P: Pmem + Drop, K: Keyspace + Drop>(
 ) -> Result<Opened<WblEngine<P>, K>, Refusal>
     requires settled { (word : ℕ) → Only ((P.state device).words word) (image_of (P.state device).words word) }
     ensures stands { IfOk result (λ opened. Stands ⟦<WblEngine<P> as Durable>⟧.device ⟦<WblEngine<P> as Durable>⟧.contents opened.primary) }
+    ensures reopens { IfOk result (λ opened. IsReopened (P.state device).lines (image_of (P.state device).words) Role.Primary
+        (⟦<WblEngine<P> as Durable>⟧.contents opened.primary.back.committer.engine)) }
+    ensures opened { IfOk result (λ opened. IsOpened (⟦<WblEngine<P> as Durable>⟧.contents opened.primary.back.committer.engine)
+        opened.primary.front.sequencer opened.opening opened.position opened.epoch opened.keys) }
+    ensures ready { IfOk result (λ opened. (opened.primary.back.work.items ≡ []) × (opened.primary.back.committer.stage ≡ Ready)
+        × (opened.primary.back.committer.aside.items ≡ []) × (opened.primary.back.committer.local ≡ opened.position)) }
+    ensures refused { IfErr result (λ refusal. (refusal ≡ Refusal.Fault) ⊎ ((refusal ≡ Refusal.Memory)
+        ⊎ RefusesReopening (P.state device).lines (image_of (P.state device).words) Role.Primary refusal)) }
 {
     match WblEngine::reopen(alloc, device, Role::Primary) {
         Ok((engine, versions)) => assemble(alloc, engine, versions, hash_builder),
@@ -66,15 +74,19 @@ fn assemble<E: Durable + Drop, K: Keyspace + Drop>(
     requires durable { IsDurable (E.device engine) (E.contents engine) }
     requires counted { (E.contents engine).current.position < COUNTER_LIMIT }
     ensures stands { IfOk result (λ opened. Stands E.device E.contents opened.primary) }
+    ensures engine { IfOk result (λ opened. opened.primary.back.committer.engine ≡ engine) }
+    ensures opened { IfOk result (λ opened. IsOpened (E.contents engine) opened.primary.front.sequencer opened.opening opened.position opened.epoch opened.keys) }
+    ensures ready { IfOk result (λ opened. (opened.primary.back.work.items ≡ []) × (opened.primary.back.committer.stage ≡ Ready)
+        × (opened.primary.back.committer.aside.items ≡ []) × (opened.primary.back.committer.local ≡ opened.position)) }
+    ensures cause { IfErr result (λ refusal. refusal ≡ Refusal.Memory) }
 {
-    let (keyspace, room, ended): (K, Rebuilt, Vec<RecordId>) = read_versions(
-        alloc,
-        engine.lines(),
-        versions,
-    )?;
+    let lines = engine.lines();
     let at = (engine.position(), engine.record().epoch);
-    let keys = keyspace.count_keys();
-    let Resumed { sequencer, opening } = resume(alloc, keyspace, room, ended, at, hash_builder)?;
+    let Resumed {
+        sequencer,
+        opening,
+        keys,
+    } = resume(alloc, lines, versions, at, hash_builder)?;
     Ok(Opened {
         primary: Primary::new(alloc, sequencer, engine)?,
         opening,
@@ -82,27 +94,4 @@ fn assemble<E: Durable + Drop, K: Keyspace + Drop>(
         epoch: at.1,
         keys,
     })
-}
-
-/// Makes a keyspace, a heap and the records with versions that have ended of the versions that were read of an image. Only `Memory`.
-fn read_versions<K: Keyspace + Drop>(
-    alloc: Global,
-    lines: u64,
-    versions: Versions,
-) -> Result<(K, Rebuilt, Vec<RecordId>), Refusal>
-    requires read { (contents : Contents) × (contents.lines ≡ lines) × AreOf contents versions.counted.items versions.gapped.items }
-    ensures rebuilt { IfOk result (λ made. (contents : Contents) → contents.lines ≡ lines → AreOf contents versions.counted.items versions.gapped.items
-        → IsRebuilt contents (K.table made.0) made.1.heap × AreEndedOf contents (numbers_of made.1.ended.items)) }
-    ensures ids { IfOk result (λ made. (contents : Contents) → AreOf contents versions.counted.items versions.gapped.items → AreIdsEnded contents made.2.items) }
-{
-    let ended = records_ended(alloc, &versions.counted)?;
-    let mut keyspace = K::empty(alloc);
-    let room = rebuild(
-        alloc,
-        &mut keyspace,
-        lines,
-        versions.counted,
-        &versions.gapped,
-    )?;
-    Ok((keyspace, room, ended))
 }

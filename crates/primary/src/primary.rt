@@ -3,6 +3,7 @@ ghost use Rattle.std.specs.Prelude.{◌≡◌, [], List, true, false, IfOk, IfEr
 ghost use Rattle.model.specs.declared.work.FreeList.{FreeList};
 ghost use Rattle.model.specs.declared.work.Work.{Work};
 ghost use Rattle.model.specs.Group.{Contents, IsConsistent};
+ghost use Rattle.group_commit.specs.declared.stage.Stage.TheVariants.{Ready};
 ghost use Rattle.wbl_engine.specs.Contents.{IsDurable};
 ghost use Rattle.primary.specs.Closing.{ClosesOne, MayClose};
 ghost use Rattle.primary.specs.Leading.{AreLaid, Leads};
@@ -14,6 +15,7 @@ use crate::closing::close_next;
 use crate::front::Front;
 use group_commit::{Committer, Done};
 use kv_types::Refusal;
+use model::Work;
 use mv_keyspace::Keyspace;
 use pipes::LocalPipe;
 use redis_core::Sequencer;
@@ -38,14 +40,39 @@ impl<E: Durable + Drop, K: Keyspace + Drop> Primary<E, K> {
         ensures stands { IfOk result (λ primary. IsOver (E.contents engine) sequencer → IsConsistent (E.contents engine) → AreLaid (E.contents engine)
             → IsDurable (E.device engine) (E.contents engine) → Stands E.device E.contents primary) }
         ensures sequencer { IfOk result (λ primary. primary.front.sequencer ≡ sequencer) }
+        ensures engine { IfOk result (λ primary. primary.back.committer.engine ≡ engine) }
+        ensures ready { IfOk result (λ primary. (primary.back.work.items ≡ []) × (primary.back.committer.stage ≡ Ready) × (primary.back.committer.aside.items ≡ [])
+            × (primary.back.committer.local ≡ (E.contents engine).current.position)) }
         ensures cause { IfErr result (λ refusal. refusal ≡ Refusal.Memory) }
     {
         let work = LocalPipe::new(alloc)?;
-        let committer = Committer::new(alloc, engine);
-        Ok(Primary {
+        Ok(Primary::with_queue(alloc, sequencer, work, engine))
+    }
+}
+
+impl<E: Durable, K: Keyspace> Primary<E, K> {
+    /// A primary over an engine, a sequencer and a queue. It takes no memory. With an empty queue it is as that of `new`.
+    pub fn with_queue(
+        alloc: Global,
+        sequencer: Sequencer<K>,
+        work: LocalPipe<Work>,
+        engine: E,
+    ) -> Primary<E, K>
+        ensures stands { IsOver (E.contents engine) sequencer → IsConsistent (E.contents engine) → AreLaid (E.contents engine)
+            → IsDurable (E.device engine) (E.contents engine) → work.items ≡ [] → Stands E.device E.contents result }
+        ensures sequencer { result.front.sequencer ≡ sequencer }
+        ensures work { result.back.work ≡ work }
+        ensures engine { result.back.committer.engine ≡ engine }
+        ensures ready { (result.back.committer.stage ≡ Ready) × (result.back.committer.aside.items ≡ [])
+            × (result.back.committer.local ≡ (E.contents engine).current.position) }
+    {
+        Primary {
             front: Front { sequencer },
-            back: Back { work, committer },
-        })
+            back: Back {
+                work,
+                committer: Committer::new(alloc, engine),
+            },
+        }
     }
 }
 
@@ -81,8 +108,8 @@ pub fn take_back<K: Keyspace>(front: &mut Front<K>, done: &Done)
         → Leads contents items aside front.new.sequencer [] }
 {
     match done {
-        Done::Freed(freed) => front.sequencer.accept_freed(&freed.entries, &freed.extents),
-        Done::Cleared(freed) => front.sequencer.accept_freed(&freed.entries, &freed.extents),
+        Done::Freed(freed) => front.take_back(freed),
+        Done::Cleared(freed) => front.take_back(freed),
         Done::Committed(_) | Done::Raised | Done::Handed | Done::Idle => {}
     }
 }

@@ -1,36 +1,87 @@
 //! What a primary holds beside its engine, made of the versions of an image.
-ghost use Rattle.std.specs.Prelude.{◌≡◌, ◌<◌, IfOk, IfErr};
+ghost use Rattle.std.specs.Prelude.{◌≡◌, ◌<◌, length, IfOk, IfErr};
+ghost use Rattle.cmd_core.specs.Contents.{keys_of};
 ghost use Rattle.model.specs.declared.image.TheConstants.{COUNTER_LIMIT};
 ghost use Rattle.model.specs.Group.{Contents};
 ghost use Rattle.mv_keyspace.specs.Row.{numbers_of};
+ghost use Rattle.mv_keyspace.specs.Table.{records};
+ghost use Rattle.placing.specs.Read.{AreOf};
 ghost use Rattle.placing.specs.Rebuilt.{AreEndedOf, IsRebuilt};
 ghost use Rattle.standby_stream.specs.Delta.{AreIdsEnded, IsOpening};
 ghost use Rattle.primary.specs.Resuming.{IsOver};
 
 use kv_types::{RecordId, Refusal};
 use mv_keyspace::Keyspace;
-use placing::Rebuilt;
+use placing::{Rebuilt, rebuild};
 use redis_core::Sequencer;
-use standby_stream::Opening;
+use standby_stream::{Opening, records_ended};
 use std::alloc::Global;
 use std::hash::RandomState;
+use wbl_engine::Versions;
 
 /// What a primary holds beside its engine, once its image is opened again.
 #[derive(Drop)]
-pub struct Resumed<K: Keyspace> {
+pub(crate) struct Resumed<K: Keyspace> {
     /// The list of calls, at the engine's position. No seat is open, and nothing waits.
-    pub sequencer: Sequencer<K>,
+    pub(crate) sequencer: Sequencer<K>,
     /// What a standby is told that is behind that position.
-    pub opening: Opening,
+    pub(crate) opening: Opening,
+    /// How many keys there are.
+    pub(crate) keys: u64,
+}
+
+/// What a primary holds beside its engine, made of the versions that were read of its image; `lines` is the engine's, and `at` the position and the epoch of
+/// its record. Only `Memory`.
+pub(crate) fn resume<K: Keyspace + Drop>(
+    alloc: Global,
+    lines: u64,
+    versions: Versions,
+    at: (u64, u64),
+    hash_builder: RandomState,
+) -> Result<Resumed<K>, Refusal>
+    requires read { (contents : Contents) × (contents.lines ≡ lines) × (contents.current.position ≡ at.0)
+        × AreOf contents versions.counted.items versions.gapped.items }
+    requires counted { at.0 < COUNTER_LIMIT }
+    ensures sequencer { IfOk result (λ resumed. (contents : Contents) → contents.lines ≡ lines → contents.current.position ≡ at.0 → contents.current.epoch ≡ at.1
+        → AreOf contents versions.counted.items versions.gapped.items → IsOver contents resumed.sequencer) }
+    ensures opening { IfOk result (λ resumed. (resumed.opening.position ≡ at.0) × ((contents : Contents) → contents.lines ≡ lines
+        → AreOf contents versions.counted.items versions.gapped.items → IsOpening contents resumed.opening)) }
+    ensures keys { IfOk result (λ resumed. resumed.keys ≡ length (keys_of (records (resumed.sequencer).table))) }
+    ensures cause { IfErr result (λ refusal. refusal ≡ Refusal.Memory) }
+{
+    let (keyspace, room, ended): (K, Rebuilt, Vec<RecordId>) = read_versions(
+        alloc, lines, versions,
+    )?;
+    start(alloc, keyspace, room, ended, at, hash_builder)
+}
+
+/// Makes a keyspace, a heap and the records with versions that have ended of the versions that were read of an image. Only `Memory`.
+fn read_versions<K: Keyspace + Drop>(
+    alloc: Global,
+    lines: u64,
+    versions: Versions,
+) -> Result<(K, Rebuilt, Vec<RecordId>), Refusal>
+    requires read { (contents : Contents) × (contents.lines ≡ lines) × AreOf contents versions.counted.items versions.gapped.items }
+    ensures rebuilt { IfOk result (λ made. (contents : Contents) → contents.lines ≡ lines → AreOf contents versions.counted.items versions.gapped.items
+        → IsRebuilt contents (K.table made.0) made.1.heap × AreEndedOf contents (numbers_of made.1.ended.items)) }
+    ensures ids { IfOk result (λ made. (contents : Contents) → AreOf contents versions.counted.items versions.gapped.items → AreIdsEnded contents made.2.items) }
+    ensures cause { IfErr result (λ refusal. refusal ≡ Refusal.Memory) }
+{
+    let ended = records_ended(alloc, &versions.counted)?;
+    let mut keyspace = K::empty(alloc);
+    let room = rebuild(
+        alloc,
+        &mut keyspace,
+        lines,
+        versions.counted,
+        &versions.gapped,
+    )?;
+    Ok((keyspace, room, ended))
 }
 
 /// What a primary holds beside its engine, over this keyspace and this room; `ended` are the records that have versions which ended, and `at` is the
-/// position and the epoch of the engine's record.
-///
-/// # Errors
-///
-/// Only `Memory`.
-pub fn resume<K: Keyspace + Drop>(
+/// position and the epoch of the engine's record. Only `Memory`.
+fn start<K: Keyspace + Drop>(
     alloc: Global,
     keyspace: K,
     room: Rebuilt,
@@ -45,11 +96,14 @@ pub fn resume<K: Keyspace + Drop>(
         → IsRebuilt contents (K.table keyspace) room.heap → AreEndedOf contents (numbers_of room.ended.items) → IsOver contents resumed.sequencer) }
     ensures opening { IfOk result (λ resumed. (resumed.opening.position ≡ at.0) × ((contents : Contents) → IsRebuilt contents (K.table keyspace) room.heap
         → AreIdsEnded contents ended.items → IsOpening contents resumed.opening)) }
+    ensures keys { IfOk result (λ resumed. resumed.keys ≡ length (keys_of (records (resumed.sequencer).table))) }
     ensures cause { IfErr result (λ refusal. refusal ≡ Refusal.Memory) }
 {
     let opening = Opening::new(alloc, &keyspace, ended, at.0)?;
+    let keys = keyspace.count_keys();
     Ok(Resumed {
         sequencer: Sequencer::new(alloc, keyspace, room, at.0, at.1, hash_builder)?,
         opening,
+        keys,
     })
 }

@@ -1,5 +1,5 @@
 //! What the sequencer hands out: groups of what calls changed, and free lists of what they ended.
-ghost use Rattle.std.specs.Prelude.{◌≡◌, ◌≢◌, ◌↔◌, ◌⊎◌, ◌++◌, ◌∷◌, [], List, IsTrue, IfErr, IsErrOf, OnOk, OnErr};
+ghost use Rattle.std.specs.Prelude.{◌≡◌, ◌≢◌, ◌↔◌, ◌⊎◌, ◌++◌, ◌∷◌, [], List, length, IsTrue, IfErr, IsErrOf, OnOk, OnErr};
 ghost use Rattle.kv_types.specs.declared.place.EntryNo.{EntryNo};
 ghost use Rattle.kv_types.specs.declared.place.Extent.{Extent};
 ghost use Rattle.model.specs.declared.group.Group.{Group};
@@ -58,6 +58,13 @@ impl<K: Keyspace> Sequencer<K> {
         ensures { IsTrue result ↔ ((self.now).ended ≢ []) }
     {
         !self.listed.entries.is_empty()
+    }
+
+    /// How many entries of ended versions are in no free list yet.
+    pub fn count_ended(&self) -> usize
+        ensures { result ≡ length (self.now).ended }
+    {
+        self.listed.entries.len()
     }
 
     /// Hands out the entries of ended versions that are in no free list yet, as one free list. It takes no memory.

@@ -1,6 +1,7 @@
 -- Lemmas on the replies that a gate holds.
 use Rattle.std.proofs.Common.{◌≡◌, ℕ, ◌+◌, ◌≤◌, true, false, List, [], ◌∷◌, ◌++◌, length, take, drop, cond, refl, sym, ap, ◌∙◌, arith, length-append, length-drop}
 use Rattle.std.proofs.lemmas.List.{take-take, take-append-le, take-append-drop}
+use Rattle.kv_types.specs.declared.seen.Seen.{Seen}
 use Rattle.reply_gate.specs.declared.held_text.HeldText.{HeldText}
 use Rattle.reply_gate.specs.Gate.{held_bytes, covered_bytes, uncovered_rest, is_covered}
 
@@ -9,11 +10,11 @@ held_bytes-append [] ys = omega arith
 held_bytes-append (x ∷ xs) ys = omega (arith, held_bytes-append xs ys)
 
 -- the bytes of the covered prefix and those of the rest together are all the bytes
-pub held_bytes-split : (local remote : ℕ) (xs : List HeldText) → covered_bytes local remote xs + held_bytes (uncovered_rest local remote xs) ≡ held_bytes xs
-held_bytes-split local remote [] = refl
-held_bytes-split local remote (x ∷ xs) =
-    elim (is_covered local remote x) as (λ b. cond b (x.bytes + covered_bytes local remote xs) 0 + held_bytes (cond b (uncovered_rest local remote xs) (x ∷ xs)) ≡ x.bytes + held_bytes xs) [
-      | true ↦ omega (arith, held_bytes-split local remote xs)
+pub held_bytes-split : (seen : Seen) (xs : List HeldText) → covered_bytes seen xs + held_bytes (uncovered_rest seen xs) ≡ held_bytes xs
+held_bytes-split seen [] = refl
+held_bytes-split seen (x ∷ xs) =
+    elim (is_covered seen x) as (λ b. cond b (x.bytes + covered_bytes seen xs) 0 + held_bytes (cond b (uncovered_rest seen xs) (x ∷ xs)) ≡ x.bytes + held_bytes xs) [
+      | true ↦ omega (arith, held_bytes-split seen xs)
       | false ↦ omega arith
     ]
 

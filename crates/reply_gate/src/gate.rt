@@ -3,9 +3,9 @@ ghost use Rattle.std.specs.Prelude.{◌≡◌, ℕ, ◌+◌, ◌≤◌, List, []
 ghost use Rattle.kv_types.specs.Reply.{text_of};
 ghost use Rattle.reply_gate.specs.Gate.{covered_bytes, uncovered_rest, held_bytes, is_first_covered};
 
-use crate::held_text::{HeldText, Seen};
+use crate::held_text::HeldText;
 use crate::parts::Parts;
-use kv_types::Reply;
+use kv_types::{Reply, Seen};
 use std::alloc::{AllocError, Global};
 use std::collections::VecDeque;
 use std::marker::Model;
@@ -65,7 +65,7 @@ impl Gate {
 
     /// Whether the first held reply is covered, so that `release` would release it.
     pub fn can_release(&self, seen: &Seen) -> bool
-        ensures { result ≡ is_first_covered seen.now.local seen.now.remote self.now.replies }
+        ensures { result ≡ is_first_covered seen.now self.now.replies }
     {
         match self.held.front() {
             Some(reply) => reply.is_covered(seen),
@@ -76,9 +76,9 @@ impl Gate {
     /// Releases exactly the longest prefix of covered replies.
     pub fn release(&mut self, seen: &Seen)
         ensures pending { self.new.pending
-            ≡ self.old.pending ++ take (covered_bytes seen.now.local seen.now.remote self.old.replies) self.old.waiting }
-        ensures waiting { self.new.waiting ≡ drop (covered_bytes seen.now.local seen.now.remote self.old.replies) self.old.waiting }
-        ensures replies { self.new.replies ≡ uncovered_rest seen.now.local seen.now.remote self.old.replies }
+            ≡ self.old.pending ++ take (covered_bytes seen.now self.old.replies) self.old.waiting }
+        ensures waiting { self.new.waiting ≡ drop (covered_bytes seen.now self.old.replies) self.old.waiting }
+        ensures replies { self.new.replies ≡ uncovered_rest seen.now self.old.replies }
     {
         let waiting = self.parts.len() - self.pending;
         self.pending += take_covered(&mut self.held, seen, waiting);
@@ -130,8 +130,8 @@ impl Gate {
 fn take_covered(held: &mut VecDeque<HeldText>, seen: &Seen, most: usize) -> usize
     requires { held_bytes held.old.items ≤ most }
     ensures within { result ≤ most }
-    ensures bytes { result ≡ covered_bytes seen.now.local seen.now.remote held.old.items }
-    ensures rest { held.new.items ≡ uncovered_rest seen.now.local seen.now.remote held.old.items }
+    ensures bytes { result ≡ covered_bytes seen.now held.old.items }
+    ensures rest { held.new.items ≡ uncovered_rest seen.now held.old.items }
 {
     let mut bytes = 0;
     while let Some(reply) = held.front() {

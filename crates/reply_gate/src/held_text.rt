@@ -1,13 +1,5 @@
 //! What a gate keeps of a reply besides its text.
-
-/// How far a connection's gate has seen each node hold the list of calls.
-#[derive(Clone, Copy, Debug, PartialEq, Eq)]
-pub struct Seen {
-    /// The position that is durable on the primary.
-    pub local: u64,
-    /// The position that the standby has acknowledged.
-    pub remote: u64,
-}
+use kv_types::Seen;
 
 /// A held reply: the position in the list of calls at which it was made, and how many bytes it has.
 #[derive(Clone, Copy, Debug, PartialEq, Eq)]
@@ -22,8 +14,8 @@ impl HeldText {
 
     /// Whether both nodes hold the position at which the reply was made.
     pub fn is_covered(&self, seen: &Seen) -> bool
-        ensures { result ≡ is_covered seen.now.local seen.now.remote self.now }
+        ensures { result ≡ is_covered seen.now self.now }
     {
-        self.position <= seen.local && self.position <= seen.remote
+        seen.covers(self.position)
     }
 }

@@ -7,5 +7,5 @@ mod parts;
 mod shared_part;
 
 pub use gate::Gate;
-pub use held_text::{HeldText, Seen};
+pub use held_text::HeldText;
 pub use parts::SHARED_BYTES;

@@ -1,3 +1,4 @@
 pub mod AnsweringLemmas
 pub mod ServingLemmas
 pub mod PrintedLemmas
+pub mod StatusLemmas

@@ -11,7 +11,7 @@ use Rattle.model.specs.Group.{Contents}
 use Rattle.model.specs.Image.{Image}
 use Rattle.wbl_engine.specs.Contents.{IsDurable, Same}
 use Rattle.wbl_engine.specs.Promoting.{promoted}
-use Rattle.standby.specs.Restarting.{IsReopened}
+use Rattle.wbl_engine.specs.Restarting.{IsReopened}
 use Rattle.server.specs.Printed.{TellsPromotion, gap_line, gap_lines, image_text, number_line, promoted_text, role_line}
 
 -- one gap more

@@ -3,7 +3,7 @@ use Rattle.std.proofs.Common.{◌≡◌, ℕ, List, ◌++◌, Option, Some, None
 use Rattle.std.specs.Io.KnownBytes.{Appends, Consumes, IsAtEnd, Keeps}
 use Rattle.server.specs.Served.{EachHasReply, IsEarly, IsServed, IsServedUpTo, asked_by, replies_in}
 use Rattle.server.specs.declared.serve.ServeError.{ServeError}
-use Rattle.server.specs.declared.serve.ServeError.TheVariants.{Random, Read, Refused, Socket, Write}
+use Rattle.server.specs.declared.serve.ServeError.TheVariants.{Broken, Random, Read, Refused, Socket, Write}
 
 -- a reader at its end has returned all the bytes that it had
 pub served-whole : (input rest before after : Option (List ℕ)) (bytes answer : List ℕ) → Consumes input rest bytes → IsAtEnd rest → EachHasReply (asked_by bytes) (replies_in answer) → Appends before after answer
@@ -24,6 +24,7 @@ early-ended (Random error) before early = keeps-same before
 early-ended (Read error) before early = keeps-same before
 early-ended (Refused refusal) before early = keeps-same before
 early-ended (Socket error) before early = keeps-same before
+early-ended Broken before early = keeps-same before
 early-ended (Write error) before early = absurd early
 
 -- writing failed
@@ -32,4 +33,5 @@ write-ended (Random error) before after late = absurd (late tt)
 write-ended (Read error) before after late = absurd (late tt)
 write-ended (Refused refusal) before after late = absurd (late tt)
 write-ended (Socket error) before after late = absurd (late tt)
+write-ended Broken before after late = absurd (late tt)
 write-ended (Write error) before after late = tt

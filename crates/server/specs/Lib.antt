@@ -1,3 +1,5 @@
 pub mod Served
 pub mod Printed
 pub mod Told
+pub mod Asked
+pub mod Status

@@ -14,7 +14,7 @@ use Rattle.wbl_engine.specs.Contents.{IsDurable, Same}
 use Rattle.wbl_engine.specs.Inspecting.{live_below}
 use Rattle.wbl_engine.specs.Lawful.{IsUndamaged}
 use Rattle.wbl_engine.specs.Promoting.{promoted}
-use Rattle.standby.specs.Restarting.{IsReopened}
+use Rattle.wbl_engine.specs.Restarting.{IsReopened}
 use Rattle.server.specs.Told.{newline}
 
 -- after an image of so many lines was formatted

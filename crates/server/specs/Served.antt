@@ -10,7 +10,9 @@ use Rattle.resp_codec.specs.declared.reply_item.ReplyItem.TheVariants.{Fault, Re
 use Rattle.resp_codec.specs.declared.reply_limits.TheConstants.{REPLY_LIMITS}
 use Rattle.resp_codec.specs.ReplyReading.{replies_at}
 use Rattle.server.specs.declared.serve.ServeError.{ServeError}
-use Rattle.server.specs.declared.serve.ServeError.TheVariants.{Random, Read, Refused, Socket, Write}
+use Rattle.server.specs.declared.serve.ServeError.TheVariants.{Broken, Random, Read, Refused, Socket, Write}
+use Rattle.server.specs.declared.client.PairEnd.{PairEnd}
+use Rattle.server.specs.declared.client.PairEnd.TheVariants.{Refused as RefusedNode, Broken as BrokenPair}
 
 -- the items that a connection's bytes ask for, up to and including the first that closes it
 abbrev pub asked_by : List ℕ → List Item
@@ -40,7 +42,13 @@ IsEarly (Random error) = Unit {0}
 IsEarly (Read error) = Unit {0}
 IsEarly (Refused refusal) = Unit {0}
 IsEarly (Socket error) = Unit {0}
+IsEarly Broken = Unit {0}
 IsEarly (Write error) = ⊥
+
+-- what is told of a pair that serves no longer
+abbrev pub ended_by : PairEnd → ServeError
+ended_by (RefusedNode refusal) = Refused refusal
+ended_by BrokenPair = Broken
 
 -- if serving ended early, nothing was written if it ended before writing
 abbrev pub IsServedUpTo : ServeError → (before after : Option (List ℕ)) → Type 0
@@ -48,4 +56,5 @@ IsServedUpTo (Random error) before after = Keeps before after
 IsServedUpTo (Read error) before after = Keeps before after
 IsServedUpTo (Refused refusal) before after = Keeps before after
 IsServedUpTo (Socket error) before after = Keeps before after
+IsServedUpTo Broken before after = Keeps before after
 IsServedUpTo (Write error) before after = Unit {0}

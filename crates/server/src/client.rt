@@ -1,16 +1,41 @@
 //! The only client of a pair of nodes that this program starts for itself.
+ghost use Rattle.std.specs.Prelude.{◌≡◌};
+ghost use Rattle.server.specs.Served.{IsEarly, ended_by};
+
 use crate::serve::ServeError;
 use kv_types::Refusal;
 use std::alloc::Global;
 use std::net::{Net, Shutdown, SocketAddr, TcpStream};
 use std::sync::{Arc, OnceLock};
 
+/// Why the pair serves no longer.
+#[derive(Clone, Copy)]
+pub enum PairEnd {
+    /// A step of a node was refused so.
+    Refused(Refusal),
+    /// The link between the nodes ended, or a listener failed: a socket did, or memory, a thread or a descriptor was refused to the other side.
+    Broken,
+}
+
+impl PairEnd {
+    /// The error that tells of it.
+    pub fn error(self) -> ServeError
+        ensures error { result ≡ ended_by self }
+        ensures early { IsEarly result }
+    {
+        match self {
+            PairEnd::Refused(refusal) => ServeError::Refused(refusal),
+            PairEnd::Broken => ServeError::Broken,
+        }
+    }
+}
+
 /// The client's end of its connection, as the threads share it, and why the pair serves no longer, if it does not.
 #[derive(Drop)]
 pub struct Client {
     /// Its socket.
     pub socket: TcpStream,
-    stopped: OnceLock<Refusal>,
+    stopped: OnceLock<PairEnd>,
 }
 
 impl Client {
@@ -39,7 +64,7 @@ impl Client {
     }
 
     /// Notes why the pair serves no longer, if nobody did, and ends the connection.
-    pub fn stop(&self, why: Refusal) {
+    pub fn stop(&self, why: PairEnd) {
         let _ = self.stopped.try_set(why);
         self.hang_up();
     }
@@ -50,7 +75,7 @@ impl Client {
     }
 
     /// Why the pair serves no longer, if somebody noted it.
-    pub fn why_stopped(&self) -> Option<Refusal> {
+    pub fn why_stopped(&self) -> Option<PairEnd> {
         match self.stopped.get() {
             Some(why) => Some(*why),
             None => None,

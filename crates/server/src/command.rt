@@ -3,6 +3,7 @@ ghost use Rattle.std.specs.Prelude.{◌≡◌, ◌<◌, ◌≤◌, OnOk, length}
 ghost use Rattle.server.specs.Served.{IsServed};
 ghost use Rattle.server.specs.Told.{status_after};
 
+use crate::causes::tell_cause;
 use crate::failure::Failure;
 use crate::formatting::format;
 use crate::images::Images;
@@ -12,6 +13,7 @@ use crate::promoting::promote;
 use crate::serve::serve;
 use crate::serving_clients::serve_clients;
 use crate::standing_by::stand_by;
+use crate::status::status;
 use pmem::Pmem;
 use std::alloc::Global;
 use std::io::{Read, Write};
@@ -25,7 +27,8 @@ use std::time::Clock;
 const DONE: u8 = 0;
 
 /// Does what the words ask for, the first of which is the program's name, and returns the exit status. Without any further word, serves one
-/// connection over the reader and the writer. What went wrong is told to `errors`, and so is what a node does.
+/// connection over the reader and the writer. What went wrong is told to `errors`, and so is what a node does. With `is_asked` the reader is a terminal,
+/// where a person is asked before something is lost.
 pub fn command<
     S: RandomSource
         + Threads
@@ -45,16 +48,17 @@ pub fn command<
     alloc: Global,
     words: &[String],
     images: &I,
+    is_asked: bool,
     reader: &mut R,
     writer: &mut W,
     errors: E,
 ) -> u8
-    ensures status { result ≤ 2 }
+    ensures status { result ≤ 3 }
     ensures served { length words.now ≤ 1 → result ≡ 0
         → IsServed (R.remaining reader.old) (R.remaining reader.new) (W.contents writer.old) (W.contents writer.new) }
 {
     let mut errors = errors;
-    match run(rt, alloc, words, images, reader, writer, errors) {
+    match run(rt, alloc, words, images, is_asked, reader, writer, errors) {
         Ok(()) => DONE,
         Err(failure) => tell(&failure, &mut errors),
     }
@@ -64,7 +68,7 @@ pub fn command<
 pub fn tell<E: Write>(failure: &Failure, errors: &mut E) -> u8
     ensures status { result ≡ status_after failure.now }
     ensures failed { 0 < result }
-    ensures known { result ≤ 2 }
+    ensures known { result ≤ 3 }
 {
     let _ = failure.tell(errors);
     failure.status()
@@ -90,22 +94,66 @@ fn run<
     alloc: Global,
     words: &[String],
     images: &I,
+    is_asked: bool,
     reader: &mut R,
     writer: &mut W,
     errors: E,
 ) -> Result<(), Failure>
     ensures { length words.now ≤ 1 → OnOk result (IsServed (R.remaining reader.old) (R.remaining reader.new) (W.contents writer.old) (W.contents writer.new)) }
 {
+    let mut errors = errors;
     if words.len() <= 1 {
         return Ok(serve(rt, alloc, reader, writer)?);
     }
     match options(alloc, words)? {
-        Task::Format { image, lines, role } => format(images, image, lines, role, writer),
-        Task::Inspect { image } => inspect(alloc, images, image, writer),
+        Task::Format {
+            image,
+            lines,
+            role,
+            is_new,
+        } => {
+            let done = format(
+                alloc,
+                images,
+                image,
+                lines,
+                role,
+                is_new,
+                is_asked,
+                reader,
+                writer,
+                &mut errors,
+            );
+            tell_cause(alloc, images, image, &done, &mut errors);
+            done
+        }
+        Task::Inspect { image } => {
+            let done = inspect(alloc, images, image, writer);
+            tell_cause(alloc, images, image, &done, &mut errors);
+            done
+        }
+        Task::Status { image, behind } => {
+            status(alloc, images, image, behind, writer, &mut errors)
+        }
         Task::Promote {
             image,
             old_primary_stopped,
-        } => promote(alloc, images, image, old_primary_stopped, writer),
+            at_least,
+        } => {
+            let done = promote(
+                alloc,
+                images,
+                image,
+                old_primary_stopped,
+                at_least,
+                is_asked,
+                reader,
+                writer,
+                &mut errors,
+            );
+            tell_cause(alloc, images, image, &done, &mut errors);
+            done
+        }
         Task::Standby {
             image,
             listen,

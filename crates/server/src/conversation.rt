@@ -1,6 +1,9 @@
 //! What goes to the pair's socket, and what comes from it.
-ghost use Rattle.std.specs.Prelude.{OnOk, IfErr, IfOk};
+ghost use Rattle.std.specs.Prelude.{◌≡◌, ◌↔◌, OnOk, IfErr, IfOk};
 ghost use Rattle.std.specs.Io.KnownBytes.{Consumes, IsAtEnd};
+ghost use Rattle.std.specs.IoError.{error_kind};
+ghost use Rattle.kv_types.specs.declared.refusal.Refusal.TheVariants.{Memory};
+ghost use Rattle.server.specs.declared.serve.ServeError.TheVariants.{Refused};
 ghost use Rattle.server.specs.Served.{IsEarly};
 
 use crate::client::Client;
@@ -19,7 +22,8 @@ use std::{io, thread};
 ///
 /// # Errors
 ///
-/// `Refused` where a node has stopped, or memory, a thread or a descriptor was refused; `Socket` where the socket failed.
+/// `Refused` where a node has stopped, or memory or a thread was refused; `Broken` where the link between the nodes ended, or the other side let the
+/// connection fall; `Socket` where the socket failed.
 pub fn converse<N: Threads>(
     rt: &N,
     alloc: Global,
@@ -34,7 +38,7 @@ pub fn converse<N: Threads>(
     client.hang_up();
     let sent = sender.join(rt);
     match client.why_stopped() {
-        Some(why) => Err(ServeError::Refused(why)),
+        Some(why) => Err(why.error()),
         None => whole(sent, received),
     }
 }
@@ -86,16 +90,22 @@ fn receive<I: Read>(alloc: Global, from: &mut I) -> Result<Vec<u8>, ServeError>
     let mut received = Vec::new(alloc);
     match from.read_to_end(&mut received) {
         Ok(_) => Ok(received),
-        Err(error) if is_refusal(error.kind()) => Err(ServeError::Refused(Refusal::Memory)),
-        Err(error) => Err(ServeError::Socket(error)),
+        Err(error) => Err(of_reading(error)),
+    }
+}
+
+/// Why nothing more could be received: for want of memory here, or the other side let the connection fall, or the socket failed.
+fn of_reading(error: io::Error) -> ServeError
+    ensures memory { (result ≡ Refused Memory) ↔ (error_kind error ≡ ErrorKind.OutOfMemory) }
+    ensures early { IsEarly result }
+{
+    match error.kind() {
+        ErrorKind::OutOfMemory => ServeError::Refused(Refusal::Memory),
+        ErrorKind::ConnectionReset => ServeError::Broken,
+        _ => ServeError::Socket(error),
     }
 }
 
 fn is_end(kind: ErrorKind) -> bool {
     kind == ErrorKind::BrokenPipe || kind == ErrorKind::ConnectionReset
-}
-
-/// Whether a read fails so for want of memory: here, or where a node had none for the connection and let it fall.
-fn is_refusal(kind: ErrorKind) -> bool {
-    kind == ErrorKind::OutOfMemory || kind == ErrorKind::ConnectionReset
 }

@@ -1,7 +1,7 @@
 //! Why the program did not do what it was asked, and what it tells of that.
 ghost use Rattle.std.specs.Prelude.{IfSome, OnOk};
 ghost use Rattle.std.specs.Io.KnownBytes.{Appends};
-ghost use Rattle.server.specs.Told.{stop_text};
+ghost use Rattle.server.specs.Told.{below_text, kept_text, stop_text};
 
 use crate::serve::ServeError;
 use clap::error::ErrorKind;
@@ -15,6 +15,9 @@ const FAILED: u8 = 1;
 /// The status if the command line is not understood, or asks for help.
 const MISUSED: u8 = 2;
 
+/// The status where all was kept as it was, since something would have been lost.
+const KEPT: u8 = 3;
+
 /// Why the program did not do what it was asked.
 #[derive(Debug, Drop)]
 pub enum Failure {
@@ -24,6 +27,21 @@ pub enum Failure {
     CannotListen,
     /// A call was refused, or standard input or output failed.
     Stopped(ServeError),
+    /// An image changed each time that it was read, as another process has it open. Nothing was printed of it.
+    InUse,
+    /// What was asked would have lost something. Nothing was changed.
+    Kept(Kept),
+}
+
+/// Why all is kept as it was.
+#[derive(Clone, Copy, Debug, PartialEq, Eq)]
+pub enum Kept {
+    /// A new file was asked for, and the file is there.
+    IsThere,
+    /// The image is at this position, and was to be at least at another.
+    Below { position: u64, at_least: u64 },
+    /// Who was asked did not answer `yes`.
+    NotConfirmed,
 }
 
 impl From<ServeError> for Failure {
@@ -81,11 +99,12 @@ impl Failure {
     pub fn status(&self) -> u8
         ensures status { result ≡ status_after self.now }
         ensures failed { 0 < result }
-        ensures known { result ≤ 2 }
+        ensures known { result ≤ 3 }
     {
         match self {
             Failure::Misused(_) => MISUSED,
-            Failure::CannotListen | Failure::Stopped(_) => FAILED,
+            Failure::CannotListen | Failure::Stopped(_) | Failure::InUse => FAILED,
+            Failure::Kept(_) => KEPT,
         }
     }
 
@@ -98,8 +117,27 @@ impl Failure {
             Failure::Misused(error) => write!(errors, "{error}"),
             Failure::CannotListen => writeln!(errors, "cannot listen"),
             Failure::Stopped(error) => tell_stop(error, errors),
+            Failure::InUse => writeln!(errors, "in use"),
+            Failure::Kept(kept) => tell_kept(*kept, errors),
         }
     }
+}
+
+/// Tells why all is kept as it was.
+fn tell_kept<W: Write>(kept: Kept, errors: &mut W) -> io::Result<()>
+    ensures { OnOk result (Appends (W.contents errors.old) (W.contents errors.new) (kept_text kept)) }
+{
+    match kept {
+        Kept::IsThere => writeln!(errors, "not formatted: the file is there"),
+        Kept::Below { position, at_least } => tell_below(position, at_least, errors),
+        Kept::NotConfirmed => writeln!(errors, "nothing was changed"),
+    }
+}
+
+fn tell_below<W: Write>(at: u64, least: u64, errors: &mut W) -> io::Result<()>
+    ensures { OnOk result (Appends (W.contents errors.old) (W.contents errors.new) (below_text at least)) }
+{
+    writeln!(errors, "position {at}, below {least}: not promoted")
 }
 
 /// Tells why a call ended early.
@@ -111,6 +149,7 @@ fn tell_stop<W: Write>(error: &ServeError, errors: &mut W) -> io::Result<()>
             let number = refusal.number();
             writeln!(errors, "refusal {number}: {refusal}")
         }
+        ServeError::Broken => writeln!(errors, "broken connection"),
         _ => writeln!(errors, "{error}"),
     }
 }

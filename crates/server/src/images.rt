@@ -8,10 +8,20 @@ ghost use Rattle.pmem.specs.Crash.{image_of};
 use kv_types::Refusal;
 use pmem::Pmem;
 use pmem_file::FilePmem;
+use std::fs::{self, File, TryLockError};
+use std::io::ErrorKind;
+use std::thread;
+use std::time::Duration;
 
 /// Devices that hold images, each by its name.
 pub trait Images {
     type Device: Pmem + Drop;
+
+    /// Whether there is something of this name.
+    fn is_there(&self, name: &str) -> bool;
+
+    /// What keeps this name from being opened just now.
+    fn trouble(&self, name: &str) -> Trouble;
 
     /// The device of `lines` lines of this name, which is made where there is none.
     ///
@@ -23,7 +33,8 @@ pub trait Images {
 
     /// The device of this name as it was left: a crash leaves what is read from it.
     ///
-    /// `WrongSize` where it has not 4,096 to 2^31 lines; `Fault` where there is none, or it cannot be read or written; `Memory`. It is as it was.
+    /// `WrongSize` where it has not 4,096 to 2^31 lines; `Fault` where there is none, or another has it and keeps it for two seconds, or it cannot be read or
+    /// written; `Memory`. It is as it was.
     fn open(&self, name: &str) -> Result<Self::Device, Refusal>
         ensures many { IfOk result (λ device. MIN_LINES ≤ (Self.Device.state device).lines) }
         ensures few { IfOk result (λ device. (Self.Device.state device).lines ≤ MAX_LINES) }
@@ -40,6 +51,24 @@ pub trait Images {
             → Only ((Self.Device.state device).words word) (image_of (Self.Device.state device).words word)) };
 }
 
+/// What keeps a name from being opened for reading and writing.
+#[derive(Clone, Copy, Debug, PartialEq, Eq)]
+pub enum Trouble {
+    /// Nothing that can be told.
+    None,
+    /// There is nothing of this name.
+    Missing,
+    /// Another process has locked it.
+    Held,
+    /// The system refuses to open it.
+    Closed,
+}
+
+/// How often a file that another process holds is tried again, and after how many milliseconds: one that was killed holds it for a moment.
+const TRIES: u32 = 20;
+
+const PAUSE_MILLISECONDS: u64 = 100;
+
 /// Images in the files of the system, by their paths.
 #[derive(Clone, Copy)]
 pub struct Files<'a> {
@@ -51,16 +80,48 @@ impl<'a> Files<'a> {
     pub fn of(rt: &'a HostRuntime) -> Files<'a> {
         Files { rt }
     }
+
+    /// Waits up to two seconds where another process holds this file.
+    fn wait_for(&self, name: &str) {
+        for _ in 0..TRIES {
+            if self.trouble(name) != Trouble::Held {
+                return;
+            }
+            thread::sleep(self.rt, Duration::from_millis(PAUSE_MILLISECONDS));
+        }
+    }
+}
+
+/// Whether another process has locked a file. It is not locked from here on.
+fn trouble_of(file: &File) -> Trouble {
+    match file.try_lock() {
+        Err(TryLockError::WouldBlock) => Trouble::Held,
+        _ => Trouble::None,
+    }
 }
 
 impl<'a> Images for Files<'a> {
     type Device = FilePmem;
+
+    fn is_there(&self, name: &str) -> bool {
+        // (a link that leads nowhere is there as well)
+        fs::symlink_metadata(self.rt, name).is_ok()
+    }
+
+    fn trouble(&self, name: &str) -> Trouble {
+        match File::options().read(true).write(true).open(self.rt, name) {
+            Ok(file) => trouble_of(&file),
+            Err(error) if error.kind() == ErrorKind::NotFound => Trouble::Missing,
+            Err(_) => Trouble::Closed,
+        }
+    }
 
     fn create(&self, name: &str, lines: u64) -> Result<FilePmem, Refusal> {
         FilePmem::create(self.rt, name, lines)
     }
 
     fn open(&self, name: &str) -> Result<FilePmem, Refusal> {
+        self.wait_for(name);
         FilePmem::open(self.rt, name)
     }
 

@@ -56,13 +56,13 @@ fn print<W: Write>(current: &Record, live: u64, writer: &mut W) -> io::Result<()
     Ok(())
 }
 
-fn print_number<W: Write>(word: &str, number: u64, writer: &mut W) -> io::Result<()>
+pub(crate) fn print_number<W: Write>(word: &str, number: u64, writer: &mut W) -> io::Result<()>
     ensures { OnOk result (Appends (W.contents writer.old) (W.contents writer.new) (number_line word.now number)) }
 {
     writeln!(writer, "{word} {number}")
 }
 
-fn print_role<W: Write>(role: Role, writer: &mut W) -> io::Result<()>
+pub(crate) fn print_role<W: Write>(role: Role, writer: &mut W) -> io::Result<()>
     ensures { OnOk result (Appends (W.contents writer.old) (W.contents writer.new) (role_line role)) }
 {
     match role {

@@ -2,6 +2,8 @@
 #![tactic(auto)]
 
 mod answering;
+mod asking;
+mod causes;
 mod client;
 mod command;
 mod conversation;
@@ -9,7 +11,9 @@ mod failure;
 mod formatting;
 mod images;
 mod inspecting;
-mod link_ear;
+mod link_listener;
+mod listening;
+mod losing;
 mod options;
 mod pair;
 mod promoting;
@@ -17,6 +21,7 @@ mod serve;
 mod serving_clients;
 mod simulated;
 mod standing_by;
+mod status;
 
 use crate::command::{command, tell};
 use crate::failure::Failure;
@@ -26,7 +31,7 @@ use descriptors::hold_closed;
 use kv_types::Refusal;
 use std::alloc::Global;
 use std::env;
-use std::io::ErrorKind;
+use std::io::{ErrorKind, IsTerminal};
 use std::process::ExitCode;
 use std::rt::Env;
 
@@ -44,6 +49,7 @@ fn main(rt: HostRuntime) -> ExitCode {
             rt.alloc(),
             &words,
             &Files::of(&rt),
+            rt.stdin().is_terminal(),
             &mut rt.stdin(),
             &mut rt.stdout(),
             rt.stderr(),

@@ -16,6 +16,15 @@ const STANDBY: &str = "standby";
 /// The option by which the operator states that the old primary does nothing more.
 const STOPPED: &str = "old-primary-stopped";
 
+/// The option by which a file that is there is not formatted.
+const NEW: &str = "new";
+
+/// The option by which no image below a position is promoted.
+const AT_LEAST: &str = "at-least";
+
+/// The option by which a second image is told of.
+const BEHIND: &str = "behind";
+
 /// The option by which a standby takes links from one host alone.
 const FROM: &str = "from";
 
@@ -27,11 +36,12 @@ static ROLES: [&str; 2] = [PRIMARY, STANDBY];
 /// What the program is asked to do. Names of images and addresses are as they were written.
 #[derive(Clone, Copy)]
 pub enum Task<'a> {
-    /// To write a new image of so many lines for this role.
+    /// To write a new image of so many lines for this role, into a new file alone if that is asked for.
     Format {
         image: &'a str,
         lines: u64,
         role: Role,
+        is_new: bool,
     },
     /// To serve clients at one address, and send to the standby at the other.
     Primary {
@@ -45,14 +55,20 @@ pub enum Task<'a> {
         listen: &'a str,
         from: Option<IpAddr>,
     },
-    /// To make the image of a stopped standby a primary's, if the operator says that the old primary is stopped.
+    /// To make the image of a stopped standby a primary's, if the operator says that the old primary is stopped, and if it is at this position or above.
     Promote {
         image: &'a str,
         old_primary_stopped: bool,
+        at_least: u64,
     },
     /// To print what an image holds.
     Inspect {
         image: &'a str,
+    },
+    /// To print how far an image is and how full, and how far another one is behind it.
+    Status {
+        image: &'a str,
+        behind: Option<&'a str>,
     },
 }
 
@@ -95,7 +111,8 @@ fn grammar<'a>(alloc: Global) -> Result<Command<'a>, Error> {
         .subcommand(primary_command(alloc)?)?
         .subcommand(standby_command(alloc)?)?
         .subcommand(promote_command(alloc)?)?
-        .subcommand(inspect_command(alloc)?)?;
+        .subcommand(inspect_command(alloc)?)?
+        .subcommand(status_command(alloc)?)?;
     Ok(command)
 }
 
@@ -110,11 +127,17 @@ fn format_command<'a>(alloc: Global) -> Result<Command<'a>, Error> {
     let role = option(alloc, "role", "ROLE", "Which node the image is for").value_parser(
         ROLES.as_slice(),
     );
+    let new = flag(
+        alloc,
+        NEW,
+        "Makes a new file, and refuses one that is there",
+    );
     let command = Command::new(alloc, "format")
         .about("Writes a new image")
         .arg(image(alloc))?
         .arg(lines)?
-        .arg(role)?;
+        .arg(role)?
+        .arg(new)?;
     Ok(command)
 }
 
@@ -144,14 +167,19 @@ fn standby_command<'a>(alloc: Global) -> Result<Command<'a>, Error> {
 }
 
 fn promote_command<'a>(alloc: Global) -> Result<Command<'a>, Error> {
-    let stopped = Arg::new(alloc, STOPPED)
-        .long(STOPPED)
-        .help("States that the old primary is stopped and is not started again")
-        .action(ArgAction::SetTrue);
+    let stopped = flag(
+        alloc,
+        STOPPED,
+        "States that the old primary is stopped and is not started again",
+    );
+    let at_least = option(alloc, AT_LEAST, "P", "Refuses an image below this position")
+        .value_parser(value_parser!(u64))
+        .required(false);
     let command = Command::new(alloc, "promote")
         .about("Makes a stopped standby's image a primary's")
         .arg(image(alloc))?
-        .arg(stopped)?;
+        .arg(stopped)?
+        .arg(at_least)?;
     Ok(command)
 }
 
@@ -159,6 +187,15 @@ fn inspect_command<'a>(alloc: Global) -> Result<Command<'a>, Error> {
     let command = Command::new(alloc, "inspect")
         .about("Prints what an image holds")
         .arg(image(alloc))?;
+    Ok(command)
+}
+
+fn status_command<'a>(alloc: Global) -> Result<Command<'a>, Error> {
+    let behind = option(alloc, BEHIND, "FILE", "Another image, told of as well").required(false);
+    let command = Command::new(alloc, "status")
+        .about("Prints how far an image is and how full, beside a node that has it open")
+        .arg(image(alloc))?
+        .arg(behind)?;
     Ok(command)
 }
 
@@ -175,6 +212,14 @@ fn option<'a>(alloc: Global, name: &'a str, value: &'a str, help: &'a str) -> Ar
         .help(help)
         .required(true)
         .action(ArgAction::Set)
+}
+
+/// An option without a value, which may be left out.
+fn flag<'a>(alloc: Global, name: &'a str, help: &'a str) -> Arg<'a> {
+    Arg::new(alloc, name)
+        .long(name)
+        .help(help)
+        .action(ArgAction::SetTrue)
 }
 
 /// What was asked for, if each option of the subcommand has its value. An error where the host is no IP address.
@@ -206,6 +251,7 @@ fn task_of<'a>(name: &str, found: &ArgMatches<'a>, from: Option<IpAddr>) -> Opti
             image,
             lines: found.get_one("lines")?,
             role: role_named(found.get_str("role")?),
+            is_new: found.get_flag(NEW),
         }),
         PRIMARY => Some(Task::Primary {
             image,
@@ -220,8 +266,13 @@ fn task_of<'a>(name: &str, found: &ArgMatches<'a>, from: Option<IpAddr>) -> Opti
         "promote" => Some(Task::Promote {
             image,
             old_primary_stopped: found.get_flag(STOPPED),
+            at_least: found.get_one(AT_LEAST).unwrap_or(0),
         }),
         "inspect" => Some(Task::Inspect { image }),
+        "status" => Some(Task::Status {
+            image,
+            behind: found.get_str(BEHIND),
+        }),
         _ => None,
     }
 }

@@ -4,8 +4,8 @@ ghost use Rattle.pmem.specs.Device.{Only};
 ghost use Rattle.pmem.specs.Crash.{image_of};
 ghost use Rattle.server.specs.Served.{IsEarly};
 
-use crate::client::Client;
-use crate::link_ear::LinkEar;
+use crate::client::{Client, PairEnd};
+use crate::link_listener::{LinkListener, StandbyListener};
 use crate::serve::ServeError;
 use crate::simulated::new_image;
 use kv_types::Refusal;
@@ -90,7 +90,7 @@ fn start_standby<N: Threads + Clock + Copy + Send + 'static>(
     client: Arc<Client>,
 ) -> Result<(), Refusal> {
     let following = thread::spawn(&rt, move || {
-        let why = follow_anew(&rt, alloc, &listener);
+        let why = follow_anew(&rt, alloc, &listener, &client);
         client.stop(any(why));
     });
     match following {
@@ -99,22 +99,24 @@ fn start_standby<N: Threads + Clock + Copy + Send + 'static>(
     }
 }
 
-/// Follows a primary over a new image until a step stops the node, and says why it did.
+/// Follows a primary over a new image until a step stops the node or the listener fails, and says why.
 ///
 /// # Errors
 ///
-/// What was refused before, or `Memory` where the listener failed.
+/// What was refused before.
 fn follow_anew<N: Clock>(
     clock: &N,
     alloc: Global,
     listener: &TcpListener,
-) -> Result<Refusal, Refusal> {
+    client: &Arc<Client>,
+) -> Result<PairEnd, Refusal> {
+    let link = StandbyListener::new(alloc, client)?;
     let device = new_image(alloc, Role::Standby)?;
     let mut node: Standby<WblEngine<SimPmem>, MvKeyspace> = standby::open(alloc, device)?;
-    let mut log = Log::new(alloc, io::sink());
+    let mut log = Log::new(alloc, link);
     match follow(clock, alloc, &mut node, listener, None, &mut log) {
-        Ok(why) => Ok(why),
-        Err(_) => Err(Refusal::Memory),
+        Ok(why) => Ok(PairEnd::Refused(why)),
+        Err(_) => Ok(PairEnd::Broken),
     }
 }
 
@@ -145,7 +147,7 @@ fn start_primary<
     }
 }
 
-/// Serves the client over a new image until a step stops the node, and says why it did.
+/// Serves the client over a new image until a step stops the node or the listener fails, and says why.
 ///
 /// # Errors
 ///
@@ -165,17 +167,17 @@ fn serve_anew<
     listener: TcpListener,
     standby: String,
     client: &Arc<Client>,
-) -> Result<Refusal, Refusal> {
-    let ear = LinkEar::new(alloc, client, &standby)?;
+) -> Result<PairEnd, Refusal> {
+    let link = LinkListener::new(alloc, client, &standby)?;
     let device = new_image(alloc, Role::Primary)?;
-    serve_over(rt, alloc, hash_builder, device, listener, standby, ear)
+    serve_over(rt, alloc, hash_builder, device, listener, standby, link)
 }
 
-/// Serves clients over the image of this device until a step stops the node, and says why it did.
+/// Serves clients over the image of this device until a step stops the node or the listener fails, and says why.
 ///
 /// # Errors
 ///
-/// As at `primary::open`, or `Memory` where the listener failed.
+/// As at `primary::open`.
 fn serve_over<
     N: Threads
         + Wait
@@ -192,20 +194,21 @@ fn serve_over<
     device: D,
     listener: TcpListener,
     standby: String,
-    ear: LinkEar,
-) -> Result<Refusal, Refusal>
+    link: LinkListener,
+) -> Result<PairEnd, Refusal>
     requires { (word : ℕ) → Only ((D.state device).words word) (image_of (D.state device).words word) }
 {
     let opened: Opened<WblEngine<D>, MvKeyspace> = open(alloc, device, hash_builder)?;
-    match run(rt, alloc, opened, listener, standby, Log::new(alloc, ear)) {
-        Stop::Refused(why) => Ok(why),
-        Stop::Deaf => Err(Refusal::Memory),
+    match run(rt, alloc, opened, listener, standby, Log::new(alloc, link)) {
+        Stop::Refused(why) => Ok(PairEnd::Refused(why)),
+        Stop::ListenerClosed => Ok(PairEnd::Broken),
     }
 }
 
 /// Why a node serves no longer, wherever that came from.
-fn any(why: Result<Refusal, Refusal>) -> Refusal {
+fn any(why: Result<PairEnd, Refusal>) -> PairEnd {
     match why {
-        Ok(why) | Err(why) => why,
+        Ok(why) => why,
+        Err(refusal) => PairEnd::Refused(refusal),
     }
 }

@@ -29,6 +29,9 @@ pub enum ServeError {
     Refused(Refusal),
     /// A socket between the threads failed. Nothing was written.
     Socket(io::Error),
+    /// A connection between the threads ended too early: a socket failed, or memory, a thread or a descriptor was refused to one of its ends. Nothing was
+    /// written.
+    Broken,
     /// The replies could not be written, or not all of them.
     Write(io::Error),
 }
@@ -43,6 +46,7 @@ impl fmt::Display for ServeError {
                 write!(f, "refusal {number}: {refusal}")
             }
             ServeError::Socket(error) => write!(f, "a socket failed: {error}"),
+            ServeError::Broken => f.write_str("broken connection"),
             ServeError::Write(error) => write!(f, "writing failed: {error}"),
         }
     }
@@ -89,8 +93,7 @@ impl<T: Drop> From<AllocFailed<T>> for ServeError {
 ///
 /// # Errors
 ///
-/// Where it is not `Write`, nothing was written. `Refused` also where fewer replies came than the bytes have requests: a connection ends early only where
-/// memory, a thread or a descriptor is refused.
+/// Where it is not `Write`, nothing was written. `Broken` where fewer replies came than the bytes have requests.
 pub fn serve<
     N: RandomSource
         + Threads
@@ -131,7 +134,7 @@ fn answer<
     if are_all_answered(alloc, input, replies.clone()?)? {
         Ok(replies)
     } else {
-        Err(ServeError::Refused(Refusal::Memory))
+        Err(ServeError::Broken)
     }
 }
 

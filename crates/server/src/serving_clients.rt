@@ -1,6 +1,12 @@
 //! The subcommand `primary`.
+ghost use Rattle.std.specs.Prelude.{IfOk};
+ghost use Rattle.primary.specs.Resuming.{IsOpened};
+ghost use Rattle.primary.specs.Standing.{Stands};
+
+use crate::causes::tell_cause;
 use crate::failure::Failure;
 use crate::images::Images;
+use crate::listening::listen as bind;
 use crate::serve::ServeError;
 use links::{Log, News};
 use mv_keyspace::MvKeyspace;
@@ -15,7 +21,7 @@ use std::random::RandomSource;
 use std::sync::Wait;
 use std::thread::Threads;
 use std::time::Clock;
-use wbl_engine::WblEngine;
+use wbl_engine::{Durable, WblEngine};
 
 /// Opens the image of this name as a primary's, and serves clients at the address `listen`, with the standby at the address `link`, until the engine
 /// refuses a step, or the address cannot be listened at, or no longer. It does not return otherwise. What it does is told to `errors`, a line at a time.
@@ -40,19 +46,22 @@ pub fn serve_clients<
     link: &str,
     errors: E,
 ) -> Result<(), Failure> {
+    let mut errors = errors;
     let mut log = Log::new(alloc, errors);
-    let device = images.open(name)?;
-    let hash_builder = match RandomState::new(rt) {
-        Ok(hash_builder) => hash_builder,
-        Err(error) => return Err(Failure::Stopped(ServeError::Random(error))),
-    };
-    let opened: Opened<WblEngine<D>, MvKeyspace> = open(alloc, device, hash_builder)?;
+    // (who connects before the image is open is to be refused)
+    let can_listen = bind(rt, alloc, listen, &mut errors).is_some();
+    let done = open_node(rt, alloc, images, name);
+    tell_cause(alloc, images, name, &done, &mut errors);
+    let opened: Opened<WblEngine<D>, MvKeyspace> = done?;
     log.say(News::Opened {
         position: opened.position,
         epoch: opened.epoch,
         keys: opened.keys,
     });
-    let Ok(listener) = TcpListener::bind(rt, listen) else {
+    if !can_listen {
+        return Err(Failure::CannotListen);
+    }
+    let Some(listener) = bind(rt, alloc, listen, &mut errors) else {
         return Err(Failure::CannotListen);
     };
     log.say(News::Listening { address: listen });
@@ -63,6 +72,25 @@ pub fn serve_clients<
             log.say(News::Stopped { why });
             Err(Failure::from(why))
         }
-        Stop::Deaf => Err(Failure::CannotListen),
+        Stop::ListenerClosed => Err(Failure::CannotListen),
     }
+}
+
+/// The node over the image of this name.
+fn open_node<N: RandomSource, D: Pmem + Drop, I: Images<Device = D>>(
+    rt: &N,
+    alloc: Global,
+    images: &I,
+    name: &str,
+) -> Result<Opened<WblEngine<D>, MvKeyspace>, Failure>
+    ensures stands { IfOk result (λ opened. Stands ⟦<WblEngine<D> as Durable>⟧.device ⟦<WblEngine<D> as Durable>⟧.contents opened.primary) }
+    ensures opened { IfOk result (λ opened. IsOpened (⟦<WblEngine<D> as Durable>⟧.contents opened.primary.back.committer.engine)
+        opened.primary.front.sequencer opened.opening opened.position opened.epoch opened.keys) }
+{
+    let device = images.open(name)?;
+    let hash_builder = match RandomState::new(rt) {
+        Ok(hash_builder) => hash_builder,
+        Err(error) => return Err(Failure::Stopped(ServeError::Random(error))),
+    };
+    Ok(open(alloc, device, hash_builder)?)
 }

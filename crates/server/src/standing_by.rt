@@ -1,6 +1,11 @@
 //! The subcommand `standby`.
+ghost use Rattle.std.specs.Prelude.{IfOk};
+ghost use Rattle.standby.specs.Taking.{Stands};
+
+use crate::causes::tell_cause;
 use crate::failure::Failure;
 use crate::images::Images;
+use crate::listening::listen as bind;
 use links::{Log, News, follow};
 use mv_keyspace::{Keyspace, MvKeyspace};
 use standby::Standby;
@@ -16,7 +21,7 @@ use wbl_engine::{Durable, WblEngine};
 pub fn stand_by<
     N: Clock + Net<Listener = TcpListener, Stream = TcpStream>,
     I: Images,
-    E: Write + Drop,
+    E: Write + Copy + Drop,
 >(
     rt: &N,
     alloc: Global,
@@ -26,11 +31,18 @@ pub fn stand_by<
     host: Option<IpAddr>,
     errors: E,
 ) -> Result<(), Failure> {
+    let mut errors = errors;
     let mut log = Log::new(alloc, errors);
-    let device = images.open(name)?;
-    let mut node: Standby<WblEngine<I::Device>, MvKeyspace> = standby::open(alloc, device)?;
+    // (who connects before the image is open is to be refused)
+    let can_listen = bind(rt, alloc, listen, &mut errors).is_some();
+    let done = open_node(alloc, images, name);
+    tell_cause(alloc, images, name, &done, &mut errors);
+    let mut node = done?;
     log.say(opened(&node));
-    let Ok(listener) = TcpListener::bind(rt, listen) else {
+    if !can_listen {
+        return Err(Failure::CannotListen);
+    }
+    let Some(listener) = bind(rt, alloc, listen, &mut errors) else {
         return Err(Failure::CannotListen);
     };
     log.say(News::Listening { address: listen });
@@ -43,12 +55,24 @@ pub fn stand_by<
     }
 }
 
+/// The node over the image of this name.
+fn open_node<I: Images>(
+    alloc: Global,
+    images: &I,
+    name: &str,
+) -> Result<Standby<WblEngine<I::Device>, MvKeyspace>, Failure>
+    ensures stands { IfOk result (λ node. Stands ⟦<WblEngine<I::Device> as Durable>⟧.device ⟦<WblEngine<I::Device> as Durable>⟧.contents
+        ⟦<WblEngine<I::Device> as Durable>⟧.is_faulted ⟦<MvKeyspace as Keyspace>⟧.table node) }
+{
+    let device = images.open(name)?;
+    Ok(standby::open(alloc, device)?)
+}
+
 /// What a node tells whose image was opened.
 fn opened<E: Durable, K: Keyspace>(node: &Standby<E, K>) -> News<'static> {
-    let at = node.ack();
     News::Opened {
-        position: at.position(),
-        epoch: at.epoch(),
+        position: node.position(),
+        epoch: node.epoch(),
         keys: node.keyspace.count_keys(),
     }
 }

@@ -1,2 +1,6 @@
+mod ClosingLemmas
 mod HereOrLent
+mod LinkingLemmas
 mod NeedLemmas
+pub mod StepsLemmas
+pub mod TurnsLemmas

@@ -1,5 +1,5 @@
 -- How much room a request may need, and that it is enough.
-use Rattle.std.specs.Prelude.{ℕ, ◌≤◌, List, length, Option, Some}
+use Rattle.std.specs.Prelude.{ℕ, ◌≤◌, List, length, Option, Some, None}
 use Rattle.std.specs.List.{AllByRecursion}
 use Rattle.kv_types.specs.declared.change.Change.{Change}
 use Rattle.kv_types.specs.declared.command_name.CommandName.{CommandName}
@@ -31,6 +31,11 @@ asked_by_words words = asked_by_named (need_of words) (named_by words)
 abbrev pub asked_by : Item → Asked
 asked_by (Request words) = asked_by_words words
 asked_by (Fault fault) = AtMost (record { count = 0; lines = 1 })
+
+-- nor does nothing
+abbrev pub asked_by_next : Option Item → Asked
+asked_by_next (Some item) = asked_by item
+asked_by_next None = AtMost (record { count = 0; lines = 1 })
 
 -- The changes put no more versions, and none takes an extent of more lines.
 pub record IsEnough (need : Need) (changes : List Change) : Type 0 where

@@ -1,17 +1,21 @@
 //! The committer's steps.
-ghost use Rattle.std.specs.Prelude.{◌≡◌, ◌≤◌, [], true, IfOk, OnOk};
+ghost use Rattle.std.specs.Prelude.{◌≡◌, ◌≤◌, List, [], nat_lt, true, Result, IfOk, OnOk};
+ghost use Rattle.kv_types.specs.declared.refusal.Refusal.{Refusal as Cause};
+ghost use Rattle.group_commit.specs.Due.{due_now};
+ghost use Rattle.group_commit.specs.declared.stage.Done.{Done as Came};
 ghost use Rattle.redis_core.specs.Sequencing.{Sequencing};
 ghost use Rattle.primary.specs.Standing.{BackStands, notices_of, position_after};
-ghost use Rattle.serving.specs.Errand.{IsShown};
+ghost use Rattle.serving.specs.CommitJob.{AreSteps, IsShown, IsStep, passed_on};
+ghost use Rattle.serving.specs.Steps.{does_step};
 
-use crate::local_mark::LocalMark;
-use group_commit::Done;
+use group_commit::{Done, Due};
 use kv_types::Refusal;
+use marks::ThreadMarks;
 use model::Group;
-use pipes::RingOutlet;
+use pipes::{Outlet, RingOutlet};
 use primary::Back;
 use std::alloc::Global;
-use wakes::Bell;
+use wakes::Waker;
 use wbl_engine::Durable;
 
 /// How many steps the committer takes before the connections are served again, or what they changed is looked at.
@@ -24,6 +28,22 @@ pub(crate) struct Stepped {
     pub(crate) any: bool,
 }
 
+/// Whether a step of the committer is due that does something: a group that was told of is handed on only where the link has room.
+pub(crate) fn is_step_due<E: Durable, O: Outlet<Item = Group>>(
+    back: &Back<E>,
+    groups: &mut O,
+    remote: u64,
+) -> bool
+    ensures { let has_room = nat_lt 0 (O.known_room groups.new) in result ≡ does_step has_room (due_now E.contents back.now.committer back.now.work has_room remote) }
+{
+    let has_room = groups.room() > 0;
+    match back.due(has_room, remote) {
+        Due::Nothing => false,
+        Due::Hand => has_room,
+        Due::Commit | Due::Raise | Due::Free | Due::Clear => true,
+    }
+}
+
 /// Takes steps until nothing is to be done, some are taken, or one gives something back. The local mark is where the engine is, before and after.
 ///
 /// # Errors
@@ -32,34 +52,28 @@ pub(crate) struct Stepped {
 pub(crate) fn take_steps<E: Durable>(
     alloc: Global,
     back: &mut Back<E>,
-    mark: LocalMark,
+    marks: &mut ThreadMarks,
     groups: &mut RingOutlet<Group>,
-    link: &Bell,
+    link: &Waker,
     remote: u64,
-) -> (LocalMark, Result<Stepped, Refusal>)
+) -> Result<Stepped, Refusal>
     requires stands { (s : Sequencing) × BackStands E.device E.contents back.old s [] }
-    requires shown { IsShown E.device E.contents back.old mark }
-    ensures stands { IfOk result.1 (λ stepped. (s : Sequencing) → BackStands E.device E.contents back.old s []
+    requires shown { IsShown E.device E.contents back.old marks.old }
+    ensures stands { IfOk result (λ stepped. (s : Sequencing) → BackStands E.device E.contents back.old s []
         → BackStands E.device E.contents back.new s (notices_of stepped.last)) }
-    ensures shown { OnOk result.1 (IsShown E.device E.contents back.new result.0) }
+    ensures shown { OnOk result (IsShown E.device E.contents back.new marks.new) }
+    ensures steps { (all : List (Result Came Cause)) × AreSteps E.device E.contents E.is_faulted remote back.old groups.old all back.new groups.new }
 {
-    let mut mark = mark;
     let mut any = false;
     for _ in 0..MOST_STEPS {
-        let (next, came) = take_step(alloc, back, mark, groups, link, remote);
-        mark = next;
-        match came {
-            Ok(done) => {
-                any |= is_something(&done);
-                if !gives_nothing_back(&done) {
-                    return (mark, Ok(Stepped { last: done, any }));
-                }
-            }
-            Err(refusal) => return (mark, Err(refusal)),
+        let done = take_step(alloc, back, marks, groups, link, remote)?;
+        any |= is_something(&done);
+        if !gives_nothing_back(&done) {
+            return Ok(Stepped { last: done, any });
         }
     }
     let last = Done::Idle;
-    (mark, Ok(Stepped { last, any }))
+    Ok(Stepped { last, any })
 }
 
 /// Takes the step that is due, shows by the local mark what a commit made durable, and calls the link where a group was handed on. A refusal of memory is as
@@ -67,42 +81,44 @@ pub(crate) fn take_steps<E: Durable>(
 fn take_step<E: Durable>(
     alloc: Global,
     back: &mut Back<E>,
-    mark: LocalMark,
+    marks: &mut ThreadMarks,
     groups: &mut RingOutlet<Group>,
-    link: &Bell,
+    link: &Waker,
     remote: u64,
-) -> (LocalMark, Result<Done, Refusal>)
+) -> Result<Done, Refusal>
     requires stands { (s : Sequencing) × BackStands E.device E.contents back.old s [] }
-    requires shown { IsShown E.device E.contents back.old mark }
-    ensures stands { IfOk result.1 (λ came. (s : Sequencing) → BackStands E.device E.contents back.old s []
+    requires shown { IsShown E.device E.contents back.old marks.old }
+    ensures stands { IfOk result (λ came. (s : Sequencing) → BackStands E.device E.contents back.old s []
         → BackStands E.device E.contents back.new s (notices_of came)) }
-    ensures shown { OnOk result.1 (IsShown E.device E.contents back.new result.0) }
+    ensures shown { OnOk result (IsShown E.device E.contents back.new marks.new) }
+    ensures step { (came : Result Came Cause) × IsStep E.device E.contents E.is_faulted remote back.old groups.old came back.new groups.new × (result ≡ passed_on came) }
 {
     match back.commit(alloc, groups, remote) {
         Ok(done) => {
             call(&done, link);
-            (show(mark, &done), Ok(done))
+            show(marks, &done);
+            Ok(done)
         }
-        Err(Refusal::Memory) => (mark, Ok(Done::Idle)),
-        Err(refusal) => (mark, Err(refusal)),
+        Err(Refusal::Memory) => Ok(Done::Idle),
+        Err(refusal) => Err(refusal),
     }
 }
 
 /// Raises the local mark to what a commit made durable.
-fn show(mark: LocalMark, done: &Done) -> LocalMark
-    requires { mark.seat.knows.local ≤ position_after done.now mark.seat.knows.local }
-    ensures { result.seat.knows.local ≡ position_after done.now mark.seat.knows.local }
+fn show(marks: &mut ThreadMarks, done: &Done)
+    requires raises { marks.old.raises_local ≡ true }
+    requires rises { marks.old.local ≤ position_after done.now marks.old.local }
+    ensures { marks.new ≡ record marks.old { local = position_after done.now marks.old.local } }
 {
-    match done {
-        Done::Committed(committed) => mark.raise(committed),
-        _ => mark,
+    if let Done::Committed(committed) = done {
+        marks.raise_local(committed);
     }
 }
 
 // Where a group was handed on, the link is called.
-fn call(done: &Done, link: &Bell) {
+fn call(done: &Done, link: &Waker) {
     if let Done::Handed = done {
-        link.ring();
+        link.wake();
     }
 }
 

@@ -1,24 +1,80 @@
-//! When the changes that wait become a group.
-ghost use Rattle.std.specs.Prelude.{◌≡◌, ◌-◌, nat_le, min, ◌||◌, ◌==◌};
-ghost use Rattle.model.specs.declared.group.TheConstants.{MAX_PARTS};
+//! When the changes that wait become a group, and the versions that have ended a free list.
+ghost use Rattle.std.specs.Prelude.{◌≡◌, ◌+◌, min, if◌then◌else◌};
+ghost use Rattle.serving.specs.Gathering as spec;
+ghost use Rattle.serving.specs.declared.gathering.TheConstants.{IDLE_ROUNDS};
 
+use crate::making::NODE_SPIN;
 use model::MAX_PARTS;
 
-/// How far the changes are closed into groups.
+/// So many versions that have ended are listed though nobody needs their room. Freeing a list takes a fence, however few it has, so that a list of each group
+/// would cost the committer a fourth fence a group. Of an image of 65,536 lines it is an eighth of the entries.
+pub(crate) const LISTED_AT_ONCE: usize = 1_024;
+
+/// After so many rounds in a row without work the node is idle: its thread is about to sleep.
+const IDLE_ROUNDS: u32 = NODE_SPIN;
+
+/// How far the changes are closed into groups, and how long the node has had nothing to do.
 #[derive(Clone, Copy)]
 pub(crate) struct Gathering {
     /// The position of the last change that is in a group.
     pub(crate) closed: u64,
+    /// How many rounds in a row were without work, `IDLE_ROUNDS` at most.
+    pub(crate) quiet_rounds: u32,
 }
 
 impl Gathering {
-    /// Whether to close: no change waits, or as many do as are in groups that the standby has not acknowledged, or as a group may have. So a lone client
-    /// waits for nobody, and many clients' changes do not go out one by one while the fences and the link are busy with a few.
-    pub(crate) fn is_due(&self, position: u64, remote: u64) -> bool
-        ensures { result ≡ ((position - self.now.closed == 0) || nat_le (min (self.now.closed - remote) MAX_PARTS) (position - self.now.closed)) }
+    /// All changes up to this position are in groups, and the node has work.
+    pub(crate) fn new(closed: u64) -> Gathering
+        ensures { (result.closed ≡ closed) × (result.quiet_rounds ≡ 0) }
+    {
+        Gathering {
+            closed,
+            quiet_rounds: 0,
+        }
+    }
+
+    /// A round is over. In an idle one nothing was done.
+    pub(crate) fn note_round(&mut self, is_busy: bool)
+        ensures { self.new ≡ record self.old { quiet_rounds = if is_busy then 0 else min (self.old.quiet_rounds + 1) IDLE_ROUNDS } }
+    {
+        self.quiet_rounds = if is_busy {
+            0
+        } else {
+            self.quiet_rounds.saturating_add(1).min(IDLE_ROUNDS)
+        };
+    }
+
+    /// Whether the changes up to this position that wait become a group: some do, and as many as are in groups that the standby has not acknowledged, or as a
+    /// group may have; or a request waits for room (`is_short`). So a lone client waits for nobody, and many clients' changes do not go out one by one while
+    /// the fences and the link are busy with a few.
+    pub(crate) fn is_group_due(&self, position: u64, remote: u64, is_short: bool) -> bool
+        ensures { result ≡ spec.is_group_due self.now position remote is_short }
     {
         let waiting = position.saturating_sub(self.closed);
         let on_the_way = self.closed.saturating_sub(remote);
-        waiting == 0 || on_the_way.min(MAX_PARTS as u64) <= waiting
+        let is_large = on_the_way.min(MAX_PARTS as u64) <= waiting;
+        waiting > 0 && (is_short || is_large)
+    }
+
+    /// Whether so many versions that have ended become a free list: no change waits to be in a group before, some have ended, and room is short, or they are
+    /// many, or the node is idle. So nobody waits for room that a list would give, and an idle node keeps none.
+    pub(crate) fn is_list_due(
+        &self,
+        position: u64,
+        remote: u64,
+        is_short: bool,
+        ended: usize,
+    ) -> bool
+        ensures { result ≡ spec.is_list_due self.now position remote is_short ended }
+    {
+        let is_wanted = is_short || ended >= LISTED_AT_ONCE || self.is_idle(remote);
+        position <= self.closed && ended > 0 && is_wanted
+    }
+
+    /// Whether nothing was done for a while, and the standby has acknowledged all groups.
+    fn is_idle(&self, remote: u64) -> bool
+        ensures { result ≡ spec.is_idle self.now remote }
+    {
+        self.quiet_rounds >= IDLE_ROUNDS && self.closed <= remote
     }
 }

@@ -2,26 +2,26 @@
 #![tactic(auto)]
 
 mod accepting;
+mod closing;
+mod commit_job;
 mod committing;
-mod door;
-mod errand;
-mod floor;
+mod crossing;
 mod gathering;
-mod guest;
-mod local_mark;
+mod link_ends;
 mod making;
 mod needs;
 mod node;
-mod pace;
+mod open_connection;
+mod open_connections;
+mod shared_entrance;
 mod starting;
+mod step_time;
 mod stop;
-mod threads;
 mod turns;
 
 pub use accepting::Acceptor;
-pub use door::Door;
-pub use floor::Floor;
-pub use local_mark::LocalMark;
 pub use node::Node;
+pub use open_connections::OpenConnections;
+pub use shared_entrance::SharedEntrance;
 pub use starting::run;
 pub use stop::Stop;

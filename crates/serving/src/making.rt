@@ -1,27 +1,32 @@
 //! What the threads of a primary own is made.
 ghost use Rattle.std.specs.Prelude.{◌≡◌, true, IfOk};
 ghost use Rattle.std.specs.Arc.{arc_value};
+ghost use Rattle.standby_stream.specs.Stream.{new_stream};
+ghost use Rattle.links.specs.Ends.{Begin};
 
 use crate::accepting::Acceptor;
-use crate::door::Door;
-use crate::floor::Floor;
-use crate::local_mark::LocalMark;
 use crate::node::Node;
-use clients::{Cards, Sight};
+use crate::open_connections::OpenConnections;
+use crate::shared_entrance::SharedEntrance;
+use clients::{Driver, DriverEntrance};
 use kv_types::Refusal;
-use links::{AckReceiver, LinkSender, Outgoing, RemoteMark, Watch};
+use links::{AckReceiver, LinkSender};
 use lobby::Entrance;
-use marks::{Committer, MarkSeat, Marks, Reader};
+use marks::{Committer, MarkSeat, Marks, Reader, ThreadMarks};
 use model::Group;
 use pipes::{RingOutlet, RingPipe};
-use standby_stream::{Link, Opening};
+use standby_stream::{Opening, Outgoing};
 use std::alloc::{AllocError, Global};
+use std::net::Net;
 use std::sync::{Arc, Mutex};
-use wakes::{Bell, DueIn, DueOut, Flag, Idle, ReadyList, Sleeper, bell, due_list};
+use wakes::{DueIn, DueOut, Flag, Idle, ReadyList, Sleeper, Waker, due_list, new_sleeper};
 use wbl_engine::Committed;
 
-/// How often a thread gives way to others before it sleeps.
+/// How often the link's sender gives way to others before it sleeps.
 const SPIN: u32 = 30;
+
+/// How many threads drive the connections.
+const DRIVERS: usize = 2;
 
 /// How often the node's thread does, which all connections wait for.
 pub(crate) const NODE_SPIN: u32 = 500;
@@ -33,9 +38,10 @@ pub(crate) struct Threading {
     pub(crate) sender: LinkSender,
     pub(crate) receiver: AckReceiver,
     pub(crate) acceptor: Acceptor,
-    pub(crate) door: Arc<Door>,
-    /// The bell of the node's thread, for the committer's.
-    pub(crate) wake: Bell,
+    pub(crate) drivers: Vec<Driver>,
+    pub(crate) entrance: Arc<SharedEntrance>,
+    /// Wakes the node's thread, for the committer's.
+    pub(crate) wake: Waker,
 }
 
 /// The marks, as each thread has them.
@@ -43,11 +49,14 @@ pub(crate) struct Threading {
 struct Seats {
     marks: Arc<Marks>,
     root: MarkSeat,
-    local: LocalMark,
-    remote: RemoteMark,
-    watch: Watch,
-    sight: Sight,
+    /// The committer's.
+    local: ThreadMarks,
+    /// The node's.
+    node: ThreadMarks,
+    remote: ThreadMarks,
+    watch: ThreadMarks,
     ghost of_these: { root.marks ≡ arc_value marks },
+    ghost raises: { remote.raises_remote ≡ true },
 }
 
 /// What the threads of the link own, and the node's ends of what lies between.
@@ -56,59 +65,62 @@ struct LinkEnds {
     sender: LinkSender,
     receiver: AckReceiver,
     groups: RingOutlet<Group>,
-    /// The bell of the link's sender.
-    link: Bell,
+    /// Wakes the link's sender.
+    link: Waker,
 }
 
 /// What lies between the threads of the link and the node's, and what the sender keeps.
 #[derive(Drop)]
 struct Wires {
-    kept: Link,
+    outgoing: Outgoing,
     groups: RingPipe<Group>,
     sleeper: Sleeper,
-    link: Bell,
-    /// The receiver's bells, of the sender and of the node, and the sender's, of the node.
-    bells: (Bell, Bell, Bell),
+    link: Waker,
+    /// The receiver's wakers, of the sender and of the node, and the sender's, of the node.
+    wakers: (Waker, Waker, Waker),
     is_broken: (Arc<Flag>, Arc<Flag>),
 }
 
-/// Where connections come in, who serves them, and where that thread sleeps.
+/// What the acceptor and the drivers own, and what the node's thread has of the connections and sleeps at.
 #[derive(Drop)]
-struct House {
-    floor: Floor,
+struct ClientEnds {
+    connections: OpenConnections,
     acceptor: Acceptor,
-    door: Arc<Door>,
+    drivers: Vec<Driver>,
+    entrance: Arc<SharedEntrance>,
     /// Set once no further connection is accepted.
-    is_deaf: Arc<Flag>,
+    listener_closed: Arc<Flag>,
     sleeper: Sleeper,
-    /// The bell of the node's thread.
-    node: Bell,
+    /// Wakes the node's thread.
+    node: Waker,
 }
 
 /// All that the threads of a primary own, over an image that is durable so far.
 ///
 /// # Errors
 ///
-/// Only `Memory`.
-pub(crate) fn new_threading(
+/// `Memory`, also where the system refuses a descriptor.
+pub(crate) fn new_threading<R: Net>(
+    rt: &R,
     alloc: Global,
     committed: &Committed,
     opening: Opening,
     epoch: u64,
     address: String,
 ) -> Result<Threading, Refusal>
-    ensures { IfOk result (λ made. made.node.mark.seat.knows.local ≡ committed.now) }
+    ensures marks { IfOk result (λ made. (made.node.committer_marks.raises_local ≡ true) × (made.node.committer_marks.local ≡ committed.now)) }
+    ensures link { IfOk result (λ made. Begin epoch opening made.sender made.receiver) }
 {
     let (due, due_out) = due_list(alloc)?;
     let Seats {
         marks,
         root,
         local,
+        node,
         remote,
         watch,
-        sight,
     } = new_seats(alloc, committed)?;
-    let house = new_house(alloc, marks, root, due)?;
+    let client_ends = new_client_ends(rt, alloc, marks, root, due)?;
     let made = new_link(
         alloc,
         opening,
@@ -117,28 +129,35 @@ pub(crate) fn new_threading(
         remote,
         watch,
         due_out,
-        &house.node,
+        &client_ends.node,
     );
     match made {
-        Ok(link) => Ok(assemble(house, link, local, sight)),
+        Ok(link) => Ok(assemble(client_ends, link, local, node)),
         Err(refusal) => {
-            drop(house);
+            drop(client_ends);
             Err(refusal)
         }
     }
 }
 
-fn assemble(house: House, link: LinkEnds, local: LocalMark, sight: Sight) -> Threading
-    ensures { result.node.mark ≡ local }
+fn assemble(
+    client_ends: ClientEnds,
+    link: LinkEnds,
+    committer_marks: ThreadMarks,
+    marks: ThreadMarks,
+) -> Threading
+    ensures marks { result.node.committer_marks ≡ committer_marks }
+    ensures link { (result.sender ≡ link.sender) × (result.receiver ≡ link.receiver) }
 {
-    let House {
-        floor,
+    let ClientEnds {
+        connections,
         acceptor,
-        door,
-        is_deaf,
+        drivers,
+        entrance,
+        listener_closed,
         sleeper,
         node: wake,
-    } = house;
+    } = client_ends;
     let LinkEnds {
         sender,
         receiver,
@@ -146,21 +165,22 @@ fn assemble(house: House, link: LinkEnds, local: LocalMark, sight: Sight) -> Thr
         link,
     } = link;
     let node = Node {
-        floor,
-        sight,
-        mark: local,
+        connections,
+        marks,
+        committer_marks,
         groups,
         link,
         sleeper,
         idle: Idle::new(NODE_SPIN),
-        is_deaf,
+        listener_closed,
     };
     Threading {
         node,
         sender,
         receiver,
         acceptor,
-        door,
+        drivers,
+        entrance,
         wake,
     }
 }
@@ -171,37 +191,33 @@ fn new_link(
     opening: Opening,
     epoch: u64,
     address: String,
-    remote: RemoteMark,
-    watch: Watch,
+    remote: ThreadMarks,
+    watch: ThreadMarks,
     due: DueOut,
-    node: &Bell,
-) -> Result<LinkEnds, Refusal> {
+    node: &Waker,
+) -> Result<LinkEnds, Refusal>
+    requires { remote.raises_remote ≡ true }
+    ensures { IfOk result (λ made. Begin epoch opening made.sender made.receiver) }
+{
     let Wires {
-        kept,
+        outgoing,
         groups,
         sleeper,
         link,
-        bells,
+        wakers,
         is_broken,
-    } = new_wires(alloc, epoch, node)?;
-    let receiver = AckReceiver {
-        mark: remote,
-        due,
-        epoch,
-        link: bells.0,
-        node: bells.1,
-        is_broken: is_broken.0,
-    };
-    let sender = LinkSender {
+    } = new_wires(alloc, epoch, opening, node)?;
+    let receiver = AckReceiver::new(&outgoing, remote, due, wakers.0, wakers.1, is_broken.0);
+    let sender = LinkSender::new(
         address,
-        outgoing: Outgoing::new(kept, opening),
-        groups: groups.inlet,
+        outgoing,
+        groups.inlet,
         sleeper,
-        node: bells.2,
-        is_broken: is_broken.1,
+        wakers.2,
+        is_broken.1,
         watch,
-        spin: SPIN,
-    };
+        SPIN,
+    );
     Ok(LinkEnds {
         sender,
         receiver,
@@ -210,24 +226,28 @@ fn new_link(
     })
 }
 
-fn new_wires(alloc: Global, epoch: u64, node: &Bell) -> Result<Wires, Refusal> {
-    let (sleeper, link) = bell(alloc)?;
+/// What lies between the threads of the link, and what a primary of this epoch sends that was opened so.
+fn new_wires(alloc: Global, epoch: u64, opening: Opening, node: &Waker) -> Result<Wires, Refusal>
+    ensures link { IfOk result (λ wires. wires.outgoing.link ≡ new_stream epoch) }
+    ensures opening { IfOk result (λ wires. wires.outgoing.opening ≡ opening) }
+{
+    let (sleeper, link) = new_sleeper(alloc)?;
     let groups = RingPipe::<Group>::new(alloc)?;
     let is_broken = shared(alloc, Flag::new())?;
-    let bells = three_bells(&link, node)?;
-    let kept = Link::new(alloc, epoch)?;
+    let wakers = three_wakers(&link, node)?;
+    let outgoing = Outgoing::new(alloc, epoch, opening)?;
     Ok(Wires {
-        kept,
+        outgoing,
         groups,
         sleeper,
         link,
-        bells,
+        wakers,
         is_broken,
     })
 }
 
-/// One more of the first bell, and two of the other.
-fn three_bells(one: &Bell, other: &Bell) -> Result<(Bell, Bell, Bell), AllocError> {
+/// One more of the first waker, and two of the other.
+fn three_wakers(one: &Waker, other: &Waker) -> Result<(Waker, Waker, Waker), AllocError> {
     let first = one.another()?;
     let second = other.another()?;
     let third = other.another()?;
@@ -241,99 +261,101 @@ fn shared<T: Drop>(alloc: Global, value: T) -> Result<(Arc<T>, Arc<T>), AllocErr
     Ok((one, other))
 }
 
-/// Where connections come in: the door, who opens it, and who serves behind it.
-fn new_house(alloc: Global, marks: Arc<Marks>, root: MarkSeat, due: DueIn) -> Result<House, Refusal>
+/// The entrance of connections, the acceptor before it, the drivers, and the open connections behind it.
+fn new_client_ends<R: Net>(
+    rt: &R,
+    alloc: Global,
+    marks: Arc<Marks>,
+    root: MarkSeat,
+    due: DueIn,
+) -> Result<ClientEnds, Refusal>
     requires { root.marks ≡ arc_value marks }
 {
-    let (sleeper, node) = bell(alloc)?;
+    let (sleeper, node) = new_sleeper(alloc)?;
     let ready = new_ready(alloc, &node)?;
-    let is_deaf = shared(alloc, Flag::new())?;
-    let door = new_door(alloc)?;
-    let acceptor = new_acceptor(alloc, marks, root, ready.0, is_deaf.0, &node)?;
-    let floor = Floor::new(alloc, door.0, ready.1, due)?;
-    Ok(House {
-        floor,
+    let listener_closed = shared(alloc, Flag::new())?;
+    let entrance = new_entrance(alloc)?;
+    let (drivers, entrances) = new_drivers(rt, alloc, marks, root)?;
+    let acceptor = Acceptor::new(entrances, ready.0, listener_closed.0, node.another()?);
+    let connections = OpenConnections::new(alloc, entrance.0, ready.1, due)?;
+    Ok(ClientEnds {
+        connections,
         acceptor,
-        door: door.1,
-        is_deaf: is_deaf.1,
+        drivers,
+        entrance: entrance.1,
+        listener_closed: listener_closed.1,
         sleeper,
         node,
     })
 }
 
-fn new_ready(alloc: Global, node: &Bell) -> Result<(Arc<ReadyList>, Arc<ReadyList>), AllocError> {
+/// The drivers, each with a seat of the marks, and their entrances.
+fn new_drivers<R: Net>(
+    rt: &R,
+    alloc: Global,
+    marks: Arc<Marks>,
+    root: MarkSeat,
+) -> Result<(Vec<Driver>, Vec<DriverEntrance>), Refusal>
+    requires { root.marks ≡ arc_value marks }
+{
+    let mut root = root;
+    let mut drivers = Vec::with_capacity(alloc, DRIVERS)?;
+    let mut entrances = Vec::with_capacity(alloc, DRIVERS)?;
+    for _ in 0..DRIVERS {
+        let seat = marks.split_seat::<Reader>(&mut root);
+        let driver_marks = ThreadMarks::new(Arc::try_clone(&marks)?, seat);
+        let (driver, entrance) = Driver::new(rt, alloc, driver_marks)?;
+        drivers.push(driver)?;
+        entrances.push(entrance)?;
+    }
+    Ok((drivers, entrances))
+}
+
+fn new_ready(alloc: Global, node: &Waker) -> Result<(Arc<ReadyList>, Arc<ReadyList>), AllocError> {
     shared(alloc, ReadyList::new(alloc, node.another()?)?)
 }
 
-fn new_door(alloc: Global) -> Result<(Arc<Door>, Arc<Door>), Refusal> {
-    let door = shared(alloc, Mutex::new(Entrance::new(alloc)?))?;
-    Ok(door)
+fn new_entrance(alloc: Global) -> Result<(Arc<SharedEntrance>, Arc<SharedEntrance>), Refusal> {
+    let entrance = shared(alloc, Mutex::new(Entrance::new(alloc)?))?;
+    Ok(entrance)
 }
 
 /// Marks that begin where the image is durable, with a seat for each thread.
 fn new_seats(alloc: Global, committed: &Committed) -> Result<Seats, Refusal>
-    ensures { IfOk result (λ seats. seats.local.seat.knows.local ≡ committed.now) }
+    ensures { IfOk result (λ seats. (seats.local.raises_local ≡ true) × (seats.local.local ≡ committed.now)) }
 {
     let (marks, root) = Marks::new(alloc, committed)?;
     let mut root = root;
     let local = marks.split_seat::<Committer>(&mut root);
     let remote = marks.split_seat::<marks::Link>(&mut root);
     let watch = marks.split_seat::<Reader>(&mut root);
-    let sight = marks.split_seat::<Reader>(&mut root);
+    let node = marks.split_seat::<Reader>(&mut root);
     let marks = Arc::new(alloc, marks)?;
-    let (local, sight) = node_marks(&marks, local, sight)?;
-    let (remote, watch) = link_marks(&marks, remote, watch)?;
+    let (local, node) = two_marks(&marks, local, node)?;
+    let (remote, watch) = two_marks(&marks, remote, watch)?;
     Ok(Seats {
         marks,
         root,
         local,
+        node,
         remote,
         watch,
-        sight,
     })
 }
 
-/// The marks as the node's thread has them.
-fn node_marks(
+/// The marks with one seat, and with another.
+fn two_marks(
     marks: &Arc<Marks>,
-    local: MarkSeat,
-    sight: MarkSeat,
-) -> Result<(LocalMark, Sight), AllocError>
-    requires of_these { (local.marks ≡ arc_value marks.now) × (sight.marks ≡ arc_value marks.now) }
-    requires raises { local.knows.raises_local ≡ true }
-    ensures { IfOk result (λ made. made.0.seat.knows ≡ local.knows) }
+    one: MarkSeat,
+    other: MarkSeat,
+) -> Result<(ThreadMarks, ThreadMarks), AllocError>
+    requires { (one.marks ≡ arc_value marks.now) × (other.marks ≡ arc_value marks.now) }
+    ensures { IfOk result (λ made. (made.0 ≡ one.knows) × (made.1 ≡ other.knows)) }
 {
-    let one = Arc::try_clone(marks)?;
-    let other = Arc::try_clone(marks)?;
-    Ok((LocalMark::new(one, local), Sight::new(other, sight)))
-}
-
-/// The marks as the threads of the link have them.
-fn link_marks(
-    marks: &Arc<Marks>,
-    remote: MarkSeat,
-    watch: MarkSeat,
-) -> Result<(RemoteMark, Watch), AllocError>
-    requires of_these { (remote.marks ≡ arc_value marks.now) × (watch.marks ≡ arc_value marks.now) }
-    requires raises { remote.knows.raises_remote ≡ true }
-{
-    let one = Arc::try_clone(marks)?;
-    let other = Arc::try_clone(marks)?;
-    Ok((RemoteMark::new(one, remote), Watch::new(other, watch)))
-}
-
-fn new_acceptor(
-    alloc: Global,
-    marks: Arc<Marks>,
-    root: MarkSeat,
-    ready: Arc<ReadyList>,
-    is_deaf: Arc<Flag>,
-    node: &Bell,
-) -> Result<Acceptor, Refusal>
-    requires { root.marks ≡ arc_value marks }
-{
-    let cards = Arc::new(alloc, Cards::new(alloc)?)?;
-    let node = node.another()?;
-    let acceptor = Acceptor::new(alloc, marks, root, ready, cards, is_deaf, node, SPIN)?;
-    Ok(acceptor)
+    let first = Arc::try_clone(marks)?;
+    let second = Arc::try_clone(marks)?;
+    Ok((
+        ThreadMarks::new(first, one),
+        ThreadMarks::new(second, other),
+    ))
 }

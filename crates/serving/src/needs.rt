@@ -2,12 +2,11 @@
 ghost use Rattle.std.specs.Prelude.{◌≡◌};
 ghost use Rattle.kv_types.specs.Keyspace.{Keyspace};
 ghost use Rattle.cmd_table.specs.Request.{outcome_of_words};
-ghost use Rattle.model.specs.Image.{lines_of_bytes};
 ghost use Rattle.serving.specs.Need as spec;
 
 use cmd_table::most_puts;
 use kv_types::{CommandName, Item, Request};
-use model::LINE_BYTES;
+use model::lines_of_bytes;
 
 /// Room for so many versions, each in an extent of at most so many lines.
 #[derive(Clone, Copy)]
@@ -111,13 +110,6 @@ fn need_of(request: &Request) -> Need
     let most = most_puts(request);
     Need {
         count: most.count as u64,
-        lines: lines_for(most.bytes as u64),
+        lines: lines_of_bytes(most.bytes as u64),
     }
-}
-
-/// How many lines so many bytes take: at least one.
-fn lines_for(bytes: u64) -> u64
-    ensures { result ≡ lines_of_bytes bytes }
-{
-    bytes.div_ceil(LINE_BYTES).max(1)
 }

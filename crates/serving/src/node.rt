@@ -1,64 +1,68 @@
 //! The node's thread: it serves the connections, and has committed what they changed and freed what has ended.
-ghost use Rattle.std.specs.Prelude.{◌≡◌, [], None, OnOk};
-ghost use Rattle.primary.specs.Standing.{BackStands, Stands};
-ghost use Rattle.serving.specs.Errand.{IsHereOrLent, IsShown};
+ghost use Rattle.std.specs.Prelude.{◌≡◌, ◌≤◌, ◌↔◌, max, None, false, true, IsSome, OnOk};
+ghost use Rattle.primary.specs.Settled.{HasNothingOpen};
+ghost use Rattle.primary.specs.Standing.{Stands};
+ghost use Rattle.serving.specs.CommitJob.{GoesBy, HasNothingAtHome, IsHereOrLent, IsShown, remote_of};
+ghost use Rattle.serving.specs.Serving.{HasRead, Serves};
 
-use crate::committing::Stepped;
-use crate::errand::{Committing, Errand, run_errand, settle};
-use crate::floor::Floor;
+use crate::closing::close_due;
+use crate::commit_job::{CommitJob, Committing, run_job, settle};
+use crate::committing::{Stepped, is_step_due};
 use crate::gathering::Gathering;
-use crate::local_mark::LocalMark;
-use crate::pace::Pace;
+use crate::open_connections::OpenConnections;
+use crate::step_time::StepTime;
 use crate::stop::Stop;
-use clients::Sight;
 use group_commit::Done;
 use kv_types::Refusal;
 use lending::Lender;
+use marks::ThreadMarks;
 use model::Group;
 use mv_keyspace::Keyspace;
 use pipes::RingOutlet;
-use primary::{Back, Front, Primary, close};
+use primary::{Back, Front, Primary};
 use std::alloc::Global;
 use std::sync::{Arc, Wait};
 use std::time::Clock;
-use wakes::{Bell, Flag, Idle, Sleeper};
+use wakes::{Flag, Idle, Sleeper, Waker};
 use wbl_engine::Durable;
 
 /// What the node's thread owns beside its primary.
 #[derive(Drop)]
 pub struct Node {
-    pub floor: Floor,
-    /// How it reads the marks.
-    pub sight: Sight,
-    pub mark: LocalMark,
+    pub connections: OpenConnections,
+    /// The marks, which it reads.
+    pub marks: ThreadMarks,
+    /// The marks as the committer has them, which raises the local one.
+    pub committer_marks: ThreadMarks,
     /// The groups that were committed go to the link here.
     pub groups: RingOutlet<Group>,
-    /// The bell of the link's sender.
-    pub link: Bell,
+    /// Wakes the link's sender.
+    pub link: Waker,
     pub sleeper: Sleeper,
     pub idle: Idle,
     /// Set once no further connection is accepted.
-    pub is_deaf: Arc<Flag>,
+    pub listener_closed: Arc<Flag>,
 }
 
 /// The committer's thread, as the node's has it.
 #[derive(Drop)]
 pub(crate) struct Lent<E: Durable> {
-    pub(crate) lender: Lender<Errand<E>, Committing<E>>,
-    /// The bell of the committer's thread.
-    pub(crate) bell: Bell,
+    pub(crate) lender: Lender<CommitJob<E>, Committing<E>>,
+    /// Wakes the committer's thread.
+    pub(crate) waker: Waker,
 }
 
 /// What the node's thread works with, round by round.
 #[derive(Drop)]
-struct Desk<E: Durable, K: Keyspace> {
+struct NodeState<E: Durable, K: Keyspace> {
     front: Front<K>,
-    floor: Floor,
-    lender: Lender<Errand<E>, Committing<E>>,
-    /// The bell of the committer's thread.
-    bell: Bell,
-    /// The errand, where it is not lent.
-    home: Option<Errand<E>>,
+    connections: OpenConnections,
+    marks: ThreadMarks,
+    lender: Lender<CommitJob<E>, Committing<E>>,
+    /// Wakes the committer's thread.
+    waker: Waker,
+    /// The job, where it is not lent.
+    home: Option<CommitJob<E>>,
     gathering: Gathering,
 }
 
@@ -71,34 +75,33 @@ pub(crate) fn serve<R: Wait + Clock, E: Durable + Drop, K: Keyspace + Drop>(
     lent: Lent<E>,
 ) -> Stop
     requires stands { Stands E.device E.contents primary }
-    requires shown { IsShown E.device E.contents primary.back node.mark }
+    requires shown { IsShown E.device E.contents primary.back node.committer_marks }
     requires none { lent.lender ≡ None }
 {
     let Primary { front, back } = primary;
-    let Lent { lender, bell } = lent;
+    let Lent { lender, waker } = lent;
     let Node {
-        floor,
-        sight,
-        mark,
+        connections,
+        marks,
+        committer_marks,
         groups,
         link,
         sleeper,
         mut idle,
-        is_deaf,
+        listener_closed,
     } = node;
-    let gathering = Gathering {
-        closed: front.position(),
-    };
-    let mut desk = Desk {
+    let gathering = Gathering::new(front.position());
+    let mut state = NodeState {
         front,
-        floor,
+        connections,
+        marks,
         lender,
-        bell,
-        home: Some(new_errand(back, mark, groups, link)),
+        waker,
+        home: Some(new_job(back, committer_marks, groups, link)),
         gathering,
     };
-    let stop = take_rounds(rt, alloc, &mut desk, sight, &mut idle, &sleeper, &is_deaf);
-    drop(desk);
+    let stop = take_rounds(rt, alloc, &mut state, &mut idle, &sleeper, &listener_closed);
+    drop(state);
     stop
 }
 
@@ -106,140 +109,187 @@ pub(crate) fn serve<R: Wait + Clock, E: Durable + Drop, K: Keyspace + Drop>(
 fn take_rounds<R: Wait + Clock, E: Durable + Drop, K: Keyspace>(
     rt: &R,
     alloc: Global,
-    desk: &mut Desk<E, K>,
-    sight: Sight,
+    state: &mut NodeState<E, K>,
     idle: &mut Idle,
     sleeper: &Sleeper,
-    is_deaf: &Arc<Flag>,
+    listener_closed: &Arc<Flag>,
 ) -> Stop
-    requires { IsHereOrLent E.device E.contents desk.old.home desk.old.lender desk.old.front.sequencer }
+    requires stands { IsHereOrLent E.device E.contents state.old.home state.old.lender state.old.front.sequencer }
+    requires remote { (remote_of state.old.home ≤ state.old.marks.remote) × (remote_of state.old.lender ≤ state.old.marks.remote) }
 {
-    let mut sight = sight;
     for _ in rt.forever() {
-        let (next, came) = take_round(rt, alloc, desk, sight);
-        sight = next;
-        let is_busy = match came {
+        let is_busy = match take_round(rt, alloc, state) {
             Ok(is_busy) => is_busy,
             Err(refusal) => return Stop::Refused(refusal),
         };
-        if is_deaf.is_set() {
-            return Stop::Deaf;
+        if listener_closed.is_set() {
+            return Stop::ListenerClosed;
         }
+        state.gathering.note_round(is_busy);
         rest(rt, idle, sleeper, is_busy);
     }
     unreachable!()
 }
 
-/// Takes the errand back if it is done, takes in who waits at the door, serves who called, and has committed what they changed. Answers whether anything
-/// was done.
+/// Takes the job back if it is done and has committed what is due, so that this goes on while connections are served. Then it has committed what became due
+/// meanwhile. Answers whether anything was done. The job goes by no more of the remote mark than was read of it.
 fn take_round<R: Wait + Clock, E: Durable + Drop, K: Keyspace>(
     rt: &R,
     alloc: Global,
-    desk: &mut Desk<E, K>,
-    sight: Sight,
-) -> (Sight, Result<bool, Refusal>)
-    requires { IsHereOrLent E.device E.contents desk.old.home desk.old.lender desk.old.front.sequencer }
-    ensures { OnOk result.1 (IsHereOrLent E.device E.contents desk.new.home desk.new.lender desk.new.front.sequencer) }
+    state: &mut NodeState<E, K>,
+) -> Result<bool, Refusal>
+    requires stands { IsHereOrLent E.device E.contents state.old.home state.old.lender state.old.front.sequencer }
+    requires remote { (remote_of state.old.home ≤ state.old.marks.remote) × (remote_of state.old.lender ≤ state.old.marks.remote) }
+    ensures stands { OnOk result (IsHereOrLent E.device E.contents state.new.home state.new.lender state.new.front.sequencer) }
+    ensures remote { OnOk result ((remote_of state.new.home ≤ state.new.marks.remote) × (remote_of state.new.lender ≤ state.new.marks.remote)) }
+    ensures read { HasRead state.old.marks state.new.marks }
 {
-    let fetched = match fetch(&mut desk.front, &mut desk.lender, &mut desk.home) {
-        Ok(did) => did,
-        Err(refusal) => return (sight, Err(refusal)),
-    };
-    let is_working = is_room_coming(&desk.home);
-    let admitted = desk.floor.admit(rt, alloc, &mut desk.front);
-    let (sight, served) = desk
-        .floor
-        .serve(rt, alloc, &mut desk.front, is_working, sight);
-    let (sight, seen) = sight.look();
-    let committed = commit(
-        rt,
-        alloc,
-        &mut desk.front,
-        &mut desk.lender,
-        &desk.bell,
-        &mut desk.home,
-        &mut desk.gathering,
-        seen.remote,
-    );
-    match committed {
-        Ok(did) => (sight, Ok(fetched | admitted | served | did)),
-        Err(refusal) => (sight, Err(refusal)),
-    }
+    let fetched = fetch(&mut state.front, &mut state.lender, &mut state.home)?;
+    let before = commit_due(rt, alloc, state)?;
+    let served = serve_connections(rt, alloc, state);
+    let after = commit_due(rt, alloc, state)?;
+    Ok(fetched | before | served | after)
 }
 
-/// An errand of which no step was taken yet.
-fn new_errand<E>(back: Back<E>, mark: LocalMark, groups: RingOutlet<Group>, link: Bell) -> Errand<E>
-    ensures { (result.back ≡ back) × (result.mark ≡ mark) }
+/// Takes in who waits at the entrance, and serves who called. Answers whether there was anybody.
+fn serve_connections<R: Wait, E: Durable + Drop, K: Keyspace>(
+    rt: &R,
+    alloc: Global,
+    state: &mut NodeState<E, K>,
+) -> bool
+    ensures serves { Serves state.old.front.sequencer state.new.front.sequencer }
+    ensures read { HasRead state.old.marks state.new.marks }
+    // a request waits for room only where some may come
+    ensures waits { state.new.connections.is_short ≡ true → ¬ (HasNothingAtHome E.contents state.new.home × HasNothingOpen state.new.front.sequencer) }
+    ensures home { state.new.home ≡ state.old.home }
+    ensures lender { state.new.lender ≡ state.old.lender }
+{
+    let is_working = is_room_coming(&state.home);
+    let admitted = state.connections.admit(rt, alloc, &mut state.front);
+    let served = state
+        .connections
+        .serve(rt, alloc, &mut state.front, is_working, &mut state.marks);
+    admitted | served
+}
+
+/// Has committed what is due by the marks as they are now. Answers whether there was anything to do.
+fn commit_due<R: Clock, E: Durable + Drop, K: Keyspace>(
+    rt: &R,
+    alloc: Global,
+    state: &mut NodeState<E, K>,
+) -> Result<bool, Refusal>
+    requires stands { IsHereOrLent E.device E.contents state.old.home state.old.lender state.old.front.sequencer }
+    requires remote { remote_of state.old.lender ≤ state.old.marks.remote }
+    ensures stands { OnOk result (IsHereOrLent E.device E.contents state.new.home state.new.lender state.new.front.sequencer) }
+    ensures remote { OnOk result ((remote_of state.new.home ≤ state.new.marks.remote) × (remote_of state.new.lender ≤ state.new.marks.remote)) }
+    ensures read { HasRead state.old.marks state.new.marks }
+{
+    let remote = state.marks.read_remote();
+    let is_short = state.connections.is_short();
+    commit(
+        rt,
+        alloc,
+        &mut state.front,
+        &mut state.lender,
+        &state.waker,
+        &mut state.home,
+        &mut state.gathering,
+        remote,
+        is_short,
+    )
+}
+
+/// A job of which no step was taken yet.
+fn new_job<E>(
+    back: Back<E>,
+    marks: ThreadMarks,
+    groups: RingOutlet<Group>,
+    link: Waker,
+) -> CommitJob<E>
+    ensures { (result.back ≡ back) × (result.marks ≡ marks) × (result.remote ≡ 0) }
 {
     let last = Done::Idle;
-    Errand {
+    CommitJob {
         back,
-        mark,
+        marks,
         groups,
         link,
         remote: 0,
         came: Ok(Stepped { last, any: false }),
-        pace: Pace::unknown(),
+        step_time: StepTime::unknown(),
     }
 }
 
-/// Whether something may make room: what the errand has in hand, or is lent for.
-fn is_room_coming<E: Durable>(home: &Option<Errand<E>>) -> bool {
+/// Whether something may make room: what the job has in hand, or is lent for.
+fn is_room_coming<E: Durable>(home: &Option<CommitJob<E>>) -> bool
+    ensures { result ≡ false ↔ HasNothingAtHome E.contents home.now }
+{
     match home {
-        Some(errand) => errand.back.is_room_coming(),
+        Some(job) => job.back.is_room_coming(),
         None => true,
     }
 }
 
-/// Takes the errand back where the committer's thread is done with it, and tells the front what came of it. Answers whether anything did.
+/// Takes the job back where the committer's thread is done with it, and tells the front what came of it. Answers whether anything did.
 fn fetch<E: Durable + Drop, K: Keyspace>(
     front: &mut Front<K>,
-    lender: &mut Lender<Errand<E>, Committing<E>>,
-    home: &mut Option<Errand<E>>,
+    lender: &mut Lender<CommitJob<E>, Committing<E>>,
+    home: &mut Option<CommitJob<E>>,
 ) -> Result<bool, Refusal>
     requires { IsHereOrLent E.device E.contents home.old lender.old front.old.sequencer }
-    ensures { OnOk result (IsHereOrLent E.device E.contents home.new lender.new front.new.sequencer) }
+    ensures stands { OnOk result (IsHereOrLent E.device E.contents home.new lender.new front.new.sequencer) }
+    ensures remote { (remote_of home.new ≤ max (remote_of home.old) (remote_of lender.old)) × (remote_of lender.new ≤ remote_of lender.old) }
 {
     if home.is_some() {
         return Ok(false);
     }
-    let Some(errand) = lender.take_back() else {
+    let Some(job) = lender.take_back() else {
         return Ok(false);
     };
-    let did = settle(front, &errand);
-    drop(home.replace(errand));
+    let did = settle(front, &job);
+    drop(home.replace(job));
     did
 }
 
-/// Closes what is due. Where there was any of it, and steps take long, the errand is lent; otherwise its steps are taken here. Answers whether there was
+/// Closes what is due. Where a step is due then, and steps take long, the job is lent; otherwise its steps are taken here. Answers whether there was
 /// anything to do.
 fn commit<R: Clock, E: Durable + Drop, K: Keyspace>(
     rt: &R,
     alloc: Global,
     front: &mut Front<K>,
-    lender: &mut Lender<Errand<E>, Committing<E>>,
-    bell: &Bell,
-    home: &mut Option<Errand<E>>,
+    lender: &mut Lender<CommitJob<E>, Committing<E>>,
+    waker: &Waker,
+    home: &mut Option<CommitJob<E>>,
     gathering: &mut Gathering,
     remote: u64,
+    is_short: bool,
 ) -> Result<bool, Refusal>
-    requires { IsHereOrLent E.device E.contents home.old lender.old front.old.sequencer }
-    ensures { OnOk result (IsHereOrLent E.device E.contents home.new lender.new front.new.sequencer) }
+    requires stands { IsHereOrLent E.device E.contents home.old lender.old front.old.sequencer }
+    requires remote { remote_of lender.old ≤ remote }
+    ensures stands { OnOk result (IsHereOrLent E.device E.contents home.new lender.new front.new.sequencer) }
+    // a job that was here goes by this remote mark, and one that was lent by an earlier one
+    ensures goes_by { IsSome home.old → OnOk result (GoesBy remote home.new × GoesBy remote lender.new) }
+    ensures remote { OnOk result ((remote_of home.new ≤ remote) × (remote_of lender.new ≤ remote)) }
 {
-    let Some(errand) = home.take() else {
+    let Some(job) = home.take() else {
         return Ok(false);
     };
-    let mut errand = errand;
-    errand.remote = remote;
-    let is_closed = close_due(alloc, front, &mut errand.back, gathering, remote);
-    if is_closed && errand.pace.is_long {
-        lender.lend(errand);
-        bell.ring();
+    let mut job = job;
+    job.remote = remote;
+    let closed = close_due(alloc, front, &mut job.back, gathering, remote, is_short);
+    let is_closed = matches!(closed, Ok(true));
+    if !is_step_due(&job.back, &mut job.groups, remote) {
+        drop(home.replace(job));
+        return Ok(is_closed);
+    }
+    if job.step_time.is_long {
+        lender.lend(job);
+        waker.wake();
         return Ok(true);
     }
-    let errand = run_errand(rt, alloc, errand);
-    let did = settle(front, &errand);
-    drop(home.replace(errand));
+    let job = run_job(rt, alloc, job);
+    let did = settle(front, &job);
+    drop(home.replace(job));
     Ok(is_closed | did?)
 }
 
@@ -249,29 +299,4 @@ fn rest<R: Wait + Clock>(rt: &R, idle: &mut Idle, sleeper: &Sleeper, is_busy: bo
     } else {
         idle.wait(rt, sleeper);
     }
-}
-
-/// Closes what waits as a group, once that is due, and what has ended as a list. Answers whether there was any of it. Where memory is refused, it is tried
-/// again later.
-fn close_due<E: Durable, K: Keyspace>(
-    alloc: Global,
-    front: &mut Front<K>,
-    back: &mut Back<E>,
-    gathering: &mut Gathering,
-    remote: u64,
-) -> bool
-    requires { BackStands E.device E.contents back.old front.old.sequencer [] }
-    ensures stands { BackStands E.device E.contents back.new front.new.sequencer [] }
-    ensures committer { back.new.committer ≡ back.old.committer }
-{
-    let position = front.position();
-    if !gathering.is_due(position, remote) {
-        return false;
-    }
-    let Ok(true) = close(alloc, front, back) else {
-        return false;
-    };
-    gathering.closed = position;
-    let _ = close(alloc, front, back);
-    true
 }

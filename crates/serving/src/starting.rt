@@ -1,14 +1,20 @@
 //! A primary's threads are started.
 ghost use Rattle.std.specs.Prelude.{◌≡◌, None, IfSome};
+ghost use Rattle.primary.specs.Resuming.{IsOpened};
 ghost use Rattle.primary.specs.Standing.{Stands};
-ghost use Rattle.serving.specs.Errand.{IsShown};
+ghost use Rattle.links.specs.Ends.{AreOfOneEpoch};
+ghost use Rattle.serving.specs.CommitJob.{IsShown};
+ghost use Rattle.serving.specs.Linking.{IsLinkOf};
 
 use crate::accepting::Acceptor;
-use crate::door::Door;
-use crate::errand::{Committing, Errand, Task, do_each};
+use crate::commit_job::{CommitJob, Committing, Task, do_each};
+use crate::crossing::{acceptor_is_send, is_accepting, is_running};
+use crate::link_ends::LinkEnds;
 use crate::making::{NODE_SPIN, Threading, new_threading};
 use crate::node::{Lent, serve};
+use crate::shared_entrance::SharedEntrance;
 use crate::stop::Stop;
+use clients::{Driver, driver_is_send};
 use kv_types::Refusal;
 use lending::{Borrower, lending};
 use links::{AckReceiver, LinkSender, Log};
@@ -22,14 +28,15 @@ use std::sync::{Arc, Wait};
 use std::thread;
 use std::thread::Threads;
 use std::time::Clock;
-use wakes::{Bell, Sleeper, bell};
+use wakes::{Sleeper, Waker, new_sleeper};
 use wbl_engine::Durable;
 
 /// Serves clients at this listener, and sends to the standby at this address, until the engine refuses a step or the listener takes no further
 /// connection. The threads that it started end with the program.
 ///
 /// The answer is why: `Fault` or `Exhausted` of the engine, `Memory` where there was none to begin with, or for a thread, or that the listener is over.
-/// What becomes of the link is told.
+/// What becomes of the link is told. What is sent and what is acknowledged there is of the epoch of the image that was opened, and what a standby is told that is
+/// behind is what was in it.
 pub fn run<
     R: Threads
         + Wait
@@ -50,7 +57,8 @@ pub fn run<
     address: String,
     log: Log<W>,
 ) -> Stop
-    requires { Stands E.device E.contents opened.primary }
+    requires stands { Stands E.device E.contents opened.primary }
+    requires opened { IsOpened (E.contents opened.primary.back.committer.engine) opened.primary.front.sequencer opened.opening opened.position opened.epoch opened.keys }
 {
     let Opened {
         primary,
@@ -59,7 +67,7 @@ pub fn run<
         ..
     } = opened;
     let committed = primary.back.committed();
-    match new_threading(alloc, &committed, opening, epoch, address) {
+    match new_threading(&rt, alloc, &committed, opening, epoch, address) {
         Ok(threading) => start(rt, alloc, threading, listener, primary, log),
         Err(refusal) => {
             drop(primary);
@@ -90,19 +98,22 @@ fn start<
     log: Log<W>,
 ) -> Stop
     requires stands { Stands E.device E.contents primary }
-    requires shown { IsShown E.device E.contents primary.back threading.node.mark }
+    requires shown { IsShown E.device E.contents primary.back threading.node.committer_marks }
+    requires link { IsLinkOf (E.contents primary.back.committer.engine) primary.front.sequencer threading.sender threading.receiver }
 {
     let Threading {
         node,
         sender,
         receiver,
         acceptor,
-        door,
+        drivers,
+        entrance,
         wake,
     } = threading;
     let is_sending = start_sender(rt, alloc, sender, receiver, log);
-    let is_accepting = start_acceptor(rt, alloc, acceptor, listener, door);
-    match start_committer(rt, alloc, wake, is_sending && is_accepting) {
+    let is_driving = start_drivers(rt, drivers);
+    let is_accepting = start_acceptor(rt, alloc, acceptor, listener, entrance);
+    match start_committer(rt, alloc, wake, is_sending && is_driving && is_accepting) {
         Some(lent) => serve(&rt, alloc, node, primary, lent),
         None => {
             drop(node);
@@ -122,26 +133,29 @@ fn start_sender<
         + Send
         + 'static,
     W: Write + Send + Drop + 'static,
->(rt: R, alloc: Global, sender: LinkSender, receiver: AckReceiver, log: Log<W>) -> bool {
-    let spawned = thread::spawn(&rt, move || sender.run(rt, alloc, receiver, log));
+>(rt: R, alloc: Global, sender: LinkSender, receiver: AckReceiver, log: Log<W>) -> bool
+    requires { AreOfOneEpoch sender receiver }
+{
+    let ends = LinkEnds { sender, receiver };
+    let spawned = thread::spawn(&rt, move || ends.run(rt, alloc, log));
     spawned.ok().is_some()
 }
 
-/// Starts the committer's thread, where it is wanted. `wake` is the bell of the node's.
+/// Starts the committer's thread, where it is wanted. `wake` wakes the node's.
 fn start_committer<
     R: Threads + Wait + Clock + Copy + Send + 'static,
     D: Pmem + Send + 'static,
     E: Durable<Device = D> + Drop + Send + 'static,
->(rt: R, alloc: Global, wake: Bell, is_wanted: bool) -> Option<Lent<E>>
+>(rt: R, alloc: Global, wake: Waker, is_wanted: bool) -> Option<Lent<E>>
     ensures { IfSome result (λ lent. lent.lender ≡ None) }
 {
     if !is_wanted {
         return None;
     }
-    let (sleeper, bell) = bell(alloc).ok()?;
-    let (lender, borrower) = lending::<Errand<E>, Committing<E>>(alloc).ok()?;
+    let (sleeper, waker) = new_sleeper(alloc).ok()?;
+    let (lender, borrower) = lending::<CommitJob<E>, Committing<E>>(alloc).ok()?;
     if is_doing(rt, alloc, borrower, sleeper, wake) {
-        Some(Lent { lender, bell })
+        Some(Lent { lender, waker })
     } else {
         None
     }
@@ -152,7 +166,7 @@ fn is_doing<
     R: Threads + Wait + Clock + Copy + Send + 'static,
     T: Drop + Send + 'static,
     L: Task<T> + Send + 'static,
->(rt: R, alloc: Global, borrower: Borrower<T, L>, sleeper: Sleeper, owner: Bell) -> bool
+>(rt: R, alloc: Global, borrower: Borrower<T, L>, sleeper: Sleeper, owner: Waker) -> bool
     requires { borrower ≡ None }
 {
     let spawned = thread::spawn(&rt, move || {
@@ -167,8 +181,26 @@ fn start_acceptor<R: Threads + Wait + Clock + Copy + Send + 'static>(
     alloc: Global,
     acceptor: Acceptor,
     listener: TcpListener,
-    door: Arc<Door>,
+    entrance: Arc<SharedEntrance>,
 ) -> bool {
-    let spawned = thread::spawn(&rt, move || acceptor.run(rt, alloc, &listener, &door));
-    spawned.ok().is_some()
+    acceptor_is_send();
+    is_accepting(rt, alloc, acceptor, listener, entrance)
+}
+
+/// Starts a thread for each driver. Answers whether it did.
+fn start_drivers<R: Threads + Wait + Clock + Copy + Send + 'static>(
+    rt: R,
+    drivers: Vec<Driver>,
+) -> bool {
+    let mut all = true;
+    for driver in drivers {
+        all &= start_driver(rt, driver);
+    }
+    all
+}
+
+/// Starts a driver's thread. Answers whether it did.
+fn start_driver<R: Threads + Wait + Clock + Copy + Send + 'static>(rt: R, driver: Driver) -> bool {
+    driver_is_send();
+    is_running(rt, driver)
 }

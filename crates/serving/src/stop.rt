@@ -7,5 +7,5 @@ pub enum Stop {
     /// A step was refused so, or memory was to begin with.
     Refused(Refusal),
     /// Its listener takes no further connection.
-    Deaf,
+    ListenerClosed,
 }

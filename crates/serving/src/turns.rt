@@ -1,11 +1,12 @@
 //! The turns that one connection gets in a row.
-ghost use Rattle.std.specs.Prelude.{◌≡◌, max, nat_lt, not, ◌&&◌, ◌||◌, false, true};
+ghost use Rattle.std.specs.Prelude.{◌≡◌, ◌≢◌, max, nat_lt, not, ◌&&◌, ◌||◌, false, true, if◌then◌else◌};
 ghost use Rattle.extent_heap.specs.Room.{has_room};
-ghost use Rattle.primary.specs.Leading.{KeepsLead};
 ghost use Rattle.primary.specs.Settled.{HasNothingOpen};
+ghost use Rattle.serving.specs.Serving.{Serves, WaitsOnlyFor};
+ghost use Rattle.serving.specs.Turns.{TakesTurns};
 
-use crate::guest::Guest;
-use crate::needs::{Asked, Need, asked_by};
+use crate::needs::Need;
+use crate::open_connection::OpenConnection;
 use mv_keyspace::Keyspace;
 use primary::Front;
 use redis_core::Turn;
@@ -33,39 +34,53 @@ pub(crate) fn take_turns<K: Keyspace>(
     alloc: Global,
     front: &mut Front<K>,
     is_working: bool,
-    guest: &mut Guest,
+    connection: &mut OpenConnection,
     is_short: &mut bool,
 ) -> (bool, Served)
-    ensures { KeepsLead front.old.sequencer front.new.sequencer }
+    requires short { WaitsOnlyFor is_short.old is_working front.old.sequencer }
+    ensures turns { TakesTurns front.old.sequencer connection.old result.0 front.new.sequencer connection.new }
+    ensures serves { Serves front.old.sequencer front.new.sequencer }
+    ensures short { WaitsOnlyFor is_short.new is_working front.new.sequencer }
+    // it waits only where something is under way
+    ensures waits { result.1 ≡ Served.Waits → ¬ ((is_working ≡ false) × HasNothingOpen front.new.sequencer) }
 {
     let mut any = false;
     for _ in 0..MOST_TURNS {
-        let is_read = guest.arrival.requests.line.is_read.is_set();
-        let asked = look_ahead(guest);
-        if waits_for_room(front, is_working, guest.queued.need(asked), *is_short) {
+        let is_read = connection.is_read();
+        let asked = connection.look_ahead();
+        if waits_for_room(front, is_working, connection.queued.need(asked), *is_short) {
             *is_short = true;
             return (any, Served::Waits);
         }
-        match take_turn(alloc, front, guest) {
-            Turn::Served => {
-                guest.queued.note(asked);
-                any = true;
-            }
-            Turn::GroupFull => return (any, Served::Waits),
-            Turn::Blocked => return (any, Served::Idle),
-            Turn::Ended => return (any, Served::Over),
-            Turn::Idle => return (any, idle_or_over(is_read)),
+        let turn = connection.take_turn(alloc, front);
+        if !is_served(turn) {
+            return (any, ended_by(turn, is_read));
         }
+        connection.queued.note(asked);
+        any = true;
     }
     (any, Served::Busy)
 }
 
-/// What the connection's next item asks of the room.
-fn look_ahead(guest: &mut Guest) -> Asked {
-    guest.arrival.requests.items.look();
-    match guest.arrival.requests.items.next() {
-        Some(item) => asked_by(item),
-        None => Asked::AtMost(Need::NONE),
+fn is_served(turn: Turn) -> bool
+    ensures served { result ≡ true → turn ≡ Turn.Served }
+    ensures unserved { result ≡ false → turn ≢ Turn.Served }
+{
+    match turn {
+        Turn::Served => true,
+        _ => false,
+    }
+}
+
+/// How serving a connection ends with a turn at which nothing was served.
+fn ended_by(turn: Turn, is_read: bool) -> Served
+    ensures waits { result ≡ Served.Waits → turn ≡ Turn.GroupFull }
+{
+    match turn {
+        Turn::GroupFull => Served::Waits,
+        Turn::Ended => Served::Over,
+        Turn::Idle => idle_or_over(is_read),
+        Turn::Blocked | Turn::Served => Served::Idle,
     }
 }
 
@@ -87,31 +102,8 @@ fn waits_for_room<K: Keyspace>(
 }
 
 // Nothing more comes where all was read before the turn that found nothing.
-fn idle_or_over(is_read: bool) -> Served {
+fn idle_or_over(is_read: bool) -> Served
+    ensures { result ≡ (if is_read then Served.Over else Served.Idle) }
+{
     if is_read { Served::Over } else { Served::Idle }
-}
-
-/// Takes one turn. Where there is no room for its reply, the writer is told that somebody waits, and the turn is tried once more.
-fn take_turn<K: Keyspace>(alloc: Global, front: &mut Front<K>, guest: &mut Guest) -> Turn
-    ensures { KeepsLead front.old.sequencer front.new.sequencer }
-{
-    let turn = try_turn(alloc, front, guest);
-    if turn != Turn::Blocked {
-        return turn;
-    }
-    guest.arrival.requests.line.server_waits.set();
-    guest.arrival.replies.writer.ring();
-    try_turn(alloc, front, guest)
-}
-
-fn try_turn<K: Keyspace>(alloc: Global, front: &mut Front<K>, guest: &mut Guest) -> Turn
-    ensures { KeepsLead front.old.sequencer front.new.sequencer }
-{
-    let arrival = &mut guest.arrival;
-    front.turn(
-        alloc,
-        &arrival.seat,
-        &mut arrival.requests.items,
-        &mut arrival.replies.replies,
-    )
 }

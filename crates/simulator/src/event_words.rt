@@ -8,7 +8,7 @@ use crate::number::read_number;
 use crate::spelling::spelled;
 use bytes::Bytes;
 use hex::FromHexError;
-use machine::Event;
+use machine::{Cut, Event};
 use std::alloc::{AllocError, Global};
 
 /// The event with this name and the words that follow it.
@@ -95,14 +95,14 @@ fn read_deliver(words: &mut LineWords<'_>) -> Result<Event, Cause> {
     Ok(Event::Deliver(frame, words.number_or(0)?))
 }
 
-/// A node, and the picks of its crash: one at least.
+/// A node, and the picks of its crash between two events: one at least.
 fn read_crash(alloc: Global, words: &mut LineWords<'_>) -> Result<Event, LineError> {
     let node = words.node()?;
     let mut picks = vec![in alloc; words.number()?]?;
     for word in words {
         picks.push(read_number(word).ok_or(Cause::NotNumber)?)?;
     }
-    Ok(Event::Crash(node, picks))
+    Ok(Event::Crash(node, Cut::Between, 0, picks))
 }
 
 /// A connection, and the words of a request.

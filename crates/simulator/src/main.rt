@@ -2,7 +2,6 @@
 #![tactic(auto)]
 
 mod cause;
-mod copies;
 mod error;
 mod event_words;
 mod image;
@@ -58,7 +57,9 @@ fn run(rt: &HostRuntime) -> Result<(), SimulatorError> {
     let hash_builder = RandomState::new(rt).map_err(SimulatorError::Random)?;
     let mut out = BufWriter::new(alloc, rt.stdout())?;
     let played = play(alloc, &mut out, &options, &script, hash_builder)?;
-    report(alloc, &mut out, &options, script.schedule.lines(), &played)?;
+    let reported = report(alloc, &mut out, &options, script.schedule.lines(), &played);
+    drop(played);
+    reported?;
     out.flush()?;
     Ok(())
 }

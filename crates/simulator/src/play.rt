@@ -8,10 +8,8 @@ use crate::options::Options;
 use crate::report::write_event;
 use crate::schedule::Schedule;
 use crate::script::{Failure, Script};
-use connections::Transcript;
 use kv_types::Refusal;
 use machine::{Event, Node};
-use model::Call;
 use mv_keyspace::{Keyspace, ListKeyspace, MvKeyspace};
 use pmem::{Crashing, Pmem, SimPmem};
 use std::alloc::{AllocError, Global};
@@ -25,24 +23,12 @@ use world::{EarlyEnd, History, Pair, Stepper, Trace, run};
 pub struct Played {
     /// Where it ended before its last event, if it did.
     pub ended: Option<EarlyEnd>,
-    pub told: Told,
+    /// What the events gave.
+    pub history: History,
     /// The primary's device.
     pub primary: SimPmem,
     /// The standby's device.
     pub standby: SimPmem,
-}
-
-/// What the events gave.
-#[derive(Drop)]
-pub struct Told {
-    /// The list of calls.
-    pub calls: Vec<Call>,
-    /// The bytes that were released to each connection, by its number.
-    pub released: Vec<Vec<u8>>,
-    /// The bytes of all frames that passed over the link, in the order of their sending.
-    pub frames: Vec<Vec<u8>>,
-    /// The bytes of the acknowledgements that the standby made, in order.
-    pub acknowledgements: Vec<Vec<u8>>,
 }
 
 /// Plays the events over two new devices, and prints each that was reached before the next one happens. Where the run ends early, the crashes that
@@ -112,31 +98,12 @@ fn play_over<W: Write, K: Keyspace + Drop>(
             let (primary, standby) = pair.into_devices();
             Ok(Played {
                 ended: ended?,
-                told: told_by(history),
+                history,
                 primary,
                 standby,
             })
         }
         Err((refusal, primary, standby)) => Ok(unplayed(alloc, refusal, primary, standby)),
-    }
-}
-
-/// What a history tells.
-fn told_by(history: History) -> Told {
-    let History {
-        transcript: Transcript {
-            calls,
-            positions: _positions,
-            released,
-        },
-        frames,
-        acknowledgements,
-    } = history;
-    Told {
-        calls,
-        released,
-        frames,
-        acknowledgements,
     }
 }
 
@@ -151,10 +118,7 @@ fn play_whole<W: Write>(
 ) -> Result<Played, SimulatorError> {
     let devices = vec![in alloc; primary, standby]?;
     let Trace {
-        calls,
-        released,
-        frames,
-        acknowledgements,
+        history,
         done,
         ended,
         devices,
@@ -165,12 +129,7 @@ fn play_whole<W: Write>(
     let (primary, standby) = first_two(devices);
     Ok(Played {
         ended,
-        told: Told {
-            calls,
-            released,
-            frames,
-            acknowledgements,
-        },
+        history,
         primary,
         standby,
     })
@@ -190,12 +149,7 @@ fn first_two(devices: Vec<SimPmem>) -> (SimPmem, SimPmem)
 fn unplayed(alloc: Global, refusal: Refusal, primary: SimPmem, standby: SimPmem) -> Played {
     Played {
         ended: Some(EarlyEnd::AtFormatting(refusal)),
-        told: Told {
-            calls: Vec::new(alloc),
-            released: Vec::new(alloc),
-            frames: Vec::new(alloc),
-            acknowledgements: Vec::new(alloc),
-        },
+        history: History::none(alloc),
         primary,
         standby,
     }
@@ -223,7 +177,7 @@ fn play_each<W: Write, S: Stepper>(
 /// Crashes the devices that these events crash, one after another.
 fn crash_devices(alloc: Global, played: &mut Played, events: &[Event]) -> Result<(), AllocError> {
     for event in events {
-        if let Event::Crash(node, picks) = event {
+        if let Event::Crash(node, _, _, picks) = event {
             match node {
                 Node::Primary => crash_device(alloc, &mut played.primary, picks.as_slice())?,
                 Node::Standby => crash_device(alloc, &mut played.standby, picks.as_slice())?,

@@ -21,11 +21,11 @@ pub fn report<W: Write>(
     lines: &[u64],
     played: &Played,
 ) -> Result<(), SimulatorError> {
-    let told = &played.told;
-    write_calls(alloc, out, told.calls.as_slice())?;
-    write_released(out, told.released.as_slice())?;
-    write_frames(alloc, out, told.frames.as_slice())?;
-    write_acknowledgements(alloc, out, told.acknowledgements.as_slice())?;
+    let history = &played.history;
+    write_calls(alloc, out, history.calls())?;
+    write_released(out, history.transcript.released.as_slice())?;
+    write_frames(alloc, out, history.frames())?;
+    write_acknowledgements(alloc, out, history.acknowledgements())?;
     write_nodes(alloc, out, options, &played.primary, &played.standby)?;
     write_end(out, lines, played.ended)?;
     Ok(())

@@ -3,7 +3,6 @@ ghost use Rattle.std.specs.Prelude.{◌≡◌, [], ◌∷◌, ◌++◌, length, 
 ghost use Rattle.simulator.specs.Copy.{AppendsCopies};
 
 use crate::cause::{Cause, LineError};
-use crate::copies::copy_of;
 use machine::Event;
 use std::alloc::{AllocError, Global};
 
@@ -46,7 +45,7 @@ impl Schedule {
             return Err(LineError::Bad(Cause::TooManyEvents));
         }
         for _time in 0..times {
-            self.add_one(copy_of(event)?, line)?;
+            self.add_one(event.try_clone()?, line)?;
         }
         Ok(())
     }

@@ -14,6 +14,7 @@ use Rattle.model.specs.declared.image.TheConstants.{COUNTER_LIMIT, STAMP_WINDOW}
 use Rattle.model.specs.declared.record.Record.{Record}
 use Rattle.model.specs.Image.{Image, IsMapOf, Version, entries_of_lines}
 use Rattle.model.specs.Group.{AreEnded as AreEndedIn, Contents, Versions, IsConsistent, IsGroup, after_group, change_of, puts_of_part, part_versions, parts_versions, last_position, IsPlaced, IsUnused, AreAllApart, NamesEnded, is_ended_version, is_listed, is_live_version, is_put_at}
+use Rattle.model.proofs.DirectoryLemmas.{ended-directory}
 use Rattle.model.proofs.GroupsLemmas.{IsConsistent-after_group, changes_versions-none}
 use Rattle.extent_heap.specs.Room.{Room}
 use Rattle.mv_keyspace.specs.Table.{Table, IsTable, AreEnded, place_all, records}
@@ -26,6 +27,8 @@ use Rattle.placing.proofs.CountLemmas.{AreBelow, changes_counted}
 use Rattle.placing.proofs.TakenLemmas.{All-map, IsFree, IsWithin, AreDistinct-from_apart}
 use Rattle.placing.proofs.LeftLemmas.{placed_of_free, unused_of_free, left_within, after_parts, left-after}
 use Rattle.placing.proofs.PartsLemmas.{IsGroup-alone}
+use Rattle.placing.proofs.EndedLemmas.{AreEnded-from_members}
+use Rattle.placing.proofs.MemberLemmas.{listed-from_member}
 use Rattle.wbl_engine.specs.Contents.{Exhausts, Keeps, Same}
 use Rattle.wbl_engine.specs.Relocating.{IsRelocation, MakesAgain, after_relocation}
 use Rattle.wbl_engine.proofs.ApartLemmas.{IsFresh, group_apart, part_apart}
@@ -33,10 +36,26 @@ use Rattle.wbl_engine.proofs.RelocatingLemmas.{relocated_consistent}
 use Rattle.wbl_engine.proofs.LawfulLemmas.{group_lawful}
 use Rattle.frames.specs.declared.frame.Frame.{Frame}
 use Rattle.standby.specs.Following.{Follows, HasTaken, IsUnmovedOrWhole, IsWhole, TakesEpoch, WouldExhaust}
-use Rattle.standby.proofs.EndedLemmas.{AreEnded-from_members, KeepsWithoutSome-none, listed-from_member, Same-is, ended-directory}
+use Rattle.standby.proofs.EndedLemmas.{KeepsWithoutSome-none, Same-is}
 use Rattle.standby.proofs.PlacesTaken.{AreTaken}
 
 -- ---- the frame as a group of one part
+
+-- A part whose puts have places that are free in the contents, and that ends what the table says, is a group that a commit asks for.
+module _ (contents : Contents) (table : Table) (room : Room) (is_left : IsLeftOf contents room) (table_is : IsTable contents.versions table) (part : Part) (left : Room)
+    (takes : AreTaken room (puts_of_part part) left) (ended : AreEnded part.position table part.changes.items part.ended.items) where
+  none_there : AreEmpty contents.versions (puts_of_part part)
+  none_there = All-map (IsFree room) (λ put. contents.versions put.entry.0 ≡ None) (λ put is. (is_left.entries put.entry.0 is.entry).2) (puts_of_part part) takes.free
+
+  pub IsGroup-part : (group : Group) → group.parts.items ≡ part ∷ [] → group.before ≡ contents.current.position → TakesEpoch contents.current group.epoch → contents.current.position < part.position → IsGroup contents group
+  IsGroup-part group one before epoch later =
+      -- of its own epoch it would be one
+      let own : Contents = record contents { current = record contents.current { epoch = group.epoch } } in
+      let is : IsGroup own group =
+      IsGroup-alone own part group one before refl later (names-ended contents.versions table part none_there (AreDistinct-from_apart (puts_of_part part) takes.apart) table_is ended)
+      (All-map (IsFree room) (IsPlaced contents.lines) (λ put. placed_of_free contents room put is_left) (puts_of_part part) takes.free) takes.fitting
+      (All-map (IsFree room) (IsUnused contents.versions contents.is_free) (λ put. unused_of_free contents room put is_left) (puts_of_part part) takes.free) takes.apart in
+      search rules
 
 -- places were taken for the puts of a part, and its ended entries are those of the table
 module _ (contents : Contents) (table : Table) (room : Room) (follows : Follows contents table room []) (part : Part) (left : Room) (takes : AreTaken room (puts_of_part part) left)
@@ -64,14 +83,7 @@ module _ (contents : Contents) (table : Table) (room : Room) (follows : Follows 
 
   -- it is a group that a commit asks for
   pub IsGroup-one : (group : Group) → group.parts.items ≡ part ∷ [] → group.before ≡ contents.current.position → TakesEpoch contents.current group.epoch → contents.current.position < part.position → IsGroup contents group
-  IsGroup-one group one before epoch later =
-      -- of its own epoch it would be one
-      let own : Contents = record contents { current = record contents.current { epoch = group.epoch } } in
-      let is : IsGroup own group =
-      IsGroup-alone own part group one before refl later (names-ended contents.versions table part empty distinct follows.table_is ended)
-      (All-map (IsFree room) (IsPlaced contents.lines) (λ put. placed_of_free contents room put follows.left) puts free) takes.fitting
-      (All-map (IsFree room) (IsUnused contents.versions contents.is_free) (λ put. unused_of_free contents room put follows.left) puts free) apart in
-      search rules
+  IsGroup-one = IsGroup-part contents table room follows.left follows.table_is part left takes ended
 
   left_after : (epoch : ℕ) → IsLeftOf (after_parts epoch contents (part ∷ [])) left
   left_after epoch = left-after epoch contents left part (left_within contents left room within follows.left) taken

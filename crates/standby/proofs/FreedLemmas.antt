@@ -1,6 +1,6 @@
 -- What has ended can be given back to the heap once it is freed, and the tables follow what is left.
-use Rattle.std.proofs.Common.{◌≡◌, ℕ, inl, inr, Bool, true, false, cond, IsTrue, List, [], ◌++◌, Option, Some, None, refl, sym, ap, subst₂, ◌∙◌, rules}
-use Rattle.std.proofs.lemmas.Bool.{cases_Bool, cond-false, cond-true, false_from_ne_true, or_left, true≢false}
+use Rattle.std.proofs.Common.{◌≡◌, ℕ, inl, inr, Bool, false, IsTrue, List, [], ◌++◌, Some, None, sym, ap, subst₂, ◌∙◌, rules}
+use Rattle.std.proofs.lemmas.Bool.{cases_Bool, cond-false, cond-true, false_from_ne_true, true≢false}
 use Rattle.std.proofs.lemmas.List.{append-nil}
 use Rattle.kv_types.specs.declared.place.EntryNo.{EntryNo}
 use Rattle.kv_types.specs.declared.place.Extent.{Extent}
@@ -9,57 +9,25 @@ use Rattle.extent_heap.specs.Room.{Room}
 use Rattle.pmem.specs.Device.{State}
 use Rattle.pmem.specs.Runs.{LeavesOnly}
 use Rattle.pmem.proofs.Leaving.{LeavesOnly-then, LeavesOnly-weaken}
-use Rattle.model.specs.Group.{AreEnded, Contents, is_ended_version, is_listed, Versions}
+use Rattle.model.specs.Group.{AreEnded, Contents, is_ended_version, is_listed}
 use Rattle.model.specs.Image.{Image, Version}
-use Rattle.mv_keyspace.specs.Table.{IsTable, Table, records, Cell, IsCellOf}
+use Rattle.mv_keyspace.specs.Table.{Table, records}
 use Rattle.placing.specs.Back.{CanGiveAll, ComesBack, GivesAll}
-use Rattle.placing.specs.Left.{IsLeftOf}
 use Rattle.placing.proofs.BackLemmas.{can-give, left-given, rest-comes-back}
+use Rattle.placing.proofs.EndedLemmas.{nothing-back}
+use Rattle.placing.proofs.WithoutLemmas.{left-without, table-without}
 use Rattle.wbl_engine.specs.Contents.{Keeps, Same}
 use Rattle.wbl_engine.specs.Freeing.{KeepsWithoutSome, after_free, extents_of, without}
 use Rattle.wbl_engine.proofs.FreeingLemmas.{ended_within}
+use Rattle.wbl_engine.proofs.InsideLemmas.{inside-from_keeps}
 use Rattle.wbl_engine.specs.Lawful.{AreLawful}
 use Rattle.wbl_engine.proofs.LawfulLemmas.{same_lawful}
-use Rattle.wbl_engine.proofs.WithoutLemmas.{IsMapOf-contents_without, consistent_without, lawful_without, was_there, AllEnded, versions_without}
+use Rattle.wbl_engine.proofs.WithoutLemmas.{IsMapOf-contents_without, consistent_without, lawful_without, was_there, AllEnded}
 use Rattle.frames.specs.declared.frame.Frame.{Frame}
 use Rattle.standby.specs.Following.{Follows, IsUnmovedOrWhole, IsWhole}
-use Rattle.standby.proofs.EndedLemmas.{inside-from_keeps, Same-is, nothing-back}
+use Rattle.standby.proofs.EndedLemmas.{Same-is}
 use Rattle.placing.specs.Read.{LiesIn}
 use Rattle.placing.proofs.FreedPlaces.{comes-back-freed}
-use Rattle.kv_types.specs.declared.record_id.RecordId.{RecordId}
-
--- ---- contents without some versions that have ended
-
-pub still_none : (gone : Bool) (old : Option Version) → old ≡ None → cond gone None old ≡ None
-still_none true old none = refl
-still_none false old none = none
-
-pub left-without : (gone : ℕ → Bool) (contents : Contents) (room : Room) → IsLeftOf contents room → IsLeftOf (without gone contents) room
-left-without gone contents room left = record {
-  entries = λ i free.
-      let before = left.entries i free in
-      (before.0, or_left (contents.is_free i) (gone i) before.1, still_none (gone i) (contents.versions i) before.2);
-  lines = left.lines;
-  apart = λ i version begun. left.apart i version (was_there (gone i) (contents.versions i) version begun);
-}
-
-cell_along : (old new : Versions) (id : RecordId) (cell : Cell) → new cell.entry ≡ old cell.entry → IsCellOf old id cell → IsCellOf new id cell
-cell_along old new id cell same is = record {
-  live = record { version = is.live.version; begun = same ∙ is.live.begun; not_ended = is.live.not_ended; id_is = is.live.id_is; value_is = is.live.value_is };
-  position_is = is.position_is;
-}
-
-pub table-without : (gone : ℕ → Bool) (versions : Versions) (table : Table) → AllEnded gone versions → IsTable versions table → IsTable (versions_without gone versions) table
-table-without gone versions table ended is = record {
-  keyspace = is.keyspace;
-  live = λ id cell found.
-      let of = is.live id cell found in
-      let not_gone = false_from_ne_true (gone cell.entry) (λ listed. true≢false (sym (ended cell.entry listed) ∙ ap is_ended_version of.live.begun ∙ of.live.not_ended)) in
-      cell_along versions (versions_without gone versions) id cell (cond-false (gone cell.entry) None (versions cell.entry) not_gone) of;
-  found = λ id cell of.
-      is.found id cell
-      (cell_along (versions_without gone versions) versions id cell (was_there (gone cell.entry) (versions cell.entry) of.live.version of.live.begun ∙ sym of.live.begun) of);
-}
 
 -- ---- what has ended
 
@@ -73,7 +41,7 @@ module _ (contents : Contents) (table : Table) (room : Room) (ended : List Entry
   was : (i : ℕ) (version : Version) → left.versions i ≡ Some version → contents.versions i ≡ Some version
   was i version = was_there (is_listed i ended) (contents.versions i) version
 
-  none_left : (i : ℕ) → IsTrue (is_ended_version (left.versions i)) → ⊥
+  pub none_left : (i : ℕ) → IsTrue (is_ended_version (left.versions i)) → ⊥
   none_left i is = elim (cases_Bool (is_listed i ended)) [
     | inl listed ↦ true≢false (sym is ∙ ap is_ended_version (cond-true (is_listed i ended) None (contents.versions i) listed))
     | inr not_one ↦

@@ -1,8 +1,11 @@
+pub mod BesideLemmas
 pub mod EndedLemmas
 pub mod FollowingLemmas
 pub mod FreedLemmas
 pub mod GoneLemmas
+pub mod TakenBeside
 pub mod TakingLemmas
+pub mod OutcomeLemmas
 pub mod NewLemmas
 pub mod Restarted
 pub mod RearrangedLemmas

@@ -12,6 +12,7 @@ use Rattle.model.specs.declared.group.PlacedChange.{PlacedChange}
 use Rattle.model.specs.declared.group.PlacedChange.TheVariants as placed
 use Rattle.model.specs.Group.{Contents, HasItsLines, IsConsistent, Versions, change_of, changes_versions, ended_by, ended_where_begun, part_versions, puts_of_part, put_of, version_of_put}
 use Rattle.model.specs.Image.{Image, IsMapOf, Version, counts, entries_of_lines, entry_word, version_in}
+use Rattle.model.proofs.DirectoryLemmas.{in-directory}
 use Rattle.model.proofs.MapLemmas.{IsMapOf-unique}
 use Rattle.extent_heap.specs.Extents.{is_line_of}
 use Rattle.extent_heap.specs.Room.{GivesEntry, GivesExtent, IsOut, IsOutEntry, Room, is_free_entry, is_free_line}
@@ -26,7 +27,7 @@ use Rattle.wbl_engine.specs.Relocating.{ExhaustsRelocation, IsRelocation, MakesA
 use Rattle.wbl_engine.proofs.RelocatingLemmas.{relocated_lawful, relocated_map}
 use Rattle.standby.specs.Following.{Follows, IsNearLimit, IsRearranged, Stood}
 use Rattle.standby.specs.Moving.{ClaimsPlace, IsAlike, IsMadeAgain}
-use Rattle.standby.proofs.EndedLemmas.{Same-is, in-directory}
+use Rattle.standby.proofs.EndedLemmas.{Same-is}
 use Rattle.standby.proofs.FollowingLemmas.{Follows-relocated, IsRelocation-one}
 use Rattle.standby.proofs.PlacesTaken.{AreTaken}
 use Rattle.std.proofs.lemmas.Option.{none-some}

@@ -1,5 +1,4 @@
 pub mod Following
-pub mod Restarting
 pub mod Taking
 pub mod Moving
 pub mod Spare

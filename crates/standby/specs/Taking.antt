@@ -1,19 +1,32 @@
 -- What the calls of a standby do, by what is known of its engine and its keyspace.
-use Rattle.std.specs.Prelude.{◌≡◌, ◌⊎◌, ℕ, ◌<◌, ◌≤◌, [], length, Bool, false, true, Result, Ok, Err, IfOk, IfErr, OnOk, OnErr, IsErrOf}
+use Rattle.std.specs.Prelude.{◌≡◌, ◌⊎◌, ℕ, ◌<◌, [], length, Bool, false, true, Result, Ok, Err, IfErr, OnOk, IsErrOf}
 use Rattle.kv_types.specs.declared.refusal.Refusal.{Refusal}
 use Rattle.kv_types.specs.declared.refusal.Refusal.TheVariants.{WrongEpoch, PositionGap, Full, Memory, Fault, Exhausted}
 use Rattle.pmem.specs.Device.{State}
 use Rattle.pmem.specs.Runs.{LeavesOnly}
+use Rattle.model.specs.declared.record.Record.{Record}
 use Rattle.model.specs.Group.{Contents}
 use Rattle.mv_keyspace.specs.Table.{Table, records}
 use Rattle.placing.specs.Place.{HasRoomFor}
 use Rattle.wbl_engine.specs.Contents.{IsDurable}
-use Rattle.wbl_engine.specs.Freeing.{after_free, record_after_clearing}
+use Rattle.wbl_engine.specs.Freeing.{KeepsWithoutSome, after_free, record_after_clearing}
 use Rattle.wbl_engine.specs.Lawful.{AreLawful}
 use Rattle.frames.specs.declared.ack.Ack.{Ack}
 use Rattle.frames.specs.declared.frame.Frame.{Frame}
 use Rattle.standby.specs.declared.standby.Standby.{Standby}
 use Rattle.standby.specs.Following.{Follows, TakesEpoch, IsHeld, IsNext, IsTakenNext, HasTaken, AreGone, HasRoomOnceFreed, HoldsRearranged, IsGapless, IsRearranged, NoGapIsLeft, WouldExhaust, IsBeforeOrWhole, IsUnmovedOrWhole, EndsAs}
+
+-- The frame is the one that a node with this record takes, and its commit brings no counter to the limit.
+pub record IsDue (current : Record) (frame : Frame) : Type 0 where
+  pub next : IsTakenNext current frame
+  pub counters : ¬ WouldExhaust current frame
+
+-- why a node with this record cannot take the frame, whatever room it has
+abbrev pub CannotTake : Record → Frame → Refusal → Type 0
+CannotTake current frame refusal =
+    ((refusal ≡ WrongEpoch) × ¬ TakesEpoch current frame.epoch)
+    ⊎ ((refusal ≡ PositionGap) × TakesEpoch current frame.epoch × ¬ IsHeld current frame × ¬ IsNext current.position frame)
+    ⊎ ((refusal ≡ Exhausted) × IsTakenNext current frame × WouldExhaust current frame)
 
 module _ {E K D : Type 0} (device : E → State) (contents : E → Contents) (is_faulted : E → Bool) (table : K → Table) where
   -- The standby may take frames: its keyspace and its heap follow its image, no fence has failed, and all that its engine contains is durable.
@@ -22,49 +35,72 @@ module _ {E K D : Type 0} (device : E → State) (contents : E → Contents) (is
     pub sound : is_faulted node.engine ≡ false
     pub durable : IsDurable (device node.engine) (contents node.engine)
 
-  -- A frame was taken, acknowledged again or refused.
-  pub record TakesFrame (frame : Frame) (old : Standby E K D) (result : Result Ack Refusal) (new : Standby E K D) : Type 0 where
-    pub epoch : ¬ TakesEpoch (contents old.engine).current frame.epoch → (result ≡ Err WrongEpoch) × (new ≡ old)
-    pub again : frame.epoch ≡ (contents old.engine).current.epoch → frame.after ≤ (contents old.engine).current.position
-        → (result ≡ Ok (record { epoch = (contents old.engine).current.epoch; position = (contents old.engine).current.position })) × (new ≡ old)
-    pub gap : TakesEpoch (contents old.engine).current frame.epoch → ¬ IsHeld (contents old.engine).current frame
-        → ¬ IsNext (contents old.engine).current.position frame → (result ≡ Err PositionGap) × (new ≡ old)
-    -- no other frame is acknowledged
-    pub answers : IfOk result (λ _. (IsHeld (contents old.engine).current frame × (new ≡ old)) ⊎ IsTakenNext (contents old.engine).current frame)
-    -- for the frame that comes next
-    pub ack : IsTakenNext (contents old.engine).current frame → IfOk result (λ ack. ack ≡ record { epoch = frame.epoch; position = frame.after })
-    pub taken : IsTakenNext (contents old.engine).current frame
-        → OnOk result (HasTaken frame (contents old.engine) (contents new.engine) (table old.keyspace) (table new.keyspace))
-    pub gone : IsTakenNext (contents old.engine).current frame → OnOk result (AreGone frame.after (contents old.engine).versions (contents new.engine).versions)
-    -- where there is room with nothing moved, once what had ended is freed, it is not refused for room, and nothing is moved
-    pub fits : IsTakenNext (contents old.engine).current frame → HasRoomOnceFreed old.heap old.ended.items (contents old.engine) frame → ¬ IsErrOf result Full
-    pub unmoved : IsTakenNext (contents old.engine).current frame → HasRoomOnceFreed old.heap old.ended.items (contents old.engine) frame
+  -- The standby held the frame already. It is acknowledged again, and nothing changed.
+  pub record AcknowledgesAgain (frame : Frame) (old : Standby E K D) (result : Result Ack Refusal) (new : Standby E K D) : Type 0 where
+    pub held : IsHeld (contents old.engine).current frame
+    pub answer : result ≡ Ok (record { epoch = (contents old.engine).current.epoch; position = (contents old.engine).current.position })
+    pub same : new ≡ old
+
+  -- The frame came next, and is taken whole: it is durable, and acknowledged. Nothing is left of what had ended before it.
+  pub record TakesWhole (frame : Frame) (old : Standby E K D) (result : Result Ack Refusal) (new : Standby E K D) : Type 0 where
+    pub due : IsDue (contents old.engine).current frame
+    pub answer : result ≡ Ok (record { epoch = frame.epoch; position = frame.after })
+    pub taken : HasTaken frame (contents old.engine) (contents new.engine) (table old.keyspace) (table new.keyspace)
+    pub gone : AreGone frame.after (contents old.engine).versions (contents new.engine).versions
+    pub stands : Stands new
+    pub failures : (device new.engine).failures ≡ (device old.engine).failures
+    pub lawful : AreLawful (contents old.engine) → AreLawful (contents new.engine)
+    -- at any moment of the call, and where there is room with nothing moved, once what had ended is freed
+    pub moments : LeavesOnly (device old.engine) (device new.engine) (IsBeforeOrWhole frame (contents old.engine) (table old.keyspace))
+    pub unmoved : HasRoomOnceFreed old.heap old.ended.items (contents old.engine) frame
         → LeavesOnly (device old.engine) (device new.engine) (IsUnmovedOrWhole frame old.ended.items (contents old.engine) (table old.keyspace))
-    pub causes : IsTakenNext (contents old.engine).current frame
-        → IfErr result (λ refusal. (refusal ≡ Full) ⊎ (refusal ≡ Memory) ⊎ (refusal ≡ Fault) ⊎ (refusal ≡ Exhausted))
-    pub exhausts : IsTakenNext (contents old.engine).current frame → WouldExhaust (contents old.engine).current frame → result ≡ Err Exhausted
-    -- Each refusal has its cause, and all but a failed fence change nothing, or keep the map: what had ended is freed, gaps are cleared, versions moved.
-    pub full : IsErrOf result Full → ¬ HasRoomFor new.heap frame.changes.items × (new.ended.items ≡ [])
-        × NoGapIsLeft (contents new.engine).current new.heap frame
-    pub exhausted : IsErrOf result Exhausted → WouldExhaust (contents old.engine).current frame × (new ≡ old)
-    pub fault : IsErrOf result Fault → (is_faulted new.engine ≡ true) × ((device old.engine).failures < (device new.engine).failures)
-    pub refused : ¬ IsErrOf result Fault → OnErr result ((records (table new.keyspace) ≡ records (table old.keyspace))
-        × IsRearranged (contents old.engine) (contents new.engine))
-    -- for any frame
-    pub one_epoch : IfOk result (λ ack. (ack.epoch ≡ frame.epoch) × (ack.epoch ≡ (contents new.engine).current.epoch)
-        × (ack.position ≡ (contents new.engine).current.position))
-    pub still : ¬ IsErrOf result Fault → Follows (contents new.engine) (table new.keyspace) new.heap new.ended.items
-    pub sound : ¬ IsErrOf result Fault → (is_faulted new.engine ≡ false) × ((device new.engine).failures ≡ (device old.engine).failures)
-    pub durable : ¬ IsErrOf result Fault → IsDurable (device new.engine) (contents new.engine)
-    pub lawful : AreLawful (contents old.engine) → ¬ IsErrOf result Fault → AreLawful (contents new.engine)
-    pub stays : OnErr result (EndsAs frame (contents old.engine) (table old.keyspace) (contents new.engine))
-    pub own_epoch : frame.epoch ≡ (contents old.engine).current.epoch → (contents new.engine).current.epoch ≡ (contents old.engine).current.epoch
-    -- at any moment of the call
-    pub moments : IsTakenNext (contents old.engine).current frame
-        → LeavesOnly (device old.engine) (device new.engine) (IsBeforeOrWhole frame (contents old.engine) (table old.keyspace))
-    -- at any moment of a call that refuses the frame
-    pub rests : IsTakenNext (contents old.engine).current frame → ¬ IsErrOf result Fault
-        → OnErr result (LeavesOnly (device old.engine) (device new.engine) (HoldsRearranged (contents old.engine)))
+
+  -- The frame cannot be taken, and nothing changed.
+  pub record RefusesAtOnce (frame : Frame) (old : Standby E K D) (refusal : Refusal) (new : Standby E K D) : Type 0 where
+    pub cause : CannotTake (contents old.engine).current frame refusal
+    pub same : new ≡ old
+
+  -- There is no room for the frame: there was none with nothing moved, and now that all is freed and no gap is left its puts find no place in the heap.
+  pub record IsFull (frame : Frame) (old new : Standby E K D) : Type 0 where
+    pub none_at_once : ¬ HasRoomOnceFreed old.heap old.ended.items (contents old.engine) frame
+    pub freed : new.ended.items ≡ []
+    pub gaps : NoGapIsLeft (contents new.engine).current new.heap frame
+    pub room : ¬ HasRoomFor new.heap frame.changes.items
+
+  -- There was no room or no memory for the frame that came next. The same map stands, perhaps rearranged, and the standby may take frames.
+  pub record LeavesOut (frame : Frame) (old : Standby E K D) (refusal : Refusal) (new : Standby E K D) : Type 0 where
+    pub due : IsDue (contents old.engine).current frame
+    pub cause : ((refusal ≡ Full) × IsFull frame old new) ⊎ (refusal ≡ Memory)
+    pub map : records (table new.keyspace) ≡ records (table old.keyspace)
+    pub rearranged : IsRearranged (contents old.engine) (contents new.engine)
+    pub stands : Stands new
+    pub failures : (device new.engine).failures ≡ (device old.engine).failures
+    -- at any moment of the call there is nothing of the frame; and nothing moves where it has room with nothing moved
+    pub moments : LeavesOnly (device old.engine) (device new.engine) (HoldsRearranged (contents old.engine))
+    pub unmoved : HasRoomOnceFreed old.heap old.ended.items (contents old.engine) frame
+        → LeavesOnly (device old.engine) (device new.engine) (KeepsWithoutSome old.ended.items (contents old.engine))
+
+  -- A fence failed while the frame was taken. The engine holds the map from before or the whole frame, and the image has to be opened again.
+  pub record BreaksOff (frame : Frame) (old : Standby E K D) (refusal : Refusal) (new : Standby E K D) : Type 0 where
+    pub due : IsDue (contents old.engine).current frame
+    pub cause : refusal ≡ Fault
+    pub faulted : is_faulted new.engine ≡ true
+    pub failures : (device old.engine).failures < (device new.engine).failures
+    pub ends : EndsAs frame (contents old.engine) (table old.keyspace) (contents new.engine)
+    -- at any moment of the call, and where there is room with nothing moved, once what had ended is freed
+    pub moments : LeavesOnly (device old.engine) (device new.engine) (IsBeforeOrWhole frame (contents old.engine) (table old.keyspace))
+    pub unmoved : HasRoomOnceFreed old.heap old.ended.items (contents old.engine) frame
+        → LeavesOnly (device old.engine) (device new.engine) (IsUnmovedOrWhole frame old.ended.items (contents old.engine) (table old.keyspace))
+
+  -- The frame is refused, and so the standby is then.
+  pub record Refuses (frame : Frame) (old : Standby E K D) (result : Result Ack Refusal) (new : Standby E K D) : Type 0 where
+    pub refusal : Refusal
+    pub answer : result ≡ Err refusal
+    pub state : RefusesAtOnce frame old refusal new ⊎ LeavesOut frame old refusal new ⊎ BreaksOff frame old refusal new
+
+  -- A frame is acknowledged again, taken whole or refused.
+  abbrev pub TakesFrame : Frame → Standby E K D → Result Ack Refusal → Standby E K D → Type 0
+  TakesFrame frame old result new = AcknowledgesAgain frame old result new ⊎ TakesWhole frame old result new ⊎ Refuses frame old result new
 
   -- Room was made for a frame: the same map stands, and the counters still allow the frame to be committed.
   pub record Rearranges {X : Type 0} (frame : Frame) (old : Standby E K D) (result : Result X Refusal) (new : Standby E K D) : Type 0 where

@@ -1,6 +1,7 @@
 //! The standby: whole frames move its image, and what it acknowledges is durable.
 #![tactic(auto)]
 
+mod beside;
 mod idle;
 mod moving;
 mod opening;

@@ -10,10 +10,11 @@ use crate::room::is_near_limit;
 use crate::standby::Standby;
 use extent_heap::ExtentHeap;
 use frames::Frame;
+use heap_layout::lines_for;
 use kv_types::{EntryNo, Extent, RecordId, Refusal};
 use model::{Part, PlacedChange, Put};
 use mv_keyspace::Keyspace;
-use placing::{empty_part, lines_for};
+use placing::empty_part;
 use std::alloc::{AllocError, Global};
 use wbl_engine::Durable;
 

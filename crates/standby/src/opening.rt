@@ -9,7 +9,7 @@ ghost use Rattle.placing.specs.Read.{AreOf};
 ghost use Rattle.wbl_engine.specs.Contents.{IsDurable};
 ghost use Rattle.wbl_engine.specs.Reopening.{RefusesReopening};
 ghost use Rattle.standby.specs.Following.{Follows};
-ghost use Rattle.standby.specs.Restarting.{IsReopened};
+ghost use Rattle.wbl_engine.specs.Restarting.{IsReopened};
 
 use crate::standby::Standby;
 use kv_types::Refusal;

@@ -9,11 +9,11 @@ ghost use Rattle.standby.specs.Taking.{Rearranges};
 
 use crate::standby::Standby;
 use frames::Frame;
+use heap_layout::lines_for;
 use kv_types::{Change, Extent, Refusal};
 use model::LAYOUT;
 use mv_keyspace::{Keyspace, Row};
 use packing::{Move, make_window, push_down, slide_down};
-use placing::lines_for;
 use std::alloc::{AllocError, Global};
 use wbl_engine::Durable;
 

@@ -10,7 +10,7 @@ ghost use Rattle.wbl_engine.specs.Contents.{IsDurable};
 ghost use Rattle.wbl_engine.specs.Lawful.{IsUndamaged};
 ghost use Rattle.wbl_engine.specs.Reopening.{RefusesReopening, StaysReadable};
 ghost use Rattle.standby.specs.Following.{Follows};
-ghost use Rattle.standby.specs.Restarting.{IsReopened};
+ghost use Rattle.wbl_engine.specs.Restarting.{IsReopened};
 
 use crate::opening::read_back;
 use crate::standby::Standby;

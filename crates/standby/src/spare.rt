@@ -20,7 +20,7 @@ use wbl_engine::Durable;
 pub const SPARE_LINES: u64 = (2 * MAX_KEY_BYTES + MAX_VALUE_BYTES) as u64 / LINE_BYTES;
 
 /// The first line of the spare place of an image of `lines` lines.
-fn spare_line(lines: u64) -> u64
+pub(crate) fn spare_line(lines: u64) -> u64
     ensures { result ≡ spare_line lines }
 {
     lines.saturating_sub(SPARE_LINES)
@@ -63,7 +63,7 @@ impl<E: Durable, K: Keyspace> Standby<E, K> {
     }
 
     /// Whether the lines from `end` on, which are the spare place, are free.
-    fn has_spare(&self, end: u64) -> bool
+    pub(crate) fn has_spare(&self, end: u64) -> bool
         requires { end ≡ spare_line (E.contents self.now.engine).lines }
         ensures { IsTrue result ↔ IsSpareFree (E.contents self.now.engine).lines self.now.heap }
     {

@@ -1,6 +1,7 @@
 //! The standby.
 ghost use Rattle.std.specs.Prelude.{◌≡◌, ◌↔◌, IfErr, IsErrOf};
 ghost use Rattle.kv_types.specs.declared.refusal.Refusal.TheVariants.{Fault};
+ghost use Rattle.wbl_engine.specs.Contents.{IsDurable};
 ghost use Rattle.standby.specs.Taking.{Stands, TakesFrame};
 
 use extent_heap::ExtentHeap;
@@ -48,11 +49,12 @@ impl<E: Durable, K: Keyspace> Standby<E, K> {
         self.engine.record().epoch
     }
 
-    /// The acknowledgement of the current position.
+    /// The acknowledgement of the current position. The engine's record has to be durable, as it is of a standby that `Stands`.
     pub fn ack(&self) -> Ack
+        requires { IsDurable (E.device self.now.engine) (E.contents self.now.engine) }
         ensures { result ≡ record { epoch = (E.contents self.now.engine).current.epoch; position = (E.contents self.now.engine).current.position } }
     {
-        Ack::of_record(self.engine.record())
+        Ack::of_engine(&self.engine)
     }
 
     /// Takes a frame, and frees what it ended: `take_frame` and then, where that moved the standby, `free_ended`. Where there is no memory to free what

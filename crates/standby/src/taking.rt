@@ -7,7 +7,7 @@ ghost use Rattle.wbl_engine.specs.Contents.{IsDurable, Same};
 ghost use Rattle.wbl_engine.specs.Freeing.{KeepsWithoutSome, after_free};
 ghost use Rattle.wbl_engine.specs.Lawful.{AreLawful};
 ghost use Rattle.standby.specs.Following.{Follows, TakesEpoch, IsNext, IsTakenNext, HasFreed, HasTaken, AreGone, WouldExhaust, IsUnmovedOrWhole};
-ghost use Rattle.standby.specs.Taking.{Stands, TakesFrame};
+ghost use Rattle.standby.specs.Taking.{IsDue, Stands, TakesFrame};
 
 use crate::part::make_part;
 use crate::standby::Standby;
@@ -22,8 +22,8 @@ use wbl_engine::Durable;
 impl<E: Durable, K: Keyspace> Standby<E, K> {
     /// Takes a frame of its epoch, or, at position 0, of a higher one. One of its epoch that ends at its position or below it is acknowledged again. One
     /// that begins at its position moves the standby by all the frame's changes under one record, which bears the frame's epoch, and is acknowledged:
-    /// it is durable then. What the frame ended is listed and not freed: `free_ended` does that, and so does the next call that takes a frame, which
-    /// first frees all that is listed. A frame that is refused is gone, and has to be sent again.
+    /// it is durable then. What the frame ended is listed and not freed: `free_ended` does that, and so does the next call that takes a frame: by the
+    /// fences of its commit where the frame has room beside it, and else before it makes room. A frame that is refused is gone, and has to be sent again.
     ///
     /// It can be called on a standby that was opened or restarted, and again after each of its calls that did not answer `Fault`. After `Fault` it can
     /// be called once the standby was restarted.
@@ -51,6 +51,22 @@ impl<E: Durable, K: Keyspace> Standby<E, K> {
         if would_exhaust(self.engine.record(), &frame) {
             return Err(Refusal::Exhausted);
         }
+        if self.has_room_beside(alloc, &frame)? {
+            return self.take_beside(alloc, frame);
+        }
+        self.take_alone(alloc, frame)
+    }
+
+    /// Takes a frame that is due: frees what has ended, makes room where there is none, and makes the frame's changes.
+    ///
+    /// # Errors
+    ///
+    /// `Full`, `Memory` and `Fault`, as at `take_frame`.
+    fn take_alone(&mut self, alloc: Global, frame: Frame) -> Result<Ack, Refusal>
+        requires stands { Stands E.device E.contents E.is_faulted K.table self.old }
+        requires due { IsDue (E.contents self.old.engine).current frame }
+        ensures { TakesFrame E.device E.contents E.is_faulted K.table frame self.old result self.new }
+    {
         self.free_ended(alloc)?;
         self.make_room(alloc, &frame)?;
         self.commit_frame(alloc, frame)?;

@@ -1,6 +1,6 @@
 -- What a primary tells a standby that is behind the position at which it was opened (this project's profile): of all that changed since the standby's
 -- position, what is left of it there. It is made of the versions of the image, those that have ended too.
-use Rattle.std.specs.Prelude.{◌≡◌, ◌⊎◌, ℕ, ◌+◌, ◌^◌, ◌≤◌, Bool, true, not, ◌==◌, nat_lt, if◌then◌else◌, List, [], ◌∷◌, ◌++◌, map, filter, length, Contains, ◌↔◌, Some, None}
+use Rattle.std.specs.Prelude.{◌≡◌, ◌⊎◌, ℕ, ◌+◌, ◌^◌, ◌≤◌, true, not, ◌==◌, nat_lt, if◌then◌else◌, List, [], ◌∷◌, ◌++◌, map, filter, length, Contains, ◌↔◌, Some, None}
 use Rattle.std.specs.List.{flat_map}
 use Rattle.std.specs.List.Sorted.{IsStrictlySortedBy}
 use Rattle.kv_types.specs.declared.place.EntryNo.{EntryNo}
@@ -73,6 +73,10 @@ pub record IsDelta (epoch : ℕ) (opening : Opening) (from : ℕ) (frame : Frame
   pub before : frame.before ≡ from
   pub after : frame.after ≡ opening.position
   pub changes : frame.changes.items ≡ delta_changes opening from
+
+-- From each position at which the versions recall the keyspace, the delta leads to this one.
+abbrev pub LeadsTo : Contents → Opening → Keyspace → Type 0
+LeadsTo contents opening t = (from : ℕ) (s : Keyspace) → IsKeyspace s → Recalls contents.versions (λ i. Unit {0}) from s → play_all s (delta_changes opening from) ≡ t
 
 -- ---- what is promised of it
 

@@ -1,2 +1,4 @@
 pub mod Stream
+pub mod Sent
 pub mod Delta
+pub mod Outgoing

@@ -5,7 +5,9 @@ mod frame_of;
 mod laws;
 mod link;
 mod opening;
+mod outgoing;
 
 pub use laws::{deltas_lead_on, ended_are_read};
-pub use link::{Link, counts};
-pub use opening::{Opening, delta, records_ended};
+pub use link::judge;
+pub use opening::{Opening, records_ended};
+pub use outgoing::Outgoing;

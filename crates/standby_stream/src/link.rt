@@ -1,9 +1,10 @@
 //! The link: which frame is sent next, and which are kept.
-ghost use Rattle.std.specs.Prelude.{◌≡◌, ◌+◌, ◌<◌, ◌≤◌, true, false, length, slice_get, Option, Some, None, Ok, Err, IfOk, IfErr, IfSome};
+ghost use Rattle.std.specs.Prelude.{◌≡◌, ◌⊎◌, ◌↔◌, ◌+◌, ◌<◌, ◌≤◌, true, false, length, slice_get, Option, Some, None, Ok, Err, IfOk, IfErr, IfSome, OnOk};
 ghost use Rattle.kv_types.specs.declared.refusal.Refusal.TheVariants.{StandbyAhead, WrongEpoch};
 ghost use Rattle.std.specs.VecDeque.{deque_capacity};
 ghost use Rattle.model.specs.declared.group.Group.{Group};
 ghost use Rattle.pipes.specs.declared.limits.TheConstants.{KEPT_GROUPS};
+ghost use Rattle.standby_stream.specs.Sent.{MaySend};
 ghost use Rattle.standby_stream.specs.Stream.{TakesNext, IsFull, IsDue, Adds, Frames, new_stream, above, acknowledged, counts};
 
 use crate::frame_of::frame_of;
@@ -17,7 +18,7 @@ use std::marker::Model;
 
 /// Sends each committed group as a frame, in order, and keeps the frame until it is acknowledged. A clause sees a `Stream`.
 #[derive(Drop)]
-pub struct Link {
+pub(crate) struct Link {
     epoch: u64,
     /// Frames that are not acknowledged, oldest first.
     kept: VecDeque<Frame>,
@@ -56,7 +57,7 @@ impl Link {
     /// # Errors
     ///
     /// `AllocError` alone, where the room for its frames was refused.
-    pub fn new(alloc: Global, epoch: u64) -> Result<Link, AllocError>
+    pub(crate) fn new(alloc: Global, epoch: u64) -> Result<Link, AllocError>
         ensures { IfOk result (λ link. link ≡ new_stream epoch) }
     {
         Ok(Link {
@@ -70,7 +71,7 @@ impl Link {
     }
 
     /// The link opens anew: this delta, if the standby is due one, and after it all kept frames are to be sent, the oldest first.
-    pub fn reopen(&mut self, delta: Option<Frame>)
+    pub(crate) fn reopen(&mut self, delta: Option<Frame>)
         ensures { self.new ≡ record self.old { next = 0; delta = delta } }
     {
         self.next = 0;
@@ -78,7 +79,7 @@ impl Link {
     }
 
     /// The delta, if one is to be sent. It comes before what `next_frame` gives, and is given once each time that the link opens.
-    pub fn take_delta(&mut self) -> Option<Frame>
+    pub(crate) fn take_delta(&mut self) -> Option<Frame>
         ensures given { result ≡ (self.old).delta }
         ensures left { self.new ≡ record self.old { delta = None } }
     {
@@ -86,7 +87,7 @@ impl Link {
     }
 
     /// The epoch of its frames.
-    pub fn epoch(&self) -> u64
+    pub(crate) fn epoch(&self) -> u64
         ensures { result ≡ (self.now).epoch }
     {
         self.epoch
@@ -98,7 +99,7 @@ impl Link {
     /// # Errors
     ///
     /// `Memory` alone, where room for the changes of the next group was refused. The group stays with the link, and its frame comes next.
-    pub fn next_frame<I: Inlet<Item = Group>>(
+    pub(crate) fn next_frame<I: Inlet<Item = Group>>(
         &mut self,
         alloc: Global,
         groups: &mut I,
@@ -108,6 +109,7 @@ impl Link {
         ensures full { IsFull self.old → (result ≡ Ok None) × (self.new ≡ self.old) × (groups.new ≡ groups.old) }
         ensures next { IsDue self.old
             → IfOk result (λ given. (found : Option Group) × TakesNext I.take_gives (self.old).pending groups.old found groups.new × Frames self.old found given self.new) }
+        ensures sends { IfOk result (λ given. MaySend self.old given self.new) }
         ensures kept { IfOk result (λ given. IfSome given (λ index. index < length (self.new).kept)) }
         ensures refused { IfErr result (λ refusal. (refusal ≡ Refusal.Memory) × IsDue self.old
             × ((group : Group) × TakesNext I.take_gives (self.old).pending groups.old (Some group) groups.new × (self.new ≡ record self.old { pending = Some group }))) }
@@ -121,36 +123,16 @@ impl Link {
     }
 
     /// A kept frame, by its index. An acknowledgement gives the frames other indices.
-    pub fn frame(&self, index: usize) -> &Frame
+    pub(crate) fn frame(&self, index: usize) -> &Frame
         requires { index < length (self.now).kept }
         ensures { slice_get (self.now).kept index ≡ Some result.now }
     {
         &self.kept[index]
     }
 
-    /// Takes an acknowledgement, on a node whose own position is `own`: what the link keeps up to there goes, as at `reach`.
-    ///
-    /// # Errors
-    ///
-    /// `WrongEpoch` for one that does not count as of this epoch, `StandbyAhead` for one above the node's own position. The link is as it was.
-    pub fn on_ack(&mut self, ack: Ack, own: u64) -> Result<(), Refusal>
-        ensures stale { counts (self.old).epoch ack ≡ false → (result ≡ Err WrongEpoch) × (self.new ≡ self.old) }
-        ensures ahead { counts (self.old).epoch ack ≡ true → own < ack.position → (result ≡ Err StandbyAhead) × (self.new ≡ self.old) }
-        ensures counted { counts (self.old).epoch ack ≡ true → ack.position ≤ own → (result ≡ Ok tt) × (self.new ≡ acknowledged ack.position self.old) }
-    {
-        if !counts(self.epoch, ack) {
-            return Err(Refusal::WrongEpoch);
-        }
-        if ack.position() > own {
-            return Err(Refusal::StandbyAhead);
-        }
-        self.reach(ack.position());
-        Ok(())
-    }
-
     /// The standby has acknowledged up to this position, and whoever calls has seen to it that this is no higher than the node's own: the oldest kept
     /// frames go, as far as they end there or below it.
-    pub fn reach(&mut self, position: u64)
+    pub(crate) fn reach(&mut self, position: u64)
         ensures { self.new ≡ acknowledged position self.old }
     {
         let dropped = drop_known(&mut self.kept, position);
@@ -159,7 +141,7 @@ impl Link {
     }
 
     /// The highest position that was acknowledged, 0 before the first.
-    pub fn known(&self) -> u64
+    pub(crate) fn known(&self) -> u64
         ensures { result ≡ (self.now).known }
     {
         self.known
@@ -193,10 +175,31 @@ impl Link {
 
 /// Whether a primary of this epoch counts an acknowledgement as its own: one of its epoch, or of a lower one at position 0, where nothing was
 /// acknowledged yet.
-pub fn counts(epoch: u64, ack: Ack) -> bool
+fn counts(epoch: u64, ack: Ack) -> bool
     ensures { result ≡ counts epoch ack }
 {
     ack.epoch() == epoch || (ack.position() == 0 && ack.epoch() < epoch)
+}
+
+/// Whether a primary of this epoch takes an acknowledgement, where its own position is `own`.
+///
+/// # Errors
+///
+/// `WrongEpoch` for one that does not count as of this epoch, `StandbyAhead` for one above the own position.
+pub fn judge(epoch: u64, ack: Ack, own: u64) -> Result<(), Refusal>
+    ensures wrong { counts epoch ack ≡ false ↔ (result ≡ Err WrongEpoch) }
+    ensures ahead { counts epoch ack ≡ true → own < ack.position → result ≡ Err StandbyAhead }
+    ensures counted { counts epoch ack ≡ true → ack.position ≤ own → result ≡ Ok tt }
+    ensures taken { OnOk result ((counts epoch ack ≡ true) × (ack.position ≤ own)) }
+    ensures causes { IfErr result (λ refusal. (refusal ≡ WrongEpoch) ⊎ (refusal ≡ StandbyAhead)) }
+{
+    if !counts(epoch, ack) {
+        return Err(Refusal::WrongEpoch);
+    }
+    if ack.position() > own {
+        return Err(Refusal::StandbyAhead);
+    }
+    Ok(())
 }
 
 /// Takes the next group, unless there is one that was taken before.

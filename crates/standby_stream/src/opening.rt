@@ -66,7 +66,7 @@ impl Opening {
     }
 
     /// Forgets the records, once no standby can be behind the position.
-    pub fn forget(&mut self, alloc: Global)
+    pub(crate) fn forget(&mut self, alloc: Global)
         ensures position { self.new.position ≡ self.old.position }
         ensures gone { self.new.gone.items ≡ [] }
         ensures rows { self.new.rows.items ≡ [] }
@@ -138,7 +138,12 @@ fn is_missing<K: Keyspace>(keyspace: &K, id: &RecordId) -> bool
 /// # Errors
 ///
 /// `StandbyAhead` where `from` is not below the position at which the primary was opened, or else `Memory` where a growth was refused.
-pub fn delta(alloc: Global, epoch: u64, opening: &Opening, from: u64) -> Result<Frame, Refusal>
+pub(crate) fn delta(
+    alloc: Global,
+    epoch: u64,
+    opening: &Opening,
+    from: u64,
+) -> Result<Frame, Refusal>
     ensures ok { IfOk result (λ frame. IsDelta epoch opening.now from frame) }
     ensures ahead { opening.now.position ≤ from → result ≡ Err Refusal.StandbyAhead }
     ensures refused { from < opening.now.position → IfErr result (λ refusal. refusal ≡ Refusal.Memory) }

@@ -16,4 +16,4 @@ mod writing;
 pub use decoder::Decoder;
 pub use laws::{frames_are_read, in_any_pieces, one_spelling, written_is_read};
 pub use message::{GroupHead, MAX_BODY_BYTES, Message};
-pub use writing::{ACK_BYTES, GROUP_HEAD_BYTES, write_ack, write_frame, write_group};
+pub use writing::{ACK_BYTES, GROUP_HEAD_BYTES, write_ack, write_group};

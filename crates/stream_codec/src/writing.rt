@@ -3,10 +3,9 @@ ghost use Rattle.std.specs.Prelude.{◌≡◌, ◌+◌, ◌^◌, ◌<◌, ◌≤
 ghost use Rattle.std.specs.List.{flat_map, AllByRecursion};
 ghost use Rattle.std.specs.Option.{SomeIff};
 ghost use Rattle.kv_types.specs.Change.{short_bytes, long_bytes, change_text, changes_text, changes_size};
-ghost use Rattle.stream_codec.specs.Message.{IsChange, IsWithinLimits, long, sent_of, sent_of_frame, sent_of_ack, sent_text};
+ghost use Rattle.stream_codec.specs.Message.{IsChange, IsWithinLimits, long, sent_of_frame, sent_of_ack, sent_text};
 ghost use Rattle.stream_codec.specs.Puts.{Puts};
 
-use crate::message::Message;
 use bytes::BufMut;
 use frames::{Ack, Frame};
 use kv_types::{Change, Key, MAX_KEY_BYTES, MAX_VALUE_BYTES, RecordId, Value};
@@ -18,22 +17,8 @@ pub const GROUP_HEAD_BYTES: usize = 1 + 8 + 8 + 8 + 8;
 /// How many bytes the frame of an acknowledgement has: the kind, the epoch and the position.
 pub const ACK_BYTES: usize = 1 + 8 + 8;
 
-/// Appends the bytes of a frame to `out`. It fails only if `out` had no room for them and could not make it, and then nothing is written. Keys, fields
-/// and values hold their limits, so each change that is written is within them.
-pub fn write_frame<W: BufMut>(message: &Message, out: &mut W) -> Result<(), AllocError>
-    ensures ok { OnOk result (W.written out.new ≡ W.written out.old ++ sent_text (sent_of message.now)) }
-    ensures err { OnErr result (W.written out.new ≡ W.written out.old) }
-    ensures succeeds { let text = sent_text (sent_of message.now) in length text < 2 ^ 64 → length text ≤ W.spare out.old → IsOk result }
-    ensures spare { OnOk result (W.spare out.old ≤ W.spare out.new + length (sent_text (sent_of message.now))) }
-    ensures within { OnOk result (IsWithinLimits (sent_of message.now)) }
-{
-    match message {
-        Message::Group(frame) => write_group(frame, out),
-        Message::Ack(ack) => write_ack(*ack, out),
-    }
-}
-
-/// Appends the bytes of a group's frame to `out`, as `write_frame` does.
+/// Appends the bytes of a group's frame to `out`. It fails only if `out` had no room for them and could not make it, and then nothing is written. Keys,
+/// fields and values hold their limits, so each change that is written is within them.
 pub fn write_group<W: BufMut>(frame: &Frame, out: &mut W) -> Result<(), AllocError>
     ensures ok { OnOk result (W.written out.new ≡ W.written out.old ++ sent_text (sent_of_frame frame.now)) }
     ensures err { OnErr result (W.written out.new ≡ W.written out.old) }
@@ -46,7 +31,7 @@ pub fn write_group<W: BufMut>(frame: &Frame, out: &mut W) -> Result<(), AllocErr
     put_group(frame, out)
 }
 
-/// Appends the bytes of an acknowledgement's frame to `out`, as `write_frame` does.
+/// Appends the bytes of an acknowledgement's frame to `out`, and fails as `write_group` does.
 pub fn write_ack<W: BufMut>(ack: Ack, out: &mut W) -> Result<(), AllocError>
     ensures ok { OnOk result (W.written out.new ≡ W.written out.old ++ sent_text (sent_of_ack ack)) }
     ensures err { OnErr result (W.written out.new ≡ W.written out.old) }

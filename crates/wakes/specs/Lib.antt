@@ -1,2 +1,3 @@
 pub mod Thread
 pub mod Waiting
+pub mod Place

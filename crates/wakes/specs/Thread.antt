@@ -1,4 +1,4 @@
--- What a contract sees of a bell and of the end at which a thread sleeps: whose they are.
+-- What a contract sees of a waker, and of where a thread sleeps: whose they are.
 use Rattle.atomic_table.specs.Seated.{TableId}
 
 -- Each thread that sleeps has a word of its own, where it is woken. That word stands for the thread.

@@ -2,7 +2,7 @@
 use Rattle.std.specs.Prelude.{◌≡◌, ℕ, ◌<◌, Bool, true, nat_le, List, [], ◌∷◌, ◌++◌, if◌then◌else◌}
 use mathlib.Core.List.{IsPrefix}
 use Rattle.rtrb.specs.Ring.{sent, received, known_items, IsPair}
-use Rattle.wakes.specs.Thread.{Thread}
+use Rattle.wakes.specs.Place.{Place}
 use Rattle.wakes.specs.declared.due.Due.{Due}
 use Rattle.wakes.specs.declared.due.DueIn.{DueIn}
 use Rattle.wakes.specs.declared.due.DueOut.{DueOut}
@@ -34,7 +34,7 @@ not_due_first known [] = []
 not_due_first known (due ∷ others) = if nat_le due.position known then not_due_first known others else due ∷ others
 
 -- the writer waits for this position, which is not known to be reached, and stands last; or nothing changed
-abbrev pub MayWait : DueIn → ℕ → ℕ → Thread → DueIn → Type 0
+abbrev pub MayWait : DueIn → ℕ → ℕ → Place → DueIn → Type 0
 MayWait before position known writer after =
     (waits : Bool) × (waits ≡ true → known < position)
     × (put_at after ≡ put_at before ++ (if waits then record { position = position; writer = writer } ∷ [] else []))

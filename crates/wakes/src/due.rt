@@ -4,7 +4,7 @@ ghost use Rattle.rtrb.specs.Ring.{known_free};
 ghost use Rattle.wakes.specs.Waiting.{AreEndsOfOne, MayWait, WakesDue, put_at, woken_at, found_at, due_first, not_due_first};
 ghost use Rattle.wakes.specs.declared.due.TheConstants.{DUE_ITEMS};
 
-use crate::bells::Bell;
+use crate::seat_waker::SeatWaker;
 use rtrb::{Consumer, Producer, RingBuffer};
 use std::alloc::{AllocError, Global};
 
@@ -16,8 +16,8 @@ pub const DUE_ITEMS: usize = 65_536;
 pub struct Due {
     /// The position of the last call to which it has a reply.
     pub position: u64,
-    /// The bell of the writer's thread.
-    pub writer: Bell,
+    /// Calls the writer's driver to it.
+    pub writer: SeatWaker,
 }
 
 /// The end at which the thread that serves says which writers wait. A clause sees all that it ever put here (`put_at`).
@@ -49,24 +49,24 @@ pub fn due_list(alloc: Global) -> Result<(DueIn, DueOut), AllocError>
 
 impl DueIn {
     /// Has the writer woken once both marks are at the position: now, if both are known to be at `known` and that is far enough, and otherwise
-    /// by the other end. If there is no room for it, or memory for another bell is refused, the writer is woken now too, and finds that it is
+    /// by the other end. If there is no room for it, or memory for another waker is refused, the writer is woken now too, and finds that it is
     /// early.
     ///
     /// The marks can rise after `known` was read and before the writer stands in the list, where the other end then does not see it in time. So
-    /// the caller reads the marks once more afterwards, and rings the writer's bell itself if they are far enough.
-    pub fn wake_at(&mut self, position: u64, known: u64, writer: &Bell)
+    /// the caller reads the marks once more afterwards, and wakes the writer itself if they are far enough.
+    pub fn wake_at(&mut self, position: u64, known: u64, writer: &SeatWaker)
         ensures { MayWait self.old position known writer.now self.new }
     {
         if position <= known || !self.put(position, writer) {
-            writer.ring();
+            writer.wake();
         }
     }
 
     // Puts a writer last. The answer is whether it could.
-    fn put(&mut self, position: u64, bell: &Bell) -> bool
-        ensures { put_at self.new ≡ put_at self.old ++ (if result then record { position = position; writer = bell.now } ∷ [] else []) }
+    fn put(&mut self, position: u64, waker: &SeatWaker) -> bool
+        ensures { put_at self.new ≡ put_at self.old ++ (if result then record { position = position; writer = waker.now } ∷ [] else []) }
     {
-        match bell.another() {
+        match waker.another() {
             Ok(writer) => self.producer.push(Due { position, writer }).is_ok(),
             Err(_) => false,
         }
@@ -89,7 +89,7 @@ impl DueOut {
     {
         while self.is_first_due(known) {
             let due = self.consumer.pop_known();
-            due.writer.ring();
+            due.writer.wake();
         }
     }
 

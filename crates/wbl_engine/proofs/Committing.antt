@@ -104,7 +104,7 @@ module _ {r : Record} {d : State} {parts : List Part} {position epoch : ℕ} (be
             ∙ sym (and_assoc (nat_lt i (entries_of_lines d.lines)) (was == 0 || nat_lt r.cp was) (not put));
       }
 
-  fault_same : (c : State) → c.lines ≡ d.lines → AgreesOn (IsBesideRecords d.lines) (made_image r d parts) (image_of c.words)
+  pub fault_same : (c : State) → c.lines ≡ d.lines → AgreesOn (IsBesideRecords d.lines) (made_image r d parts) (image_of c.words)
       → Same (contents_of r d) (contents_of r c)
   fault_same c lines agrees =
       let over : IsStoredOver (Matters r d.lines (image_of d.words)) (image_of d.words) (group_pairs r parts) (image_of c.words) =
@@ -147,7 +147,7 @@ module _ {r : Record} {d : State} {parts : List Part} {position epoch : ℕ} (be
 module _ {r : Record} {d b : State} {parts : List Part} {position epoch : ℕ} {next : Record} (begun : IsCommitting r d parts position epoch) (is : next ≡ record_after r parts position epoch)
     (staged : Staged d b (group_pairs r parts) (parts_lines parts)) where
   -- while the record is written, each crash leaves the old contents or the new ones
-  either_keeps : (image : Image) → IsEitherRecord b r (record_after r parts position epoch) image → IsBeforeOrAfter r d parts position epoch image
+  pub either_keeps : (image : Image) → IsEitherRecord b r (record_after r parts position epoch) image → IsBeforeOrAfter r d parts position epoch image
   either_keeps image recorded =
       elim recorded.either [
         | inl old ↦

@@ -79,7 +79,7 @@ module _ (begins ends : List EntryNo) where
   erase_behind word x stored = omega (arith, (erased_where word x stored).word_is)
 
   -- and in word k of entry i
-  stamp_of : (i k x : ℕ) → k < 8 → IsStored (erase_pairs begins ends) (entry_word i k) x → (x ≡ 0) × (k < 2) × IsTrue (is_erased_at begins ends i k)
+  pub stamp_of : (i k x : ℕ) → k < 8 → IsStored (erase_pairs begins ends) (entry_word i k) x → (x ≡ 0) × (k < 2) × IsTrue (is_erased_at begins ends i k)
   stamp_of i k x below stored =
       let at = erased_where (entry_word i k) x stored in
       let same_entry : at.entry ≡ i = omega (arith, at.word_is, below, at.low) in
@@ -128,7 +128,7 @@ pub record AreGone (r : Record) (lines : ℕ) (base : Image) (begins : List Entr
   pub erased : (i : ℕ) → IsTrue (is_listed i begins) → image (entry_word i 0) ≡ 0 → gone i ≡ false → counts r (base (entry_word i 0)) ≡ false
 
 module _ {r : Record} {lines : ℕ} {base : Image} {begins ends : List EntryNo} (sound : IsSound r lines base) (erasing : IsErasing r lines base begins ends) where
-  harmless : IsHarmless r lines base (erase_pairs begins ends)
+  pub harmless : IsHarmless r lines base (erase_pairs begins ends)
   harmless =
       record {
         behind = erase_behind begins ends;

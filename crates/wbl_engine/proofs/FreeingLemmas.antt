@@ -69,7 +69,7 @@ ended_extents r d (entry ∷ entries) ended =
 
 -- ---- once they are freed
 
-listed_gone : (r : Record) (d : State) (entries : List EntryNo) (image : Image)
+pub listed_gone : (r : Record) (d : State) (entries : List EntryNo) (image : Image)
     → AgreesOn (Matters r d.lines (image_of d.words)) (written (erase_pairs entries []) (image_of d.words)) image
     → AreGone r d.lines (image_of d.words) entries (λ i. is_listed i entries) image
 listed_gone r d entries image made =

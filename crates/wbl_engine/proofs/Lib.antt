@@ -2,6 +2,7 @@ pub mod AfterStage
 pub mod ApartLemmas
 pub mod ClashLemmas
 pub mod ClearingLemmas
+pub mod CommitAndFree
 pub mod Committing
 pub mod CountLemmas
 pub mod Covering
@@ -18,6 +19,7 @@ pub mod FreeingLemmas
 pub mod GapLemmas
 pub mod GroupParts
 pub mod GroupSteps
+pub mod InsideLemmas
 pub mod LawfulLemmas
 pub mod ListedEntries
 pub mod LiveEntries
@@ -37,6 +39,7 @@ pub mod Reopened
 pub mod ReopenedContents
 pub mod ReopeningLaws
 pub mod RoomLemmas
+pub mod ShownContents
 pub mod ShownLists
 pub mod Staged
 pub mod StagingLemmas

@@ -175,7 +175,7 @@ module _ {r : Record} {d : State} {parts : List Part} {position epoch : ℕ} (be
   version_begun i within counted = versions-within r d i within ∙ cond-true (counts r (image_of d.words (entry_word i 0))) _ _ counted
 
   -- a new end does not count yet, and nothing else of a begun entry is touched
-  harmless : IsHarmless r d.lines (image_of d.words) (group_pairs r parts)
+  pub harmless : IsHarmless r d.lines (image_of d.words) (group_pairs r parts)
   harmless =
       record {
         behind = group_behind;

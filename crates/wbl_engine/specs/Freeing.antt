@@ -1,6 +1,6 @@
 -- What is left of contents when versions that have ended are freed, and when a gap is cleared.
 pub use Rattle.model.specs.Group.{AreEnded, after_free, extent_of, extents_of, is_listed, without}
-use Rattle.std.specs.Prelude.{◌≡◌, ℕ, ◌+◌, ◌<◌, ◌||◌, Bool, false, nat_eq, IsTrue, List, drop, map, None}
+use Rattle.std.specs.Prelude.{◌≡◌, ℕ, ◌+◌, ◌<◌, ◌⊎◌, ◌||◌, Bool, false, nat_eq, IsTrue, List, drop, map, None}
 use Rattle.std.specs.List.{IsDistinct}
 use Rattle.kv_types.specs.Keyspace.{Keyspace}
 use Rattle.kv_types.specs.declared.place.EntryNo.{EntryNo}
@@ -13,6 +13,10 @@ use Rattle.wbl_engine.specs.Contents.{Keeps}
 abbrev pub KeepsWithoutSome : List EntryNo → Contents → Image → Type 0
 KeepsWithoutSome entries contents image =
     (gone : ℕ → Bool) × ((i : ℕ) → IsTrue (gone i) → IsTrue (is_listed i entries)) × Keeps (without gone contents) image
+
+-- the image holds what is left where some of the entries are freed, or all of these contents
+abbrev pub KeepsFreedOr : List EntryNo → Contents → Contents → Image → Type 0
+KeepsFreedOr entries old new image = KeepsWithoutSome entries old image ⊎ Keeps new image
 
 -- the live versions make up the map that they made up before
 abbrev pub KeepsMap : Contents → Contents → Type 0

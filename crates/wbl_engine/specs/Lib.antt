@@ -9,4 +9,5 @@ pub mod Lawful
 pub mod Promoting
 pub mod Relocating
 pub mod Reopening
+pub mod Restarting
 pub mod Stage

@@ -7,7 +7,7 @@ ghost use Rattle.model.specs.Image.{Version, entries_of_lines};
 ghost use Rattle.model.specs.Group.{Contents, IsGroup, after_group};
 ghost use Rattle.model.specs.declared.image.TheConstants.{COUNTER_LIMIT};
 ghost use Rattle.wbl_engine.specs.Contents.{Keeps, IsDurable, Same, Exhausts};
-ghost use Rattle.wbl_engine.specs.Freeing.{AreEnded, Clears, KeepsMap, KeepsVersions, KeepsWithoutSome, after_free, cleared_contents, extents_of};
+ghost use Rattle.wbl_engine.specs.Freeing.{AreEnded, Clears, KeepsFreedOr, KeepsMap, KeepsVersions, KeepsWithoutSome, after_free, cleared_contents, extents_of};
 ghost use Rattle.wbl_engine.specs.Promoting.{ExhaustsPromotion, promoted};
 ghost use Rattle.wbl_engine.specs.Relocating.{ExhaustsRelocation, IsRelocation, KeepsKeyspace, after_relocation};
 
@@ -16,7 +16,7 @@ use crate::freeing::Freed;
 use kv_types::{EntryNo, Extent, Refusal};
 use model::{Group, Part, Record};
 use pmem::Pmem;
-use std::alloc::Global;
+use std::alloc::{AllocError, Global};
 
 /// An engine: its contents change by whole groups, and each crash leaves the contents before a call or those after it.
 pub trait Durable {
@@ -49,6 +49,32 @@ pub trait Durable {
         // whole or not at all, at any moment of the call
         ensures moments { is_faulted self.old ≡ false → LeavesOnly (device self.old) (device self.new)
             (λ image. Keeps (contents self.old) image ⊎ Keeps (after_group (contents self.old) group.now) image) };
+
+    /// Commits a group under one record as `commit` does, and frees entries whose versions had ended before it, by the commit's own fences: the begin of each
+    /// is erased with what the group stores. So the group takes no place of these versions. `Fault` if a fence failed, in this call or an earlier one;
+    /// `Exhausted` if a counter would reach 2^62, with nothing changed. It allocates no memory.
+    ///
+    /// At any moment a crash leaves the contents without some of these versions, perhaps none and perhaps all; or what the group makes of the contents
+    /// without all of them.
+    fn commit_and_free(&mut self, group: &Group, entries: &[EntryNo]) -> Result<Committed, Refusal>
+        requires ended { AreEnded (contents self.old) entries.now }
+        requires group { IsGroup (contents self.old) group.now }
+        requires freed { IsGroup (after_free entries.now (contents self.old)) group.now }
+        ensures ok { IfOk result (λ committed. committed ≡ (contents self.new).current.position) }
+        ensures moved { OnOk result (Same (after_group (after_free entries.now (contents self.old)) group.now) (contents self.new)) }
+        ensures durable { OnOk result (IsDurable (device self.new) (contents self.new)) }
+        ensures sound { OnOk result ((is_faulted self.new ≡ false) × ((device self.new).failures ≡ (device self.old).failures)) }
+        ensures causes { IfErr result (λ refusal. (refusal ≡ Refusal.Fault) ⊎ (refusal ≡ Refusal.Exhausted)) }
+        ensures fault { IsErrOf result Refusal.Fault → (is_faulted self.old ≡ true) ⊎ ((device self.old).failures < (device self.new).failures) }
+        ensures stopped { IsErrOf result Refusal.Fault → is_faulted self.new ≡ true }
+        // as loads return it
+        ensures stays { IsErrOf result Refusal.Fault → is_faulted self.old ≡ false
+            → Same (after_free entries.now (contents self.old)) (contents self.new) }
+        ensures exhausted { IsErrOf result Refusal.Exhausted → Exhausts (contents self.old) group.now × (self.new ≡ self.old) }
+        ensures exhausts { is_faulted self.old ≡ false → Exhausts (contents self.old) group.now → result ≡ Err Refusal.Exhausted }
+        ensures faulted { is_faulted self.old ≡ true → (result ≡ Err Refusal.Fault) × (self.new ≡ self.old) }
+        ensures moments { is_faulted self.old ≡ false → LeavesOnly (device self.old) (device self.new)
+            (KeepsFreedOr entries.now (contents self.old) (after_group (after_free entries.now (contents self.old)) group.now)) };
 
     /// Moves a live version to another place: commits the part under one record and one stamp, at the position that the record has. The part's one
     /// put makes the version again, with the same record, value and position, and the part names the entry that this ends. The map stays what it
@@ -143,6 +169,12 @@ pub trait Durable {
         requires within { entry.0 < entries_of_lines (contents self.now).lines }
         ensures { (version : Version) → (contents self.now).versions entry.0 ≡ Some version
             → (result.first_line ≡ version.first_line) × (result.lines ≡ version.lines) };
+
+    /// The lines that the versions in these entries take, in order. `AllocError` if an allocation was refused.
+    fn extents_of(&self, alloc: Global, entries: &[EntryNo]) -> Result<Vec<Extent>, AllocError>
+        requires sound { is_faulted self.now ≡ false }
+        requires ended { AreEnded (contents self.now) entries.now }
+        ensures { IfOk result (λ extents. extents.items ≡ extents_of (contents self.now).versions entries.now) };
 
     /// The current record.
     fn record(&self) -> &Record

@@ -4,11 +4,12 @@ ghost use Rattle.wbl_engine.specs.AtRest.{IsAtRest, at_rest_prop};
 
 use crate::clearing::{clear_oldest, has_no_gap, is_last, oldest_gap, stamped_in};
 use crate::commit::commit_group;
+use crate::commit_and_free::commit_and_erase;
 use crate::committed::Committed;
 use crate::durable::Durable;
 use crate::erasing::erase_stamps;
 use crate::format::{first_record, format_device};
-use crate::freeing::{Freed, extent_of, freed_by};
+use crate::freeing::{Freed, extent_of, freed_by, named_extents};
 use crate::promoting::{promoted_record, write_promoted};
 use crate::relocating::{commit_relocation, relocated_record};
 use crate::reopening::reopen_device;
@@ -18,7 +19,7 @@ use heap_layout::Versions;
 use kv_types::{EntryNo, Extent, Refusal};
 use model::{Group, MAX_LINES, MIN_LINES, Part, Record, Role};
 use pmem::{Crashing, Fault, Pmem};
-use std::alloc::Global;
+use std::alloc::{AllocError, Global};
 
 /// An engine over a device. It keeps the current record but no list.
 #[derive(Drop)]
@@ -168,6 +169,30 @@ impl<P: Pmem> Durable for WblEngine<P> {
         }
     }
 
+    fn commit_and_free(
+        &mut self,
+        group: &Group,
+        entries: &[EntryNo],
+    ) -> Result<Committed, Refusal> {
+        if self.faulted {
+            return Err(Refusal::Fault);
+        }
+        let Some(next) = next_record(&self.current, group) else {
+            return Err(Refusal::Exhausted);
+        };
+        let position = next.position;
+        match commit_and_erase(&mut self.device, group, entries, &self.current, &next) {
+            Ok(()) => {
+                self.current = next;
+                Ok(Committed::at(position))
+            }
+            Err(Fault) => {
+                self.faulted = true;
+                Err(Refusal::Fault)
+            }
+        }
+    }
+
     fn relocate(&mut self, part: &Part) -> Result<(), Refusal> {
         if self.faulted {
             return Err(Refusal::Fault);
@@ -234,6 +259,10 @@ impl<P: Pmem> Durable for WblEngine<P> {
 
     fn extent_of(&self, entry: EntryNo) -> Extent {
         extent_of(&self.device, entry)
+    }
+
+    fn extents_of(&self, alloc: Global, entries: &[EntryNo]) -> Result<Vec<Extent>, AllocError> {
+        named_extents(alloc, &self.device, entries)
     }
 
     fn record(&self) -> &Record {

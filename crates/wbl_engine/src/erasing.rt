@@ -30,7 +30,7 @@ pub fn erase_stamps<P: Pmem>(
 }
 
 /// Stores 0 in word `k` of these entries.
-fn store_zeros<P: Pmem>(device: &mut P, entries: &[EntryNo], k: u64)
+pub(crate) fn store_zeros<P: Pmem>(device: &mut P, entries: &[EntryNo], k: u64)
     requires word { k < 8 }
     requires within { AreWithin (P.state device.old).lines entries.now }
     ensures { Runs (P.state device.old) (P.state device.new) (stores (zero_pairs k entries.now) (P.state device.old).words) }

@@ -32,6 +32,22 @@ impl Freed {
     }
 }
 
+/// The extents that these entries name, in order. `AllocError` if an allocation was refused.
+pub(crate) fn named_extents<P: Pmem>(
+    alloc: Global,
+    device: &P,
+    entries: &[EntryNo],
+) -> Result<Vec<Extent>, AllocError>
+    requires { AreWithin (P.state device.now).lines entries.now }
+    ensures { IfOk result (λ extents. extents.items ≡ map (λ entry. extent_in (image_of (P.state device.now).words) entry.0) entries.now) }
+{
+    let mut extents = Vec::new(alloc);
+    for entry in entries {
+        extents.push(extent_of(device, *entry))?;
+    }
+    Ok(extents)
+}
+
 /// The entries that are to be freed, with the extent that each names. `AllocError` if an allocation was refused.
 pub fn freed_by<P: Pmem>(
     alloc: Global,
@@ -42,13 +58,9 @@ pub fn freed_by<P: Pmem>(
     ensures entries { IfOk result (λ freed. freed.entries.items ≡ entries.now) }
     ensures extents { IfOk result (λ freed. freed.extents.items ≡ map (λ entry. extent_in (image_of (P.state device.now).words) entry.0) entries.now) }
 {
-    let mut extents = Vec::new(alloc);
-    for entry in entries {
-        extents.push(extent_of(device, *entry))?;
-    }
     Ok(Freed {
         entries: entries.to_vec(alloc)?,
-        extents,
+        extents: named_extents(alloc, device, entries)?,
     })
 }
 

@@ -3,6 +3,7 @@
 
 mod clearing;
 mod commit;
+mod commit_and_free;
 mod committed;
 mod durable;
 mod engine;

@@ -29,7 +29,7 @@ pub fn stage_parts<P: Pmem>(device: &mut P, parts: &[Part], stamp: u64) -> Resul
 }
 
 /// Stores the puts and the ends of all parts.
-fn store_parts<P: Pmem>(device: &mut P, parts: &[Part], stamp: u64)
+pub(crate) fn store_parts<P: Pmem>(device: &mut P, parts: &[Part], stamp: u64)
     requires placed { AllByRecursion (IsPlaced (P.state device.old).lines) (puts_of_parts parts.now) }
     requires fitting { AllByRecursion HasItsLines (puts_of_parts parts.now) }
     requires ends { AreEndsWithin (P.state device.old).lines parts.now }
@@ -89,7 +89,7 @@ fn store_ends<P: Pmem>(device: &mut P, ended: &[EntryNo], stamp: u64)
 }
 
 /// Flushes all lines that `store_parts` stored to.
-fn flush_parts<P: Pmem>(device: &mut P, parts: &[Part])
+pub(crate) fn flush_parts<P: Pmem>(device: &mut P, parts: &[Part])
     requires placed { AllByRecursion (IsPlaced (P.state device.old).lines) (puts_of_parts parts.now) }
     requires ends { AreEndsWithin (P.state device.old).lines parts.now }
     ensures { Runs (P.state device.old) (P.state device.new) (flushes (parts_lines parts.now) (P.state device.old).words) }

@@ -65,7 +65,7 @@ IsFrameOf-cut epoch calls n frame span le is =
     search (rules, LiesWithin-cut calls n span le is.span_within, plays, is)
 
 IsFrameRead-cut : (epoch : ℕ) (calls : List Call) (n : ℕ) (frame : Frame) (sent : Sent) → IsFrameWithin epoch n sent → IsFrameRead epoch calls frame sent → IsFrameRead epoch (cut_at calls n) frame sent
-IsFrameRead-cut epoch calls n frame sent within is = record { epoch_is = is.epoch_is; has = IsFrameOf-cut epoch calls n frame sent.span within.span.within is.has }
+IsFrameRead-cut epoch calls n frame sent within is = record { epoch_is = is.epoch_is; has = IsFrameOf-cut epoch calls n frame sent.span (within.span is.epoch_is).within is.has }
 
 pub AreFramesRead-cut : (epoch : ℕ) (calls : List Call) (n : ℕ) (frames : List Frame) (sent : List Sent) → All (IsFrameWithin epoch n) sent → AreFramesRead epoch calls frames sent → AreFramesRead epoch (cut_at calls n) frames sent
 AreFramesRead-cut epoch calls n [] [] within are = tt

@@ -1,7 +1,7 @@
 -- The images of nodes that crashed: what a crash leaves of an engine over the list of calls, and what a reopening makes of it.
-use Rattle.std.proofs.Common.{◌≡◌, ◌⊎◌, inl, inr, ℕ, ◌+◌, ◌≤◌, Bool, false, nat_eq, List, ◌∷◌, ◌++◌, length, drop, refl, sym, ap, subst, ◌∙◌, arith, [], rules}
-use Rattle.std.proofs.lemmas.Bool.{cases_lt, cond-false, cond-true, eqb-true}
-use Rattle.std.proofs.lemmas.List.{length-append, length-drop}
+use Rattle.std.proofs.Common.{◌≡◌, ◌⊎◌, inl, inr, ℕ, ◌+◌, ◌≤◌, Bool, false, List, ◌∷◌, ◌++◌, length, refl, sym, ap, subst, ◌∙◌, arith, [], rules}
+use Rattle.std.proofs.lemmas.Bool.{cases_lt}
+use Rattle.std.proofs.lemmas.List.{length-append}
 use Rattle.kv_types.specs.declared.place.EntryNo.{EntryNo}
 use Rattle.kv_types.specs.declared.refusal.Refusal.{Refusal}
 use Rattle.kv_types.specs.declared.refusal.Refusal.TheVariants.{Exhausted, Memory}
@@ -13,7 +13,6 @@ use Rattle.pmem.proofs.Staging.{IsImage-settled}
 use Rattle.model.specs.declared.call.Call.{Call}
 use Rattle.model.specs.declared.record.Record.{Record}
 use Rattle.model.specs.declared.record.Role.{Role}
-use Rattle.model.specs.declared.record.TheConstants.{MAX_GAPS}
 use Rattle.model.specs.Call.{keyspace_after, cut_at, position_of}
 use Rattle.model.specs.Image.{Image, IsMapOf, HasRecord, Holds, entries_of_lines}
 use Rattle.model.proofs.RecordLemmas.{HasRecord-lines}
@@ -27,7 +26,6 @@ use Rattle.wbl_engine.specs.Reopening.{ExhaustsReopening, KeepsThrough, RefusesR
 use Rattle.wbl_engine.proofs.LawfulLemmas.{lawful_undamaged}
 use Rattle.wbl_engine.proofs.ReopeningLaws.{keeps_through, lawful_refusal, reopening_lawful}
 use Rattle.wbl_engine.proofs.RoomLemmas.{room_cases}
-use Rattle.machine.specs.Event.{gaps_reopened}
 use Rattle.world.specs.Committing.{AreContentsAt, EngineStands, IsDown, Moves, Opens, OpensAt, OpensAtEither}
 use Rattle.world.proofs.EngineLemmas.{AreContentsAt-grows, Opens-engine, keeps-opens}
 
@@ -119,32 +117,19 @@ down-reopened holder calls p device device' contents' counted gapped down reopen
       durable = durable;
     }
 
--- a record that is opened again has one gap more, where it has room for it
-gaps-reopened : (r : Record) → length (reopened r).gaps.items ≡ gaps_reopened (length r.gaps.items)
-gaps-reopened r =
-    let count = length r.gaps.items in
-    let one : length (reopened r).gaps.items ≡ length (with_room r).gaps.items + 1 = length-append (with_room r).gaps.items (open_gap (with_room r) ∷ []) in
-    elim (room_cases r) [
-      | inl full ↦
-          let e : count ≡ MAX_GAPS = eqb-true count MAX_GAPS full.0 in
-          let gaps : length (with_room r).gaps.items ≡ length (drop 1 r.gaps.items) = ap (λ (q : Record). length q.gaps.items) full.1 in
-          let all : length (reopened r).gaps.items ≡ MAX_GAPS = omega (arith, one, gaps, e, length-drop 1 r.gaps.items) in
-          all ∙ sym (cond-true (nat_eq count MAX_GAPS) MAX_GAPS (count + 1) full.0)
-      | inr roomy ↦
-          let gaps : length (with_room r).gaps.items ≡ count = ap (λ (q : Record). length q.gaps.items) roomy.1 in
-          let more : length (reopened r).gaps.items ≡ count + 1 = omega (arith, one, gaps) in
-          more ∙ sym (cond-false (nat_eq count MAX_GAPS) MAX_GAPS (count + 1) roomy.0)
-    ]
+-- a record that is opened again has a gap
+gaps-reopened : (r : Record) → 1 ≤ length (reopened r).gaps.items
+gaps-reopened r = omega (arith, length-append (with_room r).gaps.items (open_gap (with_room r) ∷ []))
 
 -- so has the record of an image
 pub down-gaps : (holder : Holder) (calls : List Call) (p : ℕ) (device : State) (contents' : Contents) (counted : _) (gapped : List EntryNo) (down : IsDown holder calls p device)
-    → Reopens device.lines (image_of device.words) holder.role contents' counted gapped → length contents'.current.gaps.items ≡ gaps_reopened (length down.contents.current.gaps.items)
+    → Reopens device.lines (image_of device.words) holder.role contents' counted gapped → 1 ≤ length contents'.current.gaps.items
 down-gaps holder calls p device contents' counted gapped down reopens =
     let image = image_of device.words in
     let own : Reopens down.contents.lines image holder.role contents' counted gapped =
     subst (λ n. Reopens n image holder.role contents' counted gapped) (sym down.sized) reopens in
     let through = keeps_through down.contents contents' image holder.role counted gapped down.lawful down.keeps own in
-    ap (λ (r : Record). length r.gaps.items) through.current ∙ gaps-reopened down.contents.current
+    omega (arith, ap (λ (r : Record). length r.gaps.items) through.current, gaps-reopened down.contents.current)
 
 -- its versions are those that the image had
 pub down-versions : (holder : Holder) (calls : List Call) (p : ℕ) (device : State) (contents' : Contents) (counted : _) (gapped : List EntryNo) (down : IsDown holder calls p device)

@@ -56,6 +56,11 @@ pub moves-same : (holder : Holder) (calls : List Call) (p q : ℕ) (old new : St
 moves-same holder calls p q old new same stands = subst (λ (d : State). Moves holder calls p q d new) same
     (record { leaves = none_leaves new (OpensAtEither holder calls p q) (λ image is. inr (stands image is)); failures = refl })
 
+-- nor where it stands is asked after
+pub moves-rest : (holder : Holder) (calls : List Call) (p q : ℕ) (old new : State) → new ≡ old → Opens holder calls p old → Moves holder calls p q old new
+moves-rest holder calls p q old new same stands = subst (λ (d : State). Moves holder calls p q old d) (sym same)
+    (record { leaves = none_leaves old (OpensAtEither holder calls p q) (λ image is. inl (stands image is)); failures = refl })
+
 -- ---- while the list grows
 
 pub AreContentsAt-grows : (holder : Holder) (calls more : List Call) (p : ℕ) (contents : Contents) → p ≤ position_of calls → AreContentsAt holder calls p contents → AreContentsAt holder (calls ++ more) p contents

@@ -140,9 +140,12 @@ pub pair-starts : (first second : Holder) (pair : Pair) → SessionsRefine pair.
     → first.role ≡ Role.Primary → second.role ≡ Role.Standby → first.epoch ≡ FIRST_EPOCH → second.epoch ≡ FIRST_EPOCH → pair.primary_runs ≡ true → pair.standby_runs ≡ true → NodesRefine first second pair start
 pair-starts first second pair sessions sequencer none_ended none none_aside ready mark none_told engine no_gap ahead expects link no_group remote never_opened no_frame arrivals standby first_role second_role first_epoch second_epoch serves follows =
     record {
-      sound = sound-start true;
+      sound = sound-start true false;
       lives = record {
         restarts = refl;
+        failovers = refl;
+        primary_sure = refl;
+        standby_sure = refl;
         primary = sym (ap life_if serves);
         standby = sym (ap life_if follows);
         first_role = first_role;

@@ -5,14 +5,17 @@ use Rattle.std.proofs.lemmas.List.{append-nil}
 use Rattle.model.specs.declared.call.Call.{Call}
 use Rattle.model.specs.Call.{position_of}
 use Rattle.machine.specs.declared.event.Event.{Event}
-use Rattle.machine.specs.declared.event.Event.TheVariants.{Enter, Feed, Offer, Turn, CloseGroup, Apply, AckDelivered, Hold, Read, Release, Write, Leave, Crash, Reopen}
+use Rattle.machine.specs.declared.event.Event.TheVariants.{Enter, Feed, Offer, Turn, CloseGroup, Commit, Free, ClearGap, Apply, AckDelivered, Hold, Read, Release, Write, Leave, FailFence, Crash, Reopen, Fence, Promote}
+use Rattle.machine.specs.declared.event.Cut.TheVariants as cut
 use Rattle.machine.specs.declared.event.Mark.{Mark}
 use Rattle.machine.specs.declared.event.Mark.TheVariants.{Local, Remote}
 use Rattle.machine.specs.declared.event.Node.TheVariants as node
-use Rattle.machine.specs.Event.{Acknowledgement, Connection, Inbound, Outbound, Step, World, Happens, called, changed_at, connection_of, fed_with, get_connection, having_read, having_released, held_first, left, offered_next, on_inbound, on_outbound, taken_first, told, with_call, with_inbound, with_link, with_made, with_outbound, written}
+use Rattle.machine.specs.Event.{Acknowledgement, IsSure, Remains, Connection, Inbound, Outbound, Step, World, Happens, called, changed_at, connection_of, crashed, may_happen, nodes_run, fed_with, get_connection, having_read, having_released, held_first, left, offered_next, on_inbound, on_outbound, taken_first, told, with_call, with_inbound, with_link, with_made, with_outbound, written}
 use Rattle.machine.specs.Promise.{released_in}
 use Rattle.machine.proofs.ConnectionLemmas.{get-changed_other, get-entered}
 use Rattle.machine.proofs.CrashLemmas.{get-over}
+use Rattle.machine.proofs.SoundConnection.{both}
+use Rattle.machine.proofs.SureLemmas.{between, remains, unfailed}
 use Rattle.world.specs.Step.{CallsBy, released_by}
 
 -- ---- calls
@@ -23,31 +26,43 @@ told-calls w ack = refl
 of_calls : (w then new : World) → new ≡ then → then.primary.calls ≡ w.primary.calls → new.primary.calls ≡ w.primary.calls
 of_calls w then new e same = ap (λ (x : World). x.primary.calls) e ∙ same
 
-calls-happen : (w : World) (event : Event) (new : World) → Happens w event new → CallsBy w event true new.primary.calls
-calls-happen w (Turn c) new h = (h.call, h.connection, h.first, h.reply, ap (λ (x : World). x.primary.calls) h.now)
-calls-happen w (Crash node.Primary picks) new h = ap (λ (x : World). x.primary.calls) h
-calls-happen w (Crash node.Standby picks) new h = of_calls w _ new h refl
-calls-happen w (Reopen node.Primary) new h = of_calls w _ new h.1 refl
-calls-happen w (Reopen node.Standby) new h = of_calls w _ new h refl
-calls-happen w Apply new h = of_calls w _ new h.now refl
-calls-happen w CloseGroup new h =
+calls-happen : (w : World) (event : Event) (new : World) → IsSure w → may_happen w event ≡ true → Happens w event new → CallsBy w event true new.primary.calls
+calls-happen w (Turn c) new sure may h = (h.call, h.connection, h.first, h.reply, ap (λ (x : World). x.primary.calls) h.now)
+calls-happen w (FailFence n k) new sure may h = absurd (true≢false (sym may ∙ sure.failovers))
+calls-happen w (Crash node.Primary call k picks) new sure may h =
+    ap (λ (x : World). x.primary.calls) (h.now ∙ ap (λ (r : Remains). crashed node.Primary r w) (remains w node.Primary call h.remain sure (between w node.Primary call sure may) h.one))
+calls-happen w (Crash node.Standby call k picks) new sure may h =
+    of_calls w _ new (h.now ∙ ap (λ (r : Remains). crashed node.Standby r w) (remains w node.Standby call h.remain sure (between w node.Standby call sure may) h.one)) refl
+calls-happen w (Reopen node.Primary) new sure may h = of_calls w _ new (unfailed w node.Primary cut.Reopen new sure.primary_sure h).now refl
+calls-happen w (Reopen node.Standby) new sure may h = of_calls w _ new (unfailed w node.Standby cut.Reopen new sure.standby_sure h) refl
+calls-happen w Fence new sure may h = absurd (true≢false (sym (both w.failovers _ may).0 ∙ sure.failovers))
+calls-happen w Promote new sure may h = absurd (true≢false (sym (both w.failovers _ may).0 ∙ sure.failovers))
+calls-happen w Commit new sure may h = of_calls w _ new (unfailed w node.Primary cut.Commit new sure.primary_sure h) refl
+calls-happen w Free new sure may h = of_calls w _ new (unfailed w node.Primary cut.Free new sure.primary_sure h) refl
+calls-happen w ClearGap new sure may h = of_calls w _ new (unfailed w node.Primary cut.ClearGap new sure.primary_sure h) refl
+calls-happen w Apply new sure may h = of_calls w _ new (unfailed w node.Standby cut.Apply new sure.standby_sure h).now refl
+calls-happen w CloseGroup new sure may h =
     elim h [
       | inl group ↦ of_calls w _ new group.1.now refl
       | inr list ↦ of_calls w _ new list.1 refl
     ]
-calls-happen w (AckDelivered a) new h = of_calls w _ new h (told-calls w (slice_get w.wire.acknowledgements a))
-calls-happen w event new h = of_calls w _ new h refl
+calls-happen w (AckDelivered a) new sure may h = of_calls w _ new h (told-calls w (slice_get w.wire.acknowledgements a))
+calls-happen w event new sure may h = of_calls w _ new h refl
 
 -- nothing is called where the event was not enabled
 calls-stay : (w : World) (event : Event) (calls : List Call) → calls ≡ w.primary.calls → CallsBy w event false calls
 calls-stay w (Turn c) calls same = same
-calls-stay w (Crash node.Primary picks) calls same = same
-calls-stay w (Crash node.Standby picks) calls same = same
+calls-stay w (Crash node.Primary call k picks) calls same = same
+calls-stay w (Crash node.Standby call k picks) calls same = same
 calls-stay w event calls same = same
 
-pub calls-step : (w : World) (event : Event) (did : Bool) (new : World) → Step w event did new → CallsBy w event did new.primary.calls
-calls-step w event true new step = calls-happen w event new (step.happens refl)
-calls-step w event false new step = calls-stay w event new.primary.calls (ap (λ (x : World). x.primary.calls) (step.stands refl))
+-- what was done was enabled
+may-step : (w : World) (event : Event) (new : World) → Step w event true new → may_happen w event ≡ true
+may-step w event new step = (both (nodes_run w event) (may_happen w event) (sym step.done)).1
+
+pub calls-step : (w : World) (event : Event) (did : Bool) (new : World) → IsSure w → Step w event did new → CallsBy w event did new.primary.calls
+calls-step w event true new sure step = calls-happen w event new sure (may-step w event new step) (step.happens refl)
+calls-step w event false new sure step = calls-stay w event new.primary.calls (ap (λ (x : World). x.primary.calls) (step.stands refl))
 
 -- ---- released bytes
 
@@ -105,35 +120,44 @@ none w c = refl
 told-silent : (w : World) (ack : Option Acknowledgement) → Silent w (with_link (told w.primary.epoch w.primary.committer.position ack w.primary.link) w)
 told-silent w ack c = refl
 
-released-happens : (w : World) (event : Event) (new : World) → Happens w event new → (c : ℕ) → released_in new c ≡ released_in w c ++ released_by w event true c
-released-happens w Enter new h = quiet w _ new h (get-entered (λ connection. connection.outbound.released) refl w.primary.connections)
-released-happens w (Feed d piece) new h = quiet w _ new h (silent-inbound w d (fed_with piece))
-released-happens w (Offer d) new h = quiet w _ new h (silent-inbound w d offered_next)
-released-happens w (Turn d) new h = quiet w _ new h.now (silent-called w d h.call)
-released-happens w CloseGroup new h =
+released-happens : (w : World) (event : Event) (new : World) → IsSure w → may_happen w event ≡ true → Happens w event new → (c : ℕ) → released_in new c ≡ released_in w c ++ released_by w event true c
+released-happens w Enter new sure may h = quiet w _ new h (get-entered (λ connection. connection.outbound.released) refl w.primary.connections)
+released-happens w (Feed d piece) new sure may h = quiet w _ new h (silent-inbound w d (fed_with piece))
+released-happens w (Offer d) new sure may h = quiet w _ new h (silent-inbound w d offered_next)
+released-happens w (Turn d) new sure may h = quiet w _ new h.now (silent-called w d h.call)
+released-happens w CloseGroup new sure may h =
     elim h [
       | inl group ↦ quiet w _ new group.1.now (λ c. refl)
       | inr list ↦ quiet w _ new list.1 (λ c. refl)
     ]
-released-happens w Apply new h = quiet w _ new h.now (λ c. refl)
-released-happens w (AckDelivered a) new h = quiet w _ new h (told-silent w (slice_get w.wire.acknowledgements a))
-released-happens w (Hold d) new h = quiet w _ new h (silent-outbound w d held_first (λ outbound. refl))
-released-happens w (Read d mark) new h = quiet w _ new h (silent-outbound w d (having_read mark w) (silent-read w mark))
-released-happens w (Release d) new h = quiet w _ new h (silent-outbound w d having_released (λ outbound. refl))
-released-happens w (Write d n) new h = λ c. ap (λ (x : World). released_in x c) h ∙ written-at w d n c
-released-happens w (Leave d) new h = quiet w _ new h (silent-changed d left w.primary.connections (λ connection. refl))
-released-happens w (Crash node.Primary picks) new h = quiet w _ new h (λ c. ap (λ (x : Connection). x.outbound.released) (get-over w.primary.connections c))
-released-happens w (Crash node.Standby picks) new h = quiet w _ new h (λ c. refl)
-released-happens w (Reopen node.Primary) new h = quiet w _ new h.1 (λ c. refl)
-released-happens w (Reopen node.Standby) new h = quiet w _ new h (λ c. refl)
-released-happens w event new h = quiet w _ new h (λ c. refl)
+released-happens w Commit new sure may h = quiet w _ new (unfailed w node.Primary cut.Commit new sure.primary_sure h) (λ c. refl)
+released-happens w Free new sure may h = quiet w _ new (unfailed w node.Primary cut.Free new sure.primary_sure h) (λ c. refl)
+released-happens w ClearGap new sure may h = quiet w _ new (unfailed w node.Primary cut.ClearGap new sure.primary_sure h) (λ c. refl)
+released-happens w Apply new sure may h = quiet w _ new (unfailed w node.Standby cut.Apply new sure.standby_sure h).now (λ c. refl)
+released-happens w (AckDelivered a) new sure may h = quiet w _ new h (told-silent w (slice_get w.wire.acknowledgements a))
+released-happens w (Hold d) new sure may h = quiet w _ new h (silent-outbound w d held_first (λ outbound. refl))
+released-happens w (Read d mark) new sure may h = quiet w _ new h (silent-outbound w d (having_read mark w) (silent-read w mark))
+released-happens w (Release d) new sure may h = quiet w _ new h (silent-outbound w d having_released (λ outbound. refl))
+released-happens w (Write d n) new sure may h = λ c. ap (λ (x : World). released_in x c) h ∙ written-at w d n c
+released-happens w (Leave d) new sure may h = quiet w _ new h (silent-changed d left w.primary.connections (λ connection. refl))
+released-happens w (FailFence n k) new sure may h = absurd (true≢false (sym may ∙ sure.failovers))
+released-happens w (Crash node.Primary call k picks) new sure may h =
+    quiet w _ new (h.now ∙ ap (λ (r : Remains). crashed node.Primary r w) (remains w node.Primary call h.remain sure (between w node.Primary call sure may) h.one))
+    (λ c. ap (λ (x : Connection). x.outbound.released) (get-over w.primary.connections c))
+released-happens w (Crash node.Standby call k picks) new sure may h =
+    quiet w _ new (h.now ∙ ap (λ (r : Remains). crashed node.Standby r w) (remains w node.Standby call h.remain sure (between w node.Standby call sure may) h.one)) (λ c. refl)
+released-happens w (Reopen node.Primary) new sure may h = quiet w _ new (unfailed w node.Primary cut.Reopen new sure.primary_sure h).now (λ c. refl)
+released-happens w (Reopen node.Standby) new sure may h = quiet w _ new (unfailed w node.Standby cut.Reopen new sure.standby_sure h) (λ c. refl)
+released-happens w Fence new sure may h = absurd (true≢false (sym (both w.failovers _ may).0 ∙ sure.failovers))
+released-happens w Promote new sure may h = absurd (true≢false (sym (both w.failovers _ may).0 ∙ sure.failovers))
+released-happens w event new sure may h = quiet w _ new h (λ c. refl)
 
 -- nothing is released where the event was not enabled
 released-stays : (w : World) (event : Event) (c : ℕ) → released_by w event false c ≡ []
 released-stays w (Write d n) c = refl
 released-stays w event c = refl
 
-pub released-step : (w : World) (event : Event) (did : Bool) (new : World) → Step w event did new → (c : ℕ) → released_in new c ≡ released_in w c ++ released_by w event did c
-released-step w event true new step = released-happens w event new (step.happens refl)
-released-step w event false new step = λ c.
+pub released-step : (w : World) (event : Event) (did : Bool) (new : World) → IsSure w → Step w event did new → (c : ℕ) → released_in new c ≡ released_in w c ++ released_by w event did c
+released-step w event true new sure step = released-happens w event new sure (may-step w event new step) (step.happens refl)
+released-step w event false new sure step = λ c.
     ap (λ (x : World). released_in x c) (step.stands refl) ∙ sym (append-nil (released_in w c)) ∙ ap (λ xs. released_in w c ++ xs) (sym (released-stays w event c))

@@ -3,7 +3,6 @@ pub mod QueueLemmas
 pub mod EngineLemmas
 pub mod DownLemmas
 pub mod CutLemmas
-pub mod MovesLemmas
 pub mod StillLemmas
 pub mod ClosingLemmas
 pub mod CommittingLemmas
@@ -18,11 +17,15 @@ pub mod RecallGroups
 pub mod RecallLemmas
 pub mod OpeningLemmas
 pub mod PairLemmas
+pub mod FreeingLemmas
+pub mod PairAccepting
 pub mod PairFreeing
+pub mod PairClearing
 pub mod PairClosing
 pub mod PairCommitting
 pub mod PairLink
 pub mod PairTurns
+pub mod PairStepping
 pub mod PairStandby
 pub mod PairLives
 pub mod PairCrash

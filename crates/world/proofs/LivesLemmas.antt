@@ -1,17 +1,23 @@
 -- Which nodes run, before an event and after it.
-use Rattle.std.proofs.Common.{◌≡◌, Bool, true, false, ◌&&◌, Option, slice_get, refl, sym, ap, subst, ◌∙◌, inl, inr, List, true≢false}
+use Rattle.std.proofs.Common.{◌≡◌, Bool, true, false, ◌&&◌, Option, slice_get, refl, sym, ap, subst, ◌∙◌, inl, inr, List, [], true≢false}
 use Rattle.model.specs.Standing.{Holder}
 use Rattle.machine.specs.declared.event.Event.{Event}
-use Rattle.machine.specs.declared.event.Event.TheVariants.{Turn, CloseGroup, OpenLink, Deliver, Apply, AckDelivered, Crash, Reopen}
-use Rattle.machine.specs.Event.{Acknowledgement, Frame, Standby, World, Happens, Takes, Running, is_enabled, may_happen, nodes_run, told, with_link, without_first}
+use Rattle.machine.specs.declared.event.Event.TheVariants.{Turn, CloseGroup, Commit, Free, ClearGap, OpenLink, Deliver, Apply, AckDelivered, FailFence, Crash, Reopen, Fence, Promote}
+use Rattle.machine.specs.declared.event.Cut.TheVariants as cut
+use Rattle.machine.specs.declared.event.Node.TheVariants as node_of
+use Rattle.machine.specs.Event.{Acknowledgement, Disk, Frame, Standby, World, IsSure, Happens, Takes, Running, is_enabled, may_happen, nodes_run, told, torn, with_link, without_first}
+use Rattle.machine.proofs.SureLemmas.{unfailed}
 use Rattle.world.specs.Pair.{AreLives, NodesRefine, Pair, PairRefines, life_if}
 
 -- ---- kinds of events
 
--- no node crashes in it, and none is opened again
+-- no node crashes in it, none is opened again, no fence is asked to fail, and no failover comes
 abbrev pub is_plain : Event → Bool
-is_plain (Crash node picks) = false
+is_plain (FailFence node n) = false
+is_plain (Crash node call k picks) = false
 is_plain (Reopen node) = false
+is_plain Fence = false
+is_plain Promote = false
 is_plain event = true
 
 -- it needs the primary and not the standby
@@ -19,21 +25,30 @@ abbrev pub is_own : Event → Bool
 is_own OpenLink = false
 is_own (Deliver frame piece) = false
 is_own Apply = false
-is_own (Crash node picks) = false
+is_own (FailFence node n) = false
+is_own (Crash node call k picks) = false
 is_own (Reopen node) = false
+is_own Fence = false
+is_own Promote = false
 is_own event = true
 
 own-plain : (event : Event) → is_own event ≡ true → is_plain event ≡ true
-own-plain (Crash node picks) own = own
+own-plain (FailFence node n) own = own
+own-plain (Crash node call k picks) own = own
 own-plain (Reopen node) own = own
+own-plain Fence own = own
+own-plain Promote own = own
 own-plain event own = refl
 
 own-nodes : (w : World) (event : Event) → is_own event ≡ true → w.primary.life ≡ Running → nodes_run w event ≡ true
 own-nodes w OpenLink own r = absurd (true≢false (sym own))
 own-nodes w (Deliver frame piece) own r = absurd (true≢false (sym own))
 own-nodes w Apply own r = absurd (true≢false (sym own))
-own-nodes w (Crash node picks) own r = absurd (true≢false (sym own))
+own-nodes w (FailFence node n) own r = absurd (true≢false (sym own))
+own-nodes w (Crash node call k picks) own r = absurd (true≢false (sym own))
 own-nodes w (Reopen node) own r = absurd (true≢false (sym own))
+own-nodes w Fence own r = absurd (true≢false (sym own))
+own-nodes w Promote own r = absurd (true≢false (sym own))
 own-nodes w event own r = rw r refl
 
 -- ---- what an event leaves of them
@@ -41,6 +56,9 @@ own-nodes w event own r = rw r refl
 -- of the two worlds the same is said
 pub record SameLives (old new : World) : Type 0 where
   pub restarts : new.restarts ≡ old.restarts
+  pub failovers : new.failovers ≡ old.failovers
+  pub primary_disk : new.primary.disk ≡ old.primary.disk
+  pub standby_disk : new.standby.disk ≡ old.standby.disk
   pub primary : new.primary.life ≡ old.primary.life
   pub standby : new.standby.life ≡ old.standby.life
   pub epoch : new.primary.epoch ≡ old.primary.epoch
@@ -49,41 +67,73 @@ of : (old then new : World) → new ≡ then → SameLives old then → SameLive
 of old then new e same = subst (SameLives old) (sym e) same
 
 told-lives : (w : World) (ack : Option Acknowledgement) → SameLives w (with_link (told w.primary.epoch w.primary.committer.position ack w.primary.link) w)
-told-lives w ack = record { restarts = refl; primary = refl; standby = refl; epoch = refl }
+told-lives w ack = record { restarts = refl; failovers = refl; primary_disk = refl; standby_disk = refl; primary = refl; standby = refl; epoch = refl }
 
-taken-life : (frame : Frame) (old new : Standby) (told : List Acknowledgement) → Takes frame old new told → new.life ≡ old.life
+taken-life : (frame : Frame) (old new : Standby) (told : List Acknowledgement) → Takes frame old new told → (new.life ≡ old.life) × (new.disk ≡ old.disk)
 taken-life frame old new told takes =
     elim takes [
-      | inl other ↦ ap (λ (x : Standby). x.life) other.1
-      | inr (inl again) ↦ ap (λ (x : Standby). x.life) again.2
-      | inr (inr (inl next)) ↦ ap (λ (x : Standby). x.life) next.3
-      | inr (inr (inr (inl full))) ↦ ap (λ (x : Standby). x.life) full.3
-      | inr (inr (inr (inr gap))) ↦ ap (λ (x : Standby). x.life) gap.3
+      | inl other ↦ by other.1
+      | inr (inl again) ↦ by again.2
+      | inr (inr (inl next)) ↦ (ap (λ (x : Standby). x.life) next.3, ap (λ (x : Standby). x.disk) next.3)
+      | inr (inr (inr (inl full))) ↦ by full.3
+      | inr (inr (inr (inr gap))) ↦ by gap.3
     ]
+  where
+    by : new ≡ old → (new.life ≡ old.life) × (new.disk ≡ old.disk)
+    by same = (ap (λ (x : Standby). x.life) same, ap (λ (x : Standby). x.disk) same)
 
-pub plain-happens : (w : World) (event : Event) (new : World) → is_plain event ≡ true → Happens w event new → SameLives w new
-plain-happens w (Turn c) new plain h = of w _ new h.now (record { restarts = refl; primary = refl; standby = refl; epoch = refl })
-plain-happens w Apply new plain h =
-    of w _ new h.now (record { restarts = refl; primary = refl; standby = taken-life h.frame (without_first w.standby) h.standby h.told h.takes; epoch = refl })
-plain-happens w (AckDelivered a) new plain h = of w _ new h (told-lives w (slice_get w.wire.acknowledgements a))
-plain-happens w (Crash node picks) new plain h = absurd (true≢false (sym plain))
-plain-happens w (Reopen node) new plain h = absurd (true≢false (sym plain))
-plain-happens w CloseGroup new plain h =
+-- where no fence was asked to fail
+pub plain-happens : (w : World) (event : Event) (new : World) → is_plain event ≡ true → w.primary.disk.failing ≡ false → w.standby.disk.failing ≡ false → Happens w event new → SameLives w new
+plain-happens w (Turn c) new plain first second h = of w _ new h.now (record { restarts = refl; failovers = refl; primary_disk = refl; standby_disk = refl; primary = refl; standby = refl; epoch = refl })
+plain-happens w Commit new plain first second h =
+    of w _ new (unfailed w node_of.Primary cut.Commit new first h) (record { restarts = refl; failovers = refl; primary_disk = refl; standby_disk = refl; primary = refl; standby = refl; epoch = refl })
+plain-happens w Free new plain first second h =
+    of w _ new (unfailed w node_of.Primary cut.Free new first h) (record { restarts = refl; failovers = refl; primary_disk = refl; standby_disk = refl; primary = refl; standby = refl; epoch = refl })
+plain-happens w ClearGap new plain first second h =
+    of w _ new (unfailed w node_of.Primary cut.ClearGap new first h) (record { restarts = refl; failovers = refl; primary_disk = refl; standby_disk = refl; primary = refl; standby = refl; epoch = refl })
+plain-happens w Apply new plain first second h =
+    let applies = unfailed w node_of.Standby cut.Apply new second h in
+    let same = taken-life applies.frame (without_first w.standby) applies.standby applies.told applies.takes in
+    of w _ new applies.now (record { restarts = refl; failovers = refl; primary_disk = refl; standby_disk = same.1; primary = refl; standby = same.0; epoch = refl })
+plain-happens w (AckDelivered a) new plain first second h = of w _ new h (told-lives w (slice_get w.wire.acknowledgements a))
+plain-happens w (FailFence node n) new plain first second h = absurd (true≢false (sym plain))
+plain-happens w (Crash node call k picks) new plain first second h = absurd (true≢false (sym plain))
+plain-happens w (Reopen node) new plain first second h = absurd (true≢false (sym plain))
+plain-happens w Fence new plain first second h = absurd (true≢false (sym plain))
+plain-happens w Promote new plain first second h = absurd (true≢false (sym plain))
+plain-happens w CloseGroup new plain first second h =
     elim h [
-      | inl group ↦ of w _ new group.1.now (record { restarts = refl; primary = refl; standby = refl; epoch = refl })
-      | inr list ↦ of w _ new list.1 (record { restarts = refl; primary = refl; standby = refl; epoch = refl })
+      | inl group ↦ of w _ new group.1.now (record { restarts = refl; failovers = refl; primary_disk = refl; standby_disk = refl; primary = refl; standby = refl; epoch = refl })
+      | inr list ↦ of w _ new list.1 (record { restarts = refl; failovers = refl; primary_disk = refl; standby_disk = refl; primary = refl; standby = refl; epoch = refl })
     ]
-plain-happens w event new plain h = of w _ new h (record { restarts = refl; primary = refl; standby = refl; epoch = refl })
+plain-happens w event new plain first second h = of w _ new h (record { restarts = refl; failovers = refl; primary_disk = refl; standby_disk = refl; primary = refl; standby = refl; epoch = refl })
 
 pub lives-like : {first second : Holder} {serves follows : Bool} {w w' : World} → SameLives w w' → AreLives first second serves follows w → AreLives first second serves follows w'
 lives-like same lives = record {
   restarts = same.restarts ∙ lives.restarts;
+  failovers = same.failovers ∙ lives.failovers;
+  primary_sure = ap (λ (d : Disk). d.failing) same.primary_disk ∙ lives.primary_sure;
+  standby_sure = ap (λ (d : Disk). d.failing) same.standby_disk ∙ lives.standby_sure;
   primary = same.primary ∙ lives.primary;
   standby = same.standby ∙ lives.standby;
   first_role = lives.first_role;
   second_role = lives.second_role;
   first_epoch = lives.first_epoch ∙ sym same.epoch;
   second_epoch = lives.second_epoch ∙ sym same.epoch;
+}
+
+-- what a node that runs, or is crashed, has of a call that failed
+torn_if : (runs : Bool) → torn (life_if runs) ≡ []
+torn_if true = refl
+torn_if false = refl
+
+pub sure-lives : {first second : Holder} {serves follows : Bool} {w : World} → AreLives first second serves follows w → IsSure w
+sure-lives {first} {second} {serves} {follows} {w} lives = record {
+  failovers = lives.failovers;
+  primary_sure = lives.primary_sure;
+  standby_sure = lives.standby_sure;
+  primary_whole = ap torn lives.primary ∙ torn_if serves;
+  standby_whole = ap torn lives.standby ∙ torn_if follows;
 }
 
 -- ---- an event whose nodes run
@@ -100,7 +150,7 @@ enabled-is {first} {second} {serves} {follows} {w} {event} runs = ap (λ b. b &&
 
 -- the same nodes run afterwards
 pub lives-step : {first second : Holder} {serves follows : Bool} {w w' : World} {event : Event} → Runs first second serves follows w event → Happens w event w' → AreLives first second serves follows w'
-lives-step {first} {second} {serves} {follows} {w} {w'} {event} runs happens = lives-like (plain-happens w event w' runs.plain happens) runs.lives
+lives-step {first} {second} {serves} {follows} {w} {w'} {event} runs happens = lives-like (plain-happens w event w' runs.plain runs.lives.primary_sure runs.lives.standby_sure happens) runs.lives
 
 pub serving : {first second : Holder} {pair : Pair} {w : World} → PairRefines first second pair w → w.primary.life ≡ Running
 serving {first} {second} {pair} {w} stands = stands.lives.primary ∙ ap life_if stands.serves

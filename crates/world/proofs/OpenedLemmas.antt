@@ -1,5 +1,5 @@
 -- The image of a node that is opened again, and what that leaves of it.
-use Rattle.std.proofs.Common.{◌≡◌, ◌≢◌, ◌⊎◌, inl, ℕ, ◌<◌, Bool, false, List, length, sym, ap, subst}
+use Rattle.std.proofs.Common.{◌≡◌, ◌≢◌, ◌⊎◌, inl, ℕ, ◌<◌, Bool, false, List, length, sym, ap, subst, ◌≤◌}
 use Rattle.kv_types.specs.declared.refusal.Refusal.{Refusal}
 use Rattle.kv_types.specs.declared.refusal.Refusal.TheVariants.{Fault, Memory}
 use Rattle.pmem.specs.Device.{State}
@@ -17,11 +17,10 @@ use Rattle.model.proofs.CallsLemmas.{IsKeyspace-keyspace_after}
 use Rattle.model.proofs.MapLemmas.{IsMapOf-unique}
 use Rattle.mv_keyspace.specs.Table.{IsTable, Table, records}
 use Rattle.mv_keyspace.proofs.PartTables.{map-from_table}
-use Rattle.standby.specs.Restarting.{IsReopened}
+use Rattle.wbl_engine.specs.Restarting.{IsReopened}
 use Rattle.wbl_engine.specs.Contents.{IsDurable}
 use Rattle.wbl_engine.specs.Lawful.{IsUndamaged}
 use Rattle.wbl_engine.specs.Reopening.{ExhaustsReopening, RefusesReopening, StaysReadable}
-use Rattle.machine.specs.Event.{gaps_reopened}
 use Rattle.world.specs.Cause.{Breaks, RestsBeforeReopening}
 use Rattle.world.specs.Committing.{AreContentsAt, EngineStands, IsDown, Moves, Rests, OpensAtEither}
 use Rattle.world.proofs.DownLemmas.{down-gaps, down-reopened, down-versions, restart-moments, settled-image}
@@ -53,9 +52,9 @@ opened-stands holder calls p old new contents is_faulted down opened =
     subst (EngineStands holder calls p new contents) (sym opened.sound)
     (down-reopened holder calls p old new contents opened.reopens.counted opened.reopens.gapped down opened.reopens.reopens opened.durable)
 
--- its record has one gap more, where it has room for it
+-- its record has a gap
 pub opened-gaps : (holder : Holder) (calls : List Call) (p : ℕ) (old new : State) (contents : Contents) (is_faulted : Bool) (down : IsDown holder calls p old) → IsOpened holder.role old new contents is_faulted
-    → length contents.current.gaps.items ≡ gaps_reopened (length down.contents.current.gaps.items)
+    → 1 ≤ length contents.current.gaps.items
 opened-gaps holder calls p old new contents is_faulted down opened = down-gaps holder calls p old contents opened.reopens.counted opened.reopens.gapped down opened.reopens.reopens
 
 -- and its versions are those that the image had

@@ -1,5 +1,5 @@
 -- What a crash of a node does to the pair.
-use Rattle.std.proofs.Common.{rules, le_refl, ◌≡◌, inr, ℕ, ◌≤◌, Bool, true, false, not, ◌&&◌, List, map, Ok, Vec, Global, All, refl, sym, ap, subst, ◌∙◌, arith, true≢false, []}
+use Rattle.std.proofs.Common.{rules, le_refl, ◌≡◌, inr, ℕ, ◌≤◌, Bool, true, false, ◌&&◌, ◌||◌, List, map, Ok, Vec, Global, All, refl, sym, ap, subst, ◌∙◌, arith, true≢false, []}
 use Rattle.pmem.specs.Device.{State}
 use Rattle.pmem.specs.Crash.{IsImage, IsSettled, image_of}
 use Rattle.pmem.specs.Runs.{LeavesOnly}
@@ -9,8 +9,9 @@ use Rattle.model.proofs.CallsLemmas.{position_of-cut_at}
 use Rattle.model.specs.Group.{Contents}
 use Rattle.model.specs.Standing.{Holder}
 use Rattle.machine.specs.declared.event.Event.TheVariants as events
+use Rattle.machine.specs.declared.event.Cut.TheVariants as cuts
 use Rattle.machine.specs.declared.event.Node.TheVariants as node
-use Rattle.machine.specs.Event.{World, Step, crashed, is_crashed, is_enabled, left}
+use Rattle.machine.specs.Event.{World, At, Life, Step, crashed, is_enabled, is_running, is_stopped, left}
 use Rattle.machine.specs.Sound.{IsFrameWithin}
 use Rattle.machine.proofs.SoundEvents.{sound-step}
 use Rattle.world.specs.Committing.{Committing}
@@ -20,7 +21,6 @@ use Rattle.world.specs.Pair.{Acts, AreLives, DownRefine, EitherRefines, NodesRef
 use Rattle.connections.specs.declared.connections.Connections.{Connections}
 use Rattle.connections.specs.declared.transcript.Transcript.{Transcript}
 use Rattle.world.proofs.CutLemmas.{AreFramesSent-cut, ArrivalsRefine-cut, IsDown-cut, StandbyStands-cut}
-use Rattle.world.proofs.MovesLemmas.{moves-cut}
 use Rattle.machine.proofs.GroupLemmas.{chain-le, frames_within-weaker}
 use Rattle.world.proofs.DownLemmas.{crash-moves, down-crashed}
 use Rattle.world.proofs.EngineLemmas.{moves-same}
@@ -34,23 +34,23 @@ use Rattle.world.specs.Link.{AreAcksSent, AreFramesRead}
 
 -- ---- a node that is crashed already
 
-crashed_if : (runs : Bool) → not (is_crashed (life_if runs)) ≡ runs
+crashed_if : (runs : Bool) → (is_running (life_if runs) || is_stopped (life_if runs)) ≡ runs
 crashed_if true = refl
 crashed_if false = refl
 
 -- to crash a node is enabled where it runs
-crash-enabled : {first second : Holder} {serves follows : Bool} {w : World} (picks : Vec ℕ Global) → AreLives first second serves follows w
-    → (is_enabled w (events.Crash node.Primary picks) ≡ serves) × (is_enabled w (events.Crash node.Standby picks) ≡ follows)
-crash-enabled {first} {second} {serves} {follows} {w} picks lives = (
-  ap (λ b. b && not (is_crashed w.primary.life)) lives.restarts ∙ ap (λ l. not (is_crashed l)) lives.primary ∙ crashed_if serves,
-  ap (λ b. b && not (is_crashed w.standby.life)) lives.restarts ∙ ap (λ l. not (is_crashed l)) lives.standby ∙ crashed_if follows,
+crash-enabled : {first second : Holder} {serves follows : Bool} {w : World} (k : ℕ) (picks : Vec ℕ Global) → AreLives first second serves follows w
+    → (is_enabled w (events.Crash node.Primary cuts.Between k picks) ≡ serves) × (is_enabled w (events.Crash node.Standby cuts.Between k picks) ≡ follows)
+crash-enabled {first} {second} {serves} {follows} {w} k picks lives = (
+  ap (λ b. b && (is_running w.primary.life || is_stopped w.primary.life)) lives.restarts ∙ ap (λ (l : Life). is_running l || is_stopped l) lives.primary ∙ crashed_if serves,
+  ap (λ b. b && (is_running w.standby.life || is_stopped w.standby.life)) lives.restarts ∙ ap (λ (l : Life). is_running l || is_stopped l) lives.standby ∙ crashed_if follows,
 )
 
-pub primary-crashed : (old : Pair) (picks : Vec ℕ Global) → old.primary_runs ≡ false → Acts old (events.Crash node.Primary picks) (Ok false) old
-primary-crashed old picks down = stays-acts old (events.Crash node.Primary picks) (λ first second w stands. (crash-enabled picks stands.lives).0 ∙ down)
+pub primary-crashed : (old : Pair) (k : ℕ) (picks : Vec ℕ Global) → old.primary_runs ≡ false → Acts old (events.Crash node.Primary cuts.Between k picks) (Ok false) old
+primary-crashed old k picks down = stays-acts old (events.Crash node.Primary cuts.Between k picks) (λ first second w stands. (crash-enabled k picks stands.lives).0 ∙ down)
 
-pub standby-crashed : (old : Pair) (picks : Vec ℕ Global) → old.standby_runs ≡ false → Acts old (events.Crash node.Standby picks) (Ok false) old
-standby-crashed old picks down = stays-acts old (events.Crash node.Standby picks) (λ first second w stands. (crash-enabled picks stands.lives).1 ∙ down)
+pub standby-crashed : (old : Pair) (k : ℕ) (picks : Vec ℕ Global) → old.standby_runs ≡ false → Acts old (events.Crash node.Standby cuts.Between k picks) (Ok false) old
+standby-crashed old k picks down = stays-acts old (events.Crash node.Standby cuts.Between k picks) (λ first second w stands. (crash-enabled k picks stands.lives).1 ∙ down)
 
 -- ---- the device that crashed
 
@@ -77,28 +77,28 @@ StandbyRefines-cut holder epoch calls p n node runs le refines = record {
   down = λ down. IsDown-cut holder calls n p node.device le (refines.down down);
 }
 
-pub primary-crashes : (old : Pair) (sessions : Connections) (transcript : Transcript) (committing : Committing) (device : State) (contents : Contents) (is_faulted : Bool) (picks : Vec ℕ Global) (position : ℕ)
+pub primary-crashes : (old : Pair) (sessions : Connections) (transcript : Transcript) (committing : Committing) (device : State) (contents : Contents) (is_faulted : Bool) (k : ℕ) (picks : Vec ℕ Global) (position : ℕ)
     → old.primary_runs ≡ true → position ≡ old.contents.current.position → HasCrashed old.contents.lines old.device device
     → ((w : World) → SessionsRefine old.sessions old.transcript w.primary.connections w.primary.calls → SessionsRefine sessions transcript (map left w.primary.connections) (cut_at w.primary.calls position))
     → ((c seat : ℕ) → ¬ HasSeat (seats_of sessions.connections.items) c seat) → AddsOne old.transcript.calls transcript.calls
-    → Acts old (events.Crash node.Primary picks) (Ok true) (with_crashed_primary sessions transcript committing device contents is_faulted old)
-primary-crashes old sessions transcript committing device contents is_faulted picks position runs at has ends unseated added =
+    → Acts old (events.Crash node.Primary cuts.Between k picks) (Ok true) (with_crashed_primary sessions transcript committing device contents is_faulted old)
+primary-crashes old sessions transcript committing device contents is_faulted k picks position runs at has ends unseated added =
     record { steps = steps; cut = tt; calls = added }
   where
     new : Pair
     new = with_crashed_primary sessions transcript committing device contents is_faulted old
 
-    steps : (first second : Holder) (w : World) → NodesRefine first second old w → Steps first second w (events.Crash node.Primary picks) true old new
+    steps : (first second : Holder) (w : World) → NodesRefine first second old w → Steps first second w (events.Crash node.Primary cuts.Between k picks) true old new
     steps first second w stands =
-        let event = events.Crash node.Primary picks in
+        let event = events.Crash node.Primary cuts.Between k picks in
         let serving = serves-as runs stands in
         let parts = serving.parts in
         let sound = stands.sound in
         let calls = w.primary.calls in
         let p = w.primary.committer.position in
         let here : position ≡ p = at ∙ parts.engine.contents_at.at in
-        let w' = crashed node.Primary w in
-        let step : Step w event true w' = record { done = sym ((crash-enabled picks stands.lives).0 ∙ runs); happens = λ did. refl; stands = λ did. absurd (true≢false did) } in
+        let w' = crashed node.Primary (At p) w in
+        let step : Step w event true w' = record { done = sym ((crash-enabled k picks stands.lives).0 ∙ runs); happens = λ did. record { remain = At p; one = (0, omega arith, refl); now = refl }; stands = λ did. absurd (true≢false did) } in
         let behind : sound.sent ≤ p = chain-le _ _ _ sound.link.waiting in
         let within : p ≤ position_of calls = primary-within w sound in
         let image = IsDown-cut first calls p p device (omega arith) (down-crashed first calls p old.device device old.contents old.is_faulted parts.engine has.sized has.settled has.image has.lines_are) in
@@ -132,8 +132,8 @@ primary-crashes old sessions transcript committing device contents is_faulted pi
             parts = refines;
           };
           moves = record {
-            primary = moves-cut first calls p p old.device device (omega arith) (crash-moves first calls p old.device device old.contents old.is_faulted parts.engine has.moments has.failures);
-            standby = moves-same second (cut_at calls p) w.standby.position w.standby.position old.standby.device old.standby.device refl (standby-stands first second new w' refines);
+            primary = crash-moves first calls p old.device device old.contents old.is_faulted parts.engine has.moments has.failures;
+            standby = moves-same second calls w.standby.position w.standby.position old.standby.device old.standby.device refl (standby-stands first second old w stands.parts);
           };
         }
 
@@ -142,23 +142,23 @@ primary-crashes old sessions transcript committing device contents is_faulted pi
 abbrev pub with_crashed_standby : Arrived → Node → Pair → Pair
 with_crashed_standby arrivals node pair = record pair { arrivals = arrivals; standby = node; standby_runs = false }
 
-pub standby-crashes : (old : Pair) (arrivals : Arrived) (node' : Node) (picks : Vec ℕ Global) → old.standby_runs ≡ true → HasCrashed old.standby.contents.lines old.standby.device node'.device
+pub standby-crashes : (old : Pair) (arrivals : Arrived) (node' : Node) (k : ℕ) (picks : Vec ℕ Global) → old.standby_runs ≡ true → HasCrashed old.standby.contents.lines old.standby.device node'.device
     → arrivals.delivered.items ≡ [] → arrivals.acknowledgements ≡ old.arrivals.acknowledgements
-    → Acts old (events.Crash node.Standby picks) (Ok true) (with_crashed_standby arrivals node' old)
-standby-crashes old arrivals node' picks follows has lost told =
+    → Acts old (events.Crash node.Standby cuts.Between k picks) (Ok true) (with_crashed_standby arrivals node' old)
+standby-crashes old arrivals node' k picks follows has lost told =
     record { steps = steps; cut = tt; calls = none-added _ _ refl }
   where
     new : Pair
     new = with_crashed_standby arrivals node' old
 
-    steps : (first second : Holder) (w : World) → NodesRefine first second old w → Steps first second w (events.Crash node.Standby picks) true old new
+    steps : (first second : Holder) (w : World) → NodesRefine first second old w → Steps first second w (events.Crash node.Standby cuts.Between k picks) true old new
     steps first second w stands =
-        let event = events.Crash node.Standby picks in
+        let event = events.Crash node.Standby cuts.Between k picks in
         let calls = w.primary.calls in
         let p = w.standby.position in
         let stood = follower follows stands.parts in
-        let w' = crashed node.Standby w in
-        let step : Step w event true w' = record { done = sym ((crash-enabled picks stands.lives).1 ∙ follows); happens = λ did. refl; stands = λ did. absurd (true≢false did) } in
+        let w' = crashed node.Standby (At p) w in
+        let step : Step w event true w' = record { done = sym ((crash-enabled k picks stands.lives).1 ∙ follows); happens = λ did. record { remain = At p; one = (0, omega arith, refl); now = refl }; stands = λ did. absurd (true≢false did) } in
         let image = down-crashed second calls p old.standby.device node'.device old.standby.contents old.standby.is_faulted stood.engine has.sized has.settled has.image has.lines_are in
         let empty : ArrivalsRefine old.link.epoch calls arrivals [] w.wire.acknowledgements =
         record {

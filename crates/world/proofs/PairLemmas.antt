@@ -23,6 +23,8 @@ use Rattle.connections.specs.Session.{IsListOf, SessionsRefine, SequencerRefines
 use Rattle.world.specs.Pair.{Pair, EitherRefines, NodesRefine, PartsRefine, PairRefines, IsCut, MovesBoth, Steps, Does}
 use Rattle.world.specs.Standby.{Node, StandbyRefines}
 use Rattle.world.proofs.LivesLemmas.{Runs, enabled-is, is_own, lives-step, nodes-refine, own-runs}
+use Rattle.primary.specs.Standing.{StandsOver}
+use Rattle.primary.proofs.AheadLemmas.{laid-engine}
 use Rattle.connections.specs.declared.connections.Connections.{Connections}
 use Rattle.connections.specs.declared.transcript.Transcript.{Transcript}
 use Rattle.world.specs.Step.{IsRoomier}
@@ -32,7 +34,7 @@ use Rattle.connections.proofs.SequencerLemmas.{still-same}
 use Rattle.world.proofs.StillLemmas.{freeing-still, leads-still}
 use Rattle.world.proofs.RecallLemmas.{remembers-on, remembers-still}
 use Rattle.world.proofs.OpeningLemmas.{opening-still}
-use Rattle.world.proofs.EngineLemmas.{Opens-engine, moves-same, rests-same, EngineStands-grows}
+use Rattle.world.proofs.EngineLemmas.{Opens-engine, moves-rest, rests-same, EngineStands-grows}
 use Rattle.world.proofs.CommittingLemmas.{CommittingRefines-grows}
 use Rattle.world.proofs.FrameLemmas.{AreFramesSent-grows}
 use Rattle.world.proofs.LinkLemmas.{LinkRefines-grows}
@@ -44,6 +46,14 @@ use Rattle.world.proofs.ArrivalLemmas.{ArrivalsRefine-grows}
 
 pub goes-map : {A B C D : Type 0} {enabled did : Bool} → Goes enabled did A B → (A → C) → (B → D) → Goes enabled did C D
 goes-map goes moved stayed = record { done = goes.done; goes = λ did. moved (goes.goes did); stays = λ did. stayed (goes.stays did) }
+
+-- what is in hand leads to what the sequencer holds, once it is told of the notices
+pub back-stands : {first second : Holder} {pair : Pair} {w : World} → PartsRefine first second pair w
+    → StandsOver pair.device pair.contents pair.committing.waiting.items pair.committing.aside pair.sequencer pair.notices
+back-stands {first} {second} {pair} {w} parts =
+    let engine = parts.engine in
+    let consistent = engine.contents_at.consistent in
+    record { leads = parts.leads; consistent = consistent; laid = laid-engine pair.device pair.contents consistent engine.lawful engine.durable; durable = engine.durable }
 
 pub Opens-standby : (holder : Holder) (epoch : ℕ) (calls : List Call) (position : ℕ) (node : Node) (runs : Bool) → StandbyRefines holder epoch calls position node runs → Opens holder calls position node.device
 Opens-standby holder epoch calls position node true refines = Opens-engine _ _ _ _ _ _ (refines.stands refl).engine
@@ -74,39 +84,39 @@ sessions-stand parts = elim parts [
 -- ---- steps
 
 -- neither device was touched
-pub untouched : (first second : Holder) (old new : Pair) (w w' : World) → new.device ≡ old.device → new.standby.device ≡ old.standby.device → EitherRefines first second new w' → MovesBoth first second old new w w'
+pub untouched : (first second : Holder) (old new : Pair) (w w' : World) → new.device ≡ old.device → new.standby.device ≡ old.standby.device → EitherRefines first second old w → MovesBoth first second old new w w'
 untouched first second old new w w' device device' parts =
     record {
-      primary = moves-same first w'.primary.calls w.primary.committer.position w'.primary.committer.position old.device new.device device (primary-stands first second new w' parts);
-      standby = moves-same second w'.primary.calls w.standby.position w'.standby.position old.standby.device new.standby.device device' (standby-stands first second new w' parts);
+      primary = moves-rest first w.primary.calls w.primary.committer.position w'.primary.committer.position old.device new.device device (primary-stands first second old w parts);
+      standby = moves-rest second w.primary.calls w.standby.position w'.standby.position old.standby.device new.standby.device device' (standby-stands first second old w parts);
     }
 
 -- an event that touches no device
-pub goes-either : (first second : Holder) (w w' : World) (event : Event) (did : Bool) (old new : Pair) → new.device ≡ old.device → new.standby.device ≡ old.standby.device → Sound w
+pub goes-either : (first second : Holder) (w w' : World) (event : Event) (did : Bool) (old new : Pair) → new.device ≡ old.device → new.standby.device ≡ old.standby.device → NodesRefine first second old w
     → Runs first second new.primary_runs new.standby_runs w event → Happens w event w'
     → Goes (may_happen w event) did (EitherRefines first second new w') (EitherRefines first second new w) → Steps first second w event did old new
-goes-either first second w w' event true old new device device' sound runs happens goes =
+goes-either first second w w' event true old new device device' before runs happens goes =
     let step : Step w event true w' = record { done = goes.done ∙ sym (enabled-is runs); happens = λ did. happens; stands = λ did. absurd (true≢false did) } in
     record {
       world = w';
       step = step;
-      stands = record { sound = sound-step w event true w' step sound; lives = lives-step runs happens; parts = goes.goes refl };
-      moves = untouched first second old new w w' device device' (goes.goes refl);
+      stands = record { sound = sound-step w event true w' step before.sound; lives = lives-step runs happens; parts = goes.goes refl };
+      moves = untouched first second old new w w' device device' before.parts;
     }
-goes-either first second w w' event false old new device device' sound runs happens goes =
+goes-either first second w w' event false old new device device' before runs happens goes =
     record {
       world = w;
       step = record { done = goes.done ∙ sym (enabled-is runs); happens = λ did. absurd (true≢false (sym did)); stands = λ did. refl };
-      stands = record { sound = sound; lives = runs.lives; parts = goes.stays refl };
-      moves = untouched first second old new w w device device' (goes.stays refl);
+      stands = record { sound = before.sound; lives = runs.lives; parts = goes.stays refl };
+      moves = untouched first second old new w w device device' before.parts;
     }
 
 -- of one whose primary runs
-pub goes-steps : (first second : Holder) (w w' : World) (event : Event) (did : Bool) (old new : Pair) → new.device ≡ old.device → new.standby.device ≡ old.standby.device → Sound w
+pub goes-steps : (first second : Holder) (w w' : World) (event : Event) (did : Bool) (old new : Pair) → new.device ≡ old.device → new.standby.device ≡ old.standby.device → NodesRefine first second old w
     → Runs first second new.primary_runs new.standby_runs w event → new.primary_runs ≡ true → Happens w event w'
     → Goes (may_happen w event) did (PartsRefine first second new w') (PartsRefine first second new w) → Steps first second w event did old new
-goes-steps first second w w' event did old new device device' sound runs serves happens goes =
-    goes-either first second w w' event did old new device device' sound runs happens (goes-map goes (λ moved. inl (serves, moved)) (λ stayed. inl (serves, stayed)))
+goes-steps first second w w' event did old new device device' before runs serves happens goes =
+    goes-either first second w w' event did old new device device' before runs happens (goes-map goes (λ moved. inl (serves, moved)) (λ stayed. inl (serves, stayed)))
 
 -- ---- cuts
 
@@ -234,7 +244,7 @@ sessions-steps : (event : Event) (enabled : List Connection → Bool) (change : 
     → (first second : Holder) (w : World) → PairRefines first second old w → Steps first second w event did old (with_sessions sessions transcript old)
 sessions-steps event enabled change is old sessions transcript did go keeps first second w stands =
     let went = go w.primary.connections w.primary.calls stands.parts.sessions in
-    goes-steps first second w (with_connections (change w.primary.connections) w) event did old (with_sessions sessions transcript old) refl refl stands.sound (own-runs stands event is.own) stands.serves (is.happens w)
+    goes-steps first second w (with_connections (change w.primary.connections) w) event did old (with_sessions sessions transcript old) refl refl (nodes-refine stands) (own-runs stands event is.own) stands.serves (is.happens w)
     (goes-map (record { done = went.done ∙ sym (is.may w); goes = went.goes; stays = went.stays })
     (sessions-parts first second old sessions transcript (change w.primary.connections) w stands.parts keeps)
     (sessions-parts first second old sessions transcript w.primary.connections w stands.parts keeps))
@@ -264,18 +274,18 @@ sessions-did event enabled change is old sessions did go keeps =
 
 -- a read is of the marks as they stand
 pub read-does : (c : ℕ) (mark : Mark) (local remote : ℕ) (old : Pair) (sessions : Connections) (did : Bool) → local ≡ old.committing.local → remote ≡ old.remote
-    → SessionsGo (λ machines. is_open_at machines c) (changed_at c (with_outbound (having_seen mark local remote))) did old.sessions old.transcript sessions old.transcript
+    → SessionsGo (λ machines. is_open_at machines c) (changed_at c (with_outbound (having_seen mark (record { local = local; remote = remote })))) did old.sessions old.transcript sessions old.transcript
     → KeepsSeats old.sessions.connections.items sessions.connections.items → Does old (events.Read c mark) (Ok did) (with_sessions sessions old.transcript old)
 read-does c mark local remote old sessions did local_is remote_is go keeps =
     record { steps = steps; cut = tt; calls = none-added _ _ refl }
   where
     steps : (first second : Holder) (w : World) → PairRefines first second old w → Steps first second w (events.Read c mark) did old (with_sessions sessions old.transcript old)
     steps first second w stands =
-        let change : ℕ → ℕ → List Connection = λ l r. changed_at c (with_outbound (having_seen mark l r)) w.primary.connections in
+        let change : ℕ → ℕ → List Connection = λ l r. changed_at c (with_outbound (having_seen mark (record { local = l; remote = r }))) w.primary.connections in
         let now : List Connection = change w.primary.committer.local w.primary.link.remote in
         let marks : change local remote ≡ now = ap₂ change (local_is ∙ stands.parts.committing.local_is) (remote_is ∙ stands.parts.link.remote_is) in
         let went = go w.primary.connections w.primary.calls stands.parts.sessions in
-        goes-steps first second w (with_connections now w) (events.Read c mark) did old (with_sessions sessions old.transcript old) refl refl stands.sound (own-runs stands (events.Read c mark) refl) stands.serves refl
+        goes-steps first second w (with_connections now w) (events.Read c mark) did old (with_sessions sessions old.transcript old) refl refl (nodes-refine stands) (own-runs stands (events.Read c mark) refl) stands.serves refl
         (goes-map went
         (λ stand. sessions-parts first second old sessions old.transcript now w stands.parts keeps (subst (λ (connections : List Connection). SessionsRefine sessions old.transcript connections w.primary.calls) marks stand))
         (sessions-parts first second old sessions old.transcript w.primary.connections w stands.parts keeps))
@@ -330,7 +340,7 @@ turn-steps first second old sessions transcript sequencer w c true stands takes 
     let w' = called c call w in
     let turns : Turns w c w' = record { call = call; connection = next.connection; first = next.first; reply = next.reply; now = refl } in
     let parts : PartsRefine first second (with_turn sessions transcript sequencer old) w' = called-parts first second old sessions transcript sequencer w c call stands moved.2 moved.3 moved.4 still in
-    goes-steps first second w w' (events.Turn c) true old (with_turn sessions transcript sequencer old) refl refl stands.sound (own-runs stands (events.Turn c) refl) stands.serves turns
+    goes-steps first second w w' (events.Turn c) true old (with_turn sessions transcript sequencer old) refl refl (nodes-refine stands) (own-runs stands (events.Turn c) refl) stands.serves turns
     (record { done = takes.done; goes = λ did. parts; stays = λ did. absurd (true≢false did) })
 turn-steps first second old sessions transcript sequencer w c false stands takes keeps still =
     let stayed = takes.stays refl in
@@ -344,7 +354,7 @@ turn-steps first second old sessions transcript sequencer w c false stands takes
       world = w;
       step = record { done = takes.done ∙ sym (enabled-is runs); happens = λ did. absurd (true≢false (sym did)); stands = λ did. refl };
       stands = record { sound = stands.sound; lives = stands.lives; parts = inl (stands.serves, parts) };
-      moves = untouched first second old (with_turn sessions transcript sequencer old) w w refl refl (inl (stands.serves, parts));
+      moves = untouched first second old (with_turn sessions transcript sequencer old) w w refl refl (inl (stands.serves, stands.parts));
     }
 
 pub turn-does : (old : Pair) (sessions : Connections) (transcript : Transcript) (sequencer : Sequencing) (c : ℕ) (did : Bool)
@@ -381,7 +391,7 @@ seats-steps event enabled change is old sessions transcript sequencer did go fol
     let went = go connections w.primary.calls parts.sessions in
     let follow = follows connections w.primary.calls (list-of w stands.sound) parts.sessions parts.follow in
     let table = sequencer_stands w.primary.calls w.primary.committer.closed parts.sequencer in
-    goes-steps first second w (with_connections (change connections) w) event did old (with_turn sessions transcript sequencer old) refl refl stands.sound (own-runs stands event is.own) stands.serves (is.happens w)
+    goes-steps first second w (with_connections (change connections) w) event did old (with_turn sessions transcript sequencer old) refl refl (nodes-refine stands) (own-runs stands event is.own) stands.serves (is.happens w)
     (goes-map (record { done = went.done ∙ sym (is.may w); goes = went.goes; stays = went.stays })
     (λ stand. seats-parts first second old sessions transcript sequencer (change connections) w parts stand table follow still)
     (λ stand. seats-parts first second old sessions transcript sequencer w.primary.connections w parts stand table follow still))

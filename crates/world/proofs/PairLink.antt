@@ -1,5 +1,5 @@
 -- What the events of the link and its acknowledgements do to the pair, of what they do to its parts.
-use Rattle.std.proofs.Common.{rules, ◌≡◌, inl, ℕ, ◌≤◌, Bool, true, false, nat_eq, nat_lt, List, ◌∷◌, ◌++◌, length, take, ◌||◌, ◌&&◌, inr, slice_get, Option, Some, None, Result, Ok, Err, Vec, Global, ◌<◌, refl, sym, ap, ap₂, subst, ◌∙◌, arith, true≢false, cond, eq-eqb, All, []}
+use Rattle.std.proofs.Common.{rules, ◌≡◌, inl, ℕ, ◌≤◌, max, Bool, true, false, nat_eq, nat_le, nat_lt, List, ◌∷◌, ◌++◌, length, take, ◌||◌, ◌&&◌, inr, slice_get, Option, Some, None, Result, Ok, Err, Vec, Global, ◌<◌, refl, sym, ap, ap₂, subst, ◌∙◌, arith, true≢false, cond, eqb-true, All, []}
 use Rattle.std.proofs.lemmas.Bool.{cases_lt, lt-ltb, le-leb, le-ltb, ltb-false}
 use Rattle.std.proofs.lemmas.Option.{slice_get_within}
 use Rattle.kv_types.specs.declared.refusal.Refusal.{Refusal}
@@ -21,14 +21,14 @@ use Rattle.machine.specs.declared.event.TheConstants.{KEPT_GROUPS}
 use Rattle.machine.specs.declared.event.Event.TheVariants as events
 use Rattle.machine.specs.Event.{World, Primary, Link as MachineLink, counts as machine_counts, Frame as Sent, Span, Acknowledgement, may_happen, next_to_send, framed, sent, sent_next, option_items, knowing, raised_remote, told, with_link, with_sent}
 use Rattle.std.proofs.lemmas.List.Elements.{All-head}
-use Rattle.machine.specs.Sound.{IsToldWithin, Sound}
+use Rattle.machine.specs.Sound.{IsToldWithin}
 use Rattle.machine.proofs.GroupLemmas.{chain-le}
 use Rattle.machine.proofs.StandbyLemmas.{all-at}
 use Rattle.world.proofs.LivesLemmas.{nodes-refine, own-runs}
 use Rattle.world.specs.Link.{IsFrameOf, AreFramesOf, IsFrameSent, IsAckSent, AreFramesSent, LinkRefines}
 use Rattle.world.specs.Recalling.{OpeningLeads}
 use Rattle.world.specs.Standby.{StandbyRefines, ArrivalsRefine, told_by}
-use Rattle.world.specs.Pair.{FreeingRefines, Pair, PartsRefine, Does}
+use Rattle.world.specs.Pair.{Does, FreeingRefines, Pair, PairRefines, PartsRefine, Steps}
 use Rattle.world.proofs.FrameLemmas.{AreFramesSent-push, may_be_sent, ack_of_read, ack_of_number, length-acks}
 use Rattle.world.proofs.LinkLemmas.{Answers as LinkAnswers, sends}
 use Rattle.world.proofs.AckLemmas.{knows}
@@ -68,6 +68,15 @@ link-alone first second old waiting link remote w machine parts same link_stands
 
 -- ---- sending
 
+-- the link with what waits for it, what is told of the opening, and the frames that passed
+abbrev pub with_sending : Waiting Group → Stream → Opening → List (Vec ℕ Global) → Pair → Pair
+with_sending waiting link opening frames pair = record pair { handed = waiting; link = link; opening = opening; frames = frames }
+
+-- what is told of the opening stays
+pub tells-still : (old : Pair) (waiting : Waiting Group) (link : Stream) (opening : Opening) (frames : List (Vec ℕ Global)) (result : Result Bool Refusal) → opening ≡ old.opening
+    → Does old events.Send result (with_frames waiting link old.remote frames old) → Does old events.Send result (with_sending waiting link opening frames old)
+tells-still old waiting link opening frames result same does = subst (λ (o : Opening). Does old events.Send result (with_sending waiting link o frames old)) (sym same) does
+
 -- one frame has one span
 one_span : (epoch : ℕ) (calls : List Call) (frame : Frame) (spans : List Span) → AreFramesOf epoch calls (frame ∷ []) spans → (span : Span) × (spans ≡ span ∷ []) × IsFrameOf epoch calls frame span
 one_span epoch calls frame [] are = absurd are
@@ -104,7 +113,7 @@ delta-does old link frame bytes frames given taken text within more =
           (AreFramesSent-push epoch calls old.frames w.wire.frames bytes (record { epoch = epoch; span = span }) parts.frames (passes epoch calls frame bytes span one.2 text within)))) in
           let happens : w' ≡ sent w =
           ap₂ (λ (e : ℕ) (spans : List Span). with_sent (framed e (take 1 (spans ++ (machine.again ++ machine.waiting)))) (with_link (sent_next spans machine) w)) parts.epoch (sym one.1) in
-          goes-steps first second w w' events.Send true old (with_frames old.handed link old.remote frames old) refl refl stands.sound (own-runs stands events.Send refl) stands.serves happens
+          goes-steps first second w w' events.Send true old (with_frames old.handed link old.remote frames old) refl refl (nodes-refine stands) (own-runs stands events.Send refl) stands.serves happens
           (record {
             done = sym (ap (λ (spans : List Span). is_nonempty spans || (is_nonempty machine.again || (is_nonempty machine.waiting && nat_lt (length machine.kept) KEPT_GROUPS))) one.1);
             goes = λ did. moved;
@@ -115,11 +124,12 @@ delta-does old link frame bytes frames given taken text within more =
     }
 
 -- there was none, and what was done is of the next group
-pub after-none : (old : Pair) (link : Stream) (result : Result Bool Refusal) (new : Pair) → None ≡ old.link.delta → link ≡ record old.link { delta = None } → Does (record old { link = link }) events.Send result new
-    → Does old events.Send result new
-after-none old link result new none taken does =
+pub after-none : (old : Pair) (link : Stream) (opening : Opening) (result : Result Bool Refusal) (new : Pair) → None ≡ old.link.delta → link ≡ record old.link { delta = None } → opening ≡ old.opening
+    → Does (record old { link = link; opening = opening }) events.Send result new → Does old events.Send result new
+after-none old link opening result new none taken told does =
     let same : link ≡ old.link = taken ∙ ap (λ (d : Option Frame). record old.link { delta = d }) none in
-    subst (λ (s : Stream). Does (record old { link = s }) events.Send result new) same does
+    subst (λ (s : Stream). Does (record old { link = s }) events.Send result new) same
+    (subst (λ (o : Opening). Does (record old { link = link; opening = o }) events.Send result new) told does)
 
 -- a frame that was kept is sent, and its bytes pass
 pub send-does : (old : Pair) (waiting : Waiting Group) (link : Stream) (index : ℕ) (frame : Frame) (bytes : Vec ℕ Global) (frames : List (Vec ℕ Global)) → LinkAnswers old.link old.handed (Ok (Some index)) link waiting
@@ -142,7 +152,7 @@ send-does old waiting link index frame bytes frames answers there text within mo
           let moved : PartsRefine first second (with_frames waiting link old.remote frames old) w' =
           subst (λ (fs : List (Vec ℕ Global)). PartsRefine first second (with_frames waiting link old.remote fs old) w') (sym more)
           (link-parts first second old waiting link old.remote (old.frames ++ bytes ∷ []) w (sent_next machine.delta machine) (w.wire.frames ++ framed epoch (next_to_send machine)) parts at.epoch_is at.link passed) in
-          goes-steps first second w w' events.Send true old (with_frames waiting link old.remote frames old) refl refl stands.sound (own-runs stands events.Send refl) stands.serves
+          goes-steps first second w w' events.Send true old (with_frames waiting link old.remote frames old) refl refl (nodes-refine stands) (own-runs stands events.Send refl) stands.serves
           (ap (λ e. with_sent (framed e (next_to_send machine)) (with_link (sent_next machine.delta machine) w)) parts.epoch)
           (record { done = sym at.may; goes = λ did. moved; stays = λ did. absurd (true≢false did) });
       cut = tt;
@@ -156,7 +166,7 @@ send-none old waiting link answers none_before =
       steps = λ first second w stands.
           let none = sends w.primary.calls old.link old.handed old.remote w.primary.link stands.sound.legal stands.parts.link none_before (Ok None) link waiting answers in
           let stayed = link-alone first second old waiting link old.remote w w.primary.link stands.parts none.epoch_is none.link in
-          goes-steps first second w (sent w) events.Send false old (with_frames waiting link old.remote old.frames old) refl refl stands.sound (own-runs stands events.Send refl) stands.serves refl
+          goes-steps first second w (sent w) events.Send false old (with_frames waiting link old.remote old.frames old) refl refl (nodes-refine stands) (own-runs stands events.Send refl) stands.serves refl
           (record { done = sym none.may; goes = λ did. absurd (true≢false (sym did)); stays = λ did. stayed });
       cut = tt;
       calls = none-added _ _ refl;
@@ -187,38 +197,20 @@ delta-cut old link frame frames result refusal given is memory =
 
 -- ---- the remote mark
 
-abbrev pub with_opening : Opening → Pair → Pair
-with_opening opening pair = record pair { opening = opening }
+abbrev pub with_mark : ℕ → Pair → Pair
+with_mark remote pair = record pair { remote = remote }
 
-abbrev pub with_mark : ℕ → Opening → Pair → Pair
-with_mark remote opening pair = record pair { remote = remote; opening = opening }
-
--- what a standby is told that is behind is as it was, or the standby is not
-opening-parts : (first second : Holder) (old : Pair) (known : ℕ) (opening : Opening) (w : World) → Sound w → known ≡ w.primary.link.known → opening.position ≡ old.opening.position
-    → (known < old.opening.position → opening ≡ old.opening) → PartsRefine first second old w → PartsRefine first second (with_opening opening old) w
-opening-parts first second old known opening w sound highest same kept parts =
-    let told : OpeningLeads w.standby.position w.primary.opened w.primary.calls opening =
-    elim (cases_lt known old.opening.position) [
-      | inl below ↦ subst (OpeningLeads w.standby.position w.primary.opened w.primary.calls) (sym (kept below)) parts.opening
-      | inr passed ↦ opening-forgotten w.standby.position w.primary.opened w.primary.calls old.opening opening same
-          (let behind = sound.standby.known in let at = parts.opening.position_is in omega (arith, passed, at, highest, behind)) parts.opening
-    ] in
-    search (rules, told)
-
-pub raise-does : (old : Pair) (known : ℕ) (did : Bool) (opening : Opening) → known ≡ old.link.known → did ≡ nat_lt old.remote known → opening.position ≡ old.opening.position
-    → (known < old.opening.position → opening ≡ old.opening) → Does old events.RaiseRemote (Ok did) (with_mark known opening old)
-raise-does old known did opening same is position kept =
+pub raise-does : (old : Pair) (known : ℕ) (did : Bool) → known ≡ old.link.known → did ≡ nat_lt old.remote known → Does old events.RaiseRemote (Ok did) (with_mark known old)
+raise-does old known did same is =
     record {
       steps = λ first second w stands.
           let parts = stands.parts in
           let link = parts.link in
           let machine = w.primary.link in
           let highest : known ≡ machine.known = same ∙ link.known in
-          let told : PartsRefine first second (with_opening opening old) w = opening-parts first second old known opening w stands.sound highest position kept parts in
-          let raised : (remote : ℕ) → known ≡ remote → PartsRefine first second (with_mark known opening old) (with_link (record machine { remote = remote }) w) =
-          (λ remote at.
-          link-alone first second (with_opening opening old) old.handed old.link known w (record machine { remote = remote }) told refl (search (rules, link))) in
-          goes-steps first second w (with_link (raised_remote machine) w) events.RaiseRemote did old (with_mark known opening old) refl refl stands.sound (own-runs stands events.RaiseRemote refl) stands.serves refl
+          let raised : (remote : ℕ) → known ≡ remote → PartsRefine first second (with_mark known old) (with_link (record machine { remote = remote }) w) =
+          (λ remote at. link-alone first second old old.handed old.link known w (record machine { remote = remote }) parts refl (search (rules, link))) in
+          goes-steps first second w (with_link (raised_remote machine) w) events.RaiseRemote did old (with_mark known old) refl refl (nodes-refine stands) (own-runs stands events.RaiseRemote refl) stands.serves refl
           (record {
             done = is ∙ ap₂ nat_lt link.remote_is highest;
             goes = λ rose. raised machine.known highest;
@@ -232,47 +224,115 @@ raise-does old known did opening same is position kept =
 
 -- ---- acknowledgements
 
--- an acknowledgement arrives: its bytes are read
-pub ack-does : (old : Pair) (n : ℕ) (bytes : Vec ℕ Global) (ack : Ack) (link : Stream) → n < length old.arrivals.acknowledgements.items → slice_get old.arrivals.acknowledgements.items n ≡ Some bytes
-    → ReadsAs bytes.items (sent_of_ack ack) → (counts old.link.epoch ack ≡ true → ack.position ≤ old.contents.current.position → link ≡ acknowledged ack.position old.link)
-    → Does old (events.AckDelivered n) (Ok true) (with_frames old.handed link old.remote old.frames old)
-ack-does old n bytes ack link within found reads learns =
+abbrev pub with_opening : Opening → Pair → Pair
+with_opening opening pair = record pair { opening = opening }
+
+abbrev pub with_learned : Stream → Opening → Pair → Pair
+with_learned link opening pair = record pair { link = link; opening = opening }
+
+-- what `Notes` says of the two parts: the frames up to the position go, and what is told of the opening goes once its position is known
+abbrev pub Learns : ℕ → Pair → Stream → Opening → Type 0
+Learns position old link opening = (link ≡ acknowledged position old.link) × (opening.position ≡ old.opening.position) × (link.known < old.opening.position → opening ≡ old.opening)
+
+-- what a standby is told that is behind is as it was, or the standby is not
+opening-parts : (first second : Holder) (old : Pair) (known : ℕ) (opening : Opening) (w : World) → known ≤ w.standby.position → opening.position ≡ old.opening.position
+    → (known < old.opening.position → opening ≡ old.opening) → PartsRefine first second old w → PartsRefine first second (with_opening opening old) w
+opening-parts first second old known opening w behind same kept parts =
+    let told : OpeningLeads w.standby.position w.primary.opened w.primary.calls opening =
+    elim (cases_lt known old.opening.position) [
+      | inl below ↦ subst (OpeningLeads w.standby.position w.primary.opened w.primary.calls) (sym (kept below)) parts.opening
+      | inr passed ↦ opening-forgotten w.standby.position w.primary.opened w.primary.calls old.opening opening same
+          (let at = parts.opening.position_is in omega (arith, passed, at, behind)) parts.opening
+    ] in
+    search (rules, told)
+
+-- an acknowledgement arrives: its bytes are read, and it is counted or changes nothing
+pub ack-does : (old : Pair) (n : ℕ) (bytes : Vec ℕ Global) (ack : Ack) (link : Stream) (opening : Opening) → n < length old.arrivals.acknowledgements.items
+    → slice_get old.arrivals.acknowledgements.items n ≡ Some bytes → ReadsAs bytes.items (sent_of_ack ack)
+    → (counts old.link.epoch ack ≡ true → ack.position ≤ old.contents.current.position → Learns ack.position old link opening)
+    → (counts old.link.epoch ack ≡ false → (link ≡ old.link) × (opening ≡ old.opening))
+    → Does old (events.AckDelivered n) (Ok true) (with_learned link opening old)
+ack-does old n bytes ack link opening within found reads learns refuses =
     record {
       steps = λ first second w stands.
-          let parts = stands.parts in
-          let of = ack_of_number old.arrivals.acknowledgements.items w.wire.acknowledgements n parts.arrivals.acknowledged within in
+          let of = ack_of_number old.arrivals.acknowledgements.items w.wire.acknowledgements n stands.parts.arrivals.acknowledged within in
           let is : IsAckSent bytes.items of.one = subst (λ (b : Vec ℕ Global). IsAckSent b.items of.one) (same_found of.bytes_stand found) of.is in
           let there : slice_get w.wire.acknowledgements n ≡ Some (told_by ack) = of.stands ∙ ap Some (sym (ack_of_read ack of.one (reads (Acknowledged of.one.epoch of.one.position) is.may is.text))) in
           let one = told-one w.primary.epoch w.standby.position w.wire.acknowledgements n (told_by ack) stands.sound.wire.acknowledged there in
-          let own : ack.epoch ≡ w.primary.epoch = one.epoch_is in
-          let position = w.primary.committer.position in
-          let low : ack.position ≤ position = omega (arith, one.within, stands.sound.standby.behind, chain-le _ _ _ stands.sound.link.waiting) in
-          let lower = nat_eq ack.position 0 && nat_lt ack.epoch old.link.epoch in
-          let learned : link ≡ acknowledged ack.position old.link =
-          learns (ap (λ b. b || lower) (eq-eqb ack.epoch old.link.epoch (own ∙ sym parts.epoch))) (omega (arith, low, parts.engine.contents_at.at)) in
-          let counted : machine_counts w.primary.epoch position (told_by ack) ≡ true =
-          ap₂ (λ a b. (a || (nat_eq ack.position 0 && nat_lt ack.epoch w.primary.epoch)) && b) (eq-eqb ack.epoch w.primary.epoch own) (le-leb ack.position position low) in
-          let knows_now : told w.primary.epoch position (slice_get w.wire.acknowledgements n) w.primary.link ≡ knowing ack.position w.primary.link =
-          ap (λ (o : Option Acknowledgement). told w.primary.epoch position o w.primary.link) there ∙ ap (λ b. cond b (knowing ack.position w.primary.link) w.primary.link) counted in
-          let chain = stands.sound.link in
-          let now : LinkRefines w.primary.calls link old.handed old.remote (told w.primary.epoch w.primary.committer.position (slice_get w.wire.acknowledgements n) w.primary.link) =
-          subst (λ (l : MachineLink). LinkRefines w.primary.calls link old.handed old.remote l) (sym knows_now)
-          (subst (λ (s : Stream). LinkRefines w.primary.calls s old.handed old.remote (knowing ack.position w.primary.link)) (sym learned)
-          (knows w.primary.calls old.link old.handed old.remote ack.position w.primary.link chain.kept_from stands.sound.sent parts.link chain.kept)) in
-          goes-steps first second w (with_link (told w.primary.epoch w.primary.committer.position (slice_get w.wire.acknowledgements n) w.primary.link) w) (events.AckDelivered n) true old
-          (with_frames old.handed link old.remote old.frames old) refl refl stands.sound (own-runs stands (events.AckDelivered n) refl) stands.serves refl
-          (record {
-            done = sym (lt-ltb n (length w.wire.acknowledgements) (slice_get_within w.wire.acknowledgements n (told_by ack) there));
-            goes = λ did. link-alone first second old old.handed link old.remote w (told w.primary.epoch w.primary.committer.position (slice_get w.wire.acknowledgements n) w.primary.link) parts
-                (ap (λ (s : Stream). s.epoch) learned) now;
-            stays = λ did. absurd (true≢false did);
-          });
+          elim (counts old.link.epoch ack) as (λ b. counts old.link.epoch ack ≡ b → Steps first second w (events.AckDelivered n) true old (with_learned link opening old)) [
+            | true ↦ λ counted. taken first second w stands there (within-standby first second w stands counted one) counted
+            | false ↦ λ stale. refused first second w stands there stale
+          ] refl;
       cut = tt;
       calls = none-added _ _ refl;
     }
   where
     told-one : (epoch position : ℕ) (told : List Acknowledgement) (i : ℕ) (one : Acknowledgement) → All (IsToldWithin epoch position) told → slice_get told i ≡ Some one → IsToldWithin epoch position one
     told-one epoch position told i one all is = All-head (IsToldWithin epoch position) one [] (subst (λ (o : Option Acknowledgement). All (IsToldWithin epoch position) (option_items o)) is (all-at (IsToldWithin epoch position) told i all))
+
+    -- one that is counted is of the standby's position or below
+    either-within : (same low : Bool) (p : ℕ) (lower : Bool) → (same || (low && lower)) ≡ true → (same ≡ true → ack.position ≤ p) → (low ≡ true → ack.position ≡ 0) → ack.position ≤ p
+    either-within true low p lower counted own none = own refl
+    either-within false true p lower counted own none = omega (arith, none refl)
+    either-within false false p lower counted own none = cc
+
+    within-standby : (first second : Holder) (w : World) → PairRefines first second old w → counts old.link.epoch ack ≡ true → IsToldWithin w.primary.epoch w.standby.position (told_by ack) → ack.position ≤ w.standby.position
+    within-standby first second w stands counted one =
+        either-within (nat_eq ack.epoch old.link.epoch) (nat_eq ack.position 0) w.standby.position (nat_lt ack.epoch old.link.epoch) counted
+        (λ same. one.within (eqb-true ack.epoch old.link.epoch same ∙ stands.parts.epoch)) (eqb-true ack.position 0)
+
+    done : (w : World) → slice_get w.wire.acknowledgements n ≡ Some (told_by ack) → true ≡ may_happen w (events.AckDelivered n)
+    done w there = sym (lt-ltb n (length w.wire.acknowledgements) (slice_get_within w.wire.acknowledgements n (told_by ack) there))
+
+    taken : (first second : Holder) (w : World) → PairRefines first second old w → slice_get w.wire.acknowledgements n ≡ Some (told_by ack) → ack.position ≤ w.standby.position
+        → counts old.link.epoch ack ≡ true → Steps first second w (events.AckDelivered n) true old (with_learned link opening old)
+    taken first second w stands there below counted =
+        let parts = stands.parts in
+        let position = w.primary.committer.position in
+        let low : ack.position ≤ position = omega (arith, below, stands.sound.standby.behind, chain-le _ _ _ stands.sound.link.waiting) in
+        let learned : Learns ack.position old link opening = learns counted (omega (arith, low, parts.engine.contents_at.at)) in
+        let own : counts w.primary.epoch ack ≡ true = ap (λ e. counts e ack) (sym parts.epoch) ∙ counted in
+        let machine_counted : machine_counts w.primary.epoch position (told_by ack) ≡ true = ap₂ (λ a b. a && b) own (le-leb ack.position position low) in
+        let knows_now : told w.primary.epoch position (slice_get w.wire.acknowledgements n) w.primary.link ≡ knowing ack.position w.primary.link =
+        ap (λ (o : Option Acknowledgement). told w.primary.epoch position o w.primary.link) there ∙ ap (λ b. cond b (knowing ack.position w.primary.link) w.primary.link) machine_counted in
+        let chain = stands.sound.link in
+        let machine = told w.primary.epoch position (slice_get w.wire.acknowledgements n) w.primary.link in
+        let now : LinkRefines w.primary.calls link old.handed old.remote machine =
+        subst (λ (l : MachineLink). LinkRefines w.primary.calls link old.handed old.remote l) (sym knows_now)
+        (subst (λ (s : Stream). LinkRefines w.primary.calls s old.handed old.remote (knowing ack.position w.primary.link)) (sym learned.0)
+        (knows w.primary.calls old.link old.handed old.remote ack.position w.primary.link chain.kept_from stands.sound.sent parts.link chain.kept)) in
+        let highest : link.known ≡ max old.link.known ack.position = ap (λ (s : Stream). s.known) learned.0 in
+        let behind : link.known ≤ w.standby.position = omega (arith, highest, below, stands.sound.standby.known, parts.link.known) in
+        let tells : PartsRefine first second (with_opening opening old) w = opening-parts first second old link.known opening w behind learned.1 learned.2 parts in
+        goes-steps first second w (with_link machine w) (events.AckDelivered n) true old (with_learned link opening old) refl refl (nodes-refine stands) (own-runs stands (events.AckDelivered n) refl) stands.serves refl
+        (record {
+          done = done w there;
+          goes = λ did. link-alone first second (with_opening opening old) old.handed link old.remote w machine tells (ap (λ (s : Stream). s.epoch) learned.0) now;
+          stays = λ did. absurd (true≢false did);
+        })
+
+    refused : (first second : Holder) (w : World) → PairRefines first second old w → slice_get w.wire.acknowledgements n ≡ Some (told_by ack)
+        → counts old.link.epoch ack ≡ false → Steps first second w (events.AckDelivered n) true old (with_learned link opening old)
+    refused first second w stands there stale =
+        let parts = stands.parts in
+        let position = w.primary.committer.position in
+        let same = refuses stale in
+        let own : counts w.primary.epoch ack ≡ false = ap (λ e. counts e ack) (sym parts.epoch) ∙ stale in
+        let machine_counted : machine_counts w.primary.epoch position (told_by ack) ≡ false = ap (λ b. b && nat_le ack.position position) own in
+        let knows_now : told w.primary.epoch position (slice_get w.wire.acknowledgements n) w.primary.link ≡ w.primary.link =
+        ap (λ (o : Option Acknowledgement). told w.primary.epoch position o w.primary.link) there ∙ ap (λ b. cond b (knowing ack.position w.primary.link) w.primary.link) machine_counted in
+        let machine = told w.primary.epoch position (slice_get w.wire.acknowledgements n) w.primary.link in
+        let now : LinkRefines w.primary.calls old.link old.handed old.remote machine =
+        subst (λ (l : MachineLink). LinkRefines w.primary.calls old.link old.handed old.remote l) (sym knows_now) parts.link in
+        let steps : Steps first second w (events.AckDelivered n) true old (with_learned old.link old.opening old) =
+        goes-steps first second w (with_link machine w) (events.AckDelivered n) true old (with_learned old.link old.opening old) refl refl (nodes-refine stands) (own-runs stands (events.AckDelivered n) refl) stands.serves refl
+        (record {
+          done = done w there;
+          goes = λ did. link-alone first second old old.handed old.link old.remote w machine parts refl now;
+          stays = λ did. absurd (true≢false did);
+        }) in
+        subst (λ (l : Stream). Steps first second w (events.AckDelivered n) true old (with_learned l opening old)) (sym same.0)
+        (subst (λ (o : Opening). Steps first second w (events.AckDelivered n) true old (with_learned old.link o old)) (sym same.1) steps)
 
 pub ack-cut : (old : Pair) (n : ℕ) (bytes : Vec ℕ Global) (result : Result Bool Refusal) (refusal : Refusal) → result ≡ Err refusal → n < length old.arrivals.acknowledgements.items
     → slice_get old.arrivals.acknowledgements.items n ≡ Some bytes → ((ack : Acknowledgement) → IsAckSent bytes.items ack → refusal ≡ Memory) → Does old (events.AckDelivered n) result old

@@ -1,10 +1,14 @@
 -- What an event does to any pair: where its nodes do not take part, and where its primary runs.
-use Rattle.std.proofs.Common.{◌≡◌, ◌&&◌, Bool, true, false, Result, Ok, Err, refl, sym, ap, subst, ◌∙◌, true≢false}
+use Rattle.std.proofs.Common.{◌≡◌, ◌&&◌, ◌||◌, not, ℕ, Vec, Global, Bool, true, false, Result, Ok, Err, refl, sym, ap, subst, ◌∙◌, true≢false}
 use Rattle.kv_types.specs.declared.refusal.Refusal.{Refusal}
 use Rattle.model.specs.Standing.{Holder}
 use Rattle.machine.specs.declared.event.Event.{Event}
-use Rattle.machine.specs.declared.event.Event.TheVariants.{Apply, Crash, Deliver, OpenLink, Reopen}
-use Rattle.machine.specs.Event.{World, is_enabled, is_running, may_happen, nodes_run}
+use Rattle.machine.specs.declared.event.Event.TheVariants.{Apply, Crash, Deliver, FailFence, Fence, OpenLink, Promote, Reopen}
+use Rattle.machine.specs.declared.event.Cut.{Cut}
+use Rattle.machine.specs.declared.event.Cut.TheVariants as cut
+use Rattle.machine.specs.declared.event.Node.{Node}
+use Rattle.machine.specs.declared.event.Node.TheVariants as node_of
+use Rattle.machine.specs.Event.{World, is_between, is_enabled, is_retired, is_running, may_cut, may_happen, nodes_run}
 use Rattle.world.specs.Pair.{Acts, AreLives, Does, NodesRefine, Pair, life_if, takes_part}
 use Rattle.world.proofs.LivesLemmas.{serves-as}
 use Rattle.world.proofs.PairLemmas.{none-added, untouched}
@@ -19,8 +23,12 @@ nodes-take {first} {second} {serves} {follows} {w} lives OpenLink =
     ap (λ b. b && is_running w.standby.life) (ap is_running lives.primary ∙ running_if serves) ∙ ap (λ b. serves && b) (ap is_running lives.standby ∙ running_if follows)
 nodes-take {first} {second} {serves} {follows} {w} lives (Deliver frame piece) = ap is_running lives.standby ∙ running_if follows
 nodes-take {first} {second} {serves} {follows} {w} lives Apply = ap is_running lives.standby ∙ running_if follows
-nodes-take lives (Crash node picks) = refl
+nodes-take {first} {second} {serves} {follows} {w} lives (FailFence node_of.Primary n) = ap is_running lives.primary ∙ running_if serves
+nodes-take {first} {second} {serves} {follows} {w} lives (FailFence node_of.Standby n) = ap is_running lives.standby ∙ running_if follows
+nodes-take lives (Crash node call k picks) = refl
 nodes-take lives (Reopen node) = refl
+nodes-take lives Fence = refl
+nodes-take {first} {second} {serves} {follows} {w} lives Promote = ap is_running lives.standby ∙ running_if follows
 nodes-take {first} {second} {serves} {follows} {w} lives event = ap is_running lives.primary ∙ running_if serves
 
 -- an event that is not enabled
@@ -40,6 +48,38 @@ stays-acts old event never =
 -- its nodes do not run
 pub idle-acts : (old : Pair) (event : Event) → takes_part old.primary_runs old.standby_runs event ≡ false → Acts old event (Ok false) old
 idle-acts old event idle = stays-acts old event (λ first second w stands. ap (λ b. b && may_happen w event) (nodes-take stands.lives event ∙ idle))
+
+-- ---- events that do not come
+
+not-both : (a b : Bool) → b ≡ false → (a && b) ≡ false
+not-both true b e = e
+not-both false b e = refl
+
+no-failover : (w : World) (event : Event) (may : Bool) → may_happen w event ≡ (w.failovers && may) → w.failovers ≡ false → is_enabled w event ≡ false
+no-failover w event may is off = not-both (nodes_run w event) (may_happen w event) (is ∙ ap (λ b. b && may) off)
+
+pub fail-fence-acts : (old : Pair) (n : Node) (k : ℕ) → Acts old (FailFence n k) (Ok false) old
+fail-fence-acts old n k = stays-acts old (FailFence n k) (λ first second w stands. not-both (nodes_run w (FailFence n k)) w.failovers stands.lives.failovers)
+
+pub fence-acts : (old : Pair) → Acts old Fence (Ok false) old
+fence-acts old = stays-acts old Fence (λ first second w stands. no-failover w Fence (not (is_retired w.primary.life)) refl stands.lives.failovers)
+
+pub promote-acts : (old : Pair) → Acts old Promote (Ok false) old
+promote-acts old = stays-acts old Promote (λ first second w stands. no-failover w Promote (is_retired w.primary.life) refl stands.lives.failovers)
+
+-- a crash that does not come inside a call comes between two
+pub between : (call : Cut) → is_between call ≡ true → call ≡ cut.Between
+between cut.Between is = refl
+between call is = absurd (true≢false (sym is))
+
+-- a crash inside a call
+pub cut-acts : (old : Pair) (n : Node) (call : Cut) (k : ℕ) (picks : Vec ℕ Global) → is_between call ≡ false → Acts old (Crash n call k picks) (Ok false) old
+cut-acts old n call k picks inside =
+    stays-acts old (Crash n call k picks) (λ first second w stands.
+    not-both w.restarts ((is_between call || w.failovers) && may_cut w n call)
+    (ap (λ b. (b || w.failovers) && may_cut w n call) inside ∙ ap (λ b. b && may_cut w n call) stands.lives.failovers))
+
+-- ---- the primary runs
 
 -- the primary runs
 pub does-acts : (old : Pair) (event : Event) (result : Result Bool Refusal) (new : Pair) → old.primary_runs ≡ true → Does old event result new → Acts old event result new

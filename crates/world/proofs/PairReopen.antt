@@ -30,7 +30,7 @@ use Rattle.wbl_engine.specs.Reopening.{RefusesReopening}
 use Rattle.machine.specs.declared.event.Event.{Event}
 use Rattle.machine.specs.declared.event.Event.TheVariants as events
 use Rattle.machine.specs.declared.event.Node.TheVariants as node
-use Rattle.machine.specs.Event.{Committer as MachineCommitter, World, Step, is_crashed, is_enabled, gaps_reopened, new_link, reopened_primary, reopened_standby, with_primary, with_standby}
+use Rattle.machine.specs.Event.{Committer as MachineCommitter, World, Step, is_crashed, is_enabled, new_link, reopened_primary, reopened_standby, with_primary, with_standby}
 use Rattle.machine.proofs.SoundEvents.{sound-step}
 use Rattle.world.specs.Cause.{EndsBy, Stretch}
 use Rattle.world.specs.Committing.{Committing, CommittingRefines, IsDown, next_primary, next_standby}
@@ -107,7 +107,7 @@ standby-reopens old node' fallen opened follows own = record { steps = steps; cu
         } in
         let w' = with_standby (reopened_standby w.standby) w in
         let step : Step w event true w' =
-        record { done = sym (standby-opens lives ∙ opens_if old.standby_runs fallen); happens = λ did. refl; stands = λ did. absurd (true≢false did) } in
+        record { done = sym (standby-opens lives ∙ opens_if old.standby_runs fallen); happens = λ did. inl refl; stands = λ did. absurd (true≢false did) } in
         let refined : StandbyRefines second old.link.epoch calls p node' true = record { stands = λ up. stood; down = λ is. absurd (true≢false is) } in
         record {
           world = w';
@@ -261,9 +261,10 @@ primary-reopens old sequencer committing notices device contents is_faulted hand
         opening-opened (λ contents opening. delta_leads_on contents opening (λ i. Unit {0})) deltas_fit first low p calls contents opening at (omega (arith, lost.ends)) (in_order contents begins.image begins.shows)
         (have_their_lines contents begins.image begins.shows) engine.lawful.few (begins.opened_at ∙ at.at) begins.tells recalled in
         let ended = length sequencer.ended in
-        let w' = with_primary (reopened_primary ended w.primary) w in
+        let gaps = length contents.current.gaps.items in
+        let w' = with_primary (reopened_primary ended gaps w.primary) w in
         let step : Step w event true w' =
-        record { done = sym (primary-opens lives ∙ opens_if old.primary_runs fallen); happens = λ did. (ended, refl); stands = λ did. absurd (true≢false did) } in
+        record { done = sym (primary-opens lives ∙ opens_if old.primary_runs fallen); happens = λ did. inl (record { ended = ended; gaps = gaps; some = opened-gaps first calls p old.device device contents is_faulted lost.image mine; few = engine.lawful.current.few; now = refl }); stands = λ did. absurd (true≢false did) } in
         let parts : PartsRefine first second new w' =
         record {
           sessions = lost.sessions;
@@ -277,7 +278,7 @@ primary-reopens old sequencer committing notices device contents is_faulted hand
             ended = refl;
             newest = newest ∙ sym lost.newest;
             notices_are = ap (λ (told : List Freed). length told) begins.none_told ∙ sym lost.none_told;
-            gaps = opened-gaps first calls p old.device device contents is_faulted lost.image mine ∙ ap gaps_reopened lost.gaps;
+            gaps = refl;
           };
           remembers = remembered;
           opening = subst (λ n. OpeningLeads low n calls opening) (sym lost.opened) told;
@@ -302,14 +303,14 @@ primary-reopens old sequencer committing notices device contents is_faulted hand
           };
         }
 
-pub primary-reopening-cut : (old : Pair) (committing : Committing) (device : State) (contents : Contents) (is_faulted : Bool) (result : Result Bool Refusal) (refusal : Refusal) → result ≡ Err refusal
+pub primary-reopening-cut : (old : Pair) (sequencer : Sequencing) (committing : Committing) (device : State) (contents : Contents) (is_faulted : Bool) (result : Result Bool Refusal) (refusal : Refusal) → result ≡ Err refusal
     → old.primary_runs ≡ false → IsNotOpened role.Primary old.device device refusal
-    → Acts old (events.Reopen node.Primary) result (with_primary_node old.sequencer committing old.notices device contents is_faulted old.handed old.link old.opening old.remote old.primary_runs old)
-primary-reopening-cut old committing device' contents is_faulted result refusal is fallen refused =
+    → Acts old (events.Reopen node.Primary) result (with_primary_node sequencer committing old.notices device contents is_faulted old.handed old.link old.opening old.remote old.primary_runs old)
+primary-reopening-cut old sequencer committing device' contents is_faulted result refusal is fallen refused =
     subst (λ (r : Result Bool Refusal). Acts old event r new) (sym is) (record { steps = tt; cut = cut; calls = none-added _ _ refl })
   where
     new : Pair
-    new = with_primary_node old.sequencer committing old.notices device' contents is_faulted old.handed old.link old.opening old.remote old.primary_runs old
+    new = with_primary_node sequencer committing old.notices device' contents is_faulted old.handed old.link old.opening old.remote old.primary_runs old
 
     event : Event
     event = events.Reopen node.Primary

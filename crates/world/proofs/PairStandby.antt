@@ -17,7 +17,7 @@ use Rattle.standby_stream.specs.Stream.{Stream}
 use Rattle.machine.specs.declared.event.Event.{Event}
 use Rattle.machine.specs.declared.event.Event.TheVariants as events
 use Rattle.model.specs.declared.call.Call.{Call}
-use Rattle.machine.specs.Event.{World, Standby as MachineStandby, Acknowledgement, Applies, Span, Step, due_delta, is_running, nodes_run, may_happen, opened_link, acknowledgement_of, delivered, option_items, told, with_link, with_standby, with_acknowledged}
+use Rattle.machine.specs.Event.{Happens, World, Standby as MachineStandby, Acknowledgement, Span, Step, due_delta, is_running, nodes_run, may_happen, opened_link, acknowledgement_of, delivered, option_items, told, with_link, with_standby, with_acknowledged}
 use Rattle.machine.specs.Sound.{Sound}
 use Rattle.machine.proofs.GrowLemmas.{grows-step}
 use Rattle.machine.proofs.SoundEvents.{sound-step}
@@ -41,8 +41,8 @@ use Rattle.world.proofs.RecallLemmas.{recalls-still, remembers-on}
 abbrev pub with_arrivals : Arrived → Pair → Pair
 with_arrivals arrivals pair = record pair { arrivals = arrivals }
 
-abbrev pub with_opened : Arrived → Stream → Pair → Pair
-with_opened arrivals link pair = record pair { arrivals = arrivals; link = link }
+abbrev pub with_opened : Arrived → Stream → Opening → Pair → Pair
+with_opened arrivals link opening pair = record pair { arrivals = arrivals; link = link; opening = opening }
 
 abbrev pub with_standby_as : Arrived → Node → Bool → Pair → Pair
 with_standby_as arrivals node runs pair = record pair { arrivals = arrivals; standby = node; standby_runs = runs }
@@ -120,24 +120,24 @@ Acknowledges ack old new =
     → ArrivalsRefine epoch w.primary.calls new w.standby.waiting (w.wire.acknowledgements ++ acknowledgement_of w.standby ∷ [])
 
 -- what a standby at this position is due of what is told of the opening
-pub record IsDue (epoch : ℕ) (opening : Opening) (position : ℕ) (delta : Option Frame) : Type 0 where
+record IsDue (epoch : ℕ) (opening : Opening) (position : ℕ) (delta : Option Frame) : Type 0 where
   pub due : position < opening.position → (frame : Frame) × (delta ≡ Some frame) × IsDelta epoch opening position frame
   pub none : opening.position ≤ position → delta ≡ None
 
--- it is what was answered
-pub due_so : (epoch position : ℕ) (opening : Opening) (delta : Option Frame) (result : Result (Option Frame) Refusal) → result ≡ Ok delta
-    → (position < opening.position → IfOk result (λ due. (frame : Frame) × (due ≡ Some frame) × IsDelta epoch opening position frame))
-    → (opening.position ≤ position → result ≡ Ok None) → IsDue epoch opening position delta
-due_so epoch position opening delta result is due none = record {
-  due = λ below. subst (λ (r : Result (Option Frame) Refusal). IfOk r (λ given. (frame : Frame) × (given ≡ Some frame) × IsDelta epoch opening position frame)) is (due below);
-  none = λ passed. same (sym is ∙ none passed);
-}
-  where
-    told : Result (Option Frame) Refusal
-    told = Ok delta
+-- what `Outgoing::open_at` says of a link that was opened
+pub record Reopens (old : Stream) (opening : Opening) (position : ℕ) (new : Stream) : Type 0 where
+  pub behind : position < opening.position → old.known < opening.position → (frame : Frame) × IsDelta old.epoch opening position frame × (new ≡ record old { next = 0; delta = Some frame })
+  pub level : opening.position ≤ position → new ≡ record old { next = 0; delta = None }
 
-    same : told ≡ Ok None → delta ≡ None
-    same e = cc
+-- where no higher position is known, it is to send what the standby is due
+reopens-due : (old : Stream) (opening : Opening) (position : ℕ) (new : Stream) → old.known ≤ position → Reopens old opening position new
+    → (delta : Option Frame) × IsDue old.epoch opening position delta × (new ≡ record old { next = 0; delta = delta })
+reopens-due old opening position new known reopens = elim (cases_lt position opening.position) [
+  | inl below ↦
+      let one = reopens.behind below (omega (arith, known, below)) in
+      (Some one.0, record { due = λ _. (one.0, refl, one.1); none = λ level. absurd (omega (arith, below, level)) }, one.2)
+  | inr level ↦ (None, record { due = λ below. absurd (omega (arith, below, level)); none = λ _. refl }, reopens.level level)
+]
 
 -- the delta is the frame of its span
 delta-frame : (epoch low opened : ℕ) (calls : List Call) (opening : Opening) (frame : Frame) → OpeningLeads low opened calls opening → low < opened → IsDelta epoch opening low frame
@@ -165,48 +165,79 @@ delta-frames epoch low opened calls opening delta leads is = elim (cases_lt low 
       (subst (λ (d : Option Frame). AreFramesOf epoch calls (option_items d) []) (sym (is.none (omega (arith, passed, leads.position_is)))) tt)
 ]
 
-pub open-does : (old : Pair) (arrivals : Arrived) (link : Stream) (ack : Ack) (delta : Option Frame) → old.standby_runs ≡ true
-    → ack ≡ record { epoch = old.standby.epoch; position = old.standby.contents.current.position } → Acknowledges ack old.arrivals arrivals → IsDue old.link.epoch old.opening ack.position delta
-    → link ≡ record old.link { next = 0; delta = delta } → Does old events.OpenLink (Ok true) (with_opened arrivals link old)
-open-does old arrivals link ack delta follows is acknowledges due reopened =
-    record {
+-- the position that the standby tells is its own
+own-position : {first second : Holder} {w : World} (old : Pair) (ack : Ack) → old.standby_runs ≡ true → ack ≡ record { epoch = old.standby.epoch; position = old.standby.contents.current.position }
+    → PairRefines first second old w → ack.position ≡ w.standby.position
+own-position old ack follows is stands = ap (λ (a : Ack). a.position) is ∙ (stands.parts.standby.stands follows).engine.contents_at.at
+
+-- and no higher one is known
+known-within : {first second : Holder} {w : World} (old : Pair) (ack : Ack) → old.standby_runs ≡ true → ack ≡ record { epoch = old.standby.epoch; position = old.standby.contents.current.position }
+    → PairRefines first second old w → old.link.known ≤ ack.position
+known-within old ack follows is stands = omega (arith, own-position old ack follows is stands, stands.parts.link.known, stands.sound.standby.known)
+
+pub open-does : (old : Pair) (arrivals : Arrived) (link : Stream) (opening : Opening) (ack : Ack) → old.standby_runs ≡ true
+    → ack ≡ record { epoch = old.standby.epoch; position = old.standby.contents.current.position } → Acknowledges ack old.arrivals arrivals → Reopens old.link old.opening ack.position link
+    → opening ≡ old.opening → Does old events.OpenLink (Ok true) (with_opened arrivals link opening old)
+open-does old arrivals link opening ack follows is acknowledges reopens same =
+    subst (λ (o : Opening). Does old events.OpenLink (Ok true) (with_opened arrivals link o old)) (sym same)
+    (record {
       steps = λ first second w stands.
           let parts = stands.parts in
           let epoch : ack.epoch ≡ w.standby.epoch = ap (λ (a : Ack). a.epoch) is ∙ own-epoch first second old w follows (nodes-refine stands) in
-          let position : ack.position ≡ w.standby.position = ap (λ (a : Ack). a.position) is ∙ (parts.standby.stands follows).engine.contents_at.at in
+          let position : ack.position ≡ w.standby.position = own-position old ack follows is stands in
           let own : told_by ack ≡ acknowledgement_of w.standby = ap₂ (λ e p. record { epoch = e; position = p }) epoch position in
           let told = acknowledges old.link.epoch w parts.arrivals own in
           let w' = with_acknowledged (acknowledgement_of w.standby ∷ []) w in
           let heard : PartsRefine first second (with_arrivals arrivals old) w' = standby-parts first second old arrivals old.standby old.standby_runs w w.standby (w.wire.acknowledgements ++ acknowledgement_of w.standby ∷ []) (le_refl w.standby.position) parts told parts.standby in
+          let reopened = reopens-due old.link old.opening ack.position link (known-within old ack follows is stands) reopens in
+          let delta : Option Frame = reopened.0 in
           let machine = opened_link (due_delta w.standby.position w.primary.opened) w.primary.link in
           let opened : LinkRefines w.primary.calls (record old.link { next = 0; delta = delta }) old.handed old.remote machine = record {
             waiting = parts.link.waiting;
             none_pending = parts.link.none_pending;
             delta = delta-frames old.link.epoch w.standby.position w.primary.opened w.primary.calls old.opening delta parts.opening
-                (subst (λ p. IsDue old.link.epoch old.opening p delta) position due);
+                (subst (λ p. IsDue old.link.epoch old.opening p delta) position reopened.1);
             kept = parts.link.kept;
             next_within = omega arith;
             again = refl;
             known = parts.link.known;
             remote_is = parts.link.remote_is;
           } in
-          let moved = link-alone first second (with_arrivals arrivals old) old.handed link old.remote w' machine heard (ap (λ (s : Stream). s.epoch) reopened)
-          (subst (λ (s : Stream). LinkRefines w.primary.calls s old.handed old.remote machine) (sym reopened) opened) in
-          goes-steps first second w (with_link machine w') events.OpenLink true old (with_opened arrivals link old) refl refl stands.sound (both-run follows stands) stands.serves refl
+          let moved = link-alone first second (with_arrivals arrivals old) old.handed link old.remote w' machine heard (ap (λ (s : Stream). s.epoch) reopened.2)
+          (subst (λ (s : Stream). LinkRefines w.primary.calls s old.handed old.remote machine) (sym reopened.2) opened) in
+          goes-steps first second w (with_link machine w') events.OpenLink true old (with_opened arrivals link old.opening old) refl refl (nodes-refine stands) (both-run follows stands) stands.serves refl
           (record { done = refl; goes = λ did. moved; stays = λ did. absurd (true≢false did) });
       cut = tt;
       calls = none-added _ _ refl;
-    }
+    })
 
-pub open-cut : (old : Pair) (arrivals : Arrived) (result : Result Bool Refusal) (refusal : Refusal) → old.standby_runs ≡ true → result ≡ Err refusal → refusal ≡ Memory
-    → Does old events.OpenLink result (with_arrivals arrivals old)
-open-cut old arrivals result refusal follows is memory =
-    subst (λ (r : Result Bool Refusal). Does old events.OpenLink r (with_arrivals arrivals old)) (sym is)
+-- memory was refused
+open-lacks : (old : Pair) (arrivals : Arrived) (link : Stream) (opening : Opening) (result : Result Bool Refusal) (refusal : Refusal) → old.standby_runs ≡ true → result ≡ Err refusal
+    → ((first second : Holder) (w : World) → PairRefines first second old w → refusal ≡ Memory) → Does old events.OpenLink result (with_opened arrivals link opening old)
+open-lacks old arrivals link opening result refusal follows is memory =
+    subst (λ (r : Result Bool Refusal). Does old events.OpenLink r (with_opened arrivals link opening old)) (sym is)
     (record {
       steps = tt;
-      cut = λ first second w stands. cut-same first second events.OpenLink refusal old (with_arrivals arrivals old) w refl memory refl refl (tells old.transcript) (both-run follows stands) refl (nodes-refine stands);
+      cut = λ first second w stands.
+          cut-same first second events.OpenLink refusal old (with_opened arrivals link opening old) w refl (memory first second w stands) refl refl (tells old.transcript) (both-run follows stands) refl (nodes-refine stands);
       calls = none-added _ _ refl;
     })
+
+-- for the acknowledgement
+pub open-cut : (old : Pair) (arrivals : Arrived) (link : Stream) (opening : Opening) (result : Result Bool Refusal) (refusal : Refusal) → old.standby_runs ≡ true → result ≡ Err refusal → refusal ≡ Memory
+    → Does old events.OpenLink result (with_opened arrivals link opening old)
+open-cut old arrivals link opening result refusal follows is memory = open-lacks old arrivals link opening result refusal follows is (λ first second w stands. memory)
+
+-- For the delta. It is never refused as forgotten: what is told of the opening is there as long as the standby may be behind.
+pub open-refused : (old : Pair) (arrivals : Arrived) (link : Stream) (opening : Opening) (ack : Ack) (result : Result Bool Refusal) (refusal : Refusal) → old.standby_runs ≡ true
+    → ack ≡ record { epoch = old.standby.epoch; position = old.standby.contents.current.position } → result ≡ Err refusal → (old.opening.position ≤ ack.position → ⊥)
+    → (old.link.known < old.opening.position → refusal ≡ Memory) → Does old events.OpenLink result (with_opened arrivals link opening old)
+open-refused old arrivals link opening ack result refusal follows is refused behind cause =
+    open-lacks old arrivals link opening result refusal follows refused
+    (λ first second w stands. elim (cases_lt old.link.known old.opening.position) [
+      | inl below ↦ cause below
+      | inr passed ↦ absurd (behind (omega (arith, passed, known-within old ack follows is stands)))
+    ])
 
 pub deliver-acts : (old : Pair) (arrivals : Arrived) (texts : List (Vec ℕ Global)) (frame piece : ℕ) (result : Result Bool Refusal) → old.standby_runs ≡ true → texts ≡ old.frames
     → IfOk result (λ did. (epoch : ℕ) (w : World) → ArrivalsRefine epoch w.primary.calls old.arrivals w.standby.waiting w.wire.acknowledgements
@@ -223,7 +254,7 @@ deliver-acts old arrivals texts frame piece (Ok did) follows same go memory some
           let epoch = old.link.epoch in
           let calls = w.primary.calls in
           let came = delivered (option_items (slice_get w.wire.frames frame)) w.standby in
-          goes-either first second w (with_standby came w) (events.Deliver frame piece) did old (with_arrivals arrivals old) refl refl stands.sound
+          goes-either first second w (with_standby came w) (events.Deliver frame piece) did old (with_arrivals arrivals old) refl refl stands
           (standby-runs follows stands (events.Deliver frame piece) (λ runs. runs) refl) refl
           (goes-map (go epoch w (arrivals-stand parts) (subst (λ (all : List (Vec ℕ Global)). AreFramesSent epoch calls all w.wire.frames) (sym same) (frames-stand parts)))
           (λ moved. standby-either first second old arrivals old.standby old.standby_runs w came w.wire.acknowledgements (le_refl w.standby.position) parts moved (standby-refines parts))
@@ -259,7 +290,7 @@ apply-steps first second old arrivals node w true follows stands applies =
     let applied = moved.1 in
     let w' = with_acknowledged applied.told (with_standby applied.standby w) in
     let runs = standby-runs follows stands events.Apply (λ runs. runs) refl in
-    let happens : Applies w w' = record { frame = applied.frame; first = applied.first; standby = applied.standby; told = applied.told; takes = applied.takes; now = refl } in
+    let happens : Happens w events.Apply w' = inl (record { frame = applied.frame; first = applied.first; standby = applied.standby; told = applied.told; takes = applied.takes; now = refl }) in
     let step : Step w events.Apply true w' = record { done = applies.done ∙ sym (enabled-is runs); happens = λ did. happens; stands = λ did. absurd (true≢false did) } in
     record {
       world = w';
@@ -267,7 +298,7 @@ apply-steps first second old arrivals node w true follows stands applies =
       stands = record {
         sound = sound-step w events.Apply true w' step stands.sound;
         lives = lives-step runs happens;
-        parts = node-either first second old arrivals node w applied.standby (w.wire.acknowledgements ++ applied.told) follows stands.parts (grows-step w events.Apply true w' step stands.sound).standby_position
+        parts = node-either first second old arrivals node w applied.standby (w.wire.acknowledgements ++ applied.told) follows stands.parts (grows-step w events.Apply true w' step stands.sound).safe
             (subst (λ (x : World). ArrivalsRefine old.link.epoch w.primary.calls arrivals x.standby.waiting x.wire.acknowledgements) applied.now moved.2)
             (subst (λ (x : World). StandbyStands second old.link.epoch w.primary.calls x.standby.position node) applied.now moved.3);
       };
@@ -285,7 +316,7 @@ apply-steps first second old arrivals node w false follows stands applies =
       world = w;
       step = record { done = applies.done ∙ sym (enabled-is runs); happens = λ did. absurd (true≢false (sym did)); stands = λ did. refl };
       stands = record { sound = stands.sound; lives = stands.lives; parts = parts };
-      moves = untouched first second old (with_node arrivals node old) w w refl (ap (λ (n : Node). n.device) stayed.1) parts;
+      moves = untouched first second old (with_node arrivals node old) w w refl (ap (λ (n : Node). n.device) stayed.1) stands.parts;
     }
 
 -- what ended an application is of the standby's device

@@ -25,11 +25,11 @@ use Rattle.model.proofs.MapLemmas.{not_live}
 use Rattle.model.proofs.PositionsLemmas.{keyspace_after-cut_at-next}
 use Rattle.model.proofs.VersionsLemmas.{HasRoom}
 use Rattle.placing.proofs.BackLemmas.{listed-append}
+use Rattle.placing.proofs.MemberLemmas.{listed-from_member}
 use Rattle.placing.proofs.TakenLemmas.{All-append, All-both, All-map, All-prefix, All-rest}
 use Rattle.redis_core.specs.Sequencing.{HandsOut, Sequencing, ended_by_parts, newest_end}
 use Rattle.redis_core.proofs.BegunLemmas.{none_earlier}
 use Rattle.redis_core.proofs.ListedLemmas.{IsEmptyIn, none_at_begun}
-use Rattle.standby.proofs.EndedLemmas.{listed-from_member}
 use Rattle.standby_stream.specs.Delta.{IsGone, Recalls}
 use Rattle.group_commit.specs.Group.{groups_of, lists_of}
 use Rattle.group_commit.specs.Working.{entries_of_lists}

@@ -1,6 +1,6 @@
 -- A run from event to event, and what is reported of it at its end.
 use Rattle.std.specs.Global.{Global}
-use Rattle.std.proofs.Common.{Vec, ◌≡◌, ℕ, ◌≤◌, Bool, List, [], ◌∷◌, ◌++◌, length, take, slice_index_or, Option, Some, None, Err, refl, sym, ap, ap₂, subst, ◌∙◌, arith, le_refl, inl, inr, true, cond, nat_eq, eqb-true, All, false, ◌&&◌}
+use Rattle.std.proofs.Common.{Vec, ◌≡◌, ℕ, ◌≤◌, Bool, List, [], ◌∷◌, ◌++◌, length, take, slice_index_or, Option, Some, None, Err, refl, sym, ap, ap₂, subst, ◌∙◌, arith, le_refl, inl, inr, true, false, ◌&&◌}
 use Rattle.pmem.specs.Device.{State}
 use Rattle.pmem.specs.Runs.{LeavesOnly}
 use Rattle.kv_types.specs.declared.refusal.Refusal.{Refusal}
@@ -13,14 +13,15 @@ use Rattle.model.specs.Call.{position_of}
 use Rattle.model.specs.Image.{Image}
 use Rattle.model.specs.Standing.{Holder, new_holder}
 use Rattle.machine.specs.declared.event.Event.{Event}
-use Rattle.machine.specs.declared.event.Event.TheVariants.{Commit, Free, ClearGap, Apply, OpenLink, Reopen, Send}
+use Rattle.machine.specs.declared.event.Event.TheVariants.{Commit, Free, ClearGap, Apply, OpenLink, Promote, Reopen, Send}
 use Rattle.machine.specs.declared.event.Node.TheVariants as node_of
-use Rattle.machine.specs.Event.{Run, World, Work, Commits, Frees, Frame as Sent, Committer, committed_first, from_group, last_world, spans_of}
+use Rattle.machine.specs.Event.{Run, World, IsSure, Work, Commits, Frees, Committer, committed_first, from_group, last_world, spans_of}
 use Rattle.machine.specs.Law.{Grows}
 use Rattle.machine.specs.Promise.{IsPromised, IsReleased, Tells, released_in}
-use Rattle.machine.specs.Sound.{IsChain, IsFrameWithin, Sound}
-use Rattle.std.proofs.lemmas.List.Elements.{All-head}
-use Rattle.machine.proofs.GrowLemmas.{grows-step}
+use Rattle.machine.specs.Sound.{IsChain, Sound}
+use Rattle.machine.proofs.GrowLemmas.{grows-step, released-stays}
+use Rattle.machine.proofs.StandbyLemmas.{next-within}
+use Rattle.machine.proofs.SureLemmas.{sure-step}
 use Rattle.machine.proofs.WorkLemmas.{spans_of-from_group}
 use Rattle.machine.proofs.CoverLemmas.{covered-run}
 use Rattle.machine.proofs.PromiseLemmas.{released-held}
@@ -28,7 +29,7 @@ use Rattle.machine.proofs.EveryRun.{promised-told}
 use Rattle.machine.proofs.RunLemmas.{run-push, last_world-push, sound-start}
 use Rattle.machine.proofs.SoundEvents.{sound-step}
 use Rattle.world.specs.Cause.{Stretch, UnformedBy, Breaks, RestsAtFrameLimit, RestsAtLimit, RestsBeforeReopening, EndsBy, Resting}
-use Rattle.world.specs.Committing.{FormattingOnly, FromOnly, Moves, NearOnly, OpensAt, OpensAtEither, Rests, next_primary, next_from, next_standby}
+use Rattle.world.specs.Committing.{FormattingOnly, FromOnly, Moves, NearOnly, OpensAt, OpensAtEither, Rests, next_primary, next_standby}
 use Rattle.world.specs.declared.trace.EarlyEnd.{EarlyEnd}
 use Rattle.world.specs.declared.trace.EarlyEnd.TheVariants.{AtFormatting, AtEvent}
 use Rattle.world.specs.Headline.{AnyWorld, Enables, start, primary_position, standby_position, AreMoments, IsKept, KeepsItsWord, PlaysOn, AreMoves, OpensFrom, OpensIn, Reaches, StandsAfter, IsCutAfter, Plays, HasSent, primary_holder, standby_holder}
@@ -59,10 +60,10 @@ standby-holds {first} {second} {pair} {w} stands =
 -- one more event
 moves-push : (touches : Event → Bool) (position : World → ℕ) (holder : World → Holder) (w : World) (events : List Event) (done : List Bool) (worlds : List World) (event : Event) (did : Bool) (w' : World) (old new new' : State)
     → AreMoves touches position holder w events done worlds old new
-    → Moves (holder w') w'.primary.calls (position (last_world w worlds)) (position w') new new' → ((touches event && did) ≡ false → new' ≡ new)
+    → Moves (holder (last_world w worlds)) (last_world w worlds).primary.calls (position (last_world w worlds)) (position w') new new' → ((touches event && did) ≡ false → new' ≡ new)
     → AreMoves touches position holder w (events ++ event ∷ []) (done ++ did ∷ []) (worlds ++ w' ∷ []) old new'
 moves-push touches position holder w [] [] [] event did w' old new new' are moves untouched =
-    (new', subst (λ (d : State). Moves (holder w') w'.primary.calls (position w) (position w') d new') (sym are) moves, λ idle. untouched idle ∙ sym are, refl)
+    (new', subst (λ (d : State). Moves (holder w) w.primary.calls (position w) (position w') d new') (sym are) moves, λ idle. untouched idle ∙ sym are, refl)
 moves-push touches position holder w (first ∷ events) (first_did ∷ done) (next ∷ worlds) event did w' old new new' are moves untouched =
     (are.0, are.1, are.2, moves-push touches position holder next events done worlds event did w' are.0 new new' are.3 moves untouched)
 moves-push touches position holder w events done worlds event did w' old new new' are moves untouched = absurd are
@@ -97,10 +98,10 @@ reaches-next first second began events done done' pair pair' event did more step
             (run-push start events done reaches.worlds event did next.world reaches.run next.step);
         primary_moves = subst (λ (d : List Bool). AreMoves touches_primary primary_position (primary_holder first.lines) start (events ++ event ∷ []) d (reaches.worlds ++ next.world ∷ []) began.device pair'.device) (sym more)
             (moves-push touches_primary primary_position (primary_holder first.lines) start events done reaches.worlds event did next.world began.device pair.device pair'.device reaches.primary_moves
-            (subst (λ (h : Holder). Moves h next.world.primary.calls (primary_position w) (primary_position next.world) pair.device pair'.device) (primary-holds next.stands) next.moves.primary) primary_stays);
+            (subst (λ (h : Holder). Moves h w.primary.calls (primary_position w) (primary_position next.world) pair.device pair'.device) (primary-holds after.stands) next.moves.primary) primary_stays);
         standby_moves = subst (λ (d : List Bool). AreMoves touches_standby standby_position (standby_holder second.lines) start (events ++ event ∷ []) d (reaches.worlds ++ next.world ∷ []) began.standby.device pair'.standby.device) (sym more)
             (moves-push touches_standby standby_position (standby_holder second.lines) start events done reaches.worlds event did next.world began.standby.device pair.standby.device pair'.standby.device reaches.standby_moves
-            (subst (λ (h : Holder). Moves h next.world.primary.calls (standby_position w) (standby_position next.world) pair.standby.device pair'.standby.device) (standby-holds next.stands) next.moves.standby) standby_stays);
+            (subst (λ (h : Holder). Moves h w.primary.calls (standby_position w) (standby_position next.world) pair.standby.device pair'.standby.device) (standby-holds after.stands) next.moves.standby) standby_stays);
       };
       stands = subst (NodesRefine first second pair') (sym (last_world-push start reaches.worlds next.world)) next.stands;
     }
@@ -125,9 +126,9 @@ reaches-cut first second began events event refusal done pair pair' cuts frames 
 
 -- ---- the position of a node
 
--- it never falls, what was released is within it, and the next position is no lower
+-- within an epoch it never falls, what was released is within it, and the next position is no lower
 record IsOfNode (position next : World → ℕ) : Type 0 where
-  rises : (old new : World) → Grows old new → position old ≤ position new
+  rises : (old new : World) → Grows old new → new.primary.epoch ≡ old.primary.epoch → position old ≤ position new
   holds : (w : World) → Sound w → (prefix : List Call) (call : Call) → IsReleased w.primary.calls (released_in w) prefix call → position_of (prefix ++ call ∷ []) ≤ position w
   onward : (w : World) → Sound w → position w ≤ next w
 
@@ -136,19 +137,10 @@ next_of_groups from to [] committer chain same = omega (arith, same)
 next_of_groups from to (Commits group ∷ works) committer chain same = omega (arith, chain.1)
 next_of_groups from to (Frees position ∷ works) committer chain same = omega (arith, same)
 
-next_of_frames : (epoch sent position : ℕ) (frames : List Sent) → All (IsFrameWithin epoch sent) frames → position ≤ next_from position frames
-next_of_frames epoch sent position [] all = le_refl position
-next_of_frames epoch sent position (frame ∷ frames) all =
-    let rising = (All-head (IsFrameWithin epoch sent) frame frames all).span.rising in
-    elim (nat_eq frame.span.before position) as (λ b. nat_eq frame.span.before position ≡ b → position ≤ cond b frame.span.after position) [
-      | true ↦ λ e. let same : frame.span.before ≡ position = eqb-true frame.span.before position e in omega (arith, rising, same)
-      | false ↦ λ e. le_refl position
-    ] refl
-
 of_primary : IsOfNode primary_position next_primary
 of_primary =
     record {
-      rises = λ old new grows. grows.primary_position;
+      rises = λ old new grows same. (grows.within same).1;
       holds = λ w s prefix call released. (released-held w s prefix call released).0;
       onward = λ w s.
           let committer = w.primary.committer in
@@ -159,9 +151,9 @@ of_primary =
 of_standby : IsOfNode standby_position next_standby
 of_standby =
     record {
-      rises = λ old new grows. grows.standby_position;
+      rises = λ old new grows same. grows.safe;
       holds = λ w s prefix call released. (released-held w s prefix call released).1;
-      onward = λ w s. next_of_frames w.primary.epoch s.sent w.standby.position w.standby.waiting s.standby.frames;
+      onward = λ w s. (next-within w.primary.epoch s.sent w.standby w.standby.waiting s.standby.epoch_is s.standby.behind s.standby.frames).0;
     }
 
 -- ---- the moments of a run
@@ -188,10 +180,6 @@ OpensIn-lower holder p q w [] image le opens = OpensFrom-lower (holder w) w.prim
 OpensIn-lower holder p q w (w' ∷ worlds) image le (inl here) = inl (OpensFrom-lower (holder w) w.primary.calls p q image le here)
 OpensIn-lower holder p q w (w' ∷ worlds) image le (inr later) = inr (OpensIn-lower holder p q w' worlds image le later)
 
-OpensIn-first : (holder : World → Holder) (p : ℕ) (w : World) (worlds : List World) (image : Image) → OpensFrom (holder w) w.primary.calls p image → OpensIn holder p w worlds image
-OpensIn-first holder p w [] image opens = opens
-OpensIn-first holder p w (w' ∷ worlds) image opens = inl opens
-
 in-lower : (holder : World → Holder) (p q : ℕ) (w : World) (worlds : List World) (old new : State) → p ≤ q → LeavesOnly old new (OpensIn holder q w worlds) → LeavesOnly old new (OpensIn holder p w worlds)
 in-lower holder p q w worlds old new le only = LeavesOnly-weaken (OpensIn holder p w worlds) (λ image opens. OpensIn-lower holder p q w worlds image le opens) only
 
@@ -201,36 +189,41 @@ record MomentsFrom (touches : Event → Bool) (last : Stretch) (position next : 
   moments : AreMoments touches last position next holder w events done worlds old new
 
 moments-from : (touches : Event → Bool) (last : Stretch) (position next : World → ℕ) (holder : World → Holder) → IsOfNode position next → IsLast last
-    → (w : World) (events : List Event) (done : List Bool) (worlds : List World) (old reached new : State) → Run w events done worlds → Sound w
+    → (w : World) (events : List Event) (done : List Bool) (worlds : List World) (old reached new : State) → Run w events done worlds → Sound w → IsSure w
     → AreMoves touches position holder w events done worlds old reached
     → last (holder (last_world w worlds)) (last_world w worlds).primary.calls (position (last_world w worlds)) (next (last_world w worlds)) reached new → MomentsFrom touches last position next holder w events done worlds old new
-moments-from touches last position next holder node from w [] [] [] old reached new run sound are ends =
+moments-from touches last position next holder node from w [] [] [] old reached new run sound sure are ends =
     let all : last (holder w) w.primary.calls (position w) (next w) old new = subst (λ (d : State). last (holder w) w.primary.calls (position w) (next w) d new) (sym are) ends in
     let onward : LeavesOnly old new (OpensIn holder (position w) w []) = from (holder w) w.primary.calls (position w) (next w) old new (node.onward w sound) all in
     record { from = onward; moments = (λ prefix call released. in-lower holder _ (position w) w [] old new (node.holds w sound prefix call released) onward, all) }
-moments-from touches last position next holder node from w (event ∷ events) (did ∷ done) (w' ∷ worlds) old reached new run sound are ends =
+moments-from touches last position next holder node from w (event ∷ events) (did ∷ done) (w' ∷ worlds) old reached new run sound sure are ends =
     let sound' = sound-step w event did w' run.0 sound in
-    let rises = node.rises w w' (grows-step w event did w' run.0 sound) in
-    let rest = moments-from touches last position next holder node from w' events done worlds are.0 reached new run.1 sound' are.3 ends in
+    let sure' = sure-step w event did w' run.0 sure in
+    let rises = node.rises w w' (grows-step w event did w' run.0 sound) sure'.1 in
+    let rest = moments-from touches last position next holder node from w' events done worlds are.0 reached new run.1 sound' sure'.0 are.3 ends in
     let onward : LeavesOnly old new (OpensIn holder (position w) w (w' ∷ worlds)) =
     LeavesOnly-then
-    (LeavesOnly-weaken (OpensIn holder (position w) w (w' ∷ worlds)) (λ image opens. inr (OpensIn-first holder (position w) w' worlds image opens))
-    (near-from (holder w') w'.primary.calls (position w) (position w') old are.0 rises are.1.leaves))
+    (LeavesOnly-weaken (OpensIn holder (position w) w (w' ∷ worlds)) (λ image opens. inl opens)
+    (near-from (holder w) w.primary.calls (position w) (position w') old are.0 rises are.1.leaves))
     (LeavesOnly-weaken (OpensIn holder (position w) w (w' ∷ worlds)) (λ image opens. inr (OpensIn-lower holder (position w) (position w') w' worlds image rises opens)) rest.from) in
     record {
       from = onward;
       moments = (are.0, λ prefix call released. in-lower holder _ (position w) w (w' ∷ worlds) old new (node.holds w sound prefix call released) onward, are.1, are.2, rest.moments);
     }
-moments-from touches last position next holder node from w events done worlds old reached new run sound are ends = absurd run
+moments-from touches last position next holder node from w events done worlds old reached new run sound sure are ends = absurd run
+
+-- no failover comes in a run of the pair
+sure-start : IsSure start
+sure-start = record { failovers = refl; primary_sure = refl; standby_sure = refl; primary_whole = refl; standby_whole = refl }
 
 -- ---- what is told at the end
 
 -- the promise of what tells the last world, by these very worlds
 promised-by : (events : List Event) (done : List Bool) (worlds : List World) (calls : List Call) (released : ℕ → List ℕ) (primary standby : ℕ) → Run start events done worlds
-    → Tells (last_world start worlds) calls released primary standby → (promised : IsPromised true events done calls released primary standby) × (promised.worlds ≡ worlds)
+    → Tells (last_world start worlds) calls released primary standby → (promised : IsPromised true false events done calls released primary standby) × (promised.worlds ≡ worlds)
 promised-by events done worlds calls released primary standby run tells =
     let w = last_world start worlds in
-    let promised = promised-told true events done worlds calls released primary standby run tells in (
+    let promised = promised-told true false events done worlds calls released primary standby run tells in (
       record {
         worlds = worlds;
         run = run;
@@ -241,7 +234,10 @@ promised-by events done worlds calls released primary standby run tells =
         covered = λ prefix call out.
             let in_last : IsReleased w.primary.calls (released_in w) prefix call =
             record { rest = out.rest; stands = sym tells.list ∙ out.stands; written = omega (arith, out.written, ap length (tells.bytes call.connection)) } in
-            covered-run true events done worlds run prefix call in_last;
+            covered-run true false events done worlds run prefix call in_last;
+        stays = λ prefix call some.
+            let in_last = released-stays start events done worlds prefix call run (sound-start true false) some in
+            record { rest = in_last.rest; stands = tells.list ∙ in_last.stands; written = omega (arith, in_last.written, ap length (tells.bytes call.connection)) };
         held = promised.held;
         behind = promised.behind;
         within = promised.within;
@@ -268,9 +264,9 @@ kept : (Last : World → Type 0) (first_last second_last : Stretch) (first secon
 kept Last first_last second_last first second began events done calls released frames acknowledgements primary standby primary' standby' first_from second_from reaches tells last messages primary_ends standby_ends =
     let w = last_world start reaches.worlds in
     let promised = promised-by events done reaches.worlds calls (λ c. slice_index_or released c []) (primary_position w) (standby_position w) reaches.run tells in
-    let primary_moments = moments-from touches_primary first_last primary_position next_primary (primary_holder first.lines) of_primary first_from start events done reaches.worlds began.device primary primary' reaches.run (sound-start true)
+    let primary_moments = moments-from touches_primary first_last primary_position next_primary (primary_holder first.lines) of_primary first_from start events done reaches.worlds began.device primary primary' reaches.run (sound-start true false) sure-start
     reaches.primary_moves primary_ends in
-    let standby_moments = moments-from touches_standby second_last standby_position next_standby (standby_holder second.lines) of_standby second_from start events done reaches.worlds began.standby.device standby standby' reaches.run (sound-start true)
+    let standby_moments = moments-from touches_standby second_last standby_position next_standby (standby_holder second.lines) of_standby second_from start events done reaches.worlds began.standby.device standby standby' reaches.run (sound-start true false) sure-start
     reaches.standby_moves standby_ends in
     record {
       primary_at = primary_position w;
@@ -333,6 +329,8 @@ ends-as Fault (Reopen node_of.Primary) P Q so ends = so Breaks Resting breaks-fr
 ends-as Fault (Reopen node_of.Standby) P Q so ends = so Resting Breaks resting-from breaks-from ends
 ends-as Exhausted (Reopen node_of.Primary) P Q so ends = so RestsBeforeReopening Resting reopening-from resting-from ends
 ends-as Exhausted (Reopen node_of.Standby) P Q so ends = so Resting RestsBeforeReopening resting-from reopening-from ends
+ends-as Fault Promote P Q so ends = so Resting Breaks resting-from breaks-from ends
+ends-as Exhausted Promote P Q so ends = so Resting RestsBeforeReopening resting-from reopening-from ends
 ends-as refusal event P Q so ends = absurd ends
 
 played-cut : (first second : Holder) (began : Pair) (events : List Event) (event : Event) (refusal : Refusal) (done : List Bool) (pair : Pair) (released : List (List ℕ))

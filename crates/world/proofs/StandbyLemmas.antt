@@ -1,6 +1,6 @@
 -- What the standby does with a frame of the list is what the machine's does with its span.
-use Rattle.std.proofs.Common.{◌≡◌, ◌≢◌, ℕ, Bool, IsTrue, ◌+◌, ◌-◌, ◌<◌, ◌≤◌, ◌⊎◌, ⊎_elim, inl, inr, false, List, [], ◌∷◌, ◌++◌, Result, Ok, Err, IfOk, IfErr, OnOk, OnErr, IsErrOf, refl, sym, ap, ap₂, subst, ◌∙◌, arith, cond, eq-eqb, rules}
-use Rattle.std.proofs.lemmas.Bool.{cases_lt, cases_eq}
+use Rattle.std.proofs.Common.{◌≡◌, ◌≢◌, ℕ, Bool, ◌&&◌, ◌+◌, ◌-◌, ◌<◌, ◌≤◌, ◌⊎◌, ⊎_elim, inl, inr, false, List, [], ◌∷◌, ◌++◌, Result, Ok, Err, refl, sym, ap, ap₂, subst, ◌∙◌, arith, cond, eq-eqb, rules}
+use Rattle.std.proofs.lemmas.Bool.{cases_lt}
 use Rattle.kv_types.specs.declared.refusal.Refusal.{Refusal}
 use Rattle.kv_types.specs.declared.refusal.Refusal.TheVariants.{WrongEpoch, PositionGap, Full, Memory, Fault, Exhausted}
 use Rattle.kv_types.specs.Keyspace.{play_all}
@@ -10,26 +10,27 @@ use Rattle.pmem.specs.Runs.{LeavesOnly}
 use Rattle.pmem.proofs.Leaving.{LeavesOnly-weaken}
 use Rattle.model.specs.declared.call.Call.{Call}
 use Rattle.model.specs.declared.image.TheConstants.{COUNTER_LIMIT, STAMP_WINDOW}
-use Rattle.model.specs.declared.record.Record.{Record}
 use Rattle.model.specs.Call.{keyspace_after, cut_at, position_of}
 use Rattle.model.specs.Image.{Image, IsMapOf, entries_of_lines}
 use Rattle.model.proofs.RecordLemmas.{HasRecord-lines}
 use Rattle.model.specs.Group.{Contents}
 use Rattle.model.specs.Standing.{Holder}
 use Rattle.model.proofs.CallsLemmas.{IsKeyspace-keyspace_after, keyspace_after-cut_at-append}
-use Rattle.mv_keyspace.specs.Table.{records}
+use Rattle.mv_keyspace.specs.Table.{Table, records}
 use Rattle.mv_keyspace.proofs.PartTables.{map-from_table}
-use Rattle.wbl_engine.specs.Contents.{IsDurable, Keeps}
+use Rattle.wbl_engine.specs.Contents.{IsDurable}
 use Rattle.wbl_engine.specs.Lawful.{AreLawful}
 use Rattle.machine.specs.declared.event.Event.TheVariants.{Apply}
 use Rattle.machine.specs.Event.{Standby as Machine, Span, Frame as Sent, Acknowledgement, Takes, acknowledgement_of, moved_to}
 use Rattle.frames.specs.declared.ack.Ack.{Ack}
 use Rattle.frames.specs.declared.frame.Frame.{Frame}
-use Rattle.standby.specs.Following.{Follows, HoldsRearranged, HoldsWhole, IsNext, IsRearranged, HasTaken, IsBeforeOrWhole, WouldExhaust}
+use Rattle.standby.specs.declared.standby.Standby.{Standby}
+use Rattle.standby.specs.Following.{Follows, HoldsRearranged, HoldsWhole, IsHeld, IsNext, IsRearranged, IsTakenNext, HasTaken, IsBeforeOrWhole, WouldExhaust}
+use Rattle.standby.specs.Taking.{IsFull, TakesFrame}
 use Rattle.world.specs.Cause.{IsAtLimit, EndsBy}
 use Rattle.world.specs.Committing.{AreContentsAt, Moves, NearOnly, OpensAt, OpensAtEither, Rests, next_from}
 use Rattle.world.specs.Link.{IsFrameOf}
-use Rattle.world.specs.Standby.{Node, StandbyStands, told_by}
+use Rattle.world.specs.Standby.{Node, StandbyStands, node_at, told_by}
 use Rattle.world.proofs.EngineLemmas.{Opens-engine, keeps-opens, moves-same, near-still, rests-same, EngineStands-grows}
 
 -- nothing happened to the standby
@@ -49,33 +50,6 @@ pub record IsKept (old new : Node) : Type 0 where
 -- perhaps rearranged
 pub IsKept-rearranged : (old new : Node) → (records new.table ≡ records old.table) × IsRearranged old.contents new.contents → IsKept old new
 IsKept-rearranged old new (map, is) = record { position = is.position; epoch = is.epoch; role = is.role; line_count = is.line_count; map = map }
-
-pub record Answers (frame : Frame) (old : Node) (result : Result Ack Refusal) (new : Node) : Type 0 where
-  pub again : frame.epoch ≡ old.epoch → frame.after ≤ old.contents.current.position
-      → (result ≡ Ok (record { epoch = old.epoch; position = old.contents.current.position })) × (new ≡ old)
-  pub gap : frame.epoch ≡ old.epoch → old.contents.current.position < frame.after → frame.before ≢ old.contents.current.position → (result ≡ Err PositionGap) × (new ≡ old)
-  pub ack : frame.epoch ≡ old.epoch → IsNext old.contents.current.position frame → IfOk result (λ ack. ack ≡ record { epoch = frame.epoch; position = frame.after })
-  pub taken : frame.epoch ≡ old.epoch → IsNext old.contents.current.position frame → OnOk result (HasTaken frame old.contents new.contents old.table new.table)
-  pub causes : frame.epoch ≡ old.epoch → IsNext old.contents.current.position frame
-      → IfErr result (λ refusal. (refusal ≡ Full) ⊎ (refusal ≡ Memory) ⊎ (refusal ≡ Fault) ⊎ (refusal ≡ Exhausted))
-  pub refused : ¬ IsErrOf result Fault → OnErr result (IsKept old new)
-  pub fault : result ≡ Err Fault → old.device.failures < new.device.failures
-  pub exhausted : result ≡ Err Exhausted → WouldExhaust old.contents.current frame × (new.device ≡ old.device)
-  pub still : ¬ IsErrOf result Fault → Follows new.contents new.table new.room new.ended
-  pub sound : ¬ IsErrOf result Fault → (new.is_faulted ≡ false) × (new.device.failures ≡ old.device.failures)
-  pub durable : ¬ IsErrOf result Fault → IsDurable new.device new.contents
-  pub lawful : AreLawful old.contents → ¬ IsErrOf result Fault → AreLawful new.contents
-  pub own_epoch : frame.epoch ≡ old.epoch → new.epoch ≡ old.epoch
-  pub moments : frame.epoch ≡ old.epoch → IsNext old.contents.current.position frame → LeavesOnly old.device new.device (IsBeforeOrWhole frame old.contents old.table)
-  pub rests : frame.epoch ≡ old.epoch → IsNext old.contents.current.position frame → ¬ IsErrOf result Fault
-      → OnErr result (LeavesOnly old.device new.device (HoldsRearranged old.contents))
-
-pub OnErr-weaken : {P Q : Type 0} (result : Result Ack Refusal) → (P → Q) → OnErr result P → OnErr result Q
-OnErr-weaken (Ok ack) into h = tt
-OnErr-weaken (Err refusal) into h = into h
-
-not_memory : {refusal : Refusal} → refusal ≡ Memory → IsErrOf {T = Ack} (Err refusal) Fault → ⊥
-not_memory memory is = cc
 
 -- The machine's standby after it took the frame, with what it acknowledged, the node that stands for it, and what its device went through.
 pub record Took (holder : Holder) (epoch : ℕ) (calls : List Call) (sent : Sent) (old : Machine) (acks : List Acknowledgement) (before new : Node) : Type 0 where
@@ -98,19 +72,49 @@ same_err in_a in_b = cc
 abbrev pub GoesOn : Refusal → Type 0
 GoesOn refusal = (refusal ≡ Full) ⊎ (refusal ≡ PositionGap) ⊎ (refusal ≡ WrongEpoch)
 
--- of what a frame that comes next may be refused for, only this leaves the standby going
-is_full : (refusal : Refusal) → (refusal ≡ Full) ⊎ (refusal ≡ PositionGap) ⊎ (refusal ≡ WrongEpoch) → (refusal ≡ Full) ⊎ (refusal ≡ Memory) ⊎ (refusal ≡ Fault) ⊎ (refusal ≡ Exhausted) → refusal ≡ Full
-is_full refusal goes_on causes = grind (arith, goes_on, causes)
+-- none of these leaves it going
+stops_full : {P : Type 0} (refusal : Refusal) → GoesOn refusal → (refusal ≡ Memory) ⊎ (refusal ≡ Fault) ⊎ (refusal ≡ Exhausted) → P
+stops_full refusal goes stops = absurd (grind (arith, goes, stops))
 
-pub refused-full : {P : Type 0} (result : Result Ack Refusal) (refusal : Refusal) → result ≡ Err refusal → GoesOn refusal
-    → IfErr result (λ refusal. (refusal ≡ Full) ⊎ (refusal ≡ Memory) ⊎ (refusal ≡ Fault) ⊎ (refusal ≡ Exhausted)) → (result ≡ Err Full → P) → P
-refused-full result refusal is goes causes full =
-    let told = subst (λ (r : Result Ack Refusal). IfErr r (λ refusal. (refusal ≡ Full) ⊎ (refusal ≡ Memory) ⊎ (refusal ≡ Fault) ⊎ (refusal ≡ Exhausted))) is causes in
-    full (is ∙ ap Err (is_full refusal goes told))
+-- a standby as a node
+abbrev pub node_of : {E K D : Type 0} → (E → State) → (E → Contents) → (E → Bool) → (K → Table) → Standby E K D → Node
+node_of device contents is_faulted table standby =
+    node_at (device standby.engine) (contents standby.engine) (is_faulted standby.engine) (table standby.keyspace) standby.heap standby.ended.items
+
+-- a frame that came next, and was refused by one that goes on, has no room
+pub refused-full : {E K D : Type 0} (device : E → State) (contents : E → Contents) (is_faulted : E → Bool) (table : K → Table) (frame : Frame) (first last : Standby E K D) (refusal : Refusal)
+    → GoesOn refusal → TakesFrame device contents is_faulted table frame first (Err refusal) last → IsTakenNext (contents first.engine).current frame
+    → IsFull device contents is_faulted table frame first last
+refused-full device contents is_faulted table frame first last refusal goes (inl again) next = absurd (not_both again.answer refl)
+refused-full device contents is_faulted table frame first last refusal goes (inr (inl whole)) next = absurd (not_both whole.answer refl)
+refused-full device contents is_faulted table frame first last refusal goes (inr (inr refuses)) next =
+    let goes_by : GoesOn refuses.refusal = subst GoesOn (same_err refl refuses.answer) goes in
+    elim refuses.state [
+      | inl once ↦ elim once.cause [
+        | inl wrong ↦ absurd (wrong.1 next.epoch)
+        | inr (inl gap) ↦ absurd (gap.3 next.next)
+        | inr (inr exhausted) ↦ stops_full refuses.refusal goes_by (inr (inr exhausted.0))
+      ]
+      | inr (inl left) ↦ elim left.cause [
+        | inl full ↦ full.1
+        | inr memory ↦ stops_full refuses.refusal goes_by (inl memory)
+      ]
+      | inr (inr broken) ↦ stops_full refuses.refusal goes_by (inr (inl broken.cause))
+    ]
 
 -- a standby that stands at the machine's position, and a frame of the list that it answers
-module _ (holder : Holder) (epoch : ℕ) (calls : List Call) (machine : Machine) (frame : Frame) (sent : Sent) (old new : Node) (sent_epoch : sent.epoch ≡ epoch) (own_epoch : epoch ≡ machine.epoch)
-    (is : IsFrameOf epoch calls frame sent.span) (stands : StandbyStands holder epoch calls machine.position old) where
+module _ {E K D : Type 0} (device : E → State) (contents : E → Contents) (is_faulted : E → Bool) (table : K → Table)
+    (holder : Holder) (epoch : ℕ) (calls : List Call) (machine : Machine) (frame : Frame) (sent : Sent) (first last : Standby E K D) (sent_epoch : sent.epoch ≡ epoch) (own_epoch : epoch ≡ machine.epoch)
+    (is : IsFrameOf epoch calls frame sent.span) (stands : StandbyStands holder epoch calls machine.position (node_of device contents is_faulted table first)) where
+  abbrev old : Node
+  old = node_of device contents is_faulted table first
+
+  abbrev new : Node
+  new = node_of device contents is_faulted table last
+
+  abbrev Answered : Result Ack Refusal → Type 0
+  Answered result = TakesFrame device contents is_faulted table frame first result last
+
   abbrev span : Span
   span = sent.span
 
@@ -123,17 +127,24 @@ module _ (holder : Holder) (epoch : ℕ) (calls : List Call) (machine : Machine)
   at : old.contents.current.position ≡ machine.position
   at = stands.engine.contents_at.at
 
-  is_below : span.after ≤ machine.position → frame.after ≤ old.contents.current.position
+  is_below : frame.after ≤ old.contents.current.position → span.after ≤ machine.position
   is_below le = omega (arith, le, is.after, at)
 
-  is_above : machine.position < span.after → old.contents.current.position < frame.after
-  is_above lt = omega (arith, lt, is.after, at)
+  is_above : IsNext old.contents.current.position frame → machine.position < span.after
+  is_above next = let later = next.later in omega (arith, later, is.after, at)
 
-  is_next : machine.position < span.after → span.before ≡ machine.position → IsNext old.contents.current.position frame
-  is_next lt e = record { later = is_above lt; joined = is.before ∙ e ∙ sym at }
+  is_joined : IsNext old.contents.current.position frame → span.before ≡ machine.position
+  is_joined next = sym is.before ∙ next.joined ∙ at
 
-  is_apart : span.before ≢ machine.position → frame.before ≢ old.contents.current.position
-  is_apart ne e = ne (sym is.before ∙ e ∙ at)
+  -- a frame that neither is held nor comes next
+  is_apart : ¬ IsHeld old.contents.current frame → ¬ IsNext old.contents.current.position frame → (machine.position < span.after) × (span.before ≢ machine.position)
+  is_apart not_held not_next = ⊎_elim (λ (lt : machine.position < span.after). (lt, λ e. not_next (is_next lt e))) (λ (le : span.after ≤ machine.position). absurd (not_held (held le))) (cases_lt machine.position span.after)
+    where
+      is_next : machine.position < span.after → span.before ≡ machine.position → IsNext old.contents.current.position frame
+      is_next lt e = record { later = omega (arith, lt, is.after, at); joined = is.before ∙ e ∙ sym at }
+
+      held : span.after ≤ machine.position → IsHeld old.contents.current frame
+      held le = record { own = epoch_same; below = omega (arith, le, is.after, at) }
 
   -- the changes of the frame lead to the keyspace at its end
   keyspace_next : span.before ≡ machine.position → play_all (records old.table) frame.changes.items ≡ keyspace_after (cut_at calls span.after)
@@ -234,99 +245,96 @@ module _ (holder : Holder) (epoch : ℕ) (calls : List Call) (machine : Machine)
   moved_as ack epoch_is position_is = ap₂ (λ e p. record { epoch = e; position = p }) (epoch_is ∙ stands.epoch_is ∙ own_epoch) position_is
 
   -- a frame that the standby acknowledged
-  pub takes_ok : (ack : Ack) → Answers frame old (Ok ack) new → Took holder epoch calls sent machine (told_by ack ∷ []) old new
-  takes_ok ack answers = ⊎_elim above below (cases_lt machine.position span.after)
-    where
-      no_fault : {refusal : Refusal} → ¬ IsErrOf (Ok ack) refusal
-      no_fault e = cc
-
-      below : span.after ≤ machine.position → Took holder epoch calls sent machine (told_by ack ∷ []) old new
-      below le =
-          let again = answers.again epoch_same (is_below le) in
-          let told : ack ≡ record { epoch = old.epoch; position = old.contents.current.position } = same_ok refl again.0 in
-          record {
-            standby = machine;
-            takes = inr (inl (own, le, refl, ap (λ (a : Acknowledgement). a ∷ []) (told_as ack (ap (λ (a : Ack). a.epoch) told) (ap (λ (a : Ack). a.position) told ∙ at))));
-            waiting = refl;
-            stands = same_stands again.1;
-            moves = rests machine.position (ap (λ (n : Node). n.device) again.1) (same_stands again.1);
-          }
-
-      joins : machine.position < span.after → span.before ≡ machine.position → Took holder epoch calls sent machine (told_by ack ∷ []) old new
-      joins lt e =
-          let next = is_next lt e in
-          record {
-            standby = moved_to span.after machine;
-            takes = inr (inr (inl (own, lt, e, refl, ap (λ (a : Acknowledgement). a ∷ []) (moved_as ack (ap (λ (a : Ack). a.epoch) (answers.ack epoch_same next) ∙ epoch_same) (ap (λ (a : Ack). a.position) (answers.ack epoch_same next) ∙ is.after)))));
-            waiting = refl;
-            stands = taken_stands e (answers.taken epoch_same next) (answers.still no_fault) (answers.sound no_fault).0 (answers.durable no_fault) (answers.lawful stands.engine.lawful no_fault) (answers.own_epoch epoch_same);
-            moves = taken_moves e (answers.moments epoch_same next) (answers.sound no_fault).1;
-          }
-
-      above : machine.position < span.after → Took holder epoch calls sent machine (told_by ack ∷ []) old new
-      above lt = ⊎_elim (joins lt) (λ (ne : span.before ≢ machine.position). absurd (not_both refl (answers.gap epoch_same (is_above lt) (is_apart ne)).0)) (cases_eq span.before machine.position)
-
-  -- a frame that it refused, and went on
-  pub takes_refused : (refusal : Refusal) → (refusal ≡ Full) ⊎ (refusal ≡ PositionGap) ⊎ (refusal ≡ WrongEpoch) → Answers frame old (Err refusal) new
-      → Took holder epoch calls sent machine [] old new
-  takes_refused refusal goes_on answers = ⊎_elim above below (cases_lt machine.position span.after)
-    where
-      below : span.after ≤ machine.position → Took holder epoch calls sent machine [] old new
-      below le = absurd (not_both (answers.again epoch_same (is_below le)).0 refl)
-
-      joins : machine.position < span.after → span.before ≡ machine.position → Took holder epoch calls sent machine [] old new
-      joins lt e =
-          let full : refusal ≡ Full = is_full refusal goes_on (answers.causes epoch_same (is_next lt e)) in
-          let no_fault : ¬ IsErrOf {T = Ack} (Err refusal) Fault = λ is. cc in
-          record {
-            standby = machine;
-            takes = inr (inr (inr (inl (own, lt, e, refl, refl))));
-            waiting = refl;
-            stands =
-                refused_stands (answers.refused no_fault) (answers.still no_fault) (answers.sound no_fault).0 (answers.durable no_fault) (answers.lawful stands.engine.lawful no_fault) (answers.own_epoch epoch_same);
-            moves = refused_moves (answers.rests epoch_same (is_next lt e) no_fault) (answers.sound no_fault).1;
-          }
-
-      apart : machine.position < span.after → span.before ≢ machine.position → Took holder epoch calls sent machine [] old new
-      apart lt ne = let same = (answers.gap epoch_same (is_above lt) (is_apart ne)).1 in record {
+  pub takes_ok : (ack : Ack) → Answered (Ok ack) → Took holder epoch calls sent machine (told_by ack ∷ []) old new
+  takes_ok ack (inl again) =
+      let told = same_ok refl again.answer in
+      let same = ap (node_of device contents is_faulted table) again.same in
+      record {
         standby = machine;
-        takes = inr (inr (inr (inr (own, lt, ne, refl, refl))));
+        takes = inr (inl (own, is_below again.held.below, refl, ap (λ (a : Acknowledgement). a ∷ []) (told_as ack (ap (λ (a : Ack). a.epoch) told) (ap (λ (a : Ack). a.position) told ∙ at))));
         waiting = refl;
         stands = same_stands same;
         moves = rests machine.position (ap (λ (n : Node). n.device) same) (same_stands same);
       }
+  takes_ok ack (inr (inl whole)) =
+      let told = same_ok refl whole.answer in
+      let lt = is_above whole.due.next.next in
+      let e = is_joined whole.due.next.next in
+      record {
+        standby = moved_to span.after machine;
+        takes = inr (inr (inl (own, lt, e, refl, ap (λ (a : Acknowledgement). a ∷ []) (moved_as ack (ap (λ (a : Ack). a.epoch) told ∙ epoch_same) (ap (λ (a : Ack). a.position) told ∙ is.after)))));
+        waiting = refl;
+        stands = taken_stands e whole.taken whole.stands.follows whole.stands.sound whole.stands.durable (whole.lawful stands.engine.lawful) (whole.taken.epoch ∙ epoch_same);
+        moves = taken_moves e whole.moments whole.failures;
+      }
+  takes_ok ack (inr (inr refuses)) = absurd (not_both refl refuses.answer)
 
-      above : machine.position < span.after → Took holder epoch calls sent machine [] old new
-      above lt = ⊎_elim (joins lt) (apart lt) (cases_eq span.before machine.position)
+  -- a frame that it refused, and went on
+  pub takes_refused : (refusal : Refusal) → GoesOn refusal → Answered (Err refusal) → Took holder epoch calls sent machine [] old new
+  takes_refused refusal goes (inl again) = absurd (not_both again.answer refl)
+  takes_refused refusal goes (inr (inl whole)) = absurd (not_both whole.answer refl)
+  takes_refused refusal goes (inr (inr refuses)) =
+      let goes_by : GoesOn refuses.refusal = subst GoesOn (same_err refl refuses.answer) goes in
+      elim refuses.state [
+        | inl once ↦ elim once.cause [
+          | inl wrong ↦ absurd (wrong.1 (inl epoch_same))
+          | inr (inl gap) ↦
+              let same = ap (node_of device contents is_faulted table) once.same in
+              let apart = is_apart gap.2 gap.3 in
+              record {
+                standby = machine;
+                takes = inr (inr (inr (inr (own, apart.0, apart.1, refl, refl))));
+                waiting = refl;
+                stands = same_stands same;
+                moves = rests machine.position (ap (λ (n : Node). n.device) same) (same_stands same);
+              }
+          | inr (inr exhausted) ↦ stops_full refuses.refusal goes_by (inr (inr exhausted.0))
+        ]
+        | inr (inl left) ↦ elim left.cause [
+          | inl full ↦ record {
+            standby = machine;
+            takes = inr (inr (inr (inl (own, is_above left.due.next.next, is_joined left.due.next.next, refl, refl))));
+            waiting = refl;
+            stands = refused_stands (IsKept-rearranged old new (left.map, left.rearranged)) left.stands.follows left.stands.sound left.stands.durable
+                (left.rearranged.lawful stands.engine.lawful) left.rearranged.epoch;
+            moves = refused_moves left.moments left.failures;
+          }
+          | inr memory ↦ stops_full refuses.refusal goes_by (inl memory)
+        ]
+        | inr (inr broken) ↦ stops_full refuses.refusal goes_by (inr (inl broken.cause))
+      ]
 
   -- where the standby stands after the frame
   abbrev next : ℕ
-  next = next_from machine.position (sent ∷ [])
+  next = next_from machine (sent ∷ [])
 
   next-joined : span.before ≡ machine.position → next ≡ span.after
-  next-joined e = ap (λ b. cond b span.after machine.position) (eq-eqb span.before machine.position e)
+  next-joined e = ap (λ b. cond b span.after machine.position) (ap₂ (λ a b. a && b) (eq-eqb sent.epoch machine.epoch own) (eq-eqb span.before machine.position e))
 
   -- at any moment of the call, a crash leaves what was before the frame or all of it
-  pub frame-moments : (result : Result Ack Refusal) → Answers frame old result new → NearOnly holder calls machine.position next old.device new.device
-  frame-moments result answers = ⊎_elim above below (cases_lt machine.position span.after)
+  still : new ≡ old → NearOnly holder calls machine.position next old.device new.device
+  still same =
+      subst (λ (node : Node). NearOnly holder calls machine.position next old.device node.device) (sym same)
+      (StandbyStands-still holder epoch calls machine.position next old stands)
+
+  joins : IsNext old.contents.current.position frame → LeavesOnly old.device new.device (IsBeforeOrWhole frame old.contents old.table)
+      → NearOnly holder calls machine.position next old.device new.device
+  joins is_next only = LeavesOnly-weaken (OpensAtEither holder calls machine.position next) either only
     where
-      still : new ≡ old → NearOnly holder calls machine.position next old.device new.device
-      still same =
-          subst (λ (node : Node). NearOnly holder calls machine.position next old.device node.device) (sym same)
-          (StandbyStands-still holder epoch calls machine.position next old stands)
+      either : (image : Image) → IsBeforeOrWhole frame old.contents old.table image → OpensAtEither holder calls machine.position next image
+      either image (inl before) = inl (before_opens image before)
+      either image (inr held) =
+          let e = is_joined is_next in
+          inr (subst (λ p. OpensAt holder calls p image) (sym (next-joined e)) (whole_opens image e held))
 
-      below : span.after ≤ machine.position → NearOnly holder calls machine.position next old.device new.device
-      below le = still (answers.again epoch_same (is_below le)).1
-
-      either : span.before ≡ machine.position → (image : Image) → IsBeforeOrWhole frame old.contents old.table image → OpensAtEither holder calls machine.position next image
-      either e image (inl before) = inl (before_opens image before)
-      either e image (inr held) = inr (subst (λ p. OpensAt holder calls p image) (sym (next-joined e)) (whole_opens image e held))
-
-      joins : machine.position < span.after → span.before ≡ machine.position → NearOnly holder calls machine.position next old.device new.device
-      joins lt e = LeavesOnly-weaken (OpensAtEither holder calls machine.position next) (λ image. either e image) (answers.moments epoch_same (is_next lt e))
-
-      above : machine.position < span.after → NearOnly holder calls machine.position next old.device new.device
-      above lt = ⊎_elim (joins lt) (λ (ne : span.before ≢ machine.position). still (answers.gap epoch_same (is_above lt) (is_apart ne)).1) (cases_eq span.before machine.position)
+  pub frame-moments : (result : Result Ack Refusal) → Answered result → NearOnly holder calls machine.position next old.device new.device
+  frame-moments result (inl again) = still (ap (node_of device contents is_faulted table) again.same)
+  frame-moments result (inr (inl whole)) = joins whole.due.next.next whole.moments
+  frame-moments result (inr (inr refuses)) = elim refuses.state [
+    | inl once ↦ still (ap (node_of device contents is_faulted table) once.same)
+    | inr (inl left) ↦ LeavesOnly-weaken (OpensAtEither holder calls machine.position next) (λ image before. inl (before_opens image before)) left.moments
+    | inr (inr broken) ↦ joins broken.due.next.next broken.moments
+  ]
 
   -- a frame that would take a counter to the limit: it takes one stamp
   frame-limit : machine.position < span.after → span.before ≡ machine.position → WouldExhaust old.contents.current frame → (image : Image) → IsImage old.device.words image → IsAtLimit holder.lines 1 (next - machine.position) image
@@ -344,39 +352,35 @@ module _ (holder : Holder) (epoch : ℕ) (calls : List Call) (machine : Machine)
           absurd (omega (arith, same, rises))
 
   -- a frame that it refused, and did not go on: memory was refused, a fence failed, or a counter is at its limit
-  pub frame-ends : (refusal : Refusal) → ¬ GoesOn refusal → Answers frame old (Err refusal) new
+  pub frame-ends : (refusal : Refusal) → ¬ GoesOn refusal → Answered (Err refusal)
       → EndsBy refusal Apply (λ _ last. last holder calls machine.position next old.device new.device)
-  frame-ends refusal stops answers = ⊎_elim above below (cases_lt machine.position span.after)
+  frame-ends refusal stops (inl again) = absurd (not_both again.answer refl)
+  frame-ends refusal stops (inr (inl whole)) = absurd (not_both whole.answer refl)
+  frame-ends refusal stops (inr (inr refuses)) = subst Ends (sym (same_err refl refuses.answer)) (elim refuses.state [
+    | inl once ↦ elim once.cause [
+      | inl wrong ↦ absurd (goes (inr (inr wrong.0)))
+      | inr (inl gap) ↦ absurd (goes (inr (inl gap.0)))
+      | inr (inr exhausted) ↦
+          let same = ap (λ (standby : Standby E K D). device standby.engine) once.same in
+          let limit = frame-limit (is_above exhausted.1.next) (is_joined exhausted.1.next) exhausted.2 in
+          subst Ends (sym exhausted.0)
+          (record {
+            rests = rests-same holder calls machine.position old.device new.device same (Opens-engine _ _ _ _ _ _ stands.engine);
+            limit = subst (λ (d : State). (image : Image) → IsImage d.words image → IsAtLimit holder.lines 1 (next - machine.position) image) (sym same) limit;
+          })
+    ]
+    | inr (inl left) ↦ elim left.cause [
+      | inl full ↦ absurd (goes (inl full.0))
+      | inr memory ↦ subst Ends (sym memory) (refl, refused_rests left.moments left.failures)
+    ]
+    | inr (inr broken) ↦ subst Ends (sym broken.cause) (record { leaves = joins broken.due.next.next broken.moments; failures = broken.failures })
+  ])
     where
       Ends : Refusal → Type 0
       Ends r = EndsBy r Apply (λ _ last. last holder calls machine.position next old.device new.device)
 
-      rests_now : new.device ≡ old.device → Rests holder calls machine.position old.device new.device
-      rests_now same = rests-same holder calls machine.position old.device new.device same (Opens-engine _ _ _ _ _ _ stands.engine)
-
-      below : span.after ≤ machine.position → Ends refusal
-      below le = absurd (not_both (answers.again epoch_same (is_below le)).0 refl)
-
-      by : machine.position < span.after → span.before ≡ machine.position → (refusal ≡ Full) ⊎ (refusal ≡ Memory) ⊎ (refusal ≡ Fault) ⊎ (refusal ≡ Exhausted) → Ends refusal
-      by lt e (inl full) = absurd (stops (inl full))
-      by lt e (inr (inl memory)) =
-          let no_fault : ¬ IsErrOf {T = Ack} (Err refusal) Fault = λ is. not_memory memory is in
-          subst Ends (sym memory) (refl, refused_rests (answers.rests epoch_same (is_next lt e) no_fault) (answers.sound no_fault).1)
-      by lt e (inr (inr (inl fault))) = subst Ends (sym fault) (record { leaves = frame-moments (Err refusal) answers; failures = answers.fault (ap Err fault) })
-      by lt e (inr (inr (inr exhausted))) =
-          let told = answers.exhausted (ap Err exhausted) in
-          let same = told.1 in
-          subst Ends (sym exhausted)
-          (record {
-            rests = rests_now same;
-            limit = subst (λ (d : State). (image : Image) → IsImage d.words image → IsAtLimit holder.lines 1 (next - machine.position) image) (sym same) (frame-limit lt e told.0);
-          })
-
-      joins : machine.position < span.after → span.before ≡ machine.position → Ends refusal
-      joins lt e = by lt e (answers.causes epoch_same (is_next lt e))
-
-      above : machine.position < span.after → Ends refusal
-      above lt = ⊎_elim (joins lt) (λ (ne : span.before ≢ machine.position). absurd (stops (inr (inl (same_err refl (answers.gap epoch_same (is_above lt) (is_apart ne)).0))))) (cases_eq span.before machine.position)
+      goes : ¬ GoesOn refuses.refusal
+      goes goes_on = stops (subst GoesOn (sym (same_err refl refuses.answer)) goes_on)
 
 -- ---- the list of calls grows
 

@@ -17,7 +17,7 @@ use Rattle.world.specs.Pair.{Acts, Does, EitherRefines, HasRoom, HasWorld, IsCut
 use Rattle.world.specs.Effect.{Effect}
 use Rattle.world.specs.Step.{AcksBy, CallsBy, FramesBy, Happened, IsRoomier, IsStep, LacksRoom, Leaves, Shows, Turns, WasCut, released_by}
 use Rattle.world.proofs.GivenLemmas.{calls-step, released-step}
-use Rattle.world.proofs.LivesLemmas.{nodes-refine, serves-as}
+use Rattle.world.proofs.LivesLemmas.{nodes-refine, serves-as, sure-lives}
 use Rattle.world.proofs.PairLemmas.{primary-stands, roomier-stands, sessions-stand, standby-stands}
 use Rattle.world.proofs.PairLives.{idle-step, own-acts}
 
@@ -58,8 +58,8 @@ happened first second w event did old new stands steps =
       steps = steps;
       before = before;
       after = after;
-      called = subst (CallsBy w event did) (sym after.calls) (calls-step w event did steps.world steps.step);
-      released = λ c. after.released c ∙ released-step w event did steps.world steps.step c ∙ ap (λ bytes. bytes ++ released_by w event did c) (sym (before.released c));
+      called = subst (CallsBy w event did) (sym after.calls) (calls-step w event did steps.world (sure-lives stands.lives) steps.step);
+      released = λ c. after.released c ∙ released-step w event did steps.world (sure-lives stands.lives) steps.step c ∙ ap (λ bytes. bytes ++ released_by w event did c) (sym (before.released c));
     }
 
 pub is-step : (old : Pair) (event : Event) (result : Result Bool Refusal) (new : Pair) → Acts old event result new → Leaves event result old new → IsStep old event result new
@@ -86,17 +86,21 @@ acks-still Apply acks = refl
 acks-still event acks = refl
 
 effect-still : (event : Event) (pair : Pair) → Effect event (Ok false) pair pair
-effect-still (Crash node.Primary picks) pair = tt
-effect-still (Crash node.Standby picks) pair = tt
+effect-still (Crash node.Primary call k picks) pair = tt
+effect-still (Crash node.Standby call k picks) pair = tt
 effect-still (Reopen node.Primary) pair = tt
 effect-still (Reopen node.Standby) pair = tt
 effect-still event pair = tt
 
+-- nothing was changed where an event did not happen
+pub leaves-still : (event : Event) (pair : Pair) → Leaves event (Ok false) pair pair
+leaves-still event pair =
+    record { primary = λ idle. refl; standby = λ idle. refl; frames = frames-still event pair.frames; acknowledgements = acks-still event pair.arrivals.acknowledgements.items; effect = effect-still event pair }
+
 -- its nodes do not run
 pub idle-is : {old : Pair} {event : Event} {took : Bool} → took ≡ takes_part old.primary_runs old.standby_runs event → took ≡ false → IsStep old event (Ok false) old
 idle-is {old} {event} {took} takes idle =
-    is-step old event (Ok false) old (idle-step takes idle)
-    (record { primary = λ idle. refl; standby = λ idle. refl; frames = frames-still event old.frames; acknowledgements = acks-still event old.arrivals.acknowledgements.items; effect = effect-still event old })
+    is-step old event (Ok false) old (idle-step takes idle) (leaves-still event old)
 
 -- the primary takes part alone
 pub own-is : {old new : Pair} {event event' : Event} {result : Result Bool Refusal} {took : Bool} → event ≡ event' → took ≡ takes_part old.primary_runs old.standby_runs event → took ≡ true

@@ -1,5 +1,5 @@
 -- Why a run may end before its last event, and what each cause leaves of the devices.
-use Rattle.std.specs.Prelude.{◌≡◌, ◌⊎◌, ℕ, ◌+◌, ◌-◌, ◌<◌, ◌≤◌, Bool, true, false, List}
+use Rattle.std.specs.Prelude.{◌≡◌, ◌⊎◌, ℕ, ◌+◌, ◌-◌, ◌<◌, ◌≤◌, Bool, true, false, List, Option, Some, None}
 use Rattle.pmem.specs.Device.{State}
 use Rattle.pmem.specs.Crash.{IsImage}
 use Rattle.kv_types.specs.declared.refusal.Refusal.{Refusal}
@@ -10,8 +10,9 @@ use Rattle.model.specs.declared.record.Record.{Record}
 use Rattle.model.specs.Image.{Image, HasRecord}
 use Rattle.model.specs.Standing.{Holder}
 use Rattle.machine.specs.declared.event.Event.{Event}
-use Rattle.machine.specs.declared.event.Event.TheVariants.{Enter, Feed, Offer, CloseGroup, Commit, Free, ClearGap, OpenLink, Send, Deliver, Apply, AckDelivered, Hold, Write, Reopen}
+use Rattle.machine.specs.declared.event.Node.{Node}
 use Rattle.machine.specs.declared.event.Node.TheVariants as node
+use Rattle.machine.specs.Row.{EachPosition, Limit, OneStamp, Reopening, row}
 use Rattle.wbl_engine.specs.Reopening.{ExhaustsReopening}
 use Rattle.world.specs.Committing.{Rests, NearOnly}
 
@@ -71,38 +72,34 @@ pub record RestsBeforeReopening (holder : Holder) (calls : List Call) (position 
   pub has_record : (image : Image) → IsImage new.words image → HasRecord holder.lines current image
   pub limit : ExhaustsReopening current
 
--- the event may ask for memory, so that its refusal ends the run. (A turn that is refused memory replies so, and the run goes on.)
+-- its refusal ends the run
 abbrev pub asks_memory : Event → Bool
-asks_memory Enter = true
-asks_memory (Feed c piece) = true
-asks_memory (Offer c) = true
-asks_memory CloseGroup = true
-asks_memory Commit = true
-asks_memory Free = true
-asks_memory ClearGap = true
-asks_memory OpenLink = true
-asks_memory Send = true
-asks_memory (Deliver frame piece) = true
-asks_memory Apply = true
-asks_memory (AckDelivered a) = true
-asks_memory (Hold c) = true
-asks_memory (Write c n) = true
-asks_memory (Reopen node) = true
-asks_memory event = false
+asks_memory event = (row event).asks_memory
+
+-- what the counter that is at its limit says of the device
+abbrev pub AtLimit : Limit → Stretch
+AtLimit EachPosition = RestsAtLimit
+AtLimit OneStamp = RestsAtFrameLimit
+AtLimit Reopening = RestsBeforeReopening
+
+-- so for the device of the node that the event touches, and the other rests
+abbrev pub At : Option Node → Stretch → (Stretch → Stretch → Type 0) → Type 0
+At None Ends Leads = ⊥
+At (Some node.Primary) Ends Leads = Leads Ends Resting
+At (Some node.Standby) Ends Leads = Leads Resting Ends
+
+abbrev pub Fails : Bool → Option Node → (Stretch → Stretch → Type 0) → Type 0
+Fails false touches Leads = ⊥
+Fails true touches Leads = At touches Breaks Leads
+
+abbrev pub ReachesLimit : Option Limit → Option Node → (Stretch → Stretch → Type 0) → Type 0
+ReachesLimit None touches Leads = ⊥
+ReachesLimit (Some limit) touches Leads = At touches (AtLimit limit) Leads
 
 -- An enabled event ended the run for this cause, with this effect on the primary's device and the standby's: memory was refused, and both rest; or a fence failed, or
 -- a counter is at its limit, on the one device that the event is about, and the other rests.
 abbrev pub EndsBy : Refusal → Event → (Stretch → Stretch → Type 0) → Type 0
 EndsBy Memory event Leads = (asks_memory event ≡ true) × Leads Resting Resting
-EndsBy Fault Commit Leads = Leads Breaks Resting
-EndsBy Fault Free Leads = Leads Breaks Resting
-EndsBy Fault ClearGap Leads = Leads Breaks Resting
-EndsBy Exhausted ClearGap Leads = Leads RestsAtLimit Resting
-EndsBy Fault Apply Leads = Leads Resting Breaks
-EndsBy Exhausted Commit Leads = Leads RestsAtLimit Resting
-EndsBy Exhausted Apply Leads = Leads Resting RestsAtFrameLimit
-EndsBy Fault (Reopen node.Primary) Leads = Leads Breaks Resting
-EndsBy Fault (Reopen node.Standby) Leads = Leads Resting Breaks
-EndsBy Exhausted (Reopen node.Primary) Leads = Leads RestsBeforeReopening Resting
-EndsBy Exhausted (Reopen node.Standby) Leads = Leads Resting RestsBeforeReopening
+EndsBy Fault event Leads = Fails (row event).may_fail (row event).touches Leads
+EndsBy Exhausted event Leads = ReachesLimit (row event).limit (row event).touches Leads
 EndsBy refusal event Leads = ⊥

@@ -1,5 +1,5 @@
 -- How the committer and its engine refine the machine's.
-use Rattle.std.specs.Prelude.{◌≡◌, ◌⊎◌, ℕ, ◌≤◌, Bool, false, nat_eq, nat_lt, if◌then◌else◌, List, [], ◌∷◌, length}
+use Rattle.std.specs.Prelude.{◌≡◌, ◌⊎◌, ℕ, ◌≤◌, Bool, true, false, nat_lt, List, length}
 use Rattle.pmem.specs.Device.{State}
 use Rattle.pmem.specs.Crash.{IsImage, IsSettled, image_of}
 use Rattle.pmem.specs.Runs.{LeavesOnly}
@@ -18,9 +18,15 @@ use Rattle.wbl_engine.specs.Lawful.{AreLawful, IsUndamaged}
 use Rattle.pipes.specs.Waiting.{Waiting}
 use Rattle.pipes.specs.declared.limits.TheConstants.{PIPE_ITEMS}
 use Rattle.group_commit.specs.Due.{reached_by}
+use Rattle.group_commit.specs.declared.due.Due.{Due}
+use Rattle.group_commit.specs.declared.due.Due.TheVariants as due
 use Rattle.group_commit.specs.declared.stage.Stage.{Stage}
 use Rattle.group_commit.specs.declared.stage.Stage.TheVariants.{Ready, Durable, Shown}
-use Rattle.machine.specs.Event.{Committer as Machine, Stage as MachineStage, Frame as Sent, World, committed_first, from_group}
+use Rattle.machine.specs.declared.event.Event.{Event}
+use Rattle.machine.specs.declared.event.Event.TheVariants as events
+use Rattle.machine.specs.Event.{Committer as Machine, Stage as MachineStage}
+-- where the nodes stand after the group that the primary commits next, and after the frame that the standby takes next
+pub use Rattle.machine.specs.Event.{next_from, next_primary, next_standby}
 use Rattle.machine.specs.World as machine_stage
 use Rattle.world.specs.GroupSpan.{AreWorkOf, IsGroupOf, positions_of_lists}
 pub use Rattle.primary.specs.Leading.{AreOfEpoch, Leads, entries_told, extents_told}
@@ -88,25 +94,26 @@ pub record Rests (holder : Holder) (calls : List Call) (position : ℕ) (old new
 abbrev pub FormattingOnly : Role → State → State → Type 0
 FormattingOnly role old new = LeavesOnly old new (IsFormatting old.words old.lines role)
 
--- ---- the next positions
-
--- where the primary stands after the group that it commits next
-abbrev pub next_primary : World → ℕ
-next_primary w = (committed_first (from_group w.primary.committer.waiting) w.primary.committer).position
-
-abbrev pub next_from : ℕ → List Sent → ℕ
-next_from position [] = position
-next_from position (frame ∷ frames) = if nat_eq frame.span.before position then frame.span.after else position
-
--- where the standby stands after the first frame that waits, which it takes if it begins where the standby stands
-abbrev pub next_standby : World → ℕ
-next_standby w = next_from w.standby.position w.standby.waiting
-
 -- ---- the committer
 
 -- the link has room for a group
 abbrev pub link_has_room : List Group → Bool
 link_has_room handed = nat_lt (length handed) PIPE_ITEMS
+
+-- the event that is this step of the committer; `Nothing` is none, and has any
+abbrev pub event_of : Due → Event
+event_of due.Commit = events.Commit
+event_of due.Raise = events.RaiseLocal
+event_of due.Hand = events.Hand
+event_of due.Free = events.Free
+event_of due.Clear = events.ClearGap
+event_of due.Nothing = events.Commit
+
+-- it frees places, of which the sequencer is to be told
+abbrev pub frees_places : Due → Bool
+frees_places due.Free = true
+frees_places due.Clear = true
+frees_places step = false
 
 -- the free lists that the committer has reached
 abbrev pub reached_now : List FreeList → List Work → List Group → List FreeList

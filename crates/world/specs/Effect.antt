@@ -16,7 +16,7 @@ use Rattle.primary.specs.Closing.{ClosesOne}
 use Rattle.primary.specs.Resuming.{IsOver}
 use Rattle.frames.specs.declared.frame.Frame.{Frame}
 use Rattle.standby.specs.Following.{IsTakenNext, NoGapIsLeft}
-use Rattle.standby.specs.Restarting.{IsReopened}
+use Rattle.wbl_engine.specs.Restarting.{IsReopened}
 use Rattle.machine.specs.declared.event.Event.{Event}
 use Rattle.machine.specs.declared.event.Event.TheVariants.{AcceptFreed, Apply, ClearGap, CloseGroup, Crash, Free, Reopen}
 use Rattle.machine.specs.declared.event.Node.TheVariants as node
@@ -88,8 +88,8 @@ Effect Free result old new = OnDid result (FreesOldest (reached_now old.committi
 Effect AcceptFreed result old new = OnDid result (TakesOldest old.sequencer old.notices new.sequencer new.notices)
 Effect ClearGap result old new = OnDid result (ClearsOldest old.contents old.notices new.contents new.notices)
 Effect Apply result old new = OnDid result (AnswersFirst old.arrivals.delivered.items old.arrivals.acknowledgements.items new.arrivals.acknowledgements.items old.standby new.standby)
-Effect (Crash node.Primary picks) result old new = OnDid result (LeavesPicked picks.items old.device new.device)
-Effect (Crash node.Standby picks) result old new = OnDid result (LeavesPicked picks.items old.standby.device new.standby.device)
+Effect (Crash node.Primary call k picks) result old new = OnDid result (LeavesPicked picks.items old.device new.device)
+Effect (Crash node.Standby call k picks) result old new = OnDid result (LeavesPicked picks.items old.standby.device new.standby.device)
 Effect (Reopen node.Primary) result old new = OnDid result (IsReopened old.device.lines (image_of old.device.words) Role.Primary new.contents × IsOver new.contents new.sequencer)
 Effect (Reopen node.Standby) result old new = OnDid result (IsReopened old.standby.device.lines (image_of old.standby.device.words) Role.Standby new.standby.contents)
 Effect event result old new = Unit {0}

@@ -20,9 +20,9 @@ use Rattle.world.specs.Step.{touches_primary, touches_standby}
 use Rattle.world.specs.declared.trace.EarlyEnd.{EarlyEnd}
 use Rattle.world.specs.declared.trace.EarlyEnd.TheVariants.{AtFormatting, AtEvent}
 
--- two nodes that were formatted together and may crash
+-- Two nodes that were formatted together and may crash between two events. No fence is asked to fail, no call is cut, and no failover comes.
 abbrev pub start : World
-start = start_with true
+start = start_with true false
 
 -- the position of a node in a world
 abbrev pub primary_position : World → ℕ
@@ -54,13 +54,13 @@ KeepsReleased holder w worlds old new =
     (prefix : List Call) (call : Call) → IsReleased w.primary.calls (released_in w) prefix call → LeavesOnly old new (OpensIn holder (position_of (prefix ++ call ∷ [])) w worlds)
 
 -- The moments of a device, cut by the events of a run from this world on, at states that the device passed in this order. A crash during an event leaves an image
--- that opens, over the list of the world after it, where the node stood before it or where it stood after it. An event that does not touch the device, or was not
+-- that opens, over the list of the world before it, where the node stood before it or where it stood after it. An event that does not touch the device, or was not
 -- enabled, leaves it as it was, with all that it has gone through. What comes after the last event is a stretch of its own. And from each cut on, up to the end,
 -- each crash keeps what was released by then.
 abbrev pub AreMoments : (Event → Bool) → Stretch → (World → ℕ) → (World → ℕ) → (World → Holder) → World → List Event → List Bool → List World → State → State → Type 0
 AreMoments touches last position next holder w [] [] [] old new = KeepsReleased holder w [] old new × last (holder w) w.primary.calls (position w) (next w) old new
 AreMoments touches last position next holder w (event ∷ events) (did ∷ done) (w' ∷ worlds) old new =
-    (between : State) × KeepsReleased holder w (w' ∷ worlds) old new × Moves (holder w') w'.primary.calls (position w) (position w') old between
+    (between : State) × KeepsReleased holder w (w' ∷ worlds) old new × Moves (holder w) w.primary.calls (position w) (position w') old between
     × ((touches event && did) ≡ false → between ≡ old) × AreMoments touches last position next holder w' events done worlds between new
 AreMoments touches last position next holder w events done worlds old new = ⊥
 
@@ -83,7 +83,7 @@ pub record IsKept (Last : World → Type 0) (first_last second_last : Stretch) (
   -- the positions of the two nodes at the end
   pub primary_at : ℕ
   pub standby_at : ℕ
-  pub promised : IsPromised true events done calls (λ c. slice_index_or released c []) primary_at standby_at
+  pub promised : IsPromised true false events done calls (λ c. slice_index_or released c []) primary_at standby_at
   pub last : Last (last_world start promised.worlds)
   pub messages : HasSent (last_world start promised.worlds) frames acknowledgements
   -- the moments of either device, cut by the same events
@@ -129,11 +129,11 @@ PlaysOn first second events (Some (AtEvent index refusal)) done calls released f
     (event : Event) × (slice_get events index ≡ Some event)
     × EndsBy refusal event (λ first_last second_last. IsKept (Enables event) first_last second_last first.lines second.lines (take index events) done calls released frames acknowledgements primary standby primary' standby')
 
--- The events of a run from this world on, each over its own list of calls, moved a device of these holders on, but for those that do not touch it.
+-- The events of a run from this world on, each over the list of calls before it, moved a device of these holders on, but for those that do not touch it.
 abbrev pub AreMoves : (Event → Bool) → (World → ℕ) → (World → Holder) → World → List Event → List Bool → List World → State → State → Type 0
 AreMoves touches position holder w [] [] [] old new = old ≡ new
 AreMoves touches position holder w (event ∷ events) (did ∷ done) (w' ∷ worlds) old new =
-    (next : State) × Moves (holder w') w'.primary.calls (position w) (position w') old next × ((touches event && did) ≡ false → next ≡ old)
+    (next : State) × Moves (holder w) w.primary.calls (position w) (position w') old next × ((touches event && did) ≡ false → next ≡ old)
     × AreMoves touches position holder w' events done worlds next new
 AreMoves touches position holder w events done worlds old new = ⊥
 

@@ -14,8 +14,8 @@ use Rattle.redis_core.specs.Sequencing.{Sequencing}
 use Rattle.standby_stream.specs.Stream.{Stream}
 use Rattle.standby_stream.specs.declared.opening.Opening.{Opening}
 use Rattle.machine.specs.declared.event.Event.{Event}
-use Rattle.machine.specs.declared.event.Event.TheVariants.{Apply, Crash, Deliver, OpenLink, Reopen}
 use Rattle.machine.specs.Event.{Crashed, Life, Primary, Running, World, Step, is_enabled, new_committer, new_link}
+use Rattle.machine.specs.Row.{are_running, row}
 use Rattle.machine.specs.Promise.{released_in}
 use Rattle.machine.specs.Sound.{Sound}
 use Rattle.world.specs.Cause.{EndsBy}
@@ -104,9 +104,13 @@ pub record DownRefine (first second : Holder) (pair : Pair) (w : World) : Type 0
 abbrev pub life_if : Bool → Life
 life_if runs = if runs then Running else Crashed
 
--- each node runs or is crashed, as it is said of it; a crash may come; and the images are those of a primary and a standby of the pair's epoch
+-- Each node runs or is crashed, as it is said of it; a crash may come between two events, but no failover, and no fence was asked to fail; and the images are those of
+-- a primary and a standby of the pair's epoch.
 pub record AreLives (first second : Holder) (primary_runs standby_runs : Bool) (w : World) : Type 0 where
   pub restarts : w.restarts ≡ true
+  pub failovers : w.failovers ≡ false
+  pub primary_sure : w.primary.disk.failing ≡ false
+  pub standby_sure : w.standby.disk.failing ≡ false
   pub primary : w.primary.life ≡ life_if primary_runs
   pub standby : w.standby.life ≡ life_if standby_runs
   pub first_role : first.role ≡ Role.Primary
@@ -154,10 +158,10 @@ pub record IsCut (first second : Holder) (event : Event) (refusal : Refusal) (ol
       first_last first w.primary.calls w.primary.committer.position (next_primary w) old.device new.device
       × second_last second w.primary.calls w.standby.position (next_standby w) old.standby.device new.standby.device)
 
--- the step from one pair to the other moved each device from where its node stands in one world to where it stands in the other
+-- the step from one pair to the other moved each device, over the list of calls before it, from where its node stands in one world to where it stands in the other
 pub record MovesBoth (first second : Holder) (old new : Pair) (w w' : World) : Type 0 where
-  pub primary : Moves first w'.primary.calls w.primary.committer.position w'.primary.committer.position old.device new.device
-  pub standby : Moves second w'.primary.calls w.standby.position w'.standby.position old.standby.device new.standby.device
+  pub primary : Moves first w.primary.calls w.primary.committer.position w'.primary.committer.position old.device new.device
+  pub standby : Moves second w.primary.calls w.standby.position w'.standby.position old.standby.device new.standby.device
 
 -- the machine's step, the world that the pair refines after it, and what the step did to the devices
 pub record Steps (first second : Holder) (w : World) (event : Event) (did : Bool) (old new : Pair) : Type 0 where
@@ -182,9 +186,4 @@ Acts = DoesTo NodesRefine
 
 -- the nodes that take part in the event run, where the primary and the standby do so or not; to crash, or to be opened again, none needs to run
 abbrev pub takes_part : Bool → Bool → Event → Bool
-takes_part primary_runs standby_runs OpenLink = primary_runs && standby_runs
-takes_part primary_runs standby_runs (Deliver frame piece) = standby_runs
-takes_part primary_runs standby_runs Apply = standby_runs
-takes_part primary_runs standby_runs (Crash node picks) = true
-takes_part primary_runs standby_runs (Reopen node) = true
-takes_part primary_runs standby_runs event = primary_runs
+takes_part primary_runs standby_runs event = are_running (row event).runners primary_runs standby_runs

@@ -11,6 +11,7 @@ use Rattle.machine.specs.declared.event.Event.TheVariants.{Apply, ClearGap, Comm
 use Rattle.machine.specs.declared.event.Node.TheVariants as node
 use Rattle.machine.specs.Event.{Connection, World, connection_of}
 use Rattle.machine.specs.Promise.{IsReleased, released_in}
+use Rattle.machine.specs.Row.{touches}
 use Rattle.connections.specs.Session.{AddsOne, TranscriptRefines, released_of}
 use Rattle.connections.specs.declared.transcript.Transcript.{Transcript}
 use Rattle.world.specs.Committing.{Opens}
@@ -23,19 +24,11 @@ use Rattle.world.specs.Pair.{Does, HasRoom, IsCut, NodesRefine, Pair, Steps}
 
 -- the events that do something to the primary's device
 abbrev pub touches_primary : Event → Bool
-touches_primary Commit = true
-touches_primary Free = true
-touches_primary ClearGap = true
-touches_primary (Crash node.Primary picks) = true
-touches_primary (Reopen node.Primary) = true
-touches_primary event = false
+touches_primary = touches node.Primary
 
 -- and to the standby's
 abbrev pub touches_standby : Event → Bool
-touches_standby Apply = true
-touches_standby (Crash node.Standby picks) = true
-touches_standby (Reopen node.Standby) = true
-touches_standby event = false
+touches_standby = touches node.Standby
 
 -- the event did its step, or was cut in it
 abbrev pub has_begun : Result Bool Refusal → Bool
@@ -86,7 +79,7 @@ pub record Shows (first second : Holder) (w : World) (pair : Pair) : Type 0 wher
 abbrev pub CallsBy : World → Event → Bool → List Call → Type 0
 CallsBy w (Turn c) true new =
     (call : Call) × (call.connection ≡ c) × (take 1 (connection_of w c).inbound.waiting ≡ call.item ∷ []) × MayReply (state_after w.primary.calls) call × (new ≡ w.primary.calls ++ call ∷ [])
-CallsBy w (Crash node.Primary picks) true new = new ≡ cut_at w.primary.calls w.primary.committer.position
+CallsBy w (Crash node.Primary call k picks) true new = new ≡ cut_at w.primary.calls w.primary.committer.position
 CallsBy w event did new = new ≡ w.primary.calls
 
 -- the bytes that an event releases to connection c: only a write does, the first of those that its gate let out

@@ -17,20 +17,22 @@ ghost use Rattle.extent_heap.specs.Room.{fresh_room, is_free_line, is_free_entry
 ghost use Rattle.model.specs.Image.{entries_of_lines, first_extent_line};
 
 use crate::arrivals::Arrivals;
+use crate::condition::Condition;
+use crate::crashing::new_link;
 use crate::history::History;
 use crate::pair::{Pair, Stepper};
-use crate::waiting::Waiting;
 use connections::Connections;
 use extent_heap::ExtentHeap;
-use group_commit::Committer;
 use kv_types::Refusal;
-use model::{FIRST_EPOCH, LAYOUT};
+use model::{FIRST_EPOCH, Group, LAYOUT, Work};
 use mv_keyspace::Keyspace;
+use pipes::LocalPipe;
 use placing::Rebuilt;
 use pmem::Crashing;
+use primary::Primary;
 use redis_core::Sequencer;
 use standby::Standby;
-use standby_stream::Opening;
+use standby_stream::{Opening, Outgoing};
 use std::alloc::Global;
 use std::collections::VecDeque;
 use std::hash::RandomState;
@@ -42,7 +44,9 @@ struct Between<K: Keyspace> {
     history: History,
     sessions: Connections,
     sequencer: Sequencer<K>,
-    waiting: Waiting,
+    work: LocalPipe<Work>,
+    handed: LocalPipe<Group>,
+    outgoing: Outgoing,
     arrivals: Arrivals,
     /// The standby's.
     room: Rebuilt,
@@ -64,9 +68,10 @@ fn make_between<K: Keyspace + Drop>(
     ensures underlies { IfOk result (λ between. (contents : Contents) → IsNew lines.0 contents.current.role contents → IsAheadOf between.sequencer contents) }
     ensures expects { IfOk result (λ between. (contents : Contents) → IsNew lines.0 contents.current.role contents → Expects between.sequencer contents [] []) }
     ensures ended { IfOk result (λ between. (between.sequencer.ended ≡ []) × (between.sequencer.newest ≡ 0)) }
-    ensures no_work { IfOk result (λ between. between.waiting.work.items ≡ []) }
-    ensures link { IfOk result (λ between. between.waiting.link ≡ new_stream FIRST_EPOCH) }
-    ensures handed { IfOk result (λ between. between.waiting.handed.items ≡ []) }
+    ensures no_work { IfOk result (λ between. between.work.items ≡ []) }
+    ensures link { IfOk result (λ between. between.outgoing.link ≡ new_stream FIRST_EPOCH) }
+    ensures opening { IfOk result (λ between. between.outgoing.opening.position ≡ 0) }
+    ensures handed { IfOk result (λ between. between.handed.items ≡ []) }
     ensures arrivals { IfOk result (λ between. (epoch : ℕ) → ArrivalsRefine epoch [] (arrived_with between.arrivals between.history.acknowledgements) [] []) }
     ensures free_lines { IfOk result (λ between. (line : ℕ) → IsTrue (is_free_line between.room.heap line) ↔ ((first_extent_line lines.1 ≤ line) × (line < lines.1))) }
     ensures free_entries { IfOk result (λ between. (i : ℕ) → IsTrue (is_free_entry between.room.heap i) ↔ (i < entries_of_lines lines.1)) }
@@ -75,7 +80,8 @@ fn make_between<K: Keyspace + Drop>(
     ensures cause { IfErr result (λ refusal. refusal ≡ Refusal.Memory) }
 {
     let room = room_of(alloc, lines.1)?;
-    let waiting = Waiting::none(alloc, FIRST_EPOCH)?;
+    let work = LocalPipe::new(alloc)?;
+    let (handed, outgoing) = new_link(alloc, FIRST_EPOCH, Opening::none(alloc))?;
     let history = History::new(alloc, calls)?;
     let sessions = Connections::new(alloc)?;
     let sequencer = new_sequencer(alloc, keyspace, lines.0, hash_builder)?;
@@ -83,7 +89,9 @@ fn make_between<K: Keyspace + Drop>(
         history,
         sessions,
         sequencer,
-        waiting,
+        work,
+        handed,
+        outgoing,
         arrivals: Arrivals::new(alloc),
         room,
     })
@@ -163,21 +171,18 @@ impl<P: Crashing, K: Keyspace + Drop> Pair<WblEngine<P>, K> {
         let Pair {
             alloc: _,
             sessions: _sessions,
-            sequencer: _sequencer,
-            work: _work,
-            committer,
+            primary,
             notices: _notices,
             handed: _handed,
-            link: _link,
-            opening: _opening,
+            outgoing: _outgoing,
             remote: _,
             arrivals: _arrivals,
             standby,
             hash_builder: _,
-            primary_runs: _,
-            standby_runs: _,
+            primary_condition: _,
+            standby_condition: _,
         } = self;
-        (committer.into_device(), standby.into_device())
+        (primary.back.into_device(), standby.into_device())
     }
 }
 
@@ -218,13 +223,10 @@ fn form<P: Crashing, K: Keyspace + Drop>(
             Pair {
                 alloc,
                 sessions: between.sessions,
-                sequencer: between.sequencer,
-                work: between.waiting.work,
-                committer: Committer::new(alloc, engine),
+                primary: Primary::with_queue(alloc, between.sequencer, between.work, engine),
                 notices: VecDeque::new(alloc),
-                handed: between.waiting.handed,
-                link: between.waiting.link,
-                opening: Opening::none(alloc),
+                handed: between.handed,
+                outgoing: between.outgoing,
                 remote: 0,
                 arrivals: between.arrivals,
                 standby: Standby {
@@ -234,8 +236,8 @@ fn form<P: Crashing, K: Keyspace + Drop>(
                     ended: between.room.ended,
                 },
                 hash_builder,
-                primary_runs: true,
-                standby_runs: true,
+                primary_condition: Condition::Running,
+                standby_condition: Condition::Running,
             },
             between.history,
         )),

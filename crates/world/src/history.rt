@@ -21,6 +21,23 @@ pub struct History {
 }
 
 impl History {
+    /// Nothing happens. It takes no memory.
+    pub fn none(alloc: Global) -> History
+        ensures calls { result.transcript.calls.items ≡ [] }
+        ensures released { released_of result.transcript ≡ [] }
+        ensures none_sent { (result.frames.items ≡ []) × (result.acknowledgements.items ≡ []) }
+    {
+        History {
+            transcript: Transcript {
+                calls: Vec::new(alloc),
+                positions: Vec::new(alloc),
+                released: Vec::new(alloc),
+            },
+            frames: Vec::new(alloc),
+            acknowledgements: Vec::new(alloc),
+        }
+    }
+
     /// Nothing happened yet, and there is room for `calls` calls.
     ///
     /// `Memory` alone, where that room was refused.

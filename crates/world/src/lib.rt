@@ -2,13 +2,14 @@
 #![tactic(auto)]
 
 mod arrivals;
+mod committing;
+mod condition;
+mod crashing;
 mod form;
 mod history;
 mod pair;
 mod playing;
-mod restarting;
 mod trace;
-mod waiting;
 mod wire;
 
 pub use history::History;

@@ -1,11 +1,7 @@
 //! A pair of nodes with their connections, one event at a time.
 ghost use Rattle.std.specs.Prelude.{◌≡◌, ◌<◌, ◌≤◌, [], Ok, None, Some, true, IfErr, IfOk};
-ghost use Rattle.frames.specs.declared.frame.Frame.{Frame};
-ghost use Rattle.group_commit.specs.Due.{due_now};
-ghost use Rattle.standby_stream.specs.Delta.{IsDelta};
 ghost use Rattle.machine.specs.declared.event.Event.TheVariants as events;
-ghost use Rattle.machine.specs.declared.event.Node.TheVariants as nodes;
-ghost use Rattle.world.specs.Committing.{link_has_room};
+ghost use Rattle.world.specs.Condition.{runs};
 ghost use Rattle.world.specs.Pair.{Acts, Does, HasWorld, takes_part};
 ghost use Rattle.world.specs.Pair as specs;
 ghost use Rattle.world.specs.Standby.{arrived_with, node_at};
@@ -13,23 +9,20 @@ ghost use Rattle.world.specs.Step.{IsStep, Leaves, Turns};
 ghost use Rattle.world.specs.declared.history.History.{History};
 
 use crate::arrivals::{Arrivals, acknowledge};
+use crate::condition::Condition;
 use crate::history::History;
-use crate::restarting::{Serving, restart_primary};
 use crate::wire::{decode, pass};
 use bytes::Bytes;
 use connections::Connections;
-use frames::Frame;
-use group_commit::{Committer, Done, Due};
-use kv_types::Refusal;
-use machine::{Event, Mark, Node};
-use model::{Group, Work};
+use group_commit::Due;
+use kv_types::{Refusal, Seen};
+use machine::{Event, Mark};
+use model::Group;
 use mv_keyspace::Keyspace;
-use pipes::{LocalPipe, PIPE_ITEMS};
-use primary::close_next;
-use redis_core::Sequencer;
-use reply_gate::Seen;
+use pipes::LocalPipe;
+use primary::{Primary, close};
 use standby::Standby;
-use standby_stream::{Link, Opening, delta};
+use standby_stream::Outgoing;
 use std::alloc::Global;
 use std::collections::VecDeque;
 use std::hash::RandomState;
@@ -63,50 +56,44 @@ pub trait Stepper {
 pub struct Pair<E: Durable, K: Keyspace> {
     pub(crate) alloc: Global,
     pub(crate) sessions: Connections,
-    pub(crate) sequencer: Sequencer<K>,
-    /// What waits for the committer.
-    pub(crate) work: LocalPipe<Work>,
-    /// The primary's committer, with its engine.
-    pub(crate) committer: Committer<E>,
-    /// What was freed, and the sequencer has not been told.
+    /// What serves the connections and what commits, as the server has them.
+    pub(crate) primary: Primary<E, K>,
+    /// What was freed, and the front has not been told.
     pub(crate) notices: VecDeque<Freed>,
     /// Groups that were committed and handed on, and are not sent.
     pub(crate) handed: LocalPipe<Group>,
-    pub(crate) link: Link,
-    /// What a standby is told that is behind the position at which the primary was opened.
-    pub(crate) opening: Opening,
+    /// What the primary sends, as the server has it.
+    pub(crate) outgoing: Outgoing,
     /// The remote mark.
     pub(crate) remote: u64,
     pub(crate) arrivals: Arrivals,
     pub(crate) standby: Standby<E, K>,
     /// What the keys that connections watch are hashed with.
     pub(crate) hash_builder: RandomState,
-    /// Whether the primary runs. One that does not has crashed: but for its connections and its image, what it held is made anew when
-    /// it is opened again.
-    pub(crate) primary_runs: bool,
-    /// Whether the standby runs, likewise.
-    pub(crate) standby_runs: bool,
+    /// The primary's. Of one that crashed the connections stay too, all of them over.
+    pub(crate) primary_condition: Condition,
+    pub(crate) standby_condition: Condition,
 }
 
 impl<E: Restarting, K: Keyspace + Drop> Stepper for Pair<E, K> {
     ghost parts = { λ p h. record {
       sessions = p.sessions;
       transcript = h.transcript;
-      sequencer = p.sequencer;
-      committing = record { waiting = p.work; aside = p.committer.aside.items; stage = p.committer.stage; local = p.committer.local };
+      sequencer = p.primary.front.sequencer;
+      committing = record { waiting = p.primary.back.work; aside = p.primary.back.committer.aside.items; stage = p.primary.back.committer.stage; local = p.primary.back.committer.local };
       notices = p.notices.items;
-      device = E.device p.committer.engine;
-      contents = E.contents p.committer.engine;
-      is_faulted = E.is_faulted p.committer.engine;
+      device = E.device p.primary.back.committer.engine;
+      contents = E.contents p.primary.back.committer.engine;
+      is_faulted = E.is_faulted p.primary.back.committer.engine;
       handed = p.handed;
-      link = p.link;
-      opening = p.opening;
+      link = p.outgoing.link;
+      opening = p.outgoing.opening;
       remote = p.remote;
       frames = h.frames.items;
       arrivals = arrived_with p.arrivals h.acknowledgements;
       standby = node_at (E.device p.standby.engine) (E.contents p.standby.engine) (E.is_faulted p.standby.engine) (K.table p.standby.keyspace) p.standby.heap p.standby.ended.items;
-      primary_runs = p.primary_runs;
-      standby_runs = p.standby_runs;
+      primary_runs = runs p.primary_condition;
+      standby_runs = runs p.standby_condition;
     } };
 
     fn step(&mut self, history: &mut History, event: &Event) -> Result<bool, Refusal> {
@@ -119,12 +106,12 @@ impl<E: Restarting, K: Keyspace + Drop> Stepper for Pair<E, K> {
             Event::Offer(c) => self.offer(*c),
             Event::Turn(c) => self.turn(history, *c),
             Event::CloseGroup => self.close_group(),
-            Event::Commit => self.commit(),
-            Event::RaiseLocal => self.raise_local(),
-            Event::Hand => self.hand(),
-            Event::Free => self.free(),
+            Event::Commit => self.take_step(Due::Commit),
+            Event::RaiseLocal => self.take_step(Due::Raise),
+            Event::Hand => self.take_step(Due::Hand),
+            Event::Free => self.take_step(Due::Free),
             Event::AcceptFreed => Ok(self.accept_freed()),
-            Event::ClearGap => self.clear_gap(),
+            Event::ClearGap => self.take_step(Due::Clear),
             Event::OpenLink => self.open_link(history),
             Event::Send => self.send(history),
             Event::Deliver(frame, piece) => self.deliver(history, *frame, *piece),
@@ -136,8 +123,12 @@ impl<E: Restarting, K: Keyspace + Drop> Stepper for Pair<E, K> {
             Event::Release(c) => self.release(*c),
             Event::Write(c, n) => self.write(history, *c, *n),
             Event::Leave(c) => self.leave(*c),
-            Event::Crash(node, picks) => self.crash(history, *node, picks),
+            Event::Crash(node, cut, _, picks) => self.crash(history, *node, *cut, picks),
             Event::Reopen(node) => self.reopen(*node),
+            // these three do not come yet
+            Event::FailFence(_, _) => Ok(false),
+            Event::Fence => Ok(false),
+            Event::Promote => Ok(false),
         }
     }
 }
@@ -145,40 +136,19 @@ impl<E: Restarting, K: Keyspace + Drop> Stepper for Pair<E, K> {
 impl<E: Restarting, K: Keyspace + Drop> Pair<E, K> {
     /// Whether the nodes that take part in an event run. To crash, or to be opened again, none needs to run.
     fn takes_part(&self, event: &Event) -> bool
-        ensures { result ≡ takes_part self.now.primary_runs self.now.standby_runs event.now }
+        ensures { result ≡ takes_part (runs self.now.primary_condition) (runs self.now.standby_condition) event.now }
     {
-        match event {
-            Event::OpenLink => self.primary_runs && self.standby_runs,
-            Event::Deliver(_, _) | Event::Apply => self.standby_runs,
-            Event::Crash(_, _) | Event::Reopen(_) => true,
-            Event::Enter
-            | Event::Feed(_, _)
-            | Event::Offer(_)
-            | Event::Turn(_)
-            | Event::CloseGroup
-            | Event::Commit
-            | Event::RaiseLocal
-            | Event::Hand
-            | Event::Free
-            | Event::AcceptFreed
-            | Event::ClearGap
-            | Event::Send
-            | Event::AckDelivered(_)
-            | Event::RaiseRemote
-            | Event::Hold(_)
-            | Event::Read(_, _)
-            | Event::Release(_)
-            | Event::Write(_, _)
-            | Event::Leave(_) => self.primary_runs,
-        }
+        event.runners().are_running(
+            self.primary_condition.is_running(),
+            self.standby_condition.is_running(),
+        )
     }
 
     fn enter(&mut self, history: &mut History) -> Result<bool, Refusal>
         ensures does { Does (⟦<Pair<E, K> as Stepper>⟧.parts self.old history.old) events.Enter result (⟦<Pair<E, K> as Stepper>⟧.parts self.new history.new) }
         ensures leaves { Leaves events.Enter result (⟦<Pair<E, K> as Stepper>⟧.parts self.old history.old) (⟦<Pair<E, K> as Stepper>⟧.parts self.new history.new) }
     {
-        self.sessions
-            .enter(self.alloc, &mut history.transcript, &mut self.sequencer)
+        self.sessions.enter(self.alloc, &mut history.transcript, &mut self.primary.front)
     }
 
     fn feed(&mut self, c: u64, piece: &Bytes) -> Result<bool, Refusal>
@@ -201,83 +171,19 @@ impl<E: Restarting, K: Keyspace + Drop> Pair<E, K> {
         ensures leaves { Leaves (events.Turn c) result (⟦<Pair<E, K> as Stepper>⟧.parts self.old history.old) (⟦<Pair<E, K> as Stepper>⟧.parts self.new history.new) }
     {
         history.transcript.make_room()?;
-        Ok(self.sessions.turn(self.alloc, &mut history.transcript, c, &mut self.sequencer))
+        let (alloc, front) = (self.alloc, &mut self.primary.front);
+        Ok(self.sessions.turn(alloc, &mut history.transcript, c, front))
     }
 
     fn close_group(&mut self) -> Result<bool, Refusal>
         ensures does { (history : History) → Does (⟦<Pair<E, K> as Stepper>⟧.parts self.old history) events.CloseGroup result (⟦<Pair<E, K> as Stepper>⟧.parts self.new history) }
         ensures leaves { (history : History) → Leaves events.CloseGroup result (⟦<Pair<E, K> as Stepper>⟧.parts self.old history) (⟦<Pair<E, K> as Stepper>⟧.parts self.new history) }
     {
-        close_next(self.alloc, &mut self.sequencer, &mut self.work)
-    }
-
-    /// The committer's step that is due.
-    fn due(&self) -> Due
-        ensures { result ≡ due_now E.contents self.now.committer self.now.work (link_has_room self.now.handed.items) self.now.remote }
-    {
-        self.committer
-            .due(&self.work, self.handed.len() < PIPE_ITEMS, self.remote)
-    }
-
-    fn commit(&mut self) -> Result<bool, Refusal>
-        requires serves { self.old.primary_runs ≡ true }
-        requires world { (history : History) × HasWorld (⟦<Pair<E, K> as Stepper>⟧.parts self.old history) }
-        ensures does { (history : History) → Does (⟦<Pair<E, K> as Stepper>⟧.parts self.old history) events.Commit result (⟦<Pair<E, K> as Stepper>⟧.parts self.new history) }
-        ensures leaves { (history : History) → Leaves events.Commit result (⟦<Pair<E, K> as Stepper>⟧.parts self.old history) (⟦<Pair<E, K> as Stepper>⟧.parts self.new history) }
-    {
-        let Due::Commit = self.due() else {
-            return Ok(false);
-        };
-        self.committer
-            .turn(self.alloc, &mut self.work, &mut self.handed, self.remote)?;
-        Ok(true)
-    }
-
-    fn raise_local(&mut self) -> Result<bool, Refusal>
-        ensures does { (history : History) → Does (⟦<Pair<E, K> as Stepper>⟧.parts self.old history) events.RaiseLocal result (⟦<Pair<E, K> as Stepper>⟧.parts self.new history) }
-        ensures leaves { (history : History) → Leaves events.RaiseLocal result (⟦<Pair<E, K> as Stepper>⟧.parts self.old history) (⟦<Pair<E, K> as Stepper>⟧.parts self.new history) }
-    {
-        let Due::Raise = self.due() else {
-            return Ok(false);
-        };
-        self.committer
-            .turn(self.alloc, &mut self.work, &mut self.handed, self.remote)?;
-        Ok(true)
-    }
-
-    fn hand(&mut self) -> Result<bool, Refusal>
-        ensures does { (history : History) → Does (⟦<Pair<E, K> as Stepper>⟧.parts self.old history) events.Hand result (⟦<Pair<E, K> as Stepper>⟧.parts self.new history) }
-        ensures leaves { (history : History) → Leaves events.Hand result (⟦<Pair<E, K> as Stepper>⟧.parts self.old history) (⟦<Pair<E, K> as Stepper>⟧.parts self.new history) }
-    {
-        let Due::Hand = self.due() else {
-            return Ok(false);
-        };
-        self.committer
-            .turn(self.alloc, &mut self.work, &mut self.handed, self.remote)?;
-        Ok(true)
-    }
-
-    fn free(&mut self) -> Result<bool, Refusal>
-        requires serves { self.old.primary_runs ≡ true }
-        requires world { (history : History) × HasWorld (⟦<Pair<E, K> as Stepper>⟧.parts self.old history) }
-        ensures does { (history : History) → Does (⟦<Pair<E, K> as Stepper>⟧.parts self.old history) events.Free result (⟦<Pair<E, K> as Stepper>⟧.parts self.new history) }
-        ensures leaves { (history : History) → Leaves events.Free result (⟦<Pair<E, K> as Stepper>⟧.parts self.old history) (⟦<Pair<E, K> as Stepper>⟧.parts self.new history) }
-    {
-        let Due::Free = self.due() else {
-            return Ok(false);
-        };
-        self.notices.reserve(1)?;
-        let done = self
-            .committer
-            .turn(self.alloc, &mut self.work, &mut self.handed, self.remote)?;
-        if let Done::Freed(freed) = done {
-            self.notices.push_back_reserved(freed);
-        }
-        Ok(true)
+        close(self.alloc, &mut self.primary.front, &mut self.primary.back)
     }
 
     fn accept_freed(&mut self) -> bool
-        requires serves { self.old.primary_runs ≡ true }
+        requires serves { runs self.old.primary_condition ≡ true }
         requires world { (history : History) × HasWorld (⟦<Pair<E, K> as Stepper>⟧.parts self.old history) }
         ensures does { (history : History) → Does (⟦<Pair<E, K> as Stepper>⟧.parts self.old history) events.AcceptFreed (Ok result) (⟦<Pair<E, K> as Stepper>⟧.parts self.new history) }
         ensures leaves { (history : History) → Leaves events.AcceptFreed (Ok result) (⟦<Pair<E, K> as Stepper>⟧.parts self.old history) (⟦<Pair<E, K> as Stepper>⟧.parts self.new history) }
@@ -285,38 +191,19 @@ impl<E: Restarting, K: Keyspace + Drop> Pair<E, K> {
         let Some(freed) = self.notices.pop_front() else {
             return false;
         };
-        self.sequencer.accept_freed(&freed.entries, &freed.extents);
+        self.primary.front.take_back(&freed);
         true
     }
 
-    fn clear_gap(&mut self) -> Result<bool, Refusal>
-        requires serves { self.old.primary_runs ≡ true }
-        requires world { (history : History) × HasWorld (⟦<Pair<E, K> as Stepper>⟧.parts self.old history) }
-        ensures does { (history : History) → Does (⟦<Pair<E, K> as Stepper>⟧.parts self.old history) events.ClearGap result (⟦<Pair<E, K> as Stepper>⟧.parts self.new history) }
-        ensures leaves { (history : History) → Leaves events.ClearGap result (⟦<Pair<E, K> as Stepper>⟧.parts self.old history) (⟦<Pair<E, K> as Stepper>⟧.parts self.new history) }
-    {
-        let Due::Clear = self.due() else {
-            return Ok(false);
-        };
-        self.notices.reserve(1)?;
-        let done = self
-            .committer
-            .turn(self.alloc, &mut self.work, &mut self.handed, self.remote)?;
-        if let Done::Cleared(freed) = done {
-            self.notices.push_back_reserved(freed);
-        }
-        Ok(true)
-    }
-
     fn open_link(&mut self, history: &mut History) -> Result<bool, Refusal>
-        requires follows { self.old.standby_runs ≡ true }
+        requires follows { runs self.old.standby_condition ≡ true }
+        requires world { HasWorld (⟦<Pair<E, K> as Stepper>⟧.parts self.old history.old) }
         ensures does { Does (⟦<Pair<E, K> as Stepper>⟧.parts self.old history.old) events.OpenLink result (⟦<Pair<E, K> as Stepper>⟧.parts self.new history.new) }
         ensures leaves { Leaves events.OpenLink result (⟦<Pair<E, K> as Stepper>⟧.parts self.old history.old) (⟦<Pair<E, K> as Stepper>⟧.parts self.new history.new) }
     {
         let ack = self.standby.ack();
-        let delta = due_delta(self.alloc, &self.link, &self.opening, ack.position())?;
+        self.outgoing.open_at(self.alloc, ack.position())?;
         acknowledge(self.alloc, &mut history.acknowledgements, ack)?;
-        self.link.reopen(delta);
         Ok(true)
     }
 
@@ -324,7 +211,7 @@ impl<E: Restarting, K: Keyspace + Drop> Pair<E, K> {
         ensures does { Does (⟦<Pair<E, K> as Stepper>⟧.parts self.old history.old) events.Send result (⟦<Pair<E, K> as Stepper>⟧.parts self.new history.new) }
         ensures leaves { Leaves events.Send result (⟦<Pair<E, K> as Stepper>⟧.parts self.old history.old) (⟦<Pair<E, K> as Stepper>⟧.parts self.new history.new) }
     {
-        let Some(delta) = self.link.take_delta() else {
+        let Some(delta) = self.outgoing.take_delta() else {
             return self.send_group(history);
         };
         pass(self.alloc, &mut history.frames, &delta)?;
@@ -337,15 +224,15 @@ impl<E: Restarting, K: Keyspace + Drop> Pair<E, K> {
         ensures does { Does (⟦<Pair<E, K> as Stepper>⟧.parts self.old history.old) events.Send result (⟦<Pair<E, K> as Stepper>⟧.parts self.new history.new) }
         ensures leaves { Leaves events.Send result (⟦<Pair<E, K> as Stepper>⟧.parts self.old history.old) (⟦<Pair<E, K> as Stepper>⟧.parts self.new history.new) }
     {
-        let Some(index) = self.link.next_frame(self.alloc, &mut self.handed)? else {
+        let Some(index) = self.outgoing.next_frame(self.alloc, &mut self.handed)? else {
             return Ok(false);
         };
-        pass(self.alloc, &mut history.frames, self.link.frame(index))?;
+        pass(self.alloc, &mut history.frames, self.outgoing.frame(index))?;
         Ok(true)
     }
 
     fn deliver(&mut self, history: &History, frame: u64, piece: u64) -> Result<bool, Refusal>
-        requires follows { self.old.standby_runs ≡ true }
+        requires follows { runs self.old.standby_condition ≡ true }
         ensures does { Acts (⟦<Pair<E, K> as Stepper>⟧.parts self.old history.now) (events.Deliver frame piece) result (⟦<Pair<E, K> as Stepper>⟧.parts self.new history.now) }
         ensures leaves { Leaves (events.Deliver frame piece) result (⟦<Pair<E, K> as Stepper>⟧.parts self.old history.now) (⟦<Pair<E, K> as Stepper>⟧.parts self.new history.now) }
     {
@@ -354,7 +241,7 @@ impl<E: Restarting, K: Keyspace + Drop> Pair<E, K> {
     }
 
     fn apply(&mut self, history: &mut History) -> Result<bool, Refusal>
-        requires follows { self.old.standby_runs ≡ true }
+        requires follows { runs self.old.standby_condition ≡ true }
         requires world { HasWorld (⟦<Pair<E, K> as Stepper>⟧.parts self.old history.old) }
         ensures does { Acts (⟦<Pair<E, K> as Stepper>⟧.parts self.old history.old) events.Apply result (⟦<Pair<E, K> as Stepper>⟧.parts self.new history.new) }
         ensures leaves { Leaves events.Apply result (⟦<Pair<E, K> as Stepper>⟧.parts self.old history.old) (⟦<Pair<E, K> as Stepper>⟧.parts self.new history.new) }
@@ -373,7 +260,9 @@ impl<E: Restarting, K: Keyspace + Drop> Pair<E, K> {
             return Err(Refusal::FrameFault);
         };
         // one that is refused changes nothing
-        let _ = self.link.on_ack(ack, self.committer.position());
+        let _ = self
+            .outgoing
+            .on_ack(self.alloc, ack, self.primary.back.position());
         Ok(true)
     }
 
@@ -381,10 +270,9 @@ impl<E: Restarting, K: Keyspace + Drop> Pair<E, K> {
         ensures does { (history : History) → Does (⟦<Pair<E, K> as Stepper>⟧.parts self.old history) events.RaiseRemote result (⟦<Pair<E, K> as Stepper>⟧.parts self.new history) }
         ensures leaves { (history : History) → Leaves events.RaiseRemote result (⟦<Pair<E, K> as Stepper>⟧.parts self.old history) (⟦<Pair<E, K> as Stepper>⟧.parts self.new history) }
     {
-        let known = self.link.known();
+        let known = self.outgoing.known();
         let rises = self.remote < known;
         self.remote = known;
-        forget_passed(self.alloc, &mut self.opening, known);
         Ok(rises)
     }
 
@@ -400,7 +288,7 @@ impl<E: Restarting, K: Keyspace + Drop> Pair<E, K> {
         ensures leaves { (history : History) → Leaves (events.Read c mark) result (⟦<Pair<E, K> as Stepper>⟧.parts self.old history) (⟦<Pair<E, K> as Stepper>⟧.parts self.new history) }
     {
         let marks = Seen {
-            local: self.committer.local(),
+            local: self.primary.back.local(),
             remote: self.remote,
         };
         Ok(self.sessions.read(c, mark, marks))
@@ -424,135 +312,6 @@ impl<E: Restarting, K: Keyspace + Drop> Pair<E, K> {
         ensures does { (history : History) → Does (⟦<Pair<E, K> as Stepper>⟧.parts self.old history) (events.Leave c) result (⟦<Pair<E, K> as Stepper>⟧.parts self.new history) }
         ensures leaves { (history : History) → Leaves (events.Leave c) result (⟦<Pair<E, K> as Stepper>⟧.parts self.old history) (⟦<Pair<E, K> as Stepper>⟧.parts self.new history) }
     {
-        Ok(self.sessions.leave(c, &mut self.sequencer))
-    }
-
-    fn crash(
-        &mut self,
-        history: &mut History,
-        node: Node,
-        picks: &Vec<u64>,
-    ) -> Result<bool, Refusal>
-        requires { HasWorld (⟦<Pair<E, K> as Stepper>⟧.parts self.old history.old) }
-        ensures does { Acts (⟦<Pair<E, K> as Stepper>⟧.parts self.old history.old) (events.Crash node picks.now) result (⟦<Pair<E, K> as Stepper>⟧.parts self.new history.new) }
-        ensures leaves { Leaves (events.Crash node picks.now) result (⟦<Pair<E, K> as Stepper>⟧.parts self.old history.old) (⟦<Pair<E, K> as Stepper>⟧.parts self.new history.new) }
-    {
-        match node {
-            Node::Primary => Ok(self.crash_primary(history, picks)),
-            Node::Standby => Ok(self.crash_standby(picks)),
-        }
-    }
-
-    /// Of the primary there is its image then, and the list keeps the calls that it holds. All connections are over.
-    fn crash_primary(&mut self, history: &mut History, picks: &Vec<u64>) -> bool
-        requires { HasWorld (⟦<Pair<E, K> as Stepper>⟧.parts self.old history.old) }
-        ensures does { Acts (⟦<Pair<E, K> as Stepper>⟧.parts self.old history.old) (events.Crash nodes.Primary picks.now) (Ok result) (⟦<Pair<E, K> as Stepper>⟧.parts self.new history.new) }
-        ensures leaves { Leaves (events.Crash nodes.Primary picks.now) (Ok result) (⟦<Pair<E, K> as Stepper>⟧.parts self.old history.old) (⟦<Pair<E, K> as Stepper>⟧.parts self.new history.new) }
-    {
-        if !self.primary_runs {
-            return false;
-        }
-        let position = self.committer.position();
-        self.committer.crash(picks.as_slice());
-        self.sessions.crash(&mut history.transcript, position);
-        self.primary_runs = false;
-        true
-    }
-
-    /// Of the standby there is its image then. What was delivered to it is lost.
-    fn crash_standby(&mut self, picks: &Vec<u64>) -> bool
-        requires { (history : History) × HasWorld (⟦<Pair<E, K> as Stepper>⟧.parts self.old history) }
-        ensures does { (history : History) → Acts (⟦<Pair<E, K> as Stepper>⟧.parts self.old history) (events.Crash nodes.Standby picks.now) (Ok result) (⟦<Pair<E, K> as Stepper>⟧.parts self.new history) }
-        ensures leaves { (history : History) → Leaves (events.Crash nodes.Standby picks.now) (Ok result) (⟦<Pair<E, K> as Stepper>⟧.parts self.old history) (⟦<Pair<E, K> as Stepper>⟧.parts self.new history) }
-    {
-        if !self.standby_runs {
-            return false;
-        }
-        self.standby.crash(picks.as_slice());
-        self.arrivals.crash();
-        self.standby_runs = false;
-        true
-    }
-
-    fn reopen(&mut self, node: Node) -> Result<bool, Refusal>
-        requires { (history : History) × HasWorld (⟦<Pair<E, K> as Stepper>⟧.parts self.old history) }
-        ensures does { (history : History) → Acts (⟦<Pair<E, K> as Stepper>⟧.parts self.old history) (events.Reopen node) result (⟦<Pair<E, K> as Stepper>⟧.parts self.new history) }
-        ensures leaves { (history : History) → Leaves (events.Reopen node) result (⟦<Pair<E, K> as Stepper>⟧.parts self.old history) (⟦<Pair<E, K> as Stepper>⟧.parts self.new history) }
-    {
-        match node {
-            Node::Primary => self.reopen_primary(),
-            Node::Standby => self.reopen_standby(),
-        }
-    }
-
-    /// The primary goes on from its image: its keyspace and its heap are made from the versions there, and nothing waits.
-    fn reopen_primary(&mut self) -> Result<bool, Refusal>
-        requires { (history : History) × HasWorld (⟦<Pair<E, K> as Stepper>⟧.parts self.old history) }
-        ensures does { (history : History) → Acts (⟦<Pair<E, K> as Stepper>⟧.parts self.old history) (events.Reopen nodes.Primary) result (⟦<Pair<E, K> as Stepper>⟧.parts self.new history) }
-        ensures leaves { (history : History) → Leaves (events.Reopen nodes.Primary) result (⟦<Pair<E, K> as Stepper>⟧.parts self.old history) (⟦<Pair<E, K> as Stepper>⟧.parts self.new history) }
-    {
-        if self.primary_runs {
-            return Ok(false);
-        }
-        let Serving {
-            sequencer,
-            waiting,
-            opening,
-        } = restart_primary(self.alloc, &mut self.committer, self.hash_builder)?;
-        self.sequencer = sequencer;
-        self.work = waiting.work;
-        self.notices.clear();
-        self.handed = waiting.handed;
-        self.link = waiting.link;
-        self.opening = opening;
-        self.remote = 0;
-        self.primary_runs = true;
-        Ok(true)
-    }
-
-    /// The standby goes on from its image.
-    fn reopen_standby(&mut self) -> Result<bool, Refusal>
-        requires { (history : History) × HasWorld (⟦<Pair<E, K> as Stepper>⟧.parts self.old history) }
-        ensures does { (history : History) → Acts (⟦<Pair<E, K> as Stepper>⟧.parts self.old history) (events.Reopen nodes.Standby) result (⟦<Pair<E, K> as Stepper>⟧.parts self.new history) }
-        ensures leaves { (history : History) → Leaves (events.Reopen nodes.Standby) result (⟦<Pair<E, K> as Stepper>⟧.parts self.old history) (⟦<Pair<E, K> as Stepper>⟧.parts self.new history) }
-    {
-        if self.standby_runs {
-            return Ok(false);
-        }
-        self.standby.restart(self.alloc)?;
-        self.standby_runs = true;
-        Ok(true)
-    }
-}
-
-/// The delta that a standby at this position is due, if it is behind the position at which the primary was opened.
-///
-/// # Errors
-///
-/// Only `Memory`.
-fn due_delta(
-    alloc: Global,
-    link: &Link,
-    opening: &Opening,
-    position: u64,
-) -> Result<Option<Frame>, Refusal>
-    ensures due { position < opening.now.position → IfOk result (λ due. (frame : Frame) × (due ≡ Some frame) × IsDelta (link.now).epoch opening.now position frame) }
-    ensures none { opening.now.position ≤ position → result ≡ Ok None }
-    ensures cause { IfErr result (λ refusal. refusal ≡ Refusal.Memory) }
-{
-    if opening.position <= position {
-        return Ok(None);
-    }
-    Ok(Some(delta(alloc, link.epoch(), opening, position)?))
-}
-
-/// Forgets what a standby is told that is behind, where none is: the link knows that it is at this position.
-fn forget_passed(alloc: Global, opening: &mut Opening, known: u64)
-    ensures position { opening.new.position ≡ opening.old.position }
-    ensures kept { known < opening.old.position → opening.new ≡ opening.old }
-    ensures forgotten { opening.old.position ≤ known → (opening.new.gone.items ≡ []) × (opening.new.rows.items ≡ []) }
-{
-    if opening.position <= known {
-        opening.forget(alloc);
+        Ok(self.sessions.leave(c, &mut self.primary.front))
     }
 }

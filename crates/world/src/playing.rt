@@ -1,5 +1,6 @@
 //! A run of any list of events over two devices.
-ghost use Rattle.std.specs.Prelude.{◌≡◌, ◌≤◌, ◌∷◌, [], List, map, length, vec_len, vec_capacity, Some};
+ghost use Rattle.std.specs.Prelude.{◌≡◌, ◌≤◌, ◌∷◌, [], List, length, vec_len, vec_capacity, Some};
+ghost use Rattle.connections.specs.Session.{released_of};
 ghost use Rattle.model.specs.Standing.{Holder};
 ghost use Rattle.world.specs.declared.trace.EarlyEnd.TheVariants.{AtFormatting};
 ghost use Rattle.world.specs.Headline.{KeepsItsWord, PlaysOn, Plays, start};
@@ -8,10 +9,8 @@ ghost use Rattle.world.specs.Pair.{NodesRefine};
 use crate::history::History;
 use crate::pair::{Pair, Stepper};
 use crate::trace::{EarlyEnd, Trace};
-use connections::Transcript;
 use kv_types::Refusal;
 use machine::Event;
-use model::Call;
 use mv_keyspace::{Keyspace, MvKeyspace};
 use pmem::Crashing;
 use std::alloc::Global;
@@ -39,17 +38,14 @@ pub fn run<P: Crashing>(
     requires { 2 ≤ vec_len devices }
     ensures kept { (primary standby : P) (others : List P) → devices.items ≡ primary ∷ standby ∷ others
         → (primary' : P) × (standby' : P) × (result.devices.items ≡ primary' ∷ standby' ∷ others)
-        × KeepsItsWord events.now result.ended result.done.items result.calls.items (map (λ bytes. bytes.items) result.released.items) result.frames.items result.acknowledgements.items
+        × KeepsItsWord events.now result.ended result.done.items result.history.transcript.calls.items (released_of result.history.transcript) result.history.frames.items result.history.acknowledgements.items
         (P.state primary) (P.state standby) (P.state primary') (P.state standby') }
 {
     let mut devices = devices;
     let primary = devices.remove(0);
     let standby = devices.remove(0);
     let Played {
-        calls,
-        released,
-        frames,
-        acknowledgements,
+        history,
         done,
         ended,
         primary,
@@ -59,10 +55,7 @@ pub fn run<P: Crashing>(
     devices.push_reserved(standby);
     devices.rotate_right(2);
     Trace {
-        calls,
-        released,
-        frames,
-        acknowledgements,
+        history,
         done,
         ended,
         devices,
@@ -71,10 +64,7 @@ pub fn run<P: Crashing>(
 
 /// What was played, and the two devices.
 struct Played<P> {
-    calls: Vec<Call>,
-    released: Vec<Vec<u8>>,
-    frames: Vec<Vec<u8>>,
-    acknowledgements: Vec<Vec<u8>>,
+    history: History,
     done: Vec<bool>,
     ended: Option<EarlyEnd>,
     primary: P,
@@ -89,7 +79,7 @@ fn play_over<P: Crashing>(
     events: &[Event],
     hash_builder: RandomState,
 ) -> Played<P>
-    ensures { KeepsItsWord events.now result.ended result.done.items result.calls.items (map (λ bytes. bytes.items) result.released.items) result.frames.items result.acknowledgements.items
+    ensures { KeepsItsWord events.now result.ended result.done.items result.history.transcript.calls.items (released_of result.history.transcript) result.history.frames.items result.history.acknowledgements.items
         (P.state primary) (P.state standby) (P.state result.primary) (P.state result.standby) }
 {
     // Room for what a run reports, so that none is asked for at its end.
@@ -113,14 +103,11 @@ fn play_over<P: Crashing>(
 fn nothing<P>(alloc: Global, refusal: Refusal, primary: P, standby: P) -> Played<P>
     ensures ended { result.ended ≡ Some (AtFormatting refusal) }
     ensures devices { (result.primary ≡ primary) × (result.standby ≡ standby) }
-    ensures none { (result.done.items ≡ []) × (result.calls.items ≡ []) × (result.released.items ≡ []) }
-    ensures none_sent { (result.frames.items ≡ []) × (result.acknowledgements.items ≡ []) }
+    ensures none { (result.done.items ≡ []) × (result.history.transcript.calls.items ≡ []) × (released_of result.history.transcript ≡ []) }
+    ensures none_sent { (result.history.frames.items ≡ []) × (result.history.acknowledgements.items ≡ []) }
 {
     Played {
-        calls: Vec::new(alloc),
-        released: Vec::new(alloc),
-        frames: Vec::new(alloc),
-        acknowledgements: Vec::new(alloc),
+        history: History::none(alloc),
         done: Vec::new(alloc),
         ended: Some(EarlyEnd::AtFormatting(refusal)),
         primary,
@@ -140,7 +127,7 @@ fn play_on<P: Crashing, K: Keyspace + Drop>(
     requires room_calls { length events.now ≤ vec_capacity history.transcript.calls }
     requires stands { (first : Holder) × (second : Holder) × NodesRefine first second (⟦<Pair<WblEngine<P>, K> as Stepper>⟧.parts pair history) start }
     ensures { (first second : Holder) → NodesRefine first second (⟦<Pair<WblEngine<P>, K> as Stepper>⟧.parts pair history) start
-        → PlaysOn first second events.now result.ended result.done.items result.calls.items (map (λ bytes. bytes.items) result.released.items) result.frames.items result.acknowledgements.items
+        → PlaysOn first second events.now result.ended result.done.items result.history.transcript.calls.items (released_of result.history.transcript) result.history.frames.items result.history.acknowledgements.items
         (⟦<Pair<WblEngine<P>, K> as Stepper>⟧.parts pair history).device (⟦<Pair<WblEngine<P>, K> as Stepper>⟧.parts pair history).standby.device
         (P.state result.primary) (P.state result.standby) }
 {
@@ -149,20 +136,8 @@ fn play_on<P: Crashing, K: Keyspace + Drop>(
     let mut done = done;
     let ended = play(&mut pair, &mut history, events, &mut done);
     let (primary, standby) = pair.into_devices();
-    let History {
-        transcript: Transcript {
-            calls,
-            positions: _positions,
-            released,
-        },
-        frames,
-        acknowledgements,
-    } = history;
     Played {
-        calls,
-        released,
-        frames,
-        acknowledgements,
+        history,
         done,
         ended,
         primary,

@@ -1,6 +1,6 @@
 //! What a run reports.
+use crate::history::History;
 use kv_types::Refusal;
-use model::Call;
 
 /// Where a run ended before its last event, and why: `Memory` where a growth was refused, `Fault` where a fence failed, `Exhausted` where a
 /// counter of an image would reach 2^62.
@@ -13,16 +13,10 @@ pub enum EarlyEnd {
 }
 
 /// What a run did.
-#[derive(Debug, Drop)]
+#[derive(Drop)]
 pub struct Trace<P> {
-    /// The list of calls.
-    pub calls: Vec<Call>,
-    /// The bytes that were released to each connection, by its number.
-    pub released: Vec<Vec<u8>>,
-    /// The bytes of all frames that passed over the link, in the order of their sending.
-    pub frames: Vec<Vec<u8>>,
-    /// The bytes of the acknowledgements that the standby made, in order.
-    pub acknowledgements: Vec<Vec<u8>>,
+    /// What was called, what was released, and what passed between the nodes.
+    pub history: History,
     /// For each event that was reached, whether it did its step.
     pub done: Vec<bool>,
     /// Where the run ended early, if it did.

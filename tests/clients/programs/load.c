@@ -2,7 +2,8 @@
 // and prints how many were answered, the seconds that it took, and the median and the 99th percentile of the microseconds from the sending of a
 // batch to its last reply. COMMAND is set, get, incr, hset or mset (of ten keys), over KEYS keys or fields drawn at random, or with KEYS 0 over
 // keys of which none comes twice, in an order that is none. With WAIT 1 each batch ends in WAIT 1 0, which is answered once a replica has
-// acknowledged it; it is not counted. Any error among the replies ends it with status 1.
+// acknowledged it, and with WAIT 2 in WAITAOF 1 1 0, which is answered once the log there and that of a replica have it on disk; neither is counted.
+// Any error among the replies ends it with status 1.
 #include <arpa/inet.h>
 #include <errno.h>
 #include <netinet/in.h>
@@ -92,10 +93,13 @@ static void begin_batch(struct client *client) {
     for (int at = 0; at < pipeline; at++) {
         put_request(client);
     }
-    if (waits) {
+    if (waits == 1) {
         put(client, "*3\r\n$4\r\nWAIT\r\n$1\r\n1\r\n$1\r\n0\r\n");
+    } else if (waits == 2) {
+        put(client, "*4\r\n$7\r\nWAITAOF\r\n$1\r\n1\r\n$1\r\n1\r\n$1\r\n0\r\n");
     }
-    client->expected = pipeline + waits;
+    // (the reply to WAITAOF has three lines: an array of two numbers)
+    client->expected = pipeline + (waits == 2 ? 3 : waits);
     client->begun = now();
 }
 
@@ -149,6 +153,10 @@ int main(int count, char **words) {
     pipeline = atoi(words[3]), command = words[5], keys = (uint64_t)atol(words[6]), waits = atoi(words[7]);
     if (clients < 1 || clients > MOST_CLIENTS || pipeline < 1 || pipeline > MOST_PIPELINE) {
         fprintf(stderr, "load: at most %d clients and %d requests at a time\n", MOST_CLIENTS, MOST_PIPELINE);
+        return 2;
+    }
+    if (waits < 0 || waits > 2) {
+        fprintf(stderr, "load: WAIT is 0, 1 or 2\n");
         return 2;
     }
     // (from the time on, no run makes a key of an earlier one, where it makes less than a million a second)

@@ -1,7 +1,8 @@
-// lone_set FOLDER BYTES SECONDS PRIMARY STANDBY: does for a while what a lone SET costs at least, turn by turn, and prints the median and the 99th
-// percentile of the microseconds of a turn. Two processes, each with a file of BYTES bytes in FOLDER and one connection between them, do in each
-// turn what their list says, word by word: `w128@512` writes 128 bytes from byte 512 on, `d` syncs the file's data, `s42` sends 42 bytes to the
-// other, `r17` waits for 17 of it. A turn of the first begins where its turn before has ended, as with a client that waits for each reply.
+// lone_set FOLDER BYTES SECONDS CLIENT PRIMARY STANDBY: does for a while what a lone SET costs at least, turn by turn, and prints the median and the
+// 99th percentile of the microseconds of a turn of the client. Three processes, a client that is connected to a primary, and the primary to a standby,
+// do in each turn what their list says, word by word: `w128@512` writes 128 bytes of a file of BYTES bytes in FOLDER from byte 512 on, `d` syncs the
+// file's data, `s42` sends 42 bytes on the link, or from the client, `r17` waits for 17 of it, `a5` answers the client with 5 bytes, and `q45` waits
+// for 45 of it. A turn of the client begins where its turn before has ended: it waits for each reply.
 #include <arpa/inet.h>
 #include <errno.h>
 #include <fcntl.h>
@@ -45,7 +46,7 @@ static int file_in(const char *folder, const char *name, long length) {
 }
 
 // One word of a list.
-static void do_one(const char *word, int file, int peer) {
+static void do_one(const char *word, int file, int peer, int client) {
     char *rest;
     long length = strtol(word + 1, &rest, 10), offset = *rest == '@' ? atol(rest + 1) : 0;
     if (length < 0 || length > MOST_BYTES) {
@@ -65,12 +66,14 @@ static void do_one(const char *word, int file, int peer) {
             }
             break;
         case 's':
-            if (send(peer, bytes, (size_t)length, MSG_NOSIGNAL) != length) {
+        case 'a':
+            if (send(*word == 's' ? peer : client, bytes, (size_t)length, MSG_NOSIGNAL) != length) {
                 fail("a send");
             }
             break;
         case 'r':
-            if (recv(peer, bytes, (size_t)length, MSG_WAITALL) != length) {
+        case 'q':
+            if (recv(*word == 'r' ? peer : client, bytes, (size_t)length, MSG_WAITALL) != length) {
                 // (the other has ended)
                 exit(0);
             }
@@ -81,11 +84,11 @@ static void do_one(const char *word, int file, int peer) {
     }
 }
 
-static void do_turn(const char *list, int file, int peer) {
+static void do_turn(const char *list, int file, int peer, int client) {
     char copy[4096], *place, *word;
     snprintf(copy, sizeof copy, "%s", list);
     for (word = strtok_r(copy, " ", &place); word != NULL; word = strtok_r(NULL, " ", &place)) {
-        do_one(word, file, peer);
+        do_one(word, file, peer, client);
     }
 }
 
@@ -100,39 +103,71 @@ static int compare(const void *one, const void *other) {
     return first < second ? -1 : first > second;
 }
 
+// A door at an address of its own.
+static int new_door(struct sockaddr_in *address) {
+    socklen_t size = sizeof *address;
+    int door = socket(AF_INET, SOCK_STREAM, 0);
+    *address = (struct sockaddr_in){.sin_family = AF_INET, .sin_addr = {htonl(INADDR_LOOPBACK)}};
+    if (door < 0 || bind(door, (struct sockaddr *)address, size) != 0 || listen(door, 1) != 0 || getsockname(door, (struct sockaddr *)address, &size) != 0) {
+        fail("an address");
+    }
+    return door;
+}
+
+static int connected(const struct sockaddr_in *address) {
+    int peer = without_delay(socket(AF_INET, SOCK_STREAM, 0));
+    if (connect(peer, (const struct sockaddr *)address, sizeof *address) != 0) {
+        fail("connect");
+    }
+    return peer;
+}
+
+// Whether this is a new process, which ends with the one that made it.
+static int is_child(pid_t parent) {
+    pid_t made = fork();
+    if (made < 0) {
+        fail("a process");
+    }
+    if (made == 0) {
+        prctl(PR_SET_PDEATHSIG, SIGKILL);
+        if (getppid() != parent) {
+            exit(1);
+        }
+    }
+    return made == 0;
+}
+
 int main(int count, char **words) {
-    if (count != 6) {
-        fprintf(stderr, "usage: lone_set FOLDER BYTES SECONDS PRIMARY STANDBY\n");
+    if (count != 7) {
+        fprintf(stderr, "usage: lone_set FOLDER BYTES SECONDS CLIENT PRIMARY STANDBY\n");
         return 2;
     }
     const char *folder = words[1];
     long length = atol(words[2]);
     uint64_t *took = malloc(MOST_TURNS * sizeof *took);
-    struct sockaddr_in address = {.sin_family = AF_INET, .sin_addr = {htonl(INADDR_LOOPBACK)}};
-    socklen_t size = sizeof address;
-    int door = socket(AF_INET, SOCK_STREAM, 0);
-    if (took == NULL || bind(door, (struct sockaddr *)&address, size) != 0 || listen(door, 1) != 0
-        || getsockname(door, (struct sockaddr *)&address, &size) != 0) {
-        fail("an address");
+    struct sockaddr_in at_standby, at_primary;
+    int standby = new_door(&at_standby), primary = new_door(&at_primary);
+    pid_t parent = getpid();
+    if (took == NULL) {
+        fail("memory");
     }
-    pid_t parent = getpid(), child = fork();
-    if (child == 0) {
-        prctl(PR_SET_PDEATHSIG, SIGKILL);
-        if (getppid() != parent) {
-            return 1;
-        }
-        int file = file_in(folder, "lone-standby", length), peer = without_delay(accept(door, NULL, NULL));
+    if (is_child(parent)) {
+        int file = file_in(folder, "lone-standby", length), peer = without_delay(accept(standby, NULL, NULL));
         while (1) {
-            do_turn(words[5], file, peer);
+            do_turn(words[6], file, peer, -1);
         }
     }
-    int file = file_in(folder, "lone-primary", length), peer = without_delay(socket(AF_INET, SOCK_STREAM, 0));
-    if (child < 0 || connect(peer, (struct sockaddr *)&address, size) != 0) {
-        fail("connect");
+    if (is_child(parent)) {
+        int file = file_in(folder, "lone-primary", length), peer = connected(&at_standby), client = without_delay(accept(primary, NULL, NULL));
+        while (1) {
+            do_turn(words[5], file, peer, client);
+        }
     }
+    int peer = connected(&at_primary);
+    do_turn(words[4], -1, peer, -1);
     size_t turns = 0;
     for (uint64_t begun = now(), until = begun + (uint64_t)(atof(words[3]) * 1e6); turns == 0 || (begun < until && turns < MOST_TURNS);) {
-        do_turn(words[4], file, peer);
+        do_turn(words[4], -1, peer, -1);
         uint64_t ended = now();
         took[turns++] = ended - begun;
         begun = ended;

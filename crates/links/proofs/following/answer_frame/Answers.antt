@@ -1,6 +1,6 @@
 use Rattle.standby.specs.declared.standby.Standby.{Standby}
 use Rattle.links.specs.Serving.{Held, ack_text, held}
-use Rattle.links.proofs.Serving.{acknowledges-freed, moved-by, says-frame, says-none, sent-alone}
+use Rattle.links.proofs.Serving.{says-frame, says-none, sent-alone}
 use Rattle.links.proofs.following.answer_frame.Given.{Over}
 use Rattle.links.proofs.following.answer_frame.Goals as goal
 
@@ -17,33 +17,10 @@ returns-in_err-put_ack-clause-says g c = λ _. says-none _ _
 
 -- ---- the acknowledgement is sent
 
-pub returns-then-position-clause-answered : goal.returns-then-position-clause-answered
-returns-then-position-clause-answered g c = (
-  c.in_ok-ack.ack,
-  c.in_ok-ack.ensures.acknowledges,
-  sent-alone (g.O.Write.contents c.args.to.now) (g.O.Write.contents c.send.new.to) c.args.out.now.items c.put_ack.new.out.items (ack_text c.in_ok-ack.ack)
-      c.requires.empty c.in_ok-put_ack.ensures.put c.in_ok-send.ensures.written,
-)
-
-pub returns-then-position-clause-says : goal.returns-then-position-clause-says
-returns-then-position-clause-says g c = λ _.
-    says-frame (holds g c.args.node.now) (holds g c.take_frame.new.node) c.args.frame c.in_ok-ack.ack _ _
-    c.in_ok-ack.ensures.acknowledges (sent-alone (g.O.Write.contents c.args.to.now) (g.O.Write.contents c.send.new.to) c.args.out.now.items c.put_ack.new.out.items (ack_text c.in_ok-ack.ack)
-    c.requires.empty c.in_ok-put_ack.ensures.put c.in_ok-send.ensures.written)
-
-pub returns-in_err-free_ended-clause-says : goal.returns-in_err-free_ended-clause-says
-returns-in_err-free_ended-clause-says g c = λ _.
-    says-frame (holds g c.args.node.now) (holds g c.take_frame.new.node) c.args.frame c.in_ok-ack.ack _ _
-    c.in_ok-ack.ensures.acknowledges (sent-alone (g.O.Write.contents c.args.to.now) (g.O.Write.contents c.send.new.to) c.args.out.now.items c.put_ack.new.out.items (ack_text c.in_ok-ack.ack)
-    c.requires.empty c.in_ok-put_ack.ensures.put c.in_ok-send.ensures.written)
-
--- ---- what the frame ended is freed
-
 pub returns-clause-answered : goal.returns-clause-answered
 returns-clause-answered g c = (
   c.in_ok-ack.ack,
-  acknowledges-freed (holds g c.args.node.now) c.args.frame c.in_ok-ack.ack (holds g c.take_frame.new.node) (holds g c.free_ended.new.node)
-      (moved-by c.position-position.ensures c.position.ensures c.if-position.false) c.in_ok-ack.ensures.acknowledges c.in_ok-free_ended.ensures.frees,
+  c.in_ok-ack.ensures.acknowledges,
   sent-alone (g.O.Write.contents c.args.to.now) (g.O.Write.contents c.send.new.to) c.args.out.now.items c.put_ack.new.out.items (ack_text c.in_ok-ack.ack)
       c.requires.empty c.in_ok-put_ack.ensures.put c.in_ok-send.ensures.written,
 )

@@ -1,10 +1,11 @@
 use Rattle.std.proofs.Common.{◌≡◌, []}
-use Rattle.links.specs.Serving.{Stands, Served, held}
+use Rattle.standby.specs.Taking.{Stands}
+use Rattle.links.specs.Serving.{Served, held}
 use Rattle.links.proofs.following.answer_until_closed.Given as goal
 
 abbrev pub invariant-loop : goal.invariant-loop
 invariant-loop g l = record {
-  stands : Stands (g.E.Durable.is_faulted l.node.engine) (g.E.Durable.device l.node.engine) (g.E.Durable.contents l.node.engine) (g.K.Keyspace.table l.node.keyspace) l.node.heap l.node.ended.items;
+  stands : Stands g.E.Durable.device g.E.Durable.contents g.E.Durable.is_faulted g.K.Keyspace.table l.node;
   emptied : l.out.items ≡ [];
   served : Served (held (g.E.Durable.contents l.initial.node.engine) (g.K.Keyspace.table l.initial.node.keyspace)) (g.I.Read.remaining l.initial.from) (g.O.Write.contents l.initial.to)
       (held (g.E.Durable.contents l.node.engine) (g.K.Keyspace.table l.node.keyspace)) (g.I.Read.remaining l.from) (g.O.Write.contents l.to) l.decoder;

@@ -1,13 +1,13 @@
 use Rattle.std.proofs.Common.{take}
 use Rattle.machine.specs.Event.{start_with, last_world}
 use Rattle.machine.proofs.RunLemmas.{run-take, sound-run}
-use Rattle.machine.proofs.GrowLemmas.{grows-run, image-stays}
+use Rattle.machine.proofs.GrowLemmas.{grows-run, keyspace-stays}
 use Rattle.machine.proofs.laws.worlds_grow.Goals as goal
 
 pub returns-clause-grows : goal.returns-clause-grows
 returns-clause-grows c = grows-run
 
 pub returns-clause-cuts : goal.returns-clause-cuts
-returns-clause-cuts c = λ restarts n events done worlds run p le.
-    let old = last_world (start_with restarts) (take n worlds) in
-    image-stays old (last_world (start_with restarts) worlds) p (sound-run restarts (take n events) (take n done) (take n worlds) (run-take n (start_with restarts) events done worlds run)) (grows-run restarts n events done worlds run) le
+returns-clause-cuts c = λ restarts failovers n events done worlds run p low.
+    let old = last_world (start_with restarts failovers) (take n worlds) in
+    keyspace-stays old (last_world (start_with restarts failovers) worlds) p (sound-run restarts failovers (take n events) (take n done) (take n worlds) (run-take n (start_with restarts failovers) events done worlds run)) (grows-run restarts failovers n events done worlds run) low

@@ -1,24 +1,33 @@
-use Rattle.std.proofs.Common.{ap, sym}
+use Rattle.std.proofs.Common.{ap, sym, ◌∙◌}
 use Rattle.model.specs.declared.record.Record.{Record}
-use Rattle.primary.proofs.ClosedLemmas.{laid-read}
+use Rattle.primary.proofs.ClosedLemmas.{consistent-read, laid-read}
+use Rattle.primary.proofs.OpenedLemmas.{leads_to}
 use Rattle.primary.proofs.opening.assemble.Goals as goal
 
-pub read_versions-requires : goal.read_versions-requires
-read_versions-requires g c = record { read = (g.E.Durable.contents c.args.engine, sym c.lines.ensures, c.requires.read) }
-
-pub resume-requires-clause-rebuilt : goal.resume-requires-clause-rebuilt
-resume-requires-clause-rebuilt g c =
-    let contents = g.E.Durable.contents c.args.engine in
-    let made = c.in_ok-keyspace.ensures in
-    let rebuilt = made.rebuilt contents (sym c.lines.ensures) c.requires.read in
-    (contents, sym c.position.ensures, rebuilt.0, rebuilt.1, made.ids contents c.requires.read)
+pub resume-requires-clause-read : goal.resume-requires-clause-read
+resume-requires-clause-read g c = (g.E.Durable.contents c.args.engine, sym c.lines-lines.ensures, sym c.position.ensures, c.requires.read)
 
 pub returns : goal.returns
 returns g c =
     let contents = g.E.Durable.contents c.args.engine in
-    let made = c.in_ok-keyspace.ensures in
-    let rebuilt = made.rebuilt contents (sym c.lines.ensures) c.requires.read in
+    let resumed = c.in_ok-sequencer.ensures in
+    let made = c.in_ok-new.ensures in
+    let lines = sym c.lines-lines.ensures in
+    let position = sym c.position.ensures in
+    let epoch = ap (λ (r : Record). r.epoch) c.record.ensures in
+    let over = resumed.sequencer contents lines position (sym epoch) c.requires.read in
     record {
-      stands = c.in_ok-new.ensures.stands (c.in_ok-sequencer.ensures.sequencer contents (sym c.position.ensures) (sym (ap (λ (r : Record). r.epoch) c.record.ensures)) rebuilt.0 rebuilt.1)
-          rebuilt.0.consistent (laid-read contents _ _ c.requires.read) c.requires.durable;
+      stands = made.stands over (consistent-read contents _ _ c.requires.read) (laid-read contents _ _ c.requires.read) c.requires.durable;
+      engine = made.engine;
+      opened = rw made.sequencer (record {
+        over = over;
+        opened_at = resumed.opening.0 ∙ c.position.ensures;
+        opening_is = resumed.opening.1 contents lines c.requires.read;
+        leads = leads_to contents _ _ (consistent-read contents _ _ c.requires.read) over (resumed.opening.1 contents lines c.requires.read);
+        position_is = c.position.ensures;
+        epoch_is = epoch;
+        keys_are = resumed.keys;
+      });
+      ready = (made.ready.0, made.ready.1, made.ready.2, made.ready.3 ∙ position);
+      cause = tt;
     }

@@ -7,4 +7,4 @@ use Rattle.serving.proofs.needs.need_of.Goals as goal
 pub returns-clause-enough : goal.returns-clause-enough
 returns-clause-enough c =
     λ s. subst (λ (lines : ℕ). IsEnough (record { count = c.most_puts-most.result.count; lines = lines }) (outcome_of_words s c.args.request.now).changes)
-    (sym c.lines_for.ensures) (is_enough c.most_puts-most.result (outcome_of_words s c.args.request.now).changes (c.most_puts-most.ensures.enough s))
+    (sym c.lines_of_bytes.ensures) (is_enough c.most_puts-most.result (outcome_of_words s c.args.request.now).changes (c.most_puts-most.ensures.enough s))

@@ -1,8 +1,10 @@
 use Rattle.serving.proofs.HereOrLent.{here_or_lent_still}
 use Rattle.serving.proofs.node.take_round.Goals as goal
 
-pub commit-committed-requires : goal.commit-committed-requires
-commit-committed-requires g c =
+-- the job stayed where it was while connections were served
+pub commit_due-requires-2-clause-stands : goal.commit_due-requires-2-clause-stands
+commit_due-requires-2-clause-stands g c =
     let E = g.E.Durable in
-    let still = here_or_lent_still E.device E.contents c.fetch.new.home c.fetch.new.lender in
-    still _ _ c.serve-sight.ensures (still _ _ c.admit-admitted.ensures c.in-Ok.ensures)
+    let before = c.commit_due.new.state in
+    let served = c.serve_connections-served.ensures in
+    rw (served.home, served.lender) (here_or_lent_still E.device E.contents before.home before.lender _ _ served.serves.keeps c.in_ok-before.ensures.stands)

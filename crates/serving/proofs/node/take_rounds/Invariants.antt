@@ -1,5 +1,8 @@
-use Rattle.serving.specs.Errand.{IsHereOrLent}
+use Rattle.std.proofs.Common.{◌≤◌}
+use Rattle.serving.specs.CommitJob.{IsHereOrLent, remote_of}
 use Rattle.serving.proofs.node.take_rounds.Given as goal
 
 abbrev pub invariant-loop : goal.invariant-loop
-invariant-loop g l = IsHereOrLent g.E.Durable.device g.E.Durable.contents l.desk.home l.desk.lender l.desk.front.sequencer
+invariant-loop g l =
+    IsHereOrLent g.E.Durable.device g.E.Durable.contents l.state.home l.state.lender l.state.front.sequencer
+    × (remote_of l.state.home ≤ l.state.marks.remote) × (remote_of l.state.lender ≤ l.state.marks.remote)

@@ -1,5 +1,9 @@
-use Rattle.primary.specs.Leading.{KeepsLead}
+use Rattle.serving.specs.Serving.{Serves, WaitsOnlyFor}
+use Rattle.serving.specs.Turns.{TakesTurns}
 use Rattle.serving.proofs.turns.take_turns.Given as goal
 
 abbrev pub invariant-loop : goal.invariant-loop
-invariant-loop g l = KeepsLead l.fn.front.sequencer l.front.sequencer
+invariant-loop g l =
+    TakesTurns l.fn.front.sequencer l.fn.connection l.any l.front.sequencer l.connection
+    × Serves l.fn.front.sequencer l.front.sequencer
+    × WaitsOnlyFor l.is_short l.is_working l.front.sequencer

@@ -25,12 +25,13 @@ returns-in-Ok-format-2-clause-stands g c =
     let own = new-own _ _ _ _ (sym c.lines.ensures.count) serving.new in
     let primary_size = formatted-size (g.P.Pmem.state c.args.primary).lines serving.wrong in
     let standby_size = formatted-size (g.P.Pmem.state c.args.standby).lines following.wrong in
-    let committer = c.new.ensures in
-    rw committer.engine (pair-starts _ _ _ made.sessions made.sequencer made.ended made.no_work committer.aside committer.stage (committer.local ∙ serving.new.position) c.new-in-Ok-format-2.ensures.items
+    let primary = c.with_queue.ensures in
+    let ready = primary.ready in
+    rw (primary.engine, primary.sequencer, primary.work) (pair-starts _ _ _ made.sessions made.sequencer made.ended made.no_work ready.1 ready.0 (ready.2 ∙ serving.new.position) c.new.ensures.items
     (engine-new _ _ _ _ _ primary_size.0 primary_size.1 serving.new serving.durable serving.sound.0)
     serving.new.gaps
     (made.underlies _ own) (made.expects _ own)
-    made.link made.handed refl c.none.ensures.position made.none_sent.0 made.arrivals
+    made.link made.handed refl made.opening made.none_sent.0 made.arrivals
     (standby-new _ _ _ _ standby_size.0 standby_size.1 following.new following.durable following.sound.0 all c.requires.following made.none_ended (following.new.epoch ∙ sym epoch) epoch)
     refl refl refl refl refl refl)
 

@@ -1,4 +1,4 @@
-use Rattle.std.proofs.Common.{ap, map, subst, sym}
+use Rattle.std.proofs.Common.{ap, subst, sym}
 use Rattle.pmem.specs.Device.{State}
 use Rattle.model.specs.declared.record.Role.TheVariants.{Primary, Standby}
 use Rattle.world.specs.Cause.{UnformedBy}
@@ -11,7 +11,7 @@ pub returns-in-Err : goal.returns-in-Err
 returns-in-Err g c =
     let state = g.P.Pmem.state in
     let nothing = c.nothing.ensures in
-    keeps-unplayed _ _ _ _ _ _ _ _ _ _ _ _ nothing.ended nothing.none.0 nothing.none.1 (ap (map (λ bytes. bytes.items)) nothing.none.2) nothing.none_sent.0 nothing.none_sent.1
+    keeps-unplayed _ _ _ _ _ _ _ _ _ _ _ _ nothing.ended nothing.none.0 nothing.none.1 nothing.none.2 nothing.none_sent.0 nothing.none_sent.1
     (subst (FormattingOnly Primary (state c.args.primary)) (ap state (sym nothing.devices.0)) (formatting-none Primary (state c.args.primary)))
     (subst (FormattingOnly Standby (state c.args.standby)) (ap state (sym nothing.devices.1)) (formatting-none Standby (state c.args.standby)))
     (ap state nothing.devices.0, ap state nothing.devices.1)
@@ -26,7 +26,7 @@ returns-in-Err-open g c =
     let state = g.P.Pmem.state in
     let nothing = c.nothing-in-Err-open.ensures in
     let formatting = c.in-Err-open.ensures.moments in
-    keeps-unplayed _ _ _ _ _ _ _ _ _ _ _ _ nothing.ended nothing.none.0 nothing.none.1 (ap (map (λ bytes. bytes.items)) nothing.none.2) nothing.none_sent.0 nothing.none_sent.1
+    keeps-unplayed _ _ _ _ _ _ _ _ _ _ _ _ nothing.ended nothing.none.0 nothing.none.1 nothing.none.2 nothing.none_sent.0 nothing.none_sent.1
     (subst (FormattingOnly Primary (state c.args.primary)) (ap state (sym nothing.devices.0)) formatting.0)
     (subst (FormattingOnly Standby (state c.args.standby)) (ap state (sym nothing.devices.1)) formatting.1)
     (subst (λ (p : State). UnformedBy c.in-Err-open.refusal (state c.args.primary) (state c.args.standby) p (state c.nothing-in-Err-open.result.standby)) (ap state (sym nothing.devices.0))

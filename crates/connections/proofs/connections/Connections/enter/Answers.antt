@@ -28,12 +28,12 @@ returns-in-Ok-prepare-clause-follow g c = λ machines list sound stand follow.
     let client : Client = record { seat = c.in-Ok.seat; inbound = c.in-Ok-prepare.inbound; outbound = c.in-Ok-prepare.outbound } in
     let placed : c.push_reserved.new.self.items ≡ old.connections.items ++ Open client ∷ [] =
     c.push_reserved.ensures.items ∙ ap (λ (codes : List Connection). codes ++ Open client ∷ []) c.prepare.ensures.connections in
-    seated-follow machines list old now c.args.transcript.now client c.args.sequencer.now c.prepare.new.sequencer sound stand c.in-Ok.ensures.moves
+    seated-follow machines list old now c.args.transcript.now client c.args.front.now.sequencer c.prepare.new.front.sequencer sound stand c.in-Ok.ensures.moves
     placed
     c.in-Ok-prepare.ensures.opens follow
 
 pub returns-in-Ok-prepare-clause-sequencer : goal.returns-in-Ok-prepare-clause-sequencer
-returns-in-Ok-prepare-clause-sequencer g c = λ calls closed stands. sequencer-moved calls closed c.in-Ok.seat (Some idle_session) c.args.sequencer.now c.prepare.new.sequencer c.in-Ok-prepare.ensures.opens stands
+returns-in-Ok-prepare-clause-sequencer g c = λ calls closed stands. sequencer-moved calls closed c.in-Ok.seat (Some idle_session) c.args.front.now.sequencer c.prepare.new.front.sequencer c.in-Ok-prepare.ensures.opens stands
 
 pub returns-in-Err-clause-same : goal.returns-in-Err-clause-same
 returns-in-Err-clause-same g c = λ machines list.
@@ -52,4 +52,4 @@ returns-in_default-clause-goes g c = λ machines list stand.
     full-goes machines list old now c.args.transcript.now stand (c.in_default.ensures.full.0 (ap Err c.in_default.ensures.err.0)) c.in_default.ensures.err.1 refl refl
 
 pub returns-in_default-clause-stands : goal.returns-in_default-clause-stands
-returns-in_default-clause-stands g c = still-same c.args.sequencer.now c.args.sequencer.now refl
+returns-in_default-clause-stands g c = still-same c.args.front.now.sequencer c.args.front.now.sequencer refl

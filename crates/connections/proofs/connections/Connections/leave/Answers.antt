@@ -33,16 +33,16 @@ returns-in_default-leave-clause-seats g c = left-keeps c.args.self.now.connectio
 pub returns-clause-closed : goal.returns-clause-closed
 returns-clause-closed g c =
     let old = c.args.self.now in
-    closes-own old.connections.items c.args.c c.in-Some-leave.seat c.in-Some.connection.now c.args.sequencer.now c.close_seat.new.self c.in-Some.ensures.value
+    closes-own old.connections.items c.args.c c.in-Some-leave.seat c.in-Some.connection.now c.args.front.now.sequencer c.close_seat.new.self.sequencer c.in-Some.ensures.value
     (sym c.leave.ensures.seat ∙ c.in-Some-leave.is) c.close_seat.ensures.closed
 
 pub returns-clause-follow : goal.returns-clause-follow
 returns-clause-follow g c = λ transcript machines list stand follow.
-    left-follow machines list c.args.self.now transcript c.args.c c.in-Some-leave.seat c.in-Some.connection.now c.leave.new.self c.args.sequencer.now c.close_seat.new.self stand c.in-Some.ensures.item.3.0
+    left-follow machines list c.args.self.now transcript c.args.c c.in-Some-leave.seat c.in-Some.connection.now c.leave.new.self c.args.front.now.sequencer c.close_seat.new.self.sequencer stand c.in-Some.ensures.item.3.0
     c.in-Some.ensures.value (sym c.leave.ensures.seat ∙ c.in-Some-leave.is) c.leave.ensures.over c.close_seat.ensures.closed follow
 
 pub returns-clause-sequencer : goal.returns-clause-sequencer
-returns-clause-sequencer g c = λ calls closed stands. sequencer-moved calls closed c.in-Some-leave.seat None c.args.sequencer.now c.close_seat.new.self c.close_seat.ensures.closed stands
+returns-clause-sequencer g c = λ calls closed stands. sequencer-moved calls closed c.in-Some-leave.seat None c.args.front.now.sequencer c.close_seat.new.self.sequencer c.close_seat.ensures.closed stands
 
 pub returns-in_default-clause-closed : goal.returns-in_default-clause-closed
 returns-in_default-clause-closed g c = λ seat seated. absurd (none-seated_past c.args.self.now.connections.items c.args.c seat c.in_default.ensures.item.3 seated)
@@ -53,14 +53,14 @@ returns-in_default-leave-clause-closed g c = λ seat seated.
 
 pub returns-in_default-leave-clause-follow : goal.returns-in_default-leave-clause-follow
 returns-in_default-leave-clause-follow g c = λ transcript machines list stand follow.
-    follow-kept list c.args.self.now.connections.items _ c.args.sequencer.now (left-keeps c.args.self.now.connections.items c.args.c c.leave.new.self c.leave.ensures.over) follow
+    follow-kept list c.args.self.now.connections.items _ c.args.front.now.sequencer (left-keeps c.args.self.now.connections.items c.args.c c.leave.new.self c.leave.ensures.over) follow
 
 pub returns-clause-stands : goal.returns-clause-stands
 returns-clause-stands g c =
-    still-moved c.in-Some-leave.seat None c.args.sequencer.now c.close_seat.new.self c.close_seat.ensures.closed c.close_seat.ensures.stands c.close_seat.ensures.expects
+    still-moved c.in-Some-leave.seat None c.args.front.now.sequencer c.close_seat.new.self.sequencer c.close_seat.ensures.closed c.close_seat.ensures.stands c.close_seat.ensures.expects
 
 pub returns-in_default-clause-stands : goal.returns-in_default-clause-stands
-returns-in_default-clause-stands g c = still-same c.args.sequencer.now c.args.sequencer.now refl
+returns-in_default-clause-stands g c = still-same c.args.front.now.sequencer c.args.front.now.sequencer refl
 
 pub returns-in_default-leave-clause-stands : goal.returns-in_default-leave-clause-stands
-returns-in_default-leave-clause-stands g c = still-same c.args.sequencer.now c.args.sequencer.now refl
+returns-in_default-leave-clause-stands g c = still-same c.args.front.now.sequencer c.args.front.now.sequencer refl

@@ -6,8 +6,8 @@ use Rattle.connections.proofs.connections.Connections.read.Goals as goal
 
 pub returns-in-Open-clause-goes : goal.returns-in-Open-clause-goes
 returns-in-Open-clause-goes c = λ transcript machines list stand.
-    outbound-goes (λ b. b) true machines list c.args.self.now transcript c.args.c c.in-Open.client c.read.new.self (having_seen c.args.mark c.args.marks.local c.args.marks.remote)
-    (seen-kept c.args.mark c.args.marks.local c.args.marks.remote)
+    outbound-goes (λ b. b) true machines list c.args.self.now transcript c.args.c c.in-Open.client c.read.new.self (having_seen c.args.mark c.args.marks)
+    (seen-kept c.args.mark c.args.marks)
     c.in-Some.ensures.item.3.0 (client-at c.args.self.now.connections.items c.args.c c.in-Some.connection.now c.in-Open.client c.in-Some.ensures.value c.in-Open.is) stand
     (λ stands. record {
       done = refl;

@@ -8,7 +8,7 @@ use Rattle.connections.proofs.connections.Connections.release.Goals as goal
 pub returns-in-Open-clause-goes : goal.returns-in-Open-clause-goes
 returns-in-Open-clause-goes c = λ transcript machines list stand.
     let outbound = (get_connection machines c.args.c).outbound in
-    outbound-goes (λ b. b && is_nonempty (covered_prefix outbound.local outbound.remote outbound.held)) c.release.result machines list c.args.self.now transcript c.args.c c.in-Open.client c.release.new.self having_released (λ machine. refl)
+    outbound-goes (λ b. b && is_nonempty (covered_prefix outbound.seen outbound.held)) c.release.result machines list c.args.self.now transcript c.args.c c.in-Open.client c.release.new.self having_released (λ machine. refl)
     c.in-Some.ensures.item.3.0 (client-at c.args.self.now.connections.items c.args.c c.in-Some.connection.now c.in-Open.client c.in-Some.ensures.value c.in-Open.is) stand
     (λ stands. let went = c.release.ensures list outbound stands in record { done = went.done; goes = went.out; stays = went.stays })
 
@@ -20,9 +20,9 @@ returns-in-Open-clause-seats c =
 pub returns-in-Over-clause-goes : goal.returns-in-Over-clause-goes
 returns-in-Over-clause-goes c = λ transcript machines list stand.
     let outbound = (get_connection machines c.args.c).outbound in
-    over-stays (λ b. b && is_nonempty (covered_prefix outbound.local outbound.remote outbound.held)) machines list c.args.self.now transcript c.args.c c.in-Some.connection.now c.in-Some.ensures.item.3.0 c.in-Some.ensures.value c.in-Over.is refl stand
+    over-stays (λ b. b && is_nonempty (covered_prefix outbound.seen outbound.held)) machines list c.args.self.now transcript c.args.c c.in-Some.connection.now c.in-Some.ensures.item.3.0 c.in-Some.ensures.value c.in-Over.is refl stand
 
 pub returns-in-None-clause-goes : goal.returns-in-None-clause-goes
 returns-in-None-clause-goes c = λ transcript machines list stand.
     let outbound = (get_connection machines c.args.c).outbound in
-    none-goes (λ b. b && is_nonempty (covered_prefix outbound.local outbound.remote outbound.held)) machines list c.args.self.now transcript c.args.c c.in-None.ensures.item.3 refl stand
+    none-goes (λ b. b && is_nonempty (covered_prefix outbound.seen outbound.held)) machines list c.args.self.now transcript c.args.c c.in-None.ensures.item.3 refl stand

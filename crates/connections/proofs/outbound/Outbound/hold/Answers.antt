@@ -22,8 +22,7 @@ returns-clause-stands c = λ machine stands.
         gate = gate-holds c.args.self.now.gate c.hold.new.self machine made c.in-Some-get.call.now takes.first stands.gate
             (takes.is.reply ∙ ap (λ (call : Call). call.reply) (sym same)) takes.is.position
             c.in_ok-hold.ensures.waiting c.in_ok-hold.ensures.replies c.in_ok-hold.ensures.pending (ap (take 1) takes.all);
-        local = stands.local;
-        remote = stands.remote;
+        seen = stands.seen;
       };
       stays = λ did. cc;
     }

@@ -1,4 +1,4 @@
-use Rattle.std.proofs.Common.{◌++◌, take, drop, sym, ap₂, ◌∙◌}
+use Rattle.std.proofs.Common.{◌++◌, take, drop, sym, ap, ◌∙◌}
 use Rattle.reply_gate.specs.Gate.{covered_bytes, is_first_covered, uncovered_rest}
 use Rattle.connections.proofs.OutboundLemmas.{first_covered, gate-lets_out}
 use Rattle.connections.proofs.outbound.Outbound.release.Goals as goal
@@ -7,16 +7,15 @@ pub returns : goal.returns
 returns c = λ calls machine stands.
     let gate = c.args.self.now.gate in
     record {
-      done = sym c.if-not-can_release.false ∙ c.can_release.ensures ∙ ap₂ (λ l r. is_first_covered l r gate.replies) stands.local stands.remote
-          ∙ first_covered machine.local machine.remote gate.replies machine.held stands.gate.held;
+      done = sym c.if-not-can_release.false ∙ c.can_release.ensures ∙ ap (λ seen. is_first_covered seen gate.replies) stands.seen
+          ∙ first_covered machine.seen gate.replies machine.held stands.gate.held;
       out = λ did. record {
         made = stands.made;
         gate = gate-lets_out gate c.release.new.self machine stands.gate
-            (c.release.ensures.pending ∙ ap₂ (λ l r. gate.pending ++ take (covered_bytes l r gate.replies) gate.waiting) stands.local stands.remote)
-            (c.release.ensures.waiting ∙ ap₂ (λ l r. drop (covered_bytes l r gate.replies) gate.waiting) stands.local stands.remote)
-            (c.release.ensures.replies ∙ ap₂ (λ l r. uncovered_rest l r gate.replies) stands.local stands.remote);
-        local = stands.local;
-        remote = stands.remote;
+            (c.release.ensures.pending ∙ ap (λ seen. gate.pending ++ take (covered_bytes seen gate.replies) gate.waiting) stands.seen)
+            (c.release.ensures.waiting ∙ ap (λ seen. drop (covered_bytes seen gate.replies) gate.waiting) stands.seen)
+            (c.release.ensures.replies ∙ ap (λ seen. uncovered_rest seen gate.replies) stands.seen);
+        seen = stands.seen;
       };
       stays = λ did. cc;
     }

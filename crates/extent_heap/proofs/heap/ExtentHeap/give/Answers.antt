@@ -1,6 +1,4 @@
-use Rattle.std.proofs.Common.{List, sym, subst, arith, rules}
-use Rattle.kv_types.specs.declared.place.Extent.{Extent}
-use Rattle.extent_heap.specs.Runs.{HasGiven}
+use Rattle.std.proofs.Common.{sym, subst, arith, rules}
 use Rattle.extent_heap.specs.Room.{Room, IsOut}
 use Rattle.extent_heap.proofs.Pools.{free_fits}
 use Rattle.extent_heap.proofs.Rooms.{undo_extent}
@@ -9,8 +7,7 @@ use Rattle.extent_heap.proofs.heap.ExtentHeap.give.Goals as goal
 pub overflow_add-self : goal.overflow_add-self
 overflow_add-self c =
     let out = subst (λ (r : Room). IsOut r c.args.extent) (sym c.self.view_is) c.requires in
-    let given = subst (λ (xs : List Extent). HasGiven xs c.args.extent c.give.result) c.replace-lines.ensures.value c.give.ensures.given in
-    omega (arith, free_fits c.self.inside.end_line c.self.inside.lines c.give.result c.self.inside.line_forks c.self.inside.free c.self.inside.held c.args.extent c.self.invariant out.within given)
+    omega (arith, free_fits c.self.inside.end_line c.self.inside.lines c.give.new.runs c.self.inside.line_forks c.self.inside.free c.self.inside.held c.args.extent c.self.invariant out.within c.give.ensures.given)
 
 pub returns-clause-after : goal.returns-clause-after
 returns-clause-after c = search rules

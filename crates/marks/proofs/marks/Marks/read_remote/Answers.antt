@@ -2,5 +2,5 @@ use Rattle.std.proofs.Common.{rules}
 use Rattle.marks.proofs.Keeps.{finds_remote}
 use Rattle.marks.proofs.marks.Marks.read_remote.Goals as goal
 
-pub load-remote-requires : goal.load-remote-requires
-load-remote-requires c = (search rules, search rules, finds_remote _ _ _ _)
+pub load-requires : goal.load-requires
+load-requires c = (search rules, search rules, finds_remote _ _ _ _)

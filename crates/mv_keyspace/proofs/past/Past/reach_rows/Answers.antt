@@ -1,5 +1,5 @@
 use Rattle.std.proofs.Common.{◌∙◌, arith}
-use Rattle.mv_keyspace.proofs.PastLemmas.{up_to-more}
+use Rattle.mv_keyspace.proofs.PastLemmas.{last-step, up_to-more}
 use Rattle.mv_keyspace.proofs.past.Past.reach_rows.Goals as goal
 
 pub loop-row-preserved : goal.loop-row-preserved
@@ -9,6 +9,7 @@ loop-row-preserved c =
     record {
       versions = reached.versions ∙ before.versions;
       pins = reached.pins ∙ before.pins;
-      position = omega arith;
-      rows = up_to-more c.args.rows.now c.loop-row.row-index c.row-item.result c.loop-row.self.position c.reach.new.self.position c.loop-row-test.true c.row-item.is reached.position.0 reached.position.1 before.rows;
+      position = last-step c.args.rows.now c.loop-row.row-index c.row-item.result c.loop-row.self.position c.reach.new.self.position c.loop-row-test.true c.row-item.is reached.position ∙ before.position;
+      rises = omega arith;
+      rows = up_to-more c.args.rows.now c.loop-row.row-index c.row-item.result c.loop-row.self.position c.reach.new.self.position c.loop-row-test.true c.row-item.is reached.rises.0 reached.rises.1 before.rows;
     }

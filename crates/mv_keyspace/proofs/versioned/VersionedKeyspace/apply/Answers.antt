@@ -12,7 +12,7 @@ pub invariant_of-self-2 : goal.invariant_of-self-2
 invariant_of-self-2 g c =
     let old = c.args.self.now in
     let n = c.keep.new.self.position in
-    let reached = c.keep.ensures.position in
+    let reached = c.keep.ensures.rises in
     let reserved = c.in_ok-reserve.ensures.position in
     record {
       passed =

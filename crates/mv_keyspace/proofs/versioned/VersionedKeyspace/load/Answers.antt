@@ -17,5 +17,5 @@ invariant_of-self g c =
     record {
       passed =
           subst (IsUpTo n (g.L.Live.table c.load.new.self)) (sym reached.versions)
-          (up_to-load old.past.position n (table_of c.args.rows.items) (g.L.Live.table c.load.new.self) (g.L.Live.table old.live) (past_of old.past) c.load.result reached.position (subst (λ (rows : List Row). AllByRecursion (λ (row : RecordId × Cell). row.1.position ≤ n) (table_of rows)) c.deref.ensures.value reached.rows) loaded.ok loaded.err old.passed);
+          (up_to-load old.past.position n (table_of c.args.rows.items) (g.L.Live.table c.load.new.self) (g.L.Live.table old.live) (past_of old.past) c.load.result reached.rises (subst (λ (rows : List Row). AllByRecursion (λ (row : RecordId × Cell). row.1.position ≤ n) (table_of rows)) c.deref.ensures.value reached.rows) loaded.ok loaded.err old.passed);
     }

@@ -10,7 +10,7 @@ invariant_of-self c =
     let text = all_bytes c.self.inside.parts in
     let p = c.self.inside.pending in
     let n = c.take_covered.result in
-    let split = held_bytes-split c.args.seen.now.local c.args.seen.now.remote c.self.inside.held.items in
+    let split = held_bytes-split c.args.seen.now c.self.inside.held.items in
     let left : held_bytes c.take_covered.new.held.items + n ≡ held_bytes c.self.inside.held.items =
     omega (arith, split, c.take_covered.ensures.bytes, ap held_bytes c.take_covered.ensures.rest) in (
       omega (arith, c.take_covered.ensures.within, c.self.invariant.0, c.self.invariant.1, length-drop p text, left),
@@ -20,4 +20,4 @@ invariant_of-self c =
 pub returns-clause-pending : goal.returns-clause-pending
 returns-clause-pending c =
     rw (← c.self.view_is, c.take_covered.ensures.bytes)
-    (take-add c.self.inside.pending (covered_bytes c.args.seen.now.local c.args.seen.now.remote c.self.inside.held.items) (all_bytes c.self.inside.parts))
+    (take-add c.self.inside.pending (covered_bytes c.args.seen.now c.self.inside.held.items) (all_bytes c.self.inside.parts))

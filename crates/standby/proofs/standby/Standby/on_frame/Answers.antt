@@ -1,5 +1,6 @@
 use Rattle.std.proofs.Common.{rules, Err, ap, sym, ◌∙◌}
 use Rattle.std.proofs.lemmas.Result.{err_from_is_err_and}
+use Rattle.standby.proofs.OutcomeLemmas.{stands_after}
 use Rattle.standby.proofs.TakingLemmas.{Frees, TakesFrame-freed, TakesFrame-stopped}
 use Rattle.standby.proofs.standby.Standby.on_frame.Given.{Over}
 use Rattle.standby.proofs.standby.Standby.on_frame.Goals as goal
@@ -11,7 +12,7 @@ returns-in_err-ack g c =
     rw (exit.1 ∙ ap Err exit.2) c.in_err-ack.ensures
 
 pub free_ended-requires : goal.free_ended-requires
-free_ended-requires g c = record { follows = c.in_ok-ack.ensures.still (λ is. cc); sound = (c.in_ok-ack.ensures.sound (λ is. cc)).0; durable = c.in_ok-ack.ensures.durable (λ is. cc) }
+free_ended-requires g c = stands_after _ _ _ _ c.args.frame c.args.self.now _ c.take_frame.new.self c.requires c.in_ok-ack.ensures (λ is. cc)
 
 -- what the frame ended is freed
 frees : (g : Over) (c : After-only_fault g)

@@ -1,4 +1,4 @@
-use Rattle.std.proofs.Common.{◌≡◌, ◌⊎◌, inl, inr, ℕ, Vec, Global, ◌++◌, [], ◌∷◌, List, Option, Result, Ok, Err, refl, sym, ap, subst, ◌∙◌, append-nil, arith, true≢false}
+use Rattle.std.proofs.Common.{◌≡◌, inl, inr, ℕ, Vec, Global, ◌++◌, [], ◌∷◌, List, Option, Result, Ok, Err, refl, sym, ap, subst, ◌∙◌, append-nil, arith, true≢false}
 use Rattle.model.specs.Standing.{Holder}
 use Rattle.std.proofs.lemmas.Bool.{eqb-false}
 use Rattle.std.proofs.lemmas.Result.{err_from_is_err_and}
@@ -12,10 +12,11 @@ use Rattle.machine.specs.Sound.{Sound}
 use Rattle.frames.specs.declared.ack.Ack.{Ack}
 use Rattle.frames.specs.declared.frame.Frame.{Frame}
 use Rattle.standby.specs.declared.standby.Standby.{Standby}
+use Rattle.standby.specs.Taking.{TakesFrame}
 use Rattle.world.specs.Cause.{EndsBy}
 use Rattle.world.specs.Committing.{NearOnly, next_from, next_standby}
 use Rattle.world.specs.Standby.{Arrived, Node, ArrivalsRefine, StandbyStands, arrived_with, told_by}
-use Rattle.world.proofs.StandbyLemmas.{Answers, IsKept-rearranged, OnErr-weaken, takes_ok, takes_refused, refused-full, frame-ends, frame-moments, StandbyStands-still}
+use Rattle.world.proofs.StandbyLemmas.{takes_ok, takes_refused, refused-full, frame-ends, frame-moments, StandbyStands-still}
 use Rattle.world.proofs.EngineLemmas.{Opens-engine, rests-same}
 use Rattle.world.specs.Link.{AreAcksSent}
 use Rattle.world.proofs.FrameLemmas.{AreAcksSent-push}
@@ -36,29 +37,11 @@ node g standby = record {
   epoch = (g.E.Durable.contents standby.engine).current.epoch;
 }
 
-answers : (g : Over) (c : After-on_frame g) → Answers c.unwrap-frame.result (node g c.args.standby.now) c.on_frame.result (node g c.on_frame.new.self)
-answers g c = record {
-  again = λ epoch le. let told = c.on_frame.ensures.again epoch le in (told.0, ap (node g) told.1);
-  gap = λ epoch lt ne.
-      let told = c.on_frame.ensures.gap (inl epoch) (λ held. let below = held.below in omega (arith, lt, below)) (λ next. ne next.joined) in
-      (told.0, ap (node g) told.1);
-  ack = λ epoch next. c.on_frame.ensures.ack (record { epoch = inl epoch; next = next });
-  taken = λ epoch next. c.on_frame.ensures.taken (record { epoch = inl epoch; next = next });
-  causes = λ epoch next. c.on_frame.ensures.causes (record { epoch = inl epoch; next = next });
-  refused = λ no_fault. OnErr-weaken c.on_frame.result (IsKept-rearranged (node g c.args.standby.now) (node g c.on_frame.new.self)) (c.on_frame.ensures.refused no_fault);
-  fault = λ cause. (c.on_frame.ensures.fault cause).1;
-  exhausted = λ cause. let told = c.on_frame.ensures.exhausted cause in (told.0, ap (λ (s : Standby g.row.E.Denot g.row.K.Denot g.row.E-Device.Denot). g.E.Durable.device s.engine) told.1);
-  still = c.on_frame.ensures.still;
-  sound = c.on_frame.ensures.sound;
-  durable = c.on_frame.ensures.durable;
-  lawful = c.on_frame.ensures.lawful;
-  own_epoch = c.on_frame.ensures.own_epoch;
-  moments = λ epoch next. c.on_frame.ensures.moments (record { epoch = inl epoch; next = next });
-  rests = λ epoch next. c.on_frame.ensures.rests (record { epoch = inl epoch; next = next });
-}
-
-told : (g : Over) (c : After-on_frame g) (result : Result Ack Refusal) → c.on_frame.result ≡ result → Answers c.unwrap-frame.result (node g c.args.standby.now) result (node g c.on_frame.new.self)
-told g c result is = subst (λ (r : Result Ack Refusal). Answers c.unwrap-frame.result (node g c.args.standby.now) r (node g c.on_frame.new.self)) is (answers g c)
+told : (g : Over) (c : After-on_frame g) (result : Result Ack Refusal) → c.on_frame.result ≡ result
+    → TakesFrame g.E.Durable.device g.E.Durable.contents g.E.Durable.is_faulted g.K.Keyspace.table c.unwrap-frame.result c.args.standby.now result c.on_frame.new.self
+told g c result is =
+    subst (λ (r : Result Ack Refusal). TakesFrame g.E.Durable.device g.E.Durable.contents g.E.Durable.is_faulted g.K.Keyspace.table c.unwrap-frame.result c.args.standby.now r c.on_frame.new.self) is
+    c.on_frame.ensures
 
 -- the frame stood first
 stood_first : (g : Over) (c : After-on_frame g) → c.args.self.now.delivered.items ≡ c.unwrap-frame.result ∷ c.pop_front.new.self.items
@@ -77,8 +60,8 @@ moments g c holder w sound epochs arrives stands =
     let epoch = (g.E.Durable.contents c.args.standby.now.engine).current.epoch in
     let frame = c.unwrap-frame.result in
     let one = first g c w arrives in
-    subst (λ (frames : List Sent). NearOnly holder w.primary.calls w.standby.position (next_from w.standby.position frames) (g.E.Durable.device c.args.standby.now.engine) (g.E.Durable.device c.on_frame.new.self.engine)) (sym one.all)
-    (frame-moments holder epoch w.primary.calls w.standby frame one.span (node g c.args.standby.now) (node g c.on_frame.new.self) one.epoch_is epochs one.is stands c.on_frame.result (answers g c))
+    subst (λ (frames : List Sent). NearOnly holder w.primary.calls w.standby.position (next_from w.standby frames) (g.E.Durable.device c.args.standby.now.engine) (g.E.Durable.device c.on_frame.new.self.engine)) (sym one.all)
+    (frame-moments g.E.Durable.device g.E.Durable.contents g.E.Durable.is_faulted g.K.Keyspace.table holder epoch w.primary.calls w.standby frame one.span c.args.standby.now c.on_frame.new.self one.epoch_is epochs one.is stands c.on_frame.result c.on_frame.ensures)
 
 pub returns-in-Ok-clause-applies : goal.returns-in-Ok-clause-applies
 returns-in-Ok-clause-applies g c = λ holder w sound epochs arrives stands.
@@ -94,7 +77,7 @@ returns-in-Ok-clause-applies g c = λ holder w sound epochs arrives stands.
     applies holder epoch w frame (told_by ack ∷ []) new (node g c.args.standby.now) (node g c.on_frame.new.self)
     (subst (λ (texts : List (Vec ℕ Global)). AreAcksSent texts (acks ++ told_by ack ∷ [])) (sym written)
     (AreAcksSent-push c.args.acknowledgements.now.items acks c.encode_ack_in.result (told_by ack) arrives.acknowledged (record { text = c.encode_ack_in.ensures.text; may = c.encode_ack_in.ensures.may }))) one
-    (takes_ok holder epoch w.primary.calls (without_first w.standby) frame one.span (node g c.args.standby.now) (node g c.on_frame.new.self) one.epoch_is epochs one.is stands ack (told g prefix (Ok ack) c.in-Ok.is))
+    (takes_ok g.E.Durable.device g.E.Durable.contents g.E.Durable.is_faulted g.K.Keyspace.table holder epoch w.primary.calls (without_first w.standby) frame one.span c.args.standby.now c.on_frame.new.self one.epoch_is epochs one.is stands ack (told g prefix (Ok ack) c.in-Ok.is))
 
 pub returns-in-Err-clause-applies : goal.returns-in-Err-clause-applies
 returns-in-Err-clause-applies g c = λ holder w sound epochs arrives stands.
@@ -107,7 +90,7 @@ returns-in-Err-clause-applies g c = λ holder w sound epochs arrives stands.
     applies holder epoch w frame [] new (node g c.args.standby.now) (node g c.on_frame.new.self)
     (subst (λ (texts : List (Vec ℕ Global)). AreAcksSent texts (acks ++ [])) (sym c.in_ok-reserve.ensures.items)
     (subst (λ (told : List Acknowledgement). AreAcksSent c.args.acknowledgements.now.items told) (sym (append-nil acks)) arrives.acknowledged)) one
-    (takes_refused holder epoch w.primary.calls (without_first w.standby) frame one.span (node g c.args.standby.now) (node g c.on_frame.new.self) one.epoch_is epochs one.is stands c.in-Err.refusal (c.goes_on.ensures.0 c.if-goes_on.true)
+    (takes_refused g.E.Durable.device g.E.Durable.contents g.E.Durable.is_faulted g.K.Keyspace.table holder epoch w.primary.calls (without_first w.standby) frame one.span c.args.standby.now c.on_frame.new.self one.epoch_is epochs one.is stands c.in-Err.refusal (c.goes_on.ensures.0 c.if-goes_on.true)
     (told g prefix (Err c.in-Err.refusal) c.in-Err.is))
 
 pub returns-then-is_empty-clause-moments : goal.returns-then-is_empty-clause-moments
@@ -159,8 +142,8 @@ returns-in-Err-2-clause-cut g c = λ holder w sound epochs arrives stands.
     let frame = c.unwrap-frame.result in
     let one = first g prefix w arrives in (
       ap is_nonempty one.all,
-      subst (λ (frames : List Sent). EndsBy c.in-Err.refusal Apply (λ _ last. last holder w.primary.calls w.standby.position (next_from w.standby.position frames) (g.E.Durable.device c.args.standby.now.engine) (g.E.Durable.device c.on_frame.new.self.engine))) (sym one.all)
-          (frame-ends holder epoch w.primary.calls w.standby frame one.span (node g c.args.standby.now) (node g c.on_frame.new.self) one.epoch_is epochs one.is stands c.in-Err.refusal
+      subst (λ (frames : List Sent). EndsBy c.in-Err.refusal Apply (λ _ last. last holder w.primary.calls w.standby.position (next_from w.standby frames) (g.E.Durable.device c.args.standby.now.engine) (g.E.Durable.device c.on_frame.new.self.engine))) (sym one.all)
+          (frame-ends g.E.Durable.device g.E.Durable.contents g.E.Durable.is_faulted g.K.Keyspace.table holder epoch w.primary.calls w.standby frame one.span c.args.standby.now c.on_frame.new.self one.epoch_is epochs one.is stands c.in-Err.refusal
           (λ goes. true≢false (sym (c.goes_on.ensures.1 goes) ∙ c.if-goes_on.false)) (told g prefix (Err c.in-Err.refusal) c.in-Err.is)),
     )
 
@@ -182,5 +165,6 @@ returns-in-Err-clause-answered g c =
     subst (λ (frames : List Frame). AnswersFirst frames old new (node g c.args.standby.now) (node g c.on_frame.new.self))
     (sym (stood_first g (goal.at.returns-in-Err-clause-answered g c).After-on_frame))
     (λ next.
-    refused-full c.on_frame.result c.in-Err.refusal c.in-Err.is (c.goes_on.ensures.0 c.if-goes_on.true) (c.on_frame.ensures.causes next)
-    (λ full. let told = c.on_frame.ensures.full full in inr (record { room = told.0; freed = told.1; gaps = told.2 })))
+    let prefix = (goal.at.returns-in-Err-clause-answered g c).After-on_frame in
+    let full = refused-full _ _ _ _ c.unwrap-frame.result c.args.standby.now c.on_frame.new.self c.in-Err.refusal (c.goes_on.ensures.0 c.if-goes_on.true) (told g prefix (Err c.in-Err.refusal) c.in-Err.is) next in
+    inr (record { room = full.room; freed = full.freed; gaps = full.gaps }))

@@ -1,5 +1,5 @@
 use Rattle.std.proofs.Common.{arith, refl}
-use Rattle.world.proofs.PairFreeing.{accept-does, accept-none, no_notices}
+use Rattle.world.proofs.PairAccepting.{accept-does, accept-none, no_notices}
 use Rattle.world.proofs.pair.Pair.accept_freed.Goals as goal
 
 pub returns-in_default-clause-does : goal.returns-in_default-clause-does
@@ -11,9 +11,9 @@ returns-in_default-clause-does g c = λ history.
 
 pub returns-clause-does : goal.returns-clause-does
 returns-clause-does g c = λ history.
-    accept-does _ c.accept_freed.new.self c.in-Some.freed c.pop_front.new.self.items c.in-Some.ensures.items
-    (rw (c.deref.ensures.value, c.deref-2.ensures.value) at c.accept_freed.ensures.back)
-    (rw (c.deref.ensures.value, c.deref-2.ensures.value) at c.accept_freed.ensures.stands)
+    accept-does _ c.take_back.new.self.sequencer c.in-Some.freed c.pop_front.new.self.items c.in-Some.ensures.items
+    c.take_back.ensures.back
+    c.take_back.ensures.stands
 
 pub returns-clause-leaves : goal.returns-clause-leaves
 returns-clause-leaves g c = λ history. record {
@@ -21,5 +21,5 @@ returns-clause-leaves g c = λ history. record {
   standby = λ idle. refl;
   frames = refl;
   acknowledgements = refl;
-  effect = record { notice = c.in-Some.freed; notices_are = c.in-Some.ensures.items; back = (rw (c.deref.ensures.value, c.deref-2.ensures.value) at c.accept_freed.ensures.back) };
+  effect = record { notice = c.in-Some.freed; notices_are = c.in-Some.ensures.items; back = c.take_back.ensures.back };
 }

@@ -2,6 +2,7 @@ use Rattle.std.proofs.Common.{ℕ, ◌≤◌, ◌<◌, List, length, Err, Vec, G
 use Rattle.std.proofs.lemmas.Bool.{ltb-true}
 use Rattle.std.proofs.lemmas.Result.{err_from_is_err_and}
 use Rattle.kv_types.specs.declared.refusal.Refusal.TheVariants.{FrameFault}
+use Rattle.standby_stream.specs.declared.outgoing.Outgoing.{Outgoing}
 use Rattle.stream_codec.specs.Message.{Acknowledged, sent_of}
 use Rattle.world.proofs.FrameLemmas.{found-there, frame_is_no_ack}
 use Rattle.world.proofs.PairLink.{ack-does, ack-cut, no-ack-does}
@@ -33,6 +34,10 @@ returns-clause-does g c =
     let bytes = c.in-Some.bytes.now in
     let within = subst (λ (acks : List (Vec ℕ Global)). c.args.ack < length acks) c.deref.ensures.value (ltb-true c.args.ack (length c.deref.result.now) (sym c.in-Some.ensures.lookup.0)) in
     let found = found-there c.deref.result.now _ c.args.ack bytes c.deref.ensures.value c.in-Some.ensures.lookup.0 c.in-Some.ensures.lookup.1 in
-    ack-does _ c.args.ack bytes c.in-Ack.ack c.on_ack.new.self within found
+    let outgoing = c.on_ack.new.self in
+    ack-does _ c.args.ack bytes c.in-Ack.ack outgoing.link outgoing.opening within found
     (λ sent may text. ap sent_of (sym c.in-Ack.is) ∙ c.in_ok-ack.ensures.read sent may (c.as_slice.ensures.value ∙ text))
-    (λ counts low. (c.on_ack.ensures.counted counts (subst (λ (own : ℕ). c.in-Ack.ack.position ≤ own) (sym c.position.ensures) low)).1)
+    (λ counts low.
+    let notes = (c.on_ack.ensures.counted counts (subst (λ (own : ℕ). c.in-Ack.ack.position ≤ own) (sym c.position.ensures) low)).1 in
+    (notes.link, notes.opened_at, notes.kept))
+    (λ stale. let same = (c.on_ack.ensures.stale stale).1 in (ap (λ (o : Outgoing). o.link) same, ap (λ (o : Outgoing). o.opening) same))

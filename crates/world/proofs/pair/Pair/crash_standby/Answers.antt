@@ -1,14 +1,14 @@
-use Rattle.std.proofs.Common.{ℕ, List, ap, refl, ◌∙◌}
+use Rattle.std.proofs.Common.{ℕ, List, ap, refl, ◌∙◌, sym}
 use Rattle.pmem.specs.Crash.{picked}
 use Rattle.world.specs.Standby.{arrived_with}
 use Rattle.world.proofs.PairCrash.{standby-crashed, standby-crashes}
 use Rattle.world.proofs.pair.Pair.crash_standby.Goals as goal
 
-pub returns-then-not-self-clause-does : goal.returns-then-not-self-clause-does
-returns-then-not-self-clause-does g c = λ history. standby-crashed _ c.args.picks.now c.if-not-self.true
+pub returns-then-not-is_running-clause-does : goal.returns-then-not-is_running-clause-does
+returns-then-not-is_running-clause-does g c = λ history after. standby-crashed _ after c.args.picks.now (sym c.is_running.ensures ∙ c.if-not-is_running.true)
 
 pub returns-clause-does : goal.returns-clause-does
-returns-clause-does g c = λ history.
+returns-clause-does g c = λ history after.
     let E = g.E.Durable in
     let standby = c.crash.new.self in
     let crashed = c.crash.ensures in
@@ -22,7 +22,7 @@ returns-clause-does g c = λ history.
       ended = standby.ended.items;
       epoch = (E.contents standby.engine).current.epoch;
     })
-    c.args.picks.now c.if-not-self.false
+    after c.args.picks.now (sym c.is_running.ensures ∙ c.if-not-is_running.false)
     (record {
       sized = g.met.E.Durable.sized c.args.self.now.standby.engine;
       settled = crashed.settled;
@@ -34,7 +34,7 @@ returns-clause-does g c = λ history.
     c.crash-2.ensures refl
 
 pub returns-clause-leaves : goal.returns-clause-leaves
-returns-clause-leaves g c = λ history.
+returns-clause-leaves g c = λ history after.
     let crashed = c.crash.ensures in
     record {
       primary = λ idle. refl;

@@ -3,50 +3,58 @@ use Rattle.std.proofs.lemmas.Result.{err_from_is_err_and}
 use Rattle.kv_types.specs.declared.refusal.Refusal.{Refusal}
 use Rattle.kv_types.specs.declared.refusal.Refusal.TheVariants.{Memory}
 use Rattle.world.proofs.LinkLemmas.{Answers, sends}
-use Rattle.world.proofs.PairLink.{send-does, send-none, send-cut}
+use Rattle.world.proofs.PairLink.{send-does, send-none, send-cut, tells-still}
 use Rattle.world.proofs.pair.Pair.send_group.Goals as goal
 
 pub returns-in_err-index-clause-does : goal.returns-in_err-index-clause-does
 returns-in_err-index-clause-does g c =
-    let old = c.args.self.now in
-    let link = c.next_frame.new.self in
+    let outgoing = c.args.self.now.outgoing in
+    let handed = c.args.self.now.handed in
+    let link = c.next_frame.new.self.link in
     let waiting = c.next_frame.new.groups in
     let exit = err_from_is_err_and c.from_residual.result c.from_residual.ensures.1 in
     let memory : exit.0 ≡ Memory = exit.2 ∙ c.in_err-index.ensures.refused.0 in
-    let told : Answers old.link old.handed c.next_frame.result link waiting =
+    let told : Answers outgoing.link handed c.next_frame.result link waiting =
     record { again = c.next_frame.ensures.again; full = c.next_frame.ensures.full; next = c.next_frame.ensures.next; refused = c.next_frame.ensures.refused } in
-    let answers = subst (λ (r : Result (Option ℕ) Refusal). Answers old.link old.handed r link waiting) c.in_err-index.was told in
-    send-cut _ waiting link _ c.from_residual.result exit.0 exit.1 memory
-    (λ w legal stands. sends w.primary.calls old.link old.handed old.remote w.primary.link legal stands c.requires.none_before (Err c.in_err-index.field-0.0) link waiting answers)
+    let answers = subst (λ (r : Result (Option ℕ) Refusal). Answers outgoing.link handed r link waiting) c.in_err-index.was told in
+    tells-still _ waiting link c.next_frame.new.self.opening _ c.from_residual.result c.next_frame.ensures.opening
+    (send-cut _ waiting link _ c.from_residual.result exit.0 exit.1 memory
+    (λ w legal stands. sends w.primary.calls outgoing.link handed c.args.self.now.remote w.primary.link legal stands c.requires.none_before (Err c.in_err-index.field-0.0) link waiting answers))
 
 pub returns-in_default-clause-does : goal.returns-in_default-clause-does
 returns-in_default-clause-does g c =
-    let old = c.args.self.now in
-    let link = c.next_frame.new.self in
+    let outgoing = c.args.self.now.outgoing in
+    let handed = c.args.self.now.handed in
+    let link = c.next_frame.new.self.link in
     let waiting = c.next_frame.new.groups in
-    let told : Answers old.link old.handed c.next_frame.result link waiting =
+    let told : Answers outgoing.link handed c.next_frame.result link waiting =
     record { again = c.next_frame.ensures.again; full = c.next_frame.ensures.full; next = c.next_frame.ensures.next; refused = c.next_frame.ensures.refused } in
-    send-none _ waiting link (subst (λ (r : Result (Option ℕ) Refusal). Answers old.link old.handed r link waiting) (c.in_ok-index.was ∙ ap Ok c.in_default.is) told) c.requires.none_before
+    tells-still _ waiting link c.next_frame.new.self.opening _ _ c.next_frame.ensures.opening
+    (send-none _ waiting link (subst (λ (r : Result (Option ℕ) Refusal). Answers outgoing.link handed r link waiting) (c.in_ok-index.was ∙ ap Ok c.in_default.is) told) c.requires.none_before)
 
 pub returns-in_err-pass-clause-does : goal.returns-in_err-pass-clause-does
 returns-in_err-pass-clause-does g c =
-    let old = c.args.self.now in
-    let link = c.next_frame.new.self in
+    let outgoing = c.args.self.now.outgoing in
+    let handed = c.args.self.now.handed in
+    let link = c.next_frame.new.self.link in
     let waiting = c.next_frame.new.groups in
     let exit = err_from_is_err_and c.from_residual-in_err-pass.result c.from_residual-in_err-pass.ensures.1 in
-    let told : Answers old.link old.handed c.next_frame.result link waiting =
+    let told : Answers outgoing.link handed c.next_frame.result link waiting =
     record { again = c.next_frame.ensures.again; full = c.next_frame.ensures.full; next = c.next_frame.ensures.next; refused = c.next_frame.ensures.refused } in
-    let answers = subst (λ (r : Result (Option ℕ) Refusal). Answers old.link old.handed r link waiting) (c.in_ok-index.was ∙ ap Ok c.in-Some.is) told in
-    send-cut _ waiting link c.pass.new.frames.items c.from_residual-in_err-pass.result exit.0 exit.1 (exit.2 ∙ c.in_err-pass.ensures.cause)
-    (λ w legal stands. (sends w.primary.calls old.link old.handed old.remote w.primary.link legal stands c.requires.none_before (Ok (Some c.in-Some.index)) link waiting answers).may)
+    let answers = subst (λ (r : Result (Option ℕ) Refusal). Answers outgoing.link handed r link waiting) (c.in_ok-index.was ∙ ap Ok c.in-Some.is) told in
+    tells-still _ waiting link c.next_frame.new.self.opening c.pass.new.frames.items c.from_residual-in_err-pass.result c.next_frame.ensures.opening
+    (send-cut _ waiting link c.pass.new.frames.items c.from_residual-in_err-pass.result exit.0 exit.1 (exit.2 ∙ c.in_err-pass.ensures.cause)
+    (λ w legal stands. (sends w.primary.calls outgoing.link handed c.args.self.now.remote w.primary.link legal stands c.requires.none_before (Ok (Some c.in-Some.index)) link waiting answers).may))
 
 pub returns-clause-does : goal.returns-clause-does
 returns-clause-does g c =
-    let old = c.args.self.now in
-    let link = c.next_frame.new.self in
+    let outgoing = c.args.self.now.outgoing in
+    let handed = c.args.self.now.handed in
+    let link = c.next_frame.new.self.link in
     let waiting = c.next_frame.new.groups in
-    let told : Answers old.link old.handed c.next_frame.result link waiting =
+    let told : Answers outgoing.link handed c.next_frame.result link waiting =
     record { again = c.next_frame.ensures.again; full = c.next_frame.ensures.full; next = c.next_frame.ensures.next; refused = c.next_frame.ensures.refused } in
-    let answers = subst (λ (r : Result (Option ℕ) Refusal). Answers old.link old.handed r link waiting) (c.in_ok-index.was ∙ ap Ok c.in-Some.is) told in
+    let answers = subst (λ (r : Result (Option ℕ) Refusal). Answers outgoing.link handed r link waiting) (c.in_ok-index.was ∙ ap Ok c.in-Some.is) told in
     let passed = c.in_ok-pass.ensures.passes in
-    send-does _ waiting link c.in-Some.index c.frame.result.now passed.0 c.pass.new.frames.items answers c.frame.ensures passed.1 passed.2 passed.3 c.requires.none_before
+    tells-still _ waiting link c.next_frame.new.self.opening c.pass.new.frames.items _ c.next_frame.ensures.opening
+    (send-does _ waiting link c.in-Some.index c.frame.result.now passed.0 c.pass.new.frames.items answers c.frame.ensures passed.1 passed.2 passed.3 c.requires.none_before)

@@ -1,5 +1,8 @@
 use Rattle.std.proofs.lemmas.Bool.{and_parts}
-use Rattle.world.proofs.StepLemmas.{acts-is, idle-is, own-is, turn-is}
+use Rattle.world.specs.Condition.{runs}
+use Rattle.machine.specs.declared.event.Event.TheVariants as events
+use Rattle.world.proofs.PairLives.{fail-fence-acts, fence-acts, promote-acts}
+use Rattle.world.proofs.StepLemmas.{acts-is, idle-is, leaves-still, own-is, turn-is}
 use Rattle.world.proofs.pair.PairStepper.step.Goals as goal
 
 pub returns-then-not-takes_part : goal.returns-then-not-takes_part
@@ -21,22 +24,22 @@ pub returns-in-CloseGroup : goal.returns-in-CloseGroup
 returns-in-CloseGroup g c = own-is c.in-CloseGroup.is c.takes_part.ensures c.if-not-takes_part.false (λ runs. runs) (c.close_group.ensures.does c.args.history.now) (c.close_group.ensures.leaves c.args.history.now)
 
 pub returns-in-Commit : goal.returns-in-Commit
-returns-in-Commit g c = own-is c.in-Commit.is c.takes_part.ensures c.if-not-takes_part.false (λ runs. runs) (c.commit.ensures.does c.args.history.now) (c.commit.ensures.leaves c.args.history.now)
+returns-in-Commit g c = own-is c.in-Commit.is c.takes_part.ensures c.if-not-takes_part.false (λ runs. runs) (c.take_step.ensures.does c.args.history.now) (c.take_step.ensures.leaves c.args.history.now)
 
 pub returns-in-RaiseLocal : goal.returns-in-RaiseLocal
-returns-in-RaiseLocal g c = own-is c.in-RaiseLocal.is c.takes_part.ensures c.if-not-takes_part.false (λ runs. runs) (c.raise_local.ensures.does c.args.history.now) (c.raise_local.ensures.leaves c.args.history.now)
+returns-in-RaiseLocal g c = own-is c.in-RaiseLocal.is c.takes_part.ensures c.if-not-takes_part.false (λ runs. runs) (c.take_step-in-RaiseLocal.ensures.does c.args.history.now) (c.take_step-in-RaiseLocal.ensures.leaves c.args.history.now)
 
 pub returns-in-Hand : goal.returns-in-Hand
-returns-in-Hand g c = own-is c.in-Hand.is c.takes_part.ensures c.if-not-takes_part.false (λ runs. runs) (c.hand.ensures.does c.args.history.now) (c.hand.ensures.leaves c.args.history.now)
+returns-in-Hand g c = own-is c.in-Hand.is c.takes_part.ensures c.if-not-takes_part.false (λ runs. runs) (c.take_step-in-Hand.ensures.does c.args.history.now) (c.take_step-in-Hand.ensures.leaves c.args.history.now)
 
 pub returns-in-Free : goal.returns-in-Free
-returns-in-Free g c = own-is c.in-Free.is c.takes_part.ensures c.if-not-takes_part.false (λ runs. runs) (c.free.ensures.does c.args.history.now) (c.free.ensures.leaves c.args.history.now)
+returns-in-Free g c = own-is c.in-Free.is c.takes_part.ensures c.if-not-takes_part.false (λ runs. runs) (c.take_step-in-Free.ensures.does c.args.history.now) (c.take_step-in-Free.ensures.leaves c.args.history.now)
 
 pub returns-in-AcceptFreed : goal.returns-in-AcceptFreed
 returns-in-AcceptFreed g c = own-is c.in-AcceptFreed.is c.takes_part.ensures c.if-not-takes_part.false (λ runs. runs) (c.accept_freed.ensures.does c.args.history.now) (c.accept_freed.ensures.leaves c.args.history.now)
 
 pub returns-in-ClearGap : goal.returns-in-ClearGap
-returns-in-ClearGap g c = own-is c.in-ClearGap.is c.takes_part.ensures c.if-not-takes_part.false (λ runs. runs) (c.clear_gap.ensures.does c.args.history.now) (c.clear_gap.ensures.leaves c.args.history.now)
+returns-in-ClearGap g c = own-is c.in-ClearGap.is c.takes_part.ensures c.if-not-takes_part.false (λ runs. runs) (c.take_step-in-ClearGap.ensures.does c.args.history.now) (c.take_step-in-ClearGap.ensures.leaves c.args.history.now)
 
 pub returns-in-Send : goal.returns-in-Send
 returns-in-Send g c = own-is c.in-Send.is c.takes_part.ensures c.if-not-takes_part.false (λ runs. runs) c.send.ensures.does c.send.ensures.leaves
@@ -63,7 +66,7 @@ pub returns-in-Leave : goal.returns-in-Leave
 returns-in-Leave g c = own-is c.in-Leave.is c.takes_part.ensures c.if-not-takes_part.false (λ runs. runs) (c.leave.ensures.does c.args.history.now) (c.leave.ensures.leaves c.args.history.now)
 
 pub returns-in-OpenLink : goal.returns-in-OpenLink
-returns-in-OpenLink g c = own-is c.in-OpenLink.is c.takes_part.ensures c.if-not-takes_part.false (λ both. (and_parts c.args.self.now.primary_runs c.args.self.now.standby_runs both).0) c.open_link.ensures.does c.open_link.ensures.leaves
+returns-in-OpenLink g c = own-is c.in-OpenLink.is c.takes_part.ensures c.if-not-takes_part.false (λ both. (and_parts (runs c.args.self.now.primary_condition) (runs c.args.self.now.standby_condition) both).0) c.open_link.ensures.does c.open_link.ensures.leaves
 
 pub returns-in-Deliver : goal.returns-in-Deliver
 returns-in-Deliver g c = acts-is c.in-Deliver.is c.deliver.ensures.does c.deliver.ensures.leaves
@@ -72,7 +75,16 @@ pub returns-in-Apply : goal.returns-in-Apply
 returns-in-Apply g c = acts-is c.in-Apply.is c.apply.ensures.does c.apply.ensures.leaves
 
 pub returns-in-Crash : goal.returns-in-Crash
-returns-in-Crash g c = acts-is c.in-Crash.is c.crash.ensures.does c.crash.ensures.leaves
+returns-in-Crash g c = acts-is c.in-Crash.is (c.crash.ensures.does c.in-Crash.field-2) (c.crash.ensures.leaves c.in-Crash.field-2)
 
 pub returns-in-Reopen : goal.returns-in-Reopen
 returns-in-Reopen g c = acts-is c.in-Reopen.is (c.reopen.ensures.does c.args.history.now) (c.reopen.ensures.leaves c.args.history.now)
+
+pub returns-in-FailFence : goal.returns-in-FailFence
+returns-in-FailFence g c = acts-is c.in-FailFence.is (fail-fence-acts _ c.in-FailFence.field-0 c.in-FailFence.field-1) (leaves-still (events.FailFence c.in-FailFence.field-0 c.in-FailFence.field-1) _)
+
+pub returns-in-Fence : goal.returns-in-Fence
+returns-in-Fence g c = acts-is c.in-Fence.is (fence-acts _) (leaves-still events.Fence _)
+
+pub returns-in-Promote : goal.returns-in-Promote
+returns-in-Promote g c = acts-is c.in-Promote.is (promote-acts _) (leaves-still events.Promote _)

@@ -1,0 +1,67 @@
+-- The connections of a driver, each at its place, and what a round of the driver does with them.
+use Rattle.std.specs.Prelude.{◌≡◌, ℕ, Bool, true, false, List, All, Option, Some, None, IfSome, slice_index_or}
+use Rattle.kv_types.specs.declared.seen.Seen.{Seen}
+use Rattle.marks.specs.declared.view.MarkView.{MarkView}
+use Rattle.mio.specs.Event.{event_token}
+use Rattle.mio.specs.Events.{items as events_in}
+use Rattle.clients.specs.declared.driven.DrivenConnection.{DrivenConnection}
+use Rattle.clients.specs.declared.driven_connections.DrivenConnections.{DrivenConnections}
+use Rattle.clients.specs.declared.reply_side.ReplySide.{ReplySide}
+use Rattle.clients.specs.declared.reply_side.WritingState.TheVariants as state
+use Rattle.clients.specs.ReplySide.{IsVisited}
+
+-- who is at a place
+abbrev pub connection_at : List (Option DrivenConnection) → ℕ → Option DrivenConnection
+connection_at places k = slice_index_or places k None
+
+-- Somebody called to this place, or its socket is ready: who is there is visited next.
+abbrev pub IsNoted : Option DrivenConnection → Type 0
+IsNoted place = IfSome place (λ connection. connection.is_noted ≡ true)
+
+abbrev pub IsNotedAt : List (Option DrivenConnection) → ℕ → Type 0
+IsNotedAt places k = IsNoted (connection_at places k)
+
+-- Who is at a place stays there with its replies, and who is noted stays noted. Who comes is noted.
+abbrev pub NotesPlace : Option DrivenConnection → Option DrivenConnection → Type 0
+NotesPlace None after = IsNoted after
+NotesPlace (Some before) None = ⊥
+NotesPlace (Some before) (Some after) = (after.place ≡ before.place) × (after.replies.outbox ≡ before.replies.outbox)
+    × (after.replies.replies ≡ before.replies.replies) × (before.is_noted ≡ true → after.is_noted ≡ true)
+
+-- One visit, where both marks were seen so far. Only who has written all replies has left then.
+abbrev pub IsVisitOf : Seen → DrivenConnection → Option DrivenConnection → Type 0
+IsVisitOf seen before None = (replies : ReplySide) × IsVisited seen before.replies replies × (replies.state ≡ state.Over)
+IsVisitOf seen before (Some after) = (after.place ≡ before.place) × IsVisited seen before.replies after.replies
+
+-- Who is noted is visited, and nobody else.
+abbrev pub VisitsNoted : Bool → Seen → DrivenConnection → Option DrivenConnection → Type 0
+VisitsNoted true seen before after = IsVisitOf seen before after
+VisitsNoted false seen before after = after ≡ Some before
+
+abbrev pub VisitsPlace : Seen → Option DrivenConnection → Option DrivenConnection → Type 0
+VisitsPlace seen None after = after ≡ None
+VisitsPlace seen (Some before) after = VisitsNoted before.is_noted seen before after
+
+-- at each place
+abbrev pub Notes : List (Option DrivenConnection) → List (Option DrivenConnection) → Type 0
+Notes places places' = (k : ℕ) → NotesPlace (connection_at places k) (connection_at places' k)
+
+abbrev pub Visits : Seen → List (Option DrivenConnection) → List (Option DrivenConnection) → Type 0
+Visits seen places places' = (k : ℕ) → VisitsPlace seen (connection_at places k) (connection_at places' k)
+
+-- nobody has more to do at once
+abbrev pub IsQuiet : Option DrivenConnection → Type 0
+IsQuiet place = IfSome place (λ connection. connection.is_noted ≡ false)
+
+-- both marks, as a seat knows them
+abbrev pub seen_by : MarkView → Seen
+seen_by view = record { local = view.local; remote = view.remote }
+
+-- A round: all whose sockets are ready are noted beside those that were, and then each that is noted is visited once, by the marks as the driver's seat knows
+-- them at the end of the round.
+pub record IsRound (before after : DrivenConnections) (known : MarkView) : Type 0 where
+  pub between : List (Option DrivenConnection)
+  pub notes : Notes before.places.items between
+  pub ready : All (λ event. IsNotedAt between ((event_token event).0)) (events_in before.events)
+  pub visits : Visits (seen_by known) between after.places.items
+  pub busy : after.is_busy ≡ false → (k : ℕ) → IsQuiet (connection_at after.places.items k)

@@ -1,0 +1,70 @@
+//! That a driver and its entrance may go to another thread. The prover does not find it of types so large at once, so it is shown part by part.
+ghost use Rattle.clients.specs.contracts.driven.DrivenConnection as connection;
+ghost use Rattle.clients.specs.contracts.driver.Driver as driver;
+ghost use Rattle.clients.specs.contracts.intake.DriverEntrance as entrance;
+ghost use Rattle.lobby.specs.contracts.lobby.Lobby as lobby;
+ghost use Rattle.marks.specs.contracts.thread_marks.ThreadMarks as thread_marks;
+ghost use Rattle.wakes.specs.contracts.calls.Calls as calls;
+ghost use denote.Param.Send.{IsSend, IsSync};
+
+use crate::driven::DrivenConnection;
+use lobby::Lobby;
+use marks::ThreadMarks;
+use wakes::Calls;
+
+/// Shows that a driver may go to another thread. It does nothing.
+pub fn driver_is_send()
+    ensures { IsSend driver.the_row }
+{
+    connection_is_send();
+    entrance_is_send();
+    marks_are_send();
+}
+
+/// Shows that a driver's entrance may go to another thread. It does nothing.
+pub fn entrance_is_send()
+    ensures { IsSend entrance.the_row }
+{
+    connection_is_send();
+    lobby_is_send();
+    calls_are_send();
+    calls_are_sync();
+}
+
+fn connection_is_send()
+    ensures { IsSend connection.the_row }
+{
+    is_send::<DrivenConnection>();
+}
+
+fn marks_are_send()
+    ensures { IsSend thread_marks.the_row }
+{
+    is_send::<ThreadMarks>();
+}
+
+fn lobby_is_send()
+    ensures { IsSend lobby.the_row }
+{
+    is_send::<Lobby>();
+}
+
+fn calls_are_send()
+    ensures { IsSend calls.the_row }
+{
+    is_send::<Calls>();
+}
+
+fn calls_are_sync()
+    ensures { IsSync calls.the_row }
+{
+    is_sync::<Calls>();
+}
+
+fn is_send<T: Send>()
+    ensures { IsSend T.row }
+{}
+
+fn is_sync<T: Sync>()
+    ensures { IsSync T.row }
+{}

@@ -1,0 +1,154 @@
+//! A connection, as its driver has it.
+ghost use Rattle.std.specs.Prelude.{◌≡◌};
+ghost use Rattle.clients.specs.declared.reply_side.WritingState.TheVariants as state;
+ghost use Rattle.clients.specs.ReplySide.{IsVisited};
+ghost use Rattle.clients.specs.RequestSide.{Asks, KeepsRequests};
+
+use crate::reply_side::{ReplySide, Written};
+use crate::request_side::RequestSide;
+use crate::signals::Signals;
+use kv_types::Seen;
+use mio::event::Event;
+use mio::unix::SourceFd;
+use mio::{Interest, Registry, Token};
+use pipes::Seat;
+use std::io;
+use std::net::{Shutdown, TcpStream};
+use std::os::fd::AsRawFd;
+use std::sync::Wait;
+
+/// What a driver does with a connection next.
+#[derive(Clone, Copy, Debug, PartialEq, Eq)]
+pub(crate) enum Next {
+    /// It waits until the socket is ready or somebody calls.
+    Waits,
+    /// There may be more to do at once.
+    Busy,
+    /// All is done: the socket is to be closed.
+    Closes,
+}
+
+/// A connection, as its driver has it: its socket, which never blocks, and its requests and replies.
+#[derive(Drop)]
+pub struct DrivenConnection {
+    pub(crate) place: Seat,
+    pub(crate) stream: TcpStream,
+    pub(crate) requests: RequestSide,
+    pub(crate) replies: ReplySide,
+    pub(crate) signals: Signals,
+    /// Whether it is among those that its driver visits next.
+    pub(crate) is_noted: bool,
+}
+
+impl DrivenConnection {
+    /// Has the poll report the socket by its place.
+    ///
+    /// # Errors
+    ///
+    /// As the system refuses it.
+    pub(crate) fn register(&self, registry: &Registry) -> io::Result<()> {
+        let descriptor = self.stream.as_raw_fd();
+        registry.register(
+            &mut SourceFd(&descriptor),
+            Token(self.place.number()),
+            Interest::READABLE | Interest::WRITABLE,
+        )
+    }
+
+    /// Notes for what the socket is ready.
+    pub(crate) fn hear(&mut self, event: &Event)
+        ensures replies { (self.new.replies.outbox ≡ self.old.replies.outbox) × (self.new.replies.replies ≡ self.old.replies.replies) }
+        ensures place { self.new.place ≡ self.old.place }
+    {
+        if event.is_readable() {
+            self.requests.is_readable();
+        }
+        if event.is_read_closed() || event.is_error() {
+            self.requests.ends();
+        }
+        if event.is_writable() || event.is_write_closed() || event.is_error() {
+            self.replies.is_writable();
+        }
+    }
+
+    /// Goes on with all that it can do now.
+    pub(crate) fn visit<R: Wait>(&mut self, rt: &R, seen: &Seen) -> Next
+        ensures replies { IsVisited seen.now self.old.replies self.new.replies }
+        ensures requests { Asks self.old.requests self.new.requests }
+        ensures closes { result ≡ Next.Closes → self.new.replies.state ≡ state.Over }
+        ensures place { self.new.place ≡ self.old.place }
+    {
+        let reads_on = self.requests.go_on(rt, &self.stream, &self.signals);
+        let writes_on = self.write(rt, seen);
+        if self.requests.is_over() && self.replies.is_over() {
+            Next::Closes
+        } else if reads_on | writes_on {
+            Next::Busy
+        } else {
+            Next::Waits
+        }
+    }
+
+    /// Goes on with writing. Says whether there may be more to do at once.
+    fn write<R: Wait>(&mut self, rt: &R, seen: &Seen) -> bool
+        ensures requests { KeepsRequests self.old.requests self.new.requests }
+        ensures replies { IsVisited seen.now self.old.replies self.new.replies }
+        ensures place { self.new.place ≡ self.old.place }
+    {
+        match self.replies.go_on(rt, &self.stream, seen, &self.signals) {
+            Written::Waits => false,
+            Written::Busy => true,
+            Written::Fails => {
+                self.break_off();
+                true
+            }
+            Written::Ends => {
+                self.end(rt);
+                true
+            }
+        }
+    }
+
+    /// Nothing can be written any more. So the peer's requests end too.
+    pub(crate) fn break_off(&mut self)
+        ensures requests { KeepsRequests self.old.requests self.new.requests }
+        ensures kept { (self.new.replies.outbox ≡ self.old.replies.outbox) × (self.new.replies.replies ≡ self.old.replies.replies) }
+        ensures failed { self.new.replies.state ≡ state.Failed }
+        ensures place { self.new.place ≡ self.old.place }
+    {
+        self.replies.fail();
+        let _ = self.stream.shutdown(Shutdown::Both);
+        self.requests.ends();
+    }
+
+    /// All replies are written. Where the peer may still send requests, nobody takes them any more. A peer gets the last reply whichever side is shut down.
+    fn end<R: Wait>(&mut self, rt: &R)
+        ensures requests { KeepsRequests self.old.requests self.new.requests }
+        ensures replies { self.new.replies ≡ self.old.replies }
+        ensures place { self.new.place ≡ self.old.place }
+    {
+        if self.requests.is_open() {
+            let _ = self.stream.shutdown(Shutdown::Both);
+            self.requests.leave(rt, &self.signals);
+        } else {
+            let _ = self.stream.shutdown(Shutdown::Write);
+        }
+    }
+
+    /// The driver looks at it, once a second, whether or not anybody called.
+    pub(crate) fn look(&mut self)
+        ensures replies { self.new.replies ≡ self.old.replies }
+        ensures place { self.new.place ≡ self.old.place }
+    {
+        self.requests.look(self.replies.is_over());
+    }
+
+    /// Closes the socket, and gives the place back.
+    pub(crate) fn close(self) -> Seat
+        ensures { result ≡ self.place }
+    {
+        let DrivenConnection { place, stream, .. } = self;
+        drop(stream);
+        place
+    }
+}

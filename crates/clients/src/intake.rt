@@ -1,0 +1,80 @@
+//! How connections come to their driver.
+use crate::driven::DrivenConnection;
+use kv_types::Refusal;
+use lobby::Lobby;
+use pipes::{MAX_SEATS, Seat};
+use std::alloc::{AllocError, Global};
+use std::collections::VecDeque;
+use std::sync::{Arc, Mutex, Wait};
+use wakes::Calls;
+
+/// The places of a driver, and the connections that it has yet to take in. A place is held until the socket is closed, which may be after another
+/// connection has the seat.
+#[derive(Drop)]
+struct Intake {
+    places: Lobby,
+    newcomers: VecDeque<DrivenConnection>,
+}
+
+/// How connections come to one driver. Any thread may have one.
+#[derive(Drop)]
+pub struct DriverEntrance {
+    intake: Arc<Mutex<Intake>>,
+    calls: Arc<Calls>,
+}
+
+impl DriverEntrance {
+    /// The entrance of a driver that is called so. It allocates all the memory that it will ever need.
+    ///
+    /// # Errors
+    ///
+    /// Only `Memory`.
+    pub(crate) fn new(alloc: Global, calls: Arc<Calls>) -> Result<DriverEntrance, Refusal> {
+        let intake = Intake {
+            places: Lobby::new(alloc)?,
+            newcomers: VecDeque::with_capacity(alloc, MAX_SEATS)?,
+        };
+        Ok(DriverEntrance {
+            intake: Arc::new(alloc, Mutex::new(intake))?,
+            calls,
+        })
+    }
+
+    /// Another entrance of the same driver.
+    ///
+    /// # Errors
+    ///
+    /// Only `AllocError`.
+    pub(crate) fn another(&self) -> Result<DriverEntrance, AllocError> {
+        let intake = Arc::try_clone(&self.intake)?;
+        let calls = Arc::try_clone(&self.calls)?;
+        Ok(DriverEntrance { intake, calls })
+    }
+
+    /// The calls for the driver's connections.
+    pub(crate) fn calls(&self) -> &Arc<Calls> {
+        &self.calls
+    }
+
+    /// A place, if one is free.
+    pub fn enter<R: Wait>(&self, rt: &R) -> Option<Seat> {
+        self.intake.lock(rt).places.enter().ok()
+    }
+
+    /// Gives a place back.
+    pub fn leave<R: Wait>(&self, rt: &R, place: Seat) {
+        self.intake.lock(rt).places.leave(place);
+    }
+
+    /// Hands a connection to the driver.
+    pub fn hand<R: Wait>(&self, rt: &R, connection: DrivenConnection) {
+        // There is room for each place.
+        let _ = self.intake.lock(rt).newcomers.push_back(connection);
+        self.calls.wake();
+    }
+
+    /// The connection that has waited longest for the driver, if one does.
+    pub(crate) fn next<R: Wait>(&self, rt: &R) -> Option<DrivenConnection> {
+        self.intake.lock(rt).newcomers.pop_front()
+    }
+}

@@ -1,0 +1,171 @@
+//! The replies of a connection, as its driver has them.
+ghost use Rattle.std.specs.Prelude.{◌≡◌, ◌⊎◌, [], true};
+ghost use Rattle.pipes.specs.Ring.{known_at};
+ghost use Rattle.clients.specs.ReplySide.{GoesOn, Says, Writes};
+
+use crate::outbox::Outbox;
+use crate::signals::{Signals, WasOver};
+use crate::writing::{Round, let_replies_go, write_round};
+use kv_types::{Held, Seen};
+use pipes::RingInlet;
+use std::io;
+use std::net::TcpStream;
+use std::sync::Wait;
+
+/// How far the writing of a connection is.
+#[derive(Clone, Copy, Debug, PartialEq, Eq)]
+enum WritingState {
+    /// Its replies are written.
+    Open,
+    /// A write failed, or memory was refused: the replies are taken and let go. Otherwise the thread that serves would wait for room for ever.
+    Failed,
+    /// Nothing more is written.
+    Over,
+}
+
+/// What a turn of writing came to.
+#[derive(Clone, Copy, Debug, PartialEq, Eq)]
+pub(crate) enum Written {
+    /// It waits for replies, for the marks or for the socket.
+    Waits,
+    /// There may be more to do at once.
+    Busy,
+    /// It failed just now.
+    Fails,
+    /// It ended just now.
+    Ends,
+}
+
+/// The replies of a connection, as its driver has them.
+#[derive(Drop)]
+pub struct ReplySide {
+    pub(crate) replies: RingInlet<Held>,
+    outbox: Outbox,
+    state: WritingState,
+    /// Whether the socket may take bytes.
+    is_ready: bool,
+}
+
+impl ReplySide {
+    /// Nothing was written yet.
+    pub(crate) fn new(replies: RingInlet<Held>, outbox: Outbox) -> ReplySide
+        ensures replies { result.replies ≡ replies }
+    {
+        ReplySide {
+            replies,
+            outbox,
+            state: WritingState::Open,
+            is_ready: true,
+        }
+    }
+
+    /// The socket may take bytes.
+    pub(crate) fn is_writable(&mut self)
+        ensures ready { self.new.is_ready ≡ true }
+        ensures kept { (self.new.outbox ≡ self.old.outbox) × (self.new.replies ≡ self.old.replies) × (self.new.state ≡ self.old.state) }
+    {
+        self.is_ready = true;
+    }
+
+    /// Whether nothing more is written.
+    pub(crate) fn is_over(&self) -> bool
+        ensures { result ≡ true → self.now.state ≡ WritingState.Over }
+    {
+        self.state == WritingState::Over
+    }
+
+    /// Goes on as far as it can, where both marks were seen so far.
+    pub(crate) fn go_on<R: Wait>(
+        &mut self,
+        rt: &R,
+        stream: &TcpStream,
+        seen: &Seen,
+        signals: &Signals,
+    ) -> Written
+        ensures { GoesOn seen.now result self.old self.new }
+    {
+        // This is asked first: what was offered before the connection was over is taken then.
+        let over = signals.was_over();
+        match self.state {
+            WritingState::Open if self.is_ready => self.write(rt, stream, seen, over, signals),
+            WritingState::Failed => self.let_go(rt, over, signals),
+            _ => Written::Waits,
+        }
+    }
+
+    /// Takes replies and writes for one round.
+    fn write<R: Wait>(
+        &mut self,
+        rt: &R,
+        stream: &TcpStream,
+        seen: &Seen,
+        over: WasOver,
+        signals: &Signals,
+    ) -> Written
+        ensures writes { Writes seen.now result self.old self.new }
+        ensures over { result ≡ Written.Ends → over.is_over ≡ true }
+        ensures ends { self.new.state ≡ WritingState.Over → (self.old.state ≡ WritingState.Over) ⊎ (result ≡ Written.Ends) }
+    {
+        let mut socket = stream;
+        let round = write_round(
+            rt,
+            &mut socket,
+            &mut self.replies,
+            &mut self.outbox,
+            seen,
+            over,
+            signals,
+        );
+        self.after(round)
+    }
+
+    /// What a round came to.
+    fn after(&mut self, round: io::Result<Round>) -> Written
+        ensures says { Says round self.new.is_ready result }
+        ensures ends { self.new.state ≡ WritingState.Over → (self.old.state ≡ WritingState.Over) ⊎ (result ≡ Written.Ends) }
+        ensures kept { (self.new.outbox ≡ self.old.outbox) × (self.new.replies ≡ self.old.replies) }
+    {
+        match round {
+            Ok(Round::Idle) => Written::Waits,
+            Ok(Round::Busy) => Written::Busy,
+            Ok(Round::Blocked) => {
+                self.is_ready = false;
+                Written::Waits
+            }
+            Ok(Round::Last) => {
+                self.state = WritingState::Over;
+                Written::Ends
+            }
+            Err(_) => {
+                self.fail();
+                Written::Fails
+            }
+        }
+    }
+
+    /// Writes nothing more, and lets the replies go until the connection is over.
+    pub(crate) fn fail(&mut self)
+        ensures kept { (self.new.outbox ≡ self.old.outbox) × (self.new.replies ≡ self.old.replies) }
+        ensures failed { self.new.state ≡ WritingState.Failed }
+    {
+        self.state = WritingState::Failed;
+    }
+
+    /// Takes replies and lets them go. It ends where there are none and the connection was over before.
+    fn let_go<R: Wait>(&mut self, rt: &R, over: WasOver, signals: &Signals) -> Written
+        ensures outbox { self.new.outbox ≡ self.old.outbox }
+        ensures over { result ≡ Written.Ends → over.is_over ≡ true }
+        ensures none { result ≡ Written.Ends → known_at self.new.replies ≡ [] }
+        ensures ends { self.new.state ≡ WritingState.Over → (self.old.state ≡ WritingState.Over) ⊎ (result ≡ Written.Ends) }
+    {
+        if let_replies_go(&mut self.replies) {
+            signals.made_room(rt);
+            return Written::Busy;
+        }
+        if !over.is_over() {
+            return Written::Waits;
+        }
+        self.state = WritingState::Over;
+        Written::Ends
+    }
+}

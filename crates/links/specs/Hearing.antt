@@ -1,0 +1,59 @@
+-- What a receiver of acknowledgements takes of the messages that come on a link.
+use Rattle.std.specs.Prelude.{◌≡◌, ◌⊎◌, ℕ, ◌<◌, ◌≤◌, max, true, false, List, [], ◌∷◌, ◌++◌, Option}
+use Rattle.std.specs.Io.KnownBytes.{Consumes}
+use Rattle.frames.specs.declared.frame.Frame.{Frame}
+use Rattle.frames.specs.declared.ack.Ack.{Ack}
+use Rattle.stream_codec.specs.Message.{Sent, sent_of_frame, sent_of_ack}
+use Rattle.standby_stream.specs.Stream.{counts}
+use Rattle.links.specs.Reading.{Reads}
+use Rattle.links.specs.declared.receiver.AckReceiver.{AckReceiver}
+use Rattle.links.specs.declared.standing.Standing.TheVariants.{Ahead, Behind}
+
+-- The receiver took this acknowledgement: it counts, it is not above the local mark as it was read before, and the remote mark is now the higher one of it
+-- and of what that was.
+pub record Takes (old : AckReceiver) (ack : Ack) (new : AckReceiver) : Type 0 where
+  pub own : counts old.epoch ack ≡ true
+  pub within : ack.position ≤ new.marks.local
+  pub raised : new.marks.remote ≡ max old.marks.remote ack.position
+  pub was_behind : old.standing ≡ Behind
+  pub behind : new.standing ≡ Behind
+  pub epoch : new.epoch ≡ old.epoch
+
+-- The receiver refused this acknowledgement, and the remote mark stayed: it does not count, or the standby was ahead before, or it is above the local mark as
+-- it was read before.
+pub record RefusesAck (old : AckReceiver) (ack : Ack) (new : AckReceiver) : Type 0 where
+  pub stays : new.marks.remote ≡ old.marks.remote
+  pub epoch : new.epoch ≡ old.epoch
+  pub why : (counts old.epoch ack ≡ false) ⊎ ((old.standing ≡ Ahead) ⊎ (new.marks.local < ack.position))
+
+-- the same of a message, or it is a group, which only a primary sends
+abbrev pub Refuses : AckReceiver → Sent → AckReceiver → Type 0
+Refuses old message new =
+    ((ack : Ack) × (message ≡ sent_of_ack ack) × RefusesAck old ack new) ⊎ ((frame : Frame) × (message ≡ sent_of_frame frame) × (new ≡ old))
+
+-- The receiver took these messages, in order, each of which is an acknowledgement, and did nothing else.
+pub data Hears : AckReceiver → List Sent → AckReceiver → Type 0 where
+  nothing : (receiver : AckReceiver) → Hears receiver [] receiver
+  more : (first middle last : AckReceiver) (messages : List Sent) (ack : Ack) → Hears first messages middle → Takes middle ack last → Hears first (messages ++ sent_of_ack ack ∷ []) last
+
+-- The receiver took the first of these messages, and refused the one that comes next. It looked at none behind that.
+pub record StopsAt (first : AckReceiver) (messages : List Sent) (last : AckReceiver) : Type 0 where
+  pub taken : List Sent
+  pub message : Sent
+  pub rest : List Sent
+  pub middle : AckReceiver
+  pub are : messages ≡ taken ++ message ∷ rest
+  pub run : Hears first taken middle
+  pub refused : Refuses middle message last
+
+-- What was read on a link, by a decoder that held these bytes, from what the reader had to what it has left, and what the receiver made of it: it took all
+-- acknowledgements that those bytes spell, or those before the first that it refused. Where there was no memory for what was read last, that is lost,
+-- and the link ended.
+pub record HasHeard (first : AckReceiver) (held bytes : Option (List ℕ)) (last : AckReceiver) (left : Option (List ℕ)) : Type 0 where
+  pub text : List ℕ
+  pub lost : List ℕ
+  pub messages : List Sent
+  pub unread : Option (List ℕ)
+  pub consumed : Consumes bytes left (text ++ lost)
+  pub read : Reads held text messages unread
+  pub heard : Hears first messages last ⊎ StopsAt first messages last

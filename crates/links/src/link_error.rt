@@ -1,0 +1,73 @@
+//! Why a link ended, on the standby's side.
+ghost use Rattle.std.specs.Prelude.{◌≡◌, ◌⊎◌, ◌≤◌, ◌<◌, None};
+ghost use Rattle.model.specs.declared.record.Record.{Record as NodeRecord};
+ghost use Rattle.frames.specs.declared.frame.Frame.{Frame as Sent};
+ghost use Rattle.standby.specs.Following.{TakesEpoch, IsHeld, IsNext, IsTakenNext};
+ghost use Rattle.links.specs.Serving.{ends_by, refusal_of_ack, refusal_of_head, IsOf, IsRefusedBy};
+
+use frames::Ack;
+use kv_types::Refusal;
+use std::alloc::AllocError;
+use stream_codec::GroupHead;
+
+/// Why a standby's link ended that the primary did not close.
+#[derive(Clone, Copy, Debug, PartialEq, Eq)]
+pub enum LinkError {
+    /// A read or a write failed.
+    Closed,
+    /// The link alone has ended: the node is sound, and may take the next link.
+    Refused(Refusal),
+    /// The node can take no further frame: its device failed, or its counters have come to their end.
+    Stops(Refusal),
+}
+
+impl From<AllocError> for LinkError {
+    ghost use Rattle.kv_types.specs.declared.refusal.Refusal.TheVariants.{Memory};
+    ghost use Rattle.links.specs.declared.link_error.LinkError.TheVariants.{Refused};
+
+    ghost from_gives = { λ _ end. end ≡ Refused Memory };
+
+    fn from(_e: AllocError) -> LinkError {
+        LinkError::Refused(Refusal::Memory)
+    }
+}
+
+/// How a link ends whose frame was refused.
+pub(crate) fn ends_by(refusal: Refusal) -> LinkError
+    ensures { result ≡ ends_by refusal }
+{
+    match refusal {
+        Refusal::Fault | Refusal::Exhausted => LinkError::Stops(refusal),
+        _ => LinkError::Refused(refusal),
+    }
+}
+
+/// Why an acknowledgement is refused that comes from the primary, by a node of this epoch: only a standby sends one.
+pub(crate) fn refusal_of_ack(epoch: u64, ack: &Ack) -> Refusal
+    ensures { result ≡ refusal_of_ack epoch ack.now }
+{
+    if ack.epoch() == epoch {
+        Refusal::PositionGap
+    } else {
+        Refusal::WrongEpoch
+    }
+}
+
+/// Why a node of this epoch at this position will refuse a frame of these numbers, if it will, by `WrongEpoch` or `PositionGap`.
+pub(crate) fn refusal_of_head(epoch: u64, position: u64, head: &GroupHead) -> Option<Refusal>
+    ensures by_numbers { result ≡ refusal_of_head epoch position head.now }
+    ensures held { result ≡ None → (node : NodeRecord) → (frame : Sent) → node.epoch ≡ epoch → node.position ≡ position → IsOf head.now frame
+        → frame.before < frame.after → IsHeld node frame ⊎ IsTakenNext node frame }
+    ensures refused { (node : NodeRecord) → (frame : Sent) → node.epoch ≡ epoch → node.position ≡ position → IsOf head.now frame
+        → IsRefusedBy node frame result }
+{
+    let takes_epoch = head.epoch == epoch || (position == 0 && head.epoch > epoch);
+    if !takes_epoch {
+        return Some(Refusal::WrongEpoch);
+    }
+    let is_held = head.epoch == epoch && head.after <= position;
+    if is_held || head.before == position {
+        return None;
+    }
+    Some(Refusal::PositionGap)
+}

@@ -1,0 +1,40 @@
+-- A group and then a list, each closed where it is due.
+use Rattle.std.proofs.Common.{◌≡◌, ℕ, Bool, true, false, not, ◌&&◌, ◌||◌, sym, ap, ap₂, subst, ◌∙◌}
+use Rattle.model.specs.declared.work.Work.{Work}
+use Rattle.pipes.specs.Waiting.{Waiting}
+use Rattle.extent_heap.specs.Room.{has_room}
+use Rattle.redis_core.specs.Sequencing.{Sequencing}
+use Rattle.serving.specs.Closing.{ClosesBoth, ClosesGroup, ClosesList, is_tight}
+use Rattle.serving.specs.declared.closing.TheConstants.{LINES_OF_AN_ENTRY}
+use Rattle.serving.specs.declared.gathering.Gathering.{Gathering}
+use Rattle.serving.specs.declared.gathering.TheConstants.{LISTED_AT_ONCE}
+
+-- ---- where room is short
+
+abbrev tight_if : Sequencing → Bool → Bool → Bool
+tight_if s is_short is_closed = is_short || (is_closed && not (has_room LISTED_AT_ONCE LINES_OF_AN_ENTRY s.room))
+
+pub tight-short : (is_short is_closed tight : Bool) (s : Sequencing) → is_short ≡ true → tight ≡ true → tight ≡ is_tight is_short is_closed s
+tight-short is_short is_closed tight s short is = is ∙ sym (ap (λ (b : Bool). tight_if s b is_closed) short)
+
+pub tight-closed : (is_short is_closed tight ample : Bool) (s : Sequencing) → is_short ≡ false → is_closed ≡ true → ample ≡ has_room LISTED_AT_ONCE LINES_OF_AN_ENTRY s.room → tight ≡ not ample
+    → tight ≡ is_tight is_short is_closed s
+tight-closed is_short is_closed tight ample s short closed room is = is ∙ ap not room ∙ sym (ap₂ (tight_if s) short closed)
+
+pub tight-open : (is_short is_closed tight : Bool) (s : Sequencing) → is_short ≡ false → is_closed ≡ false → tight ≡ false → tight ≡ is_tight is_short is_closed s
+tight-open is_short is_closed tight s short closed is = is ∙ sym (ap₂ (tight_if s) short closed)
+
+-- ---- both
+
+pub both-closed : (gathering noted : Gathering) (remote : ℕ) (is_short is_closed is_listed tight did : Bool) (old between new : Sequencing) (before middle after : Waiting Work)
+    → ClosesGroup gathering remote is_short old before between middle noted is_closed → ClosesList noted remote tight between middle new after is_listed
+    → tight ≡ is_tight is_short is_closed between → did ≡ (is_closed || is_listed) → ClosesBoth gathering remote is_short old before new after noted did
+both-closed gathering noted remote is_short is_closed is_listed tight did old between new before middle after group list same did_is = record {
+  between = between;
+  middle = middle;
+  is_closed = is_closed;
+  is_listed = is_listed;
+  group = group;
+  list = subst (λ (t : Bool). ClosesList noted remote t between middle new after is_listed) same list;
+  did_is = did_is;
+}

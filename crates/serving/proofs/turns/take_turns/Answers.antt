@@ -1,0 +1,28 @@
+use Rattle.std.proofs.Common.{rules}
+use Rattle.serving.proofs.TurnsLemmas.{connection-looks, connection-none, connection-rests, connection-served, serves-still, serves-then, waits-still}
+use Rattle.serving.proofs.turns.take_turns.Goals as goal
+
+pub returns-then-waits_for_room-clause-turns : goal.returns-then-waits_for_room-clause-turns
+returns-then-waits_for_room-clause-turns g c =
+    connection-looks c.args.front.now.sequencer c.loop.front.sequencer c.args.connection.now c.loop.connection c.look_ahead-asked.new.self c.loop.any c.loop.invariant.0 c.look_ahead-asked.ensures.looks
+
+pub returns-then-not-is_served-clause-turns : goal.returns-then-not-is_served-clause-turns
+returns-then-not-is_served-clause-turns g c =
+    let looked = connection-looks c.args.front.now.sequencer c.loop.front.sequencer c.args.connection.now c.loop.connection c.look_ahead-asked.new.self c.loop.any c.loop.invariant.0 c.look_ahead-asked.ensures.looks in
+    connection-rests c.args.front.now.sequencer c.loop.front.sequencer c.take_turn-turn.new.front.sequencer c.args.connection.now c.look_ahead-asked.new.self c.take_turn-turn.new.self c.loop.any looked
+    c.take_turn-turn.result (c.is_served.ensures.unserved (search rules)) c.take_turn-turn.ensures.turn
+
+pub returns-then-not-is_served-clause-serves : goal.returns-then-not-is_served-clause-serves
+returns-then-not-is_served-clause-serves g c = serves-then _ c.loop.front.sequencer _ c.loop.invariant.1 c.take_turn-turn.ensures.serves
+
+pub loop-preserved : goal.loop-preserved
+loop-preserved g c =
+    let looked = connection-looks c.args.front.now.sequencer c.loop.front.sequencer c.args.connection.now c.loop.connection c.look_ahead-asked.new.self c.loop.any c.loop.invariant.0 c.look_ahead-asked.ensures.looks in (
+      connection-served c.args.front.now.sequencer c.loop.front.sequencer c.take_turn-turn.new.front.sequencer c.args.connection.now c.look_ahead-asked.new.self c.take_turn-turn.new.self c.loop.any looked
+          c.take_turn-turn.result (c.is_served.ensures.served (search rules)) c.take_turn-turn.ensures.turn,
+      serves-then _ c.loop.front.sequencer _ c.loop.invariant.1 c.take_turn-turn.ensures.serves,
+      waits-still c.loop.is_short c.args.is_working c.loop.front.sequencer c.take_turn-turn.new.front.sequencer c.take_turn-turn.ensures.serves c.loop.invariant.2,
+    )
+
+pub loop-init : goal.loop-init
+loop-init g c = (connection-none c.args.front.now.sequencer c.args.connection.now, serves-still c.args.front.now.sequencer, c.requires.short)

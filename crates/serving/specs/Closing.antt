@@ -1,0 +1,43 @@
+-- What is closed where it is due.
+use Rattle.std.specs.Prelude.{◌≡◌, ◌⊎◌, Bool, true, false, not, ◌&&◌, ◌||◌, ℕ, length}
+use Rattle.model.specs.declared.work.Work.{Work}
+use Rattle.pipes.specs.Waiting.{Waiting}
+use Rattle.extent_heap.specs.Room.{has_room}
+use Rattle.redis_core.specs.Sequencing.{Sequencing}
+use Rattle.primary.specs.Closing.{ClosesOne, MayClose}
+use Rattle.serving.specs.Gathering.{is_group_due, is_list_due}
+use Rattle.serving.specs.declared.closing.TheConstants.{LINES_OF_AN_ENTRY}
+use Rattle.serving.specs.declared.gathering.Gathering.{Gathering}
+use Rattle.serving.specs.declared.gathering.TheConstants.{LISTED_AT_ONCE}
+
+-- By whether it was closed: it was due, and is; or it was not due, or nothing could be closed, and nothing changed.
+abbrev pub ClosesDue : Bool → Sequencing → Waiting Work → Sequencing → Waiting Work → Bool → Type 0
+ClosesDue due old before new after true = (due ≡ true) × ClosesOne old before new after
+ClosesDue due old before new after false = ((due ≡ false) ⊎ (¬ MayClose old before)) × (new ≡ old) × (after ≡ before)
+
+-- The changes that wait, where they are due to be a group, which is noted then.
+abbrev pub ClosesGroup : Gathering → ℕ → Bool → Sequencing → Waiting Work → Sequencing → Waiting Work → Gathering → Bool → Type 0
+ClosesGroup gathering remote is_short old before new after noted did =
+    ClosesDue (is_group_due gathering old.position remote is_short) old before new after did
+    × (noted.quiet_rounds ≡ gathering.quiet_rounds) × (did ≡ true → noted.closed ≡ old.position) × (did ≡ false → noted.closed ≡ gathering.closed)
+
+-- What has ended, where it is due to be a list.
+abbrev pub ClosesList : Gathering → ℕ → Bool → Sequencing → Waiting Work → Sequencing → Waiting Work → Bool → Type 0
+ClosesList gathering remote is_short old before new after did =
+    ClosesDue (is_list_due gathering old.position remote is_short (length old.ended)) old before new after did
+
+-- Room is short where a request waits for it, or where a group was closed that leaves less than what a list may keep back.
+abbrev pub is_tight : Bool → Bool → Sequencing → Bool
+is_tight is_short is_closed s = is_short || (is_closed && not (has_room LISTED_AT_ONCE LINES_OF_AN_ENTRY s.room))
+
+-- First a group and then a list, each where it is due. `did` is whether one of them was closed.
+pub record ClosesBoth (gathering : Gathering) (remote : ℕ) (is_short : Bool) (old : Sequencing) (before : Waiting Work) (new : Sequencing) (after : Waiting Work)
+    (noted : Gathering) (did : Bool) : Type 0 where
+  -- between the two
+  pub between : Sequencing
+  pub middle : Waiting Work
+  pub is_closed : Bool
+  pub is_listed : Bool
+  pub group : ClosesGroup gathering remote is_short old before between middle noted is_closed
+  pub list : ClosesList noted remote (is_tight is_short is_closed between) between middle new after is_listed
+  pub did_is : did ≡ (is_closed || is_listed)

@@ -1,0 +1,90 @@
+-- What the committer's thread is lent, and what may become of it.
+use Rattle.std.specs.Prelude.{◌≡◌, ◌≤◌, ℕ, Bool, nat_lt, Option, Some, None, List, [], ◌∷◌, true, Ok, Err, Result}
+use Rattle.pmem.specs.Device.{State}
+use Rattle.kv_types.specs.declared.refusal.Refusal.{Refusal}
+use Rattle.kv_types.specs.declared.refusal.Refusal.TheVariants as refusal
+use Rattle.model.specs.declared.group.Group.{Group}
+use Rattle.model.specs.Group.{Contents}
+use Rattle.marks.specs.declared.view.MarkView.{MarkView}
+use Rattle.rtrb.specs.Ring.{known_free}
+use Rattle.pipes.specs.declared.ring_pipe.RingOutlet.{RingOutlet}
+use Rattle.pipes.specs.Ring.{offered_at}
+use Rattle.redis_core.specs.Sequencing.{Sequencing}
+use Rattle.group_commit.specs.declared.stage.Done.{Done}
+use Rattle.group_commit.specs.declared.stage.Done.TheVariants as done
+use Rattle.group_commit.specs.Due.{due_now}
+use Rattle.group_commit.specs.Working.{Takes}
+use Rattle.primary.specs.Settled.{HasNothingInHand}
+use Rattle.primary.specs.Standing.{BackStands, notices_of}
+use Rattle.serving.specs.declared.committing.Stepped.{Stepped}
+use Rattle.serving.specs.declared.commit_job.CommitJob.{CommitJob}
+use Rattle.primary.specs.declared.back.Back.{Back}
+
+-- the remote mark by which a job goes that is there
+abbrev pub remote_of : {E : Type 0} → Option (CommitJob E) → ℕ
+remote_of (Some job) = job.remote
+remote_of None = 0
+
+-- a job that is there goes by this remote mark
+abbrev pub GoesBy : {E : Type 0} → ℕ → Option (CommitJob E) → Type 0
+GoesBy remote (Some job) = job.remote ≡ remote
+GoesBy remote None = Unit {0}
+
+-- a job is at home that has nothing in hand; one that is lent may have
+abbrev pub HasNothingAtHome : {E : Type 0} → (E → Contents) → Option (CommitJob E) → Type 0
+HasNothingAtHome contents (Some job) = HasNothingInHand (contents job.back.committer.engine) job.back.work.items job.back.committer.aside.items
+HasNothingAtHome contents None = ⊥
+
+-- a step for which memory was refused is as none: it is taken again later
+abbrev pub passed_on : Result Done Refusal → Result Done Refusal
+passed_on (Ok came) = Ok came
+passed_on (Err refusal.Memory) = Ok done.Idle
+passed_on (Err other) = Err other
+
+-- by what is known of an engine
+module _ {E : Type 0} (device : E → State) (contents : E → Contents) where
+  -- what a thread knows that raises the local mark: it has raised it to just the engine's position
+  abbrev pub IsShown : Back E → MarkView → Type 0
+  IsShown back knows = (knows.raises_local ≡ true) × (knows.local ≡ (contents back.committer.engine).current.position)
+
+  -- some sequencer is ahead of it, and all that it committed is shown
+  abbrev pub IsLed : CommitJob E → Type 0
+  IsLed job = ((s : Sequencing) × BackStands device contents job.back s []) × IsShown job.back job.marks
+
+  -- the sequencer is ahead of it, once it is told what the last steps gave back
+  abbrev pub StandsAfter : Back E → Sequencing → Result Stepped Refusal → Type 0
+  StandsAfter back s (Ok stepped) = BackStands device contents back s (notices_of stepped.last)
+  StandsAfter back s (Err refusal) = Unit {0}
+
+  -- what was committed is shown
+  abbrev pub IsShownAfter : Back E → MarkView → Result Stepped Refusal → Type 0
+  IsShownAfter back knows (Ok stepped) = IsShown back knows
+  IsShownAfter back knows (Err refusal) = Unit {0}
+
+  -- The job is here, with nothing to tell or to show, or it is lent, as the sequencer was ahead of it then and is now.
+  abbrev pub IsHereOrLent : Option (CommitJob E) → Option (CommitJob E) → Sequencing → Type 0
+  IsHereOrLent (Some job) lent s = (lent ≡ None) × BackStands device contents job.back s [] × IsShown job.back job.marks
+  IsHereOrLent None lent s = (job : CommitJob E) × (lent ≡ Some job) × BackStands device contents job.back s []
+
+  module _ (is_faulted : E → Bool) where
+    module _ {P : Type 0} where
+      -- the step was taken that was due by this remote mark, and came to that
+      abbrev pub IsStep : ℕ → Back E → RingOutlet Group P → Result Done Refusal → Back E → RingOutlet Group P → Type 0
+      IsStep remote old link came new link' =
+          let has_room = nat_lt 0 (known_free link'.producer) in
+          Takes device contents is_faulted offered_at (λ (end : RingOutlet Group P). known_free end.producer)
+          (due_now contents old.committer old.work has_room remote) has_room remote old.committer old.work link came new.committer new.work link'
+
+      -- steps were taken one after the other, each by this remote mark, and came to these
+      abbrev pub AreSteps : ℕ → Back E → RingOutlet Group P → List (Result Done Refusal) → Back E → RingOutlet Group P → Type 0
+      AreSteps remote old link [] new link' = (new ≡ old) × (link' ≡ link)
+      AreSteps remote old link (came ∷ all) new link' =
+          (between : Back E) × (at : RingOutlet Group P) × IsStep remote old link came between at × AreSteps remote between at all new link'
+
+    -- All steps were taken by the remote mark of the job, which stays. Each sequencer that was ahead of it is so after them, and what they committed is shown.
+    abbrev pub DoesSteps : CommitJob E → CommitJob E → Type 0
+    DoesSteps old new =
+        ((s : Sequencing) → BackStands device contents old.back s [] → StandsAfter new.back s new.came)
+        × IsShownAfter new.back new.marks new.came
+        × (new.remote ≡ old.remote)
+        × ((all : List (Result Done Refusal)) × AreSteps old.remote old.back old.groups all new.back new.groups)

@@ -1,0 +1,19 @@
+-- When the changes that wait become a group, and the versions that have ended a free list.
+use Rattle.std.specs.Prelude.{ℕ, ◌-◌, Bool, nat_le, nat_lt, min, ◌&&◌, ◌||◌}
+use Rattle.model.specs.declared.group.TheConstants.{MAX_PARTS}
+use Rattle.serving.specs.declared.gathering.Gathering.{Gathering}
+use Rattle.serving.specs.declared.gathering.TheConstants.{IDLE_ROUNDS, LISTED_AT_ONCE}
+
+-- Changes wait, and a request waits for room, or as many changes wait as are in groups that the standby has not acknowledged, or as a group may have.
+abbrev pub is_group_due : Gathering → ℕ → ℕ → Bool → Bool
+is_group_due gathering position remote is_short =
+    nat_lt 0 (position - gathering.closed) && (is_short || nat_le (min (gathering.closed - remote) MAX_PARTS) (position - gathering.closed))
+
+-- nothing was done for a while, and the standby has acknowledged all groups
+abbrev pub is_idle : Gathering → ℕ → Bool
+is_idle gathering remote = nat_le IDLE_ROUNDS gathering.quiet_rounds && nat_le gathering.closed remote
+
+-- No change waits, versions have ended that are in no list, and room is short, or they are many, or the node is idle.
+abbrev pub is_list_due : Gathering → ℕ → ℕ → Bool → ℕ → Bool
+is_list_due gathering position remote is_short ended =
+    nat_le position gathering.closed && (nat_lt 0 ended && (is_short || (nat_le LISTED_AT_ONCE ended || is_idle gathering remote)))

@@ -1,0 +1,103 @@
+//! What is due is closed: changes that wait become a group, versions that have ended a free list.
+ghost use Rattle.std.specs.Prelude.{◌≡◌, [], IfOk, IfErr};
+ghost use Rattle.extent_heap.specs.Room.{has_room};
+ghost use Rattle.primary.specs.Standing.{BackStands};
+ghost use Rattle.serving.specs.Closing.{ClosesBoth, ClosesGroup, ClosesList};
+ghost use Rattle.serving.specs.declared.gathering.TheConstants.{LISTED_AT_ONCE};
+
+use crate::gathering::{Gathering, LISTED_AT_ONCE};
+use kv_types::Refusal;
+use mv_keyspace::Keyspace;
+use primary::{Back, Front, close};
+use std::alloc::Global;
+use wbl_engine::Durable;
+
+/// How many lines of extents an image has at least for each of its entries.
+const LINES_OF_AN_ENTRY: u64 = 6;
+
+/// Closes what waits as a group, and then what has ended as a list, each where it is due. Room is short where a request waits for it (`is_short`), or where a
+/// group leaves less than what may be kept back from a list. Answers whether anything was closed.
+///
+/// # Errors
+///
+/// Only `Memory`: what was not closed is closed later.
+pub(crate) fn close_due<E: Durable, K: Keyspace>(
+    alloc: Global,
+    front: &mut Front<K>,
+    back: &mut Back<E>,
+    gathering: &mut Gathering,
+    remote: u64,
+    is_short: bool,
+) -> Result<bool, Refusal>
+    requires { BackStands E.device E.contents back.old front.old.sequencer [] }
+    ensures closes { IfOk result (ClosesBoth gathering.old remote is_short front.old.sequencer back.old.work front.new.sequencer back.new.work gathering.new) }
+    ensures cause { IfErr result (λ refusal. refusal ≡ Refusal.Memory) }
+    ensures stands { BackStands E.device E.contents back.new front.new.sequencer [] }
+    ensures committer { back.new.committer ≡ back.old.committer }
+{
+    let is_closed = close_group(alloc, front, back, gathering, remote, is_short)?;
+    let is_tight = is_short || (is_closed && !has_ample_room(front));
+    let is_listed = close_list(alloc, front, back, gathering, remote, is_tight)?;
+    Ok(is_closed || is_listed)
+}
+
+/// Closes the changes that wait as a group, if that is due and the committer's queue has room. Answers whether it did.
+///
+/// # Errors
+///
+/// Only `Memory`.
+fn close_group<E: Durable, K: Keyspace>(
+    alloc: Global,
+    front: &mut Front<K>,
+    back: &mut Back<E>,
+    gathering: &mut Gathering,
+    remote: u64,
+    is_short: bool,
+) -> Result<bool, Refusal>
+    ensures closes { IfOk result (ClosesGroup gathering.old remote is_short front.old.sequencer back.old.work front.new.sequencer back.new.work gathering.new) }
+    ensures cause { IfErr result (λ refusal. refusal ≡ Refusal.Memory) }
+    ensures stands { BackStands E.device E.contents back.old front.old.sequencer [] → BackStands E.device E.contents back.new front.new.sequencer [] }
+    ensures committer { back.new.committer ≡ back.old.committer }
+{
+    let position = front.position();
+    if !gathering.is_group_due(position, remote, is_short) {
+        return Ok(false);
+    }
+    if !close(alloc, front, back)? {
+        return Ok(false);
+    }
+    gathering.closed = position;
+    Ok(true)
+}
+
+/// Closes what has ended as a free list, if that is due and the committer's queue has room. Answers whether it did.
+///
+/// # Errors
+///
+/// Only `Memory`.
+fn close_list<E: Durable, K: Keyspace>(
+    alloc: Global,
+    front: &mut Front<K>,
+    back: &mut Back<E>,
+    gathering: &Gathering,
+    remote: u64,
+    is_short: bool,
+) -> Result<bool, Refusal>
+    ensures closes { IfOk result (ClosesList gathering.now remote is_short front.old.sequencer back.old.work front.new.sequencer back.new.work) }
+    ensures cause { IfErr result (λ refusal. refusal ≡ Refusal.Memory) }
+    ensures stands { BackStands E.device E.contents back.old front.old.sequencer [] → BackStands E.device E.contents back.new front.new.sequencer [] }
+    ensures committer { back.new.committer ≡ back.old.committer }
+{
+    let ended = front.count_ended();
+    if !gathering.is_list_due(front.position(), remote, is_short, ended) {
+        return Ok(false);
+    }
+    close(alloc, front, back)
+}
+
+/// Whether as many versions find room as may be kept back from a list, each in as many lines as an image has for each entry.
+fn has_ample_room<K: Keyspace>(front: &Front<K>) -> bool
+    ensures { result ≡ has_room LISTED_AT_ONCE LINES_OF_AN_ENTRY front.now.sequencer.room }
+{
+    front.has_room(LISTED_AT_ONCE as u64, LINES_OF_AN_ENTRY)
+}

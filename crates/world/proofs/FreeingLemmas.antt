@@ -1,0 +1,131 @@
+-- What freeing, and clearing a gap, leave of the primary's engine.
+use mathlib.Core.Path.{fun_ext}
+use Rattle.std.proofs.Common.{rules, ◌≡◌, ◌⊎◌, ◌+◌, ◌-◌, ◌<◌, ℕ, inl, inr, Bool, true, false, ◌||◌, List, refl, sym, ap, subst, ◌∙◌, true≢false, []}
+use Rattle.std.specs.List.{IsDistinct}
+use Rattle.kv_types.specs.declared.place.EntryNo.{EntryNo}
+use Rattle.pmem.specs.Device.{State}
+use Rattle.pmem.specs.Runs.{LeavesOnly}
+use Rattle.pmem.proofs.Leaving.{LeavesOnly-weaken}
+use Rattle.model.specs.declared.call.Call.{Call}
+use Rattle.model.specs.declared.image.TheConstants.{COUNTER_LIMIT}
+use Rattle.model.specs.declared.record.Record.{Record}
+use Rattle.model.specs.Call.{cut_at, keyspace_after}
+use Rattle.model.specs.Group.{AreEnded, Contents, Versions, after_free, without}
+use Rattle.model.specs.Image.{IsMapOf, entries_of_lines}
+use Rattle.model.specs.Standing.{Holder}
+use Rattle.wbl_engine.specs.Contents.{IsDurable, Keeps, Same}
+use Rattle.wbl_engine.specs.Freeing.{Clears, KeepsWithoutSome, cleared_contents}
+use Rattle.wbl_engine.specs.Lawful.{AreLawful}
+use Rattle.wbl_engine.proofs.WithoutLemmas.{AllEnded, IsMapOf-contents_without, consistent_cleared, consistent_without, lawful_cleared, lawful_without}
+use Rattle.group_commit.proofs.FreedLemmas.{AllEnded-listed}
+use Rattle.group_commit.proofs.GroupsLemmas.{Same-is}
+use Rattle.machine.specs.declared.event.Event.{Event}
+use Rattle.machine.specs.Event.{World, Happens, Step, may_happen}
+use Rattle.machine.proofs.SoundEvents.{sound-step}
+use Rattle.world.specs.Committing.{AreContentsAt, EngineStands, OpensAt, OpensAtEither}
+use Rattle.world.specs.Pair.{Pair, PairRefines, PartsRefine, Steps}
+use Rattle.world.proofs.EngineLemmas.{keeps-opens, moves-rest}
+use Rattle.world.proofs.LivesLemmas.{Runs, enabled-is, is_own, lives-step, own-runs}
+use Rattle.world.proofs.PairLemmas.{standby-stands}
+
+-- ---- the engine
+
+-- the contents are as they were at their position, without some versions that have ended
+contents-without : (holder : Holder) (calls : List Call) (p : ℕ) (contents : Contents) (gone : ℕ → Bool) → AllEnded gone contents.versions → AreContentsAt holder calls p contents
+    → AreContentsAt holder calls p (without gone contents)
+contents-without holder calls p contents gone ended are =
+    let map = IsMapOf-contents_without contents gone _ ended are.map in
+    search (rules, consistent_without contents gone are.consistent, map, are)
+
+pub engine-freed : (holder : Holder) (calls : List Call) (p : ℕ) (device device' : State) (contents contents' : Contents) (is_faulted is_faulted' : Bool) (entries : List EntryNo) → AreEnded contents entries
+    → Same (after_free entries contents) contents' → IsDurable device' contents' → is_faulted' ≡ false → EngineStands holder calls p device contents is_faulted
+    → EngineStands holder calls p device' contents' is_faulted'
+engine-freed holder calls p device device' contents contents' is_faulted is_faulted' entries ended moved durable sound engine =
+    let is = Same-is (after_free entries contents) contents' moved in
+    let gone = AllEnded-listed contents entries ended in
+    record {
+      contents_at = subst (AreContentsAt holder calls p) (sym is) (contents-without holder calls p contents _ gone engine.contents_at);
+      lawful = subst AreLawful (sym is) (lawful_without contents _ gone engine.lawful);
+      sound = sound;
+      durable = durable;
+    }
+
+-- at any moment of it the image stands where it stood
+pub freed-moments : (holder : Holder) (calls : List Call) (p : ℕ) (device device' : State) (contents : Contents) (entries : List EntryNo) → AreEnded contents entries → AreContentsAt holder calls p contents → AreLawful contents
+    → LeavesOnly device device' (KeepsWithoutSome entries contents) → LeavesOnly device device' (OpensAt holder calls p)
+freed-moments holder calls p device device' contents entries ended are lawful moments =
+    LeavesOnly-weaken (OpensAt holder calls p)
+    (λ image keeps.
+    let gone : AllEnded keeps.0 contents.versions = λ i is. AllEnded-listed contents entries ended i (keeps.1 i is) in
+    keeps-opens holder calls p (without keeps.0 contents) image (contents-without holder calls p contents keeps.0 gone are) (lawful_without contents keeps.0 gone lawful) keeps.2) moments
+
+pub engine-cleared : (holder : Holder) (calls : List Call) (p : ℕ) (device device' : State) (contents contents' : Contents) (is_faulted is_faulted' : Bool) (entries : List EntryNo)
+    → Clears contents entries contents' → contents.current.number + 1 < COUNTER_LIMIT → IsDurable device' contents' → is_faulted' ≡ false → EngineStands holder calls p device contents is_faulted
+    → EngineStands holder calls p device' contents' is_faulted'
+engine-cleared holder calls p device device' contents contents' is_faulted is_faulted' entries clears room durable sound engine =
+    let are = engine.contents_at in
+    record {
+      contents_at = record {
+        at = ap (λ (r : Record). r.position) clears.current ∙ are.at;
+        role_is = ap (λ (r : Record). r.role) clears.current ∙ are.role_is;
+        epoch_is = ap (λ (r : Record). r.epoch) clears.current ∙ are.epoch_is;
+        lines_are = clears.lines_are ∙ are.lines_are;
+        consistent = consistent_cleared contents contents' entries clears are.consistent;
+        map = subst (λ n. IsMapOf contents'.versions (entries_of_lines n) (keyspace_after (cut_at calls p))) (sym clears.lines_are)
+            (subst (λ (versions : Versions). IsMapOf versions (entries_of_lines contents.lines) (keyspace_after (cut_at calls p))) (fun_ext (λ i. sym (clears.versions i))) are.map);
+      };
+      lawful = lawful_cleared contents contents' entries clears room engine.lawful;
+      sound = sound;
+      durable = durable;
+    }
+
+or_false : (b : Bool) → (b || false) ≡ b
+or_false true = refl
+or_false false = refl
+
+-- nothing is listed where only the record is another
+clears-none : (contents : Contents) → Clears contents [] (cleared_contents contents)
+unfolding IsDistinct
+clears-none contents = record {
+  current = refl;
+  lines_are = refl;
+  versions = λ i. refl;
+  is_free = λ i. sym (or_false (contents.is_free i));
+  within = λ i listed. absurd (true≢false (sym listed));
+  were_not_free = λ i listed. absurd (true≢false (sym listed));
+  held_none = λ i listed. absurd (true≢false (sym listed));
+  once = tt;
+}
+
+pub cleared-moments : (holder : Holder) (calls : List Call) (p : ℕ) (device device' : State) (contents : Contents) → AreContentsAt holder calls p contents → AreLawful contents
+    → contents.current.number + 1 < COUNTER_LIMIT → LeavesOnly device device' (λ image. Keeps contents image ⊎ Keeps (cleared_contents contents) image) → LeavesOnly device device' (OpensAt holder calls p)
+cleared-moments holder calls p device device' contents are lawful room moments =
+    LeavesOnly-weaken (OpensAt holder calls p)
+    (λ image either. elim either [
+      | inl keeps ↦ keeps-opens holder calls p contents image are lawful keeps
+      | inr keeps ↦ keeps-opens holder calls p (cleared_contents contents) image (search (rules, are, are.consistent))
+          (lawful_cleared contents (cleared_contents contents) [] (clears-none contents) room lawful) keeps
+    ]) moments
+
+-- ---- an event of it
+
+-- its image stands where it stood
+pub primary-steps : (event : Event) (first second : Holder) (w w' : World) (old new : Pair) → is_own event ≡ true → PairRefines first second old w → new.primary_runs ≡ old.primary_runs
+    → new.standby_runs ≡ old.standby_runs → new.standby.device ≡ old.standby.device → new.device.failures ≡ old.device.failures → Happens w event w' → true ≡ may_happen w event
+    → LeavesOnly old.device new.device (OpensAt first w.primary.calls w'.primary.committer.position) → PartsRefine first second new w' → Steps first second w event true old new
+primary-steps event first second w w' old new own stands runs follows device' failures happens may moments parts =
+    let lives : Runs first second new.primary_runs new.standby_runs w event =
+    subst (λ serves. Runs first second serves new.standby_runs w event) (sym runs) (subst (λ follows. Runs first second old.primary_runs follows w event) (sym follows) (own-runs stands event own)) in
+    let step : Step w event true w' = record { done = may ∙ sym (enabled-is lives); happens = λ did. happens; stands = λ did. absurd (true≢false did) } in
+    record {
+      world = w';
+      step = step;
+      stands = record { sound = sound-step w event true w' step stands.sound; lives = lives-step lives happens; parts = inl (runs ∙ stands.serves, parts) };
+      moves = record {
+        primary = record {
+          leaves = LeavesOnly-weaken (OpensAtEither first w.primary.calls w.primary.committer.position w'.primary.committer.position) (λ image at. inr at) moments;
+          failures = failures;
+        };
+        standby = moves-rest second w.primary.calls w.standby.position w'.standby.position old.standby.device new.standby.device device' (standby-stands first second old w (inl (stands.serves, stands.parts)));
+      };
+    }

@@ -1,0 +1,209 @@
+-- What clearing a gap does to the pair, of what it does to its parts.
+use Rattle.std.proofs.Common.{rules, ◌≡◌, ◌+◌, ◌-◌, ◌<◌, ℕ, inl, inr, Bool, true, false, nat_lt, List, ◌∷◌, ◌++◌, length, Result, Ok, Err, Vec, Global, refl, sym, ap, subst, ◌∙◌, arith, length-append, []}
+use Rattle.std.proofs.lemmas.List.{length-drop}
+use Rattle.std.proofs.lemmas.Bool.{cases_lt}
+use Rattle.kv_types.specs.declared.refusal.Refusal.{Refusal}
+use Rattle.kv_types.specs.declared.refusal.Refusal.TheVariants.{Memory, Exhausted}
+use Rattle.pmem.specs.Device.{State}
+use Rattle.pmem.specs.Crash.{IsImage}
+use Rattle.pmem.specs.Runs.{LeavesOnly}
+use Rattle.pmem.proofs.Leaving.{none_leaves}
+use Rattle.model.specs.declared.group.Group.{Group}
+use Rattle.model.specs.declared.image.TheConstants.{COUNTER_LIMIT}
+use Rattle.model.specs.declared.record.Record.{Record}
+use Rattle.model.specs.declared.work.Work.{Work}
+use Rattle.model.specs.Group.{Contents}
+use Rattle.model.specs.Image.{Image}
+use Rattle.model.proofs.RecordLemmas.{HasRecord-lines}
+use Rattle.model.specs.Standing.{Holder}
+use Rattle.wbl_engine.specs.declared.freeing.Freed.{Freed}
+use Rattle.pipes.specs.Waiting.{Waiting}
+use Rattle.redis_core.specs.Sequencing.{Sequencing}
+use Rattle.standby_stream.specs.declared.opening.Opening.{Opening}
+use Rattle.standby_stream.specs.Stream.{Stream}
+use Rattle.group_commit.specs.Due.{due_now}
+use Rattle.group_commit.specs.Working.{ClearsGap}
+use Rattle.group_commit.specs.declared.committer.Committer.{Committer}
+use Rattle.group_commit.specs.declared.due.Due.TheVariants as due
+use Rattle.group_commit.specs.declared.stage.Done.{Done}
+use Rattle.group_commit.specs.declared.stage.Stage.{Stage}
+use Rattle.group_commit.proofs.DueLemmas.{ClearIsDue, clear-now}
+use Rattle.machine.specs.declared.event.Event.TheVariants as events
+use Rattle.machine.specs.Event.{World, may_happen}
+use Rattle.machine.specs.Event as machine
+use Rattle.world.specs.Cause.{EndsBy, IsAtLimit, RestsAtLimit}
+use Rattle.world.specs.Committing.{CommittingRefines, Leads, OpensAt, StageRefines, link_has_room, next_primary}
+use Rattle.world.specs.GroupSpan.{AreWorkOf, positions_of_lists}
+use Rattle.world.specs.Pair.{Does, FreeingRefines, IsCut, Pair, PairRefines, PartsRefine}
+use Rattle.world.specs.Effect.{ClearsOldest}
+use Rattle.world.specs.Recalling.{Remembers}
+use Rattle.world.specs.Standby.{Arrived, Node}
+use Rattle.connections.specs.declared.connections.Connections.{Connections}
+use Rattle.connections.specs.declared.transcript.Transcript.{Transcript}
+use Rattle.primary.specs.Standing.{notices_of}
+use Rattle.world.proofs.EngineLemmas.{Opens-engine}
+use Rattle.primary.proofs.FreedQueue.{Leads-cleared}
+use Rattle.world.proofs.LivesLemmas.{enabled-is, nodes-refine, own-runs}
+use Rattle.world.proofs.PairLemmas.{Led, cut-for, none-added, rests-primary, rests-standby, stays-does, tells}
+use Rattle.world.proofs.QueueLemmas.{clear-disabled, clear-enabled}
+use Rattle.world.proofs.RecallLemmas.{remembers-same}
+use Rattle.world.proofs.PairTurns.{Took, Waiting-same}
+use Rattle.world.proofs.FreeingLemmas.{engine-cleared, cleared-moments, primary-steps}
+use Rattle.world.proofs.PairFreeing.{fault-does, pair_with, refused-does}
+
+module _ {E : Type 0} (device : E → State) (contents : E → Contents) (is_faulted : E → Bool) (sessions : Connections) (transcript : Transcript) (sequencer : Sequencing) (link : Stream) (opening : Opening) (remote : ℕ) (frames : List (Vec ℕ Global)) (arrivals : Arrived) (standby : Node) (primary_runs standby_runs : Bool) where
+  -- a pair with this committer, with this work waiting for it, with these notices and with these groups at the link
+  abbrev cleared_with : Committer E → Waiting Work → List Freed → Waiting Group → Pair
+  cleared_with = pair_with device contents is_faulted sessions transcript sequencer link opening remote frames arrivals standby primary_runs standby_runs
+
+  module _ (before : Committer E) (waiting : Waiting Work) (notices : List Freed) (handed : Waiting Group)
+      (is : due_now contents before waiting (link_has_room handed.items) remote ≡ due.Clear) where
+    abbrev from : Pair
+    from = cleared_with before waiting notices handed
+
+    clear_may : (first second : Holder) (w : World) → PairRefines first second from w → may_happen w events.ClearGap ≡ true
+    clear_may first second w stands =
+        clear-enabled w from.committing handed.items stands.parts.committing stands.parts.link.waiting remote (length from.contents.current.gaps.items) stands.parts.freeing.gaps is
+
+    alone : ClearIsDue before.stage before.aside.items waiting.items (link_has_room handed.items) (nat_lt 0 (length (contents before.engine).current.gaps.items))
+    alone = clear-now contents before waiting (link_has_room handed.items) remote is
+
+    -- the oldest gap was cleared, or that came to this
+    record ClearsOne (after : Committer E) (waiting' : Waiting Work) (result : Result Done Refusal) : Type 0 where
+      pub left : waiting'.items ≡ []
+      pub clears : ClearsGap device contents is_faulted before result after
+
+    abbrev clears-one : (after : Committer E) (waiting' : Waiting Work) (result : Result Done Refusal) → waiting' ≡ waiting → ClearsGap device contents is_faulted before result after → ClearsOne after waiting' result
+    clears-one after waiting' result queue clears = record { left = ap (λ (pipe : Waiting Work). pipe.items) queue ∙ alone.no_work; clears = clears }
+
+    module _ (after : Committer E) (waiting' : Waiting Work) where
+      below_limit : (ok : Done) → ClearsOne after waiting' (Ok ok) → is_faulted before.engine ≡ false → (contents before.engine).current.number + 1 < COUNTER_LIMIT
+      below_limit ok one sound = elim (cases_lt ((contents before.engine).current.number + 1) COUNTER_LIMIT) [
+        | inl below ↦ below
+        | inr over ↦ absurd (let no = one.clears.exhausts sound over in cc)
+      ]
+
+      cleared-then : (result : Result Done Refusal) → ClearsOne after waiting' result → (first second : Holder) (w : World) → PartsRefine first second from w
+          → LeavesOnly (device before.engine) (device after.engine) (OpensAt first w.primary.calls w.primary.committer.position)
+      cleared-then result one first second w parts =
+          let calls = w.primary.calls in
+          let p = w.primary.committer.position in
+          elim (cases_lt (from.contents.current.number + 1) COUNTER_LIMIT) [
+            | inl below ↦ cleared-moments first calls p (device before.engine) (device after.engine) from.contents parts.engine.contents_at parts.engine.lawful below
+                (one.clears.moments parts.engine.sound)
+            | inr over ↦ subst (λ (e : E). LeavesOnly (device before.engine) (device e) (OpensAt first calls p))
+                (sym (one.clears.exhausted (one.clears.exhausts parts.engine.sound over)).1)
+                (none_leaves (device before.engine) (OpensAt first calls p)
+                (Opens-engine first calls p (device before.engine) from.contents (is_faulted before.engine) parts.engine))
+          ]
+
+      clear-parts : (ok : Done) (one : ClearsOne after waiting' (Ok ok)) → (first second : Holder) (w : World) → PairRefines first second from w
+          → PartsRefine first second (cleared_with after waiting' (notices ++ one.clears.answer.0 ∷ []) handed) (machine.cleared w)
+      clear-parts ok one first second w stands =
+          let parts = stands.parts in
+          let calls = w.primary.calls in
+          let low = w.standby.position in
+          let p = w.primary.committer.position in
+          let it = one.clears in
+          let answer = it.answer in
+          let places = answer.0 in
+          let clears = answer.3 in
+          let many = parts.freeing.notices_are in
+          let gaps = parts.freeing.gaps in
+          let new = cleared_with after waiting' (notices ++ places ∷ []) handed in
+          let committing : CommittingRefines calls new.committing (machine.cleared w).primary.committer =
+          record {
+            work = subst (λ (items : List Work). AreWorkOf calls items w.primary.committer.waiting) (alone.no_work ∙ sym one.left) parts.committing.work;
+            aside = ap positions_of_lists (it.aside ∙ sym alone.no_aside) ∙ parts.committing.aside;
+            stage_is = subst (λ (stage : Stage). StageRefines calls stage w.primary.committer.stage) (alone.ready ∙ sym it.stage) parts.committing.stage_is;
+            local_is = it.local ∙ parts.committing.local_is;
+          } in
+          let freeing : FreeingRefines sequencer new.notices new.contents (machine.cleared w).primary =
+          record {
+            ended = parts.freeing.ended;
+            newest = parts.freeing.newest;
+            notices_are = let one = length-append notices (places ∷ []) in omega (arith, one, many);
+            gaps = ap (λ (r : Record). length r.gaps.items) clears.current ∙ length-drop 1 from.contents.current.gaps.items ∙ ap (λ (n : ℕ). n - 1) gaps;
+          } in
+          let leads : Leads new.contents waiting'.items after.aside.items sequencer new.notices =
+          rw (one.left, it.aside) (Leads-cleared from.contents new.contents sequencer notices places (rw (alone.no_work, alone.no_aside) at parts.leads) clears answer.2) in
+          let remembers : Remembers low p calls new.contents waiting'.items after.aside.items sequencer =
+          rw (one.left, it.aside) (remembers-same low p calls from.contents new.contents [] [] sequencer clears.versions (rw (alone.no_work, alone.no_aside) at parts.remembers)) in
+          search (
+            rules,
+            parts,
+            committing,
+            engine-cleared first calls p (device before.engine) (device after.engine) from.contents (contents after.engine) (is_faulted before.engine) (is_faulted after.engine)
+                places.entries.items clears (below_limit ok one parts.engine.sound) it.durable it.sound.0 parts.engine,
+            leads,
+            freeing,
+            remembers,
+          )
+
+      cleared-does : (ok : Done) (one : ClearsOne after waiting' (Ok ok)) → Does from events.ClearGap (Ok true) (cleared_with after waiting' (notices ++ one.clears.answer.0 ∷ []) handed)
+      cleared-does ok one = record {
+        steps = λ first second w stands.
+            primary-steps events.ClearGap first second w (machine.cleared w) from (cleared_with after waiting' (notices ++ one.clears.answer.0 ∷ []) handed) refl stands refl refl refl one.clears.sound.1 (inl refl)
+            (sym (clear_may first second w stands)) (cleared-then (Ok ok) one first second w stands.parts) (clear-parts ok one first second w stands);
+        cut = tt;
+        calls = none-added _ _ refl;
+      }
+
+      cut-clear : (refusal : Refusal) → ClearsOne after waiting' (Err refusal) → Does from events.ClearGap (Err refusal) (cleared_with after waiting' notices handed)
+      cut-clear refusal one = elim one.clears.causes [
+        | inl fault ↦ fault-does device contents is_faulted sessions transcript sequencer link opening remote frames arrivals standby primary_runs standby_runs events.ClearGap refl before after waiting waiting' notices handed refusal fault (λ first second w old' new leads. leads) (one.clears.fault (ap Err fault)) clear_may
+            (cleared-then (Err refusal) one)
+        | inr (inl limit) ↦ record { steps = tt; cut = λ first second w stands. ends first second w stands limit; calls = none-added _ _ refl }
+        | inr (inr memory) ↦ refused-does device contents is_faulted sessions transcript sequencer link opening remote frames arrivals standby primary_runs standby_runs events.ClearGap refl refl before after waiting waiting' notices notices handed handed refusal memory (one.clears.memory (ap Err memory)) clear_may
+      ]
+        where
+          new : Pair
+          new = cleared_with after waiting' notices handed
+
+          ends : (first second : Holder) (w : World) → PairRefines first second from w → refusal ≡ Exhausted → IsCut first second events.ClearGap refusal from new w
+          ends first second w stands limit =
+              let told = one.clears.exhausted (ap Err limit) in
+              let same : new.device ≡ from.device = ap device told.1 in
+              let at : (image : Image) → IsImage from.device.words image → IsAtLimit first.lines (next_primary w - w.primary.committer.position) (next_primary w - w.primary.committer.position) image =
+              λ image is. record { current = from.contents.current; has_record = HasRecord-lines stands.parts.engine.contents_at.lines_are (stands.parts.engine.durable image is).has_record; reached = inr (inr told.0) } in
+              cut-for first second events.ClearGap refusal from new w (nodes-refine stands) (tells transcript) (enabled-is (own-runs stands events.ClearGap refl) ∙ clear_may first second w stands)
+              (subst (λ (r : Refusal). EndsBy r events.ClearGap (Led first second from new w)) (sym limit) (
+                subst (λ (d : State). RestsAtLimit first w.primary.calls w.primary.committer.position (next_primary w) from.device d) (sym same)
+                    (record { rests = rests-primary first second from w (nodes-refine stands); limit = at }),
+                rests-standby first second from w (nodes-refine stands),
+              ))
+
+      -- it did so, and tells of that
+      pub clear-done : (handed' : Waiting Group) (answer : Done) → Took device contents is_faulted due.Clear (link_has_room handed.items) remote before waiting handed (Ok answer) after waiting' handed'
+          → Does from events.ClearGap (Ok true) (cleared_with after waiting' (notices ++ notices_of answer) handed')
+          × ClearsOldest (contents before.engine) notices (contents after.engine) (notices ++ notices_of answer)
+      clear-done handed' answer (offered, queue, clears) =
+          let one = clears-one after waiting' (Ok answer) queue clears in
+          let told = clears.answer in
+          let all : notices ++ notices_of answer ≡ notices ++ told.0 ∷ [] = ap (λ (came : Done). notices ++ notices_of came) told.1 in (
+            subst (λ (xs : List Freed). Does from events.ClearGap (Ok true) (cleared_with after waiting' xs handed')) (sym all)
+                (subst (λ (h : Waiting Group). Does from events.ClearGap (Ok true) (cleared_with after waiting' (notices ++ told.0 ∷ []) h)) (Waiting-same handed handed' (sym offered.offered_is)) (cleared-does answer one)),
+            record { places = told.0; told = all; cleared = told.3; extents = told.2 },
+          )
+
+      -- it was refused
+      pub clear-ends : (handed' : Waiting Group) (refusal : Refusal) → Took device contents is_faulted due.Clear (link_has_room handed.items) remote before waiting handed (Err refusal) after waiting' handed'
+          → Does from events.ClearGap (Err refusal) (cleared_with after waiting' notices handed')
+      clear-ends handed' refusal (offered, queue, clears) =
+          subst (λ (h : Waiting Group). Does from events.ClearGap (Err refusal) (cleared_with after waiting' notices h)) (Waiting-same handed handed' (sym offered.offered_is))
+          (cut-clear refusal (clears-one after waiting' (Err refusal) queue clears))
+
+  -- room for the notice was refused
+  pub clear-roomless : (before : Committer E) (waiting : Waiting Work) (notices notices' : List Freed) (handed : Waiting Group) (refusal : Refusal) → refusal ≡ Memory
+      → due_now contents before waiting (link_has_room handed.items) remote ≡ due.Clear
+      → Does (cleared_with before waiting notices handed) events.ClearGap (Err refusal) (cleared_with before waiting notices' handed)
+  clear-roomless before waiting notices notices' handed refusal memory is =
+      refused-does device contents is_faulted sessions transcript sequencer link opening remote frames arrivals standby primary_runs standby_runs events.ClearGap refl refl before before waiting waiting notices notices' handed handed refusal memory refl (clear_may before waiting notices handed is)
+
+  -- another step is due
+  pub clear-idle : (before : Committer E) (waiting : Waiting Work) (notices : List Freed) (handed : Waiting Group) → (due_now contents before waiting (link_has_room handed.items) remote ≡ due.Clear → ⊥)
+      → Does (cleared_with before waiting notices handed) events.ClearGap (Ok false) (cleared_with before waiting notices handed)
+  clear-idle before waiting notices handed never =
+      stays-does (cleared_with before waiting notices handed) events.ClearGap refl (λ first second w stands.
+      clear-disabled w (cleared_with before waiting notices handed).committing handed.items stands.parts.committing stands.parts.link.waiting remote (length (contents before.engine).current.gaps.items)
+      stands.parts.freeing.gaps never)

@@ -1,0 +1,444 @@
+"""The procedures of docs/operating.md, and the first one of README.md: the blocks of the pages as they stand, under writers, and what clients find
+afterwards."""
+
+import contextlib
+import pathlib
+import re
+import shutil
+import subprocess
+import time
+import typing
+
+import common
+import pages
+from load import WRITERS, Load
+from page_shell import PageShell, blocks_below
+from pair import PATIENCE, Client, Ended, PairCases, wait_until
+from plain_replies import NULL_BULK, OK, bulk, integer
+from spelling import spell
+
+PROGRAMS = ["server", "client"]
+IS_SLOW = True
+QUICK = ["Procedures.test_the_process_of_the_primary", "Procedures.test_a_lost_primary",
+         "Sizes.test_the_table", "FirstScreen.test_the_blocks_as_they_stand"]
+
+PAGE, README = common.ROOT / "docs" / "operating.md", common.ROOT / "README.md"
+# What each writer is answered, on the average, before a procedure and after it.
+ANSWERS = 10
+FIRST, SECOND = 7001, 7002
+PROMOTED = re.compile(r"\S+ is a primary's now, at position [1-9]\d*, with \d+ keys")
+
+
+class Door(typing.NamedTuple):
+    number: int
+
+
+class Page:
+    """Where clients come, as a load has it."""
+
+    def __init__(self, shell, port):
+        self.door = Door(shell.port(port))
+
+
+class Operated(PairCases):
+    """Tests over the pair of the page."""
+
+    def setUp(self):
+        super().setUp()
+        self.shell = self.new_shell()
+        self.do("A pair")
+
+    def new_shell(self):
+        shell = PageShell(self.image_folder())
+        self.addCleanup(shell.close)
+        return shell
+
+    def do(self, *headings):
+        """Runs all blocks below these headings of the page. Returns what they print."""
+        printed = ""
+        for heading in headings:
+            found = blocks_below(PAGE, heading)
+            self.assertTrue(found, heading)
+            for lines in found:
+                printed += self.shell.run(*lines)
+        self.assert_without_errors()
+        return printed
+
+    def assert_without_errors(self):
+        """Nothing was told on standard error, but by the shell of what was ended, and what a promoted image holds."""
+        told = self.shell.errors.read_text().splitlines()
+        self.assertEqual([line for line in told if line not in ("Terminated", "Killed") and not PROMOTED.fullmatch(line)], [])
+
+    def log(self, name):
+        """What a node told on standard error so far, in the file that the page names for it."""
+        path = self.shell.folder / f"{name}.log"
+        return path.read_bytes() if path.exists() else b""
+
+    def client(self, port=FIRST):
+        client = Client(self.shell.port(port))
+        self.addCleanup(client.close)
+        return client
+
+    def started(self, load):
+        load.start()
+        load.wait_for(ANSWERS * WRITERS)
+
+    def ended(self, load, port, told):
+        """The writers end, all that they were answered is there at this port, and they go on."""
+        load.end()
+        load.pair = Page(self.shell, port)
+        load.check(told)
+        self.started(load)
+        load.end()
+        load.check(f"{told}, and after more writes")
+
+
+class Procedures(Operated):
+    """Each under twenty writers and a reader: nothing that was answered is lost."""
+
+    def check(self, loss, *headings, port=FIRST):
+        """Under writers this is lost, and then the page is done. Returns what that printed."""
+        load = Load(Page(self.shell, FIRST))
+        self.started(load)
+        self.shell.run(*loss)
+        printed = self.do(*headings)
+        self.ended(load, port, headings)
+        return printed
+
+    def test_the_process_of_the_primary(self):
+        self.check(["kill -9 $primary; wait $primary"], "The process of the primary")
+
+    def test_the_process_of_the_standby(self):
+        self.check(["kill -9 $standby; wait $standby"], "The process of the standby")
+
+    def test_a_lost_standby(self):
+        printed = self.check(["kill -9 $standby; wait $standby; rm b.img"], "A lost standby")
+        self.assertRegex(printed, r"\na\.img: primary, epoch 1, .*\nnew\.img: standby, epoch 1, .*\nbehind: \d+\n")
+
+    def test_a_running_primary_fills_no_new_standby(self):
+        """What the page says of it: both logs, and that nothing is answered until the primary is started again."""
+        self.assertEqual(self.client().ask("SET", "a", "1"), OK)
+        make, start, *others = blocks_below(PAGE, "A lost standby")[0]
+        self.shell.run("kill -9 $standby; wait $standby; rm b.img", make, start)
+        with Client(self.shell.port(FIRST)) as client:
+            # (the new one is at another address, where a primary that runs on does not look: so the old address is tried)
+            self.shell.run("kill $standby; wait $standby", start.replace("7103", "7102"))
+            client.send(b"*3\r\n$3\r\nSET\r\n$1\r\nb\r\n$1\r\n2\r\n")
+            wait_until(lambda: b"refusal 12: position gap" in self.log("new"), "the standby's word")
+            wait_until(lambda: b" at position 0\nlink to " in self.log("a"), "the primary's word")
+            new = b": the standby is new: start this primary again, so that it gets all\n"
+            wait_until(lambda: new in self.log("a"), "the primary's word on what to do")
+            self.assertLess(self.log("a").count(new), self.log("a").count(b" at position 0\n"))
+            self.assertTrue(client.is_silent(0.5))
+        self.shell.run("kill $standby; wait $standby", start, *others)
+        self.assertEqual(self.client().ask("GET", "a"), bulk(b"1"))
+
+    def test_a_lost_primary(self):
+        printed = self.check(["kill -9 $primary; wait $primary; rm a.img"], "A lost primary", port=SECOND)
+        self.assertRegex(printed, r"\Ab\.img: standby, epoch 1, .*\npromoted to epoch 2\nformatted 67920 lines, ")
+
+    def test_a_standby_at_position_0_is_not_promoted(self):
+        self.shell.run("kill -9 $primary; wait $primary; kill -9 $standby; wait $standby; rm b.img", blocks_below(PAGE, "A pair")[0][1])
+        _, look, promote, *_ = blocks_below(PAGE, "A lost primary")[0]
+        self.assertRegex(self.shell.run(look), "position 0,")
+        self.assertEqual(self.shell.run(f"{promote}; echo $?"), "3\n")
+        self.assertEqual(self.shell.errors.read_text().splitlines()[-1], "position 0, below 1: not promoted")
+        self.assertRegex(self.shell.run(look), "standby, epoch 1, position 0,")
+
+    def test_no_image_that_is_there_is_formatted(self):
+        self.assertEqual(self.client().ask("SET", "a", "1"), OK)
+        self.shell.run("kill $primary; wait $primary; kill $standby; wait $standby")
+        (lines,) = blocks_below(PAGE, "A pair")
+        self.shell.run(*lines)
+        self.assertEqual(self.shell.errors.read_text().count("not formatted: the file is there\n"), 2)
+        self.assertEqual(self.client().ask("GET", "a"), bulk(b"1"))
+
+    def test_why_the_check_is_a_set(self):
+        """A primary whose standby is gone answers PING and GET until something waits."""
+        client, other = self.client(), self.client()
+        self.assertEqual(client.ask("SET", "a", "1"), OK)
+        self.shell.run("kill -9 $standby; wait $standby")
+        self.assertEqual([client.ask("PING"), client.ask("GET", "a")], [b"+PONG\r\n", bulk(b"1")])
+        client.send(spell("SET", "a", "2"))
+        self.assertTrue(client.is_silent(0.5))
+        other.send(spell("PING"))
+        self.assertTrue(other.is_silent(0.5))
+
+    def test_seats_of_those_who_gave_up(self):
+        """While a standby is away a connection that has ended keeps its seat as long as its reply waits, and gives it back then."""
+        pids = self.shell.run("echo $primary").strip()
+        used = lambda: len(list(pathlib.Path("/proc", pids, "fd").iterdir()))
+        self.assertEqual(self.client().ask("SET", "a", "0"), OK)
+        before = used()
+        self.shell.run("kill -STOP $standby")
+        for at in range(20):
+            with Client(self.shell.port(FIRST)) as client:
+                client.send(spell("SET", "a", f"{at}"))
+                self.assertTrue(client.is_silent(0.05))
+        time.sleep(1)
+        self.assertGreaterEqual(used(), before + 20)
+        self.shell.run("kill -CONT $standby")
+        wait_until(lambda: used() <= before, "seats that are given back")
+
+    def test_a_move_of_the_primary(self):
+        self.check([], "A move of the primary to the other machine", "A lost primary", port=SECOND)
+
+    def test_a_larger_image(self):
+        self.check([], "A larger image")
+        self.assertRegex(self.shell.run("bin/wbl-status large.img second.img"), r"(?s)\Alarge\.img: primary, epoch 2, .* of 16384 .*second\.img: standby, epoch 2, .* of 16533 ")
+
+    def test_a_new_version(self):
+        self.check([], "A new version of the program")
+
+    def test_backup_and_restore(self):
+        """A backup under writers loses nothing, and what it holds is what comes back."""
+        self.assertEqual(self.client().ask("SET", "before", "1"), OK)
+        printed = self.check([], "Backup")
+        self.assertRegex(printed, r"backup\.img: standby, epoch 1, ")
+        self.assertEqual([self.client().ask("SET", "after", "1"), self.client().ask("SET", "before", "2")], [OK, OK])
+        self.do("Restore")
+        self.assertEqual([self.client().ask("GET", it) for it in ("before", "after")], [bulk(b"1"), NULL_BULK])
+        self.assertEqual(self.client().ask("SET", "after", "2"), OK)
+
+
+class FailingOver(Operated):
+    """`bin/fail-over`: each way to end, what it leaves, and that it may be given again."""
+
+    def fail_over(self, fence="true", stop="kill $standby 2> /dev/null; true", image="b.img", new="c.img"):
+        """Its status, what it prints, and what it tells on standard error."""
+        *printed, status = self.shell.run(f'bin/fail-over {image} {new} 67920 "{fence}" "{stop}" 2> told.txt; echo $?').splitlines()
+        return int(status), printed, (self.shell.folder / "told.txt").read_text()
+
+    def inspected(self, image):
+        return [line for line in self.shell.run(f"bin/wbl-server inspect --image {image}").splitlines() if line.split()[0] in ("role", "position", "epoch")]
+
+    def lose_the_primary(self):
+        self.assertEqual(self.client().ask("SET", "a", "1"), OK)
+        self.shell.run("kill -9 $primary; wait $primary")
+
+    def test_no_fence(self):
+        self.assertEqual(self.fail_over("! kill -0 $primary"), (3, [], "fail-over: no fence, so nothing was done\n"))
+        self.assertEqual(self.client().ask("SET", "a", "1"), OK)
+
+    def test_a_standby_that_is_not_stopped(self):
+        self.lose_the_primary()
+        self.assertEqual(self.fail_over(stop="false"), (4, [], "fail-over: the standby was not stopped, and nothing was promoted\n"))
+        # (its word is not enough: the standby holds its image)
+        self.assertEqual(self.fail_over(stop="true"), (6, [], "fail-over: b.img is not promoted: b.img is held by another process; refusal 1: device fault\n"))
+        self.assertEqual(self.inspected("b.img"), ["position 2", "epoch 1", "role standby"])
+
+    def test_an_image_that_is_not_there(self):
+        self.lose_the_primary()
+        self.assertEqual(self.fail_over(image="none.img"), (4, [], "fail-over: none.img cannot be read: none.img is not there; refusal 1: device fault\n"))
+
+    def test_an_image_that_holds_nothing(self):
+        self.shell.run("kill $primary; wait $primary; kill $standby; wait $standby", "bin/wbl-server format --image b.img --lines 66728 --role standby")
+        self.assertEqual(self.fail_over(), (5, [], "fail-over: b.img holds nothing, at position 0, and is not promoted\n"))
+        self.assertEqual(self.inspected("b.img"), ["position 0", "epoch 1", "role standby"])
+
+    def test_again_and_again(self):
+        """Wherever it was cut, the same words go on; a new standby's image that is there is kept, and another image is not touched."""
+        self.lose_the_primary()
+        made = ["promoted to epoch 2; b.img is a primary's now, at position 2, with 2 keys", "formatted 67920 lines, 8490 entries"]
+        self.assertEqual(self.fail_over(), (0, made, ""))
+        for _ in range(2):
+            self.assertEqual(self.fail_over(), (0, ["b.img is a primary's already"], ""))
+        self.assertEqual(self.inspected("b.img"), ["position 2", "epoch 2", "role primary"])
+        before = (self.shell.folder / "a.img").read_bytes()
+        self.assertEqual(self.fail_over(new="a.img"), (7, ["b.img is a primary's already"], "fail-over: a.img is there, and is not a new standby's\n"))
+        self.assert_bytes((self.shell.folder / "a.img").read_bytes(), before)
+
+    def test_words_that_are_missing(self):
+        self.assertEqual(self.shell.run("bin/fail-over b.img c.img 67920 true 2> told.txt; echo $?"), "2\n")
+        self.assertEqual((self.shell.folder / "told.txt").read_text(), "fail-over: what it needs is: fail-over IMAGE NEW LINES FENCE STOP\n")
+
+    def test_the_page(self):
+        load = Load(Page(self.shell, FIRST))
+        self.started(load)
+        self.shell.run("kill -9 $primary; wait $primary; rm a.img")
+        self.do("A lost primary, by a supervisor")
+        self.ended(load, SECOND, "failed over by a supervisor")
+
+
+class FirstScreen(PairCases):
+    """The blocks of README.md that start a pair and stop it."""
+
+    def test_the_blocks_as_they_stand(self):
+        """Pasted as a whole, twice: the second time over the images of the first."""
+        shell = PageShell(self.image_folder())
+        self.addCleanup(shell.close)
+        start, stop = blocks_below(README, "Run it")
+        formatted = "formatted 65536 lines, 8192 entries\nformatted 66728 lines, 8341 entries\n"
+        for made in (formatted, ""):
+            self.assertEqual(shell.run(*start), f'{made}OK\n"1"\n')
+            self.assertEqual(shell.run(*stop, "wait"), "")
+        told = common.without_news(shell.errors.read_bytes()).decode().splitlines()
+        self.assertLessEqual(set(told), {"Terminated", "Killed", "not formatted: the file is there"})
+
+
+class Sizes(Operated):
+    """What the page says of sizes, and what an operator sees of a full store."""
+
+    def setUp(self):
+        PairCases.setUp(self)
+
+    def test_the_table(self):
+        number = lambda text: int(text.replace(",", ""))
+        rows = pages.rows(PAGE, "How large an image")
+        self.assertEqual(len(rows), 3)
+        for _, sum_, size in rows:
+            with self.case("row", sum=sum_):
+                terms, lines = sum_.split(" = ")
+                found = eval(terms.replace(",", "").replace(" x ", "*"), {})  # of digits and operators only
+                self.assertAlmostEqual(number(lines), found, delta=1)
+                self.assertEqual(size, f"{round(64 * number(lines) / 1e6)} MB")
+
+    def test_a_store_that_fills(self):
+        """Nine tenths of the smallest image are kept and written again and again; a monitor tells of more; a full store goes on."""
+        self.shell = self.new_shell()
+        first, second, *others = blocks_below(PAGE, "A pair")[0]
+        smaller = [first.replace("65536", "4096"), second.replace("66728", "5288")]
+        self.shell.run(*smaller, *others)
+        client = self.client()
+        kept = [f"k{at}" for at in range(4_096 // 8 * 9 // 10 - 10)]
+        for value in "12":
+            for key in kept:
+                self.assertEqual(client.ask("SET", key, value), OK)
+        status, monitor, count = blocks_below(PAGE, "What to look at")[0]
+        self.assertEqual(self.shell.run(monitor), "")
+        self.assertRegex(self.shell.run(status), r"\Aa\.img: primary, .*versions 4\d\d of 512 \(\d\d %, .*\nb\.img: standby, .* of 661 .*\nbehind: -?\d+\n\Z")
+        wanted = 1 if shutil.which("ss") else 0
+        self.assertEqual(int(self.shell.run(count)), wanted)
+        more = [client.ask("SET", f"more{at}", "1") for at in range(100)]
+        self.assertEqual(more[-1], b"-ERR store is full\r\n")
+        self.assertEqual(self.shell.run(monitor), "over nine tenths: see a larger image\n")
+        self.assertEqual([client.ask("GET", kept[0]), client.ask("DEL", *kept[:100])], [bulk(b"2"), integer(100)])
+        self.assertEqual(client.ask("SET", "again", "1"), OK)
+        self.assert_without_errors()
+
+
+class Supervised(common.Cases):
+    """The unit file."""
+
+    def test_the_unit(self):
+        lines = blocks_below(PAGE, "Supervision")[0]
+        name = lines[0].removeprefix("# ")
+        self.assertEqual(name, "wbl-primary@.service")
+        if not shutil.which("systemd-analyze"):
+            print(f"{self.id()}: skipped, since there is no systemd-analyze", flush=True)
+            return
+        shell = PageShell()
+        self.addCleanup(shell.close)
+        path = shell.write("wbl-primary@a.service", [line.replace("/usr/local/bin/", f"{shell.folder}/bin/") for line in lines])
+        ran = subprocess.run(["systemd-analyze", "verify", "--man=no", path], capture_output=True, text=True, timeout=PATIENCE, check=False)
+        # (what it says of the unit alone: of a machine without systemd it may say more)
+        self.assertEqual([line for line in ran.stderr.splitlines() if path.name in line], [])
+
+
+class Proxied(Operated):
+    """HAProxy and twemproxy as the page has them. Skipped with a word where they are not there and cannot be had."""
+
+    def have(self, name):
+        if not shutil.which(name):
+            print(f"{self.id()}: skipped, since there is no {name}", flush=True)
+            return False
+        return True
+
+    def setUp(self):
+        super().setUp()
+        (self.configuration,) = blocks_below(PAGE, "HAProxy")
+
+    def proxy(self, shell, port):
+        """HAProxy in front of the pair of this shell, once it passes a write on."""
+        path = shell.write("haproxy.cfg", self.configuration)
+        shell.launch(shutil.which("haproxy"), "-db", "-f", str(path))
+        self.wait_to_serve(shell, port)
+
+    def wait_to_serve(self, shell, port):
+        def serves():
+            with contextlib.suppress(OSError, Ended), Client(shell.port(port), PATIENCE / 4) as client:
+                return client.ask("SET", "health", "1") == OK
+
+        wait_until(serves, f"an answer at {port} of the page")
+
+    def check_behind(self, load, told):
+        """What the writers were answered is there, behind a proxy that on a busy machine may think for a while that its node is down."""
+        def is_checked():
+            self.wait_to_serve(self.shell, 7000)
+            with contextlib.suppress(OSError, Ended):
+                load.check(told)
+                return True
+
+        wait_until(is_checked, f"all keys, {told}")
+
+    def test_haproxy(self):
+        """A fail over behind it changes nothing for clients, and an old primary that comes back serves nobody."""
+        if not self.have("haproxy"):
+            return
+        self.proxy(self.shell, 7000)
+        load = Load(Page(self.shell, 7000))
+        self.started(load)
+        self.shell.run("kill -9 $primary; wait $primary; cp a.img old.img")
+        load.end()
+        self.do("A lost primary")
+        self.check_behind(load, "behind HAProxy")
+        start = next(line for line in blocks_below(PAGE, "The process of the primary")[0] if " primary " in line)
+        self.shell.run(start.replace("a.img", "old.img").replace("7102", "7105").replace("a.log", "old.log"))
+        wait_until(lambda: b"listening on" in self.log("old"), "the old primary")
+        self.started(load)
+        # (checks of it come meanwhile, which it does not answer)
+        for _ in range(3):
+            with Client(self.shell.port(FIRST), 1) as client, self.assertRaises(TimeoutError):
+                client.ask("SET", "health", "1")
+        load.end()
+        self.check_behind(load, "with an old primary")
+        self.cut_off_while_a_standby_is_away()
+
+    def cut_off_while_a_standby_is_away(self):
+        """Clients of a primary that lost its standby are turned away, and served again once that is back."""
+        def is_turned_away():
+            with Client(self.shell.port(7000)) as client:
+                try:
+                    client.ask("PING")
+                except (ConnectionError, Ended):
+                    return True
+
+        self.shell.run("kill -9 $standby; wait $standby")
+        wait_until(is_turned_away, "a node that counts as down")
+        self.shell.run(next(line for line in blocks_below(PAGE, "A lost primary")[0] if " standby " in line and " & " in line))
+        self.wait_to_serve(self.shell, 7000)
+
+    def test_twemproxy(self):
+        """Over two pairs: what passes, what is cut, and what ends the connection."""
+        if not self.have("haproxy") or not self.have("nutcracker"):
+            return
+        other = self.new_shell()
+        other.run(*blocks_below(PAGE, "A pair")[0])
+        self.proxy(self.shell, 7000)
+        self.proxy(other, 7000)
+        (lines,) = blocks_below(PAGE, "twemproxy")
+        self.shell.ports[7010] = other.ports[7000]
+        path = self.shell.write("nutcracker.yml", lines)
+        self.addCleanup(self.shell.ports.pop, 7010)
+        self.shell.launch(shutil.which("nutcracker"), "-c", str(path), "-s", str(self.shell.port(7201)))
+        self.wait_to_serve(self.shell, 7200)
+        client = self.client(7200)
+        keys = [f"k{at}" for at in range(100)]
+        with self.case("spread"):
+            self.assertEqual([client.ask("SET", key, key) for key in keys], 100 * [OK])
+            counts = [Client(shell.port(FIRST)).ask("EXISTS", *keys) for shell in (self.shell, other)]
+            self.assertEqual(sum(int(it[1:]) for it in counts), 100)
+            self.assertNotIn(integer(0), counts)
+        with self.case("cut"):
+            self.assertEqual(client.ask("MGET", *keys), b"*100\r\n" + b"".join(bulk(key.encode()) for key in keys))
+            self.assertEqual([client.ask("DEL", *keys), client.ask("MSET", "a", "1", "b", "2"), client.ask("MGET", "a", "b")], [integer(100), OK, b"*2\r\n" + bulk(b"1") + bulk(b"2")])
+        with self.case("of its own"):
+            self.assertEqual(client.ask("PING"), b"+PONG\r\n")
+        for words in (["MULTI"], ["EXEC"], ["WATCH", "a"], ["DBSIZE"], ["FLUSHDB"], ["MSETNX", "a", "1"], ["ECHO", "a"], ["QUIT"]):
+            with self.case("ends the connection", words=words), Client(self.shell.port(7200)) as asked:
+                with self.assertRaises((Ended, ConnectionError)):
+                    asked.ask(*words)
+        with self.case("a value that is too large"), Client(self.shell.port(7200)) as asked:
+            with contextlib.suppress(Ended, ConnectionError):
+                self.assertRegex(asked.ask("SET", "large", 65_537 * "v"), rb"\A-")
+            self.wait_to_serve(self.shell, 7200)

@@ -1,0 +1,95 @@
+"""Who waits is woken: a reply goes out when it may, and not at the look that a driver takes once a second; and the last replies go out before
+a connection ends."""
+
+import threading
+import time
+
+from pair import Client, ServingCases
+from plain_replies import OK, integer
+from spelling import spell
+from test_crowds import run_threads
+from worked_cases import NO_STAR
+
+PROGRAMS = ["server"]
+IS_SLOW = True
+
+# A reply takes 5 to 60 ms on a machine that is busy. Where a wake is lost, it takes up to a second.
+SECONDS = 0.1
+ASKED = 200
+# Of so many at most one in ten may take longer: a machine that is busy with other things stops a process now and then.
+MOST_LATE = ASKED // 10
+# How many others there are, and how many requests each sends in one piece.
+OTHERS, PIECE = 8, 16
+# Connections that end at once, and how many follow one another in a thread.
+THREADS, TURNS, LONGEST = 8, 60, 24
+
+
+class Latency(ServingCases):
+    """How long one client's SET takes. It catches a wake that is lost: of the thread that serves, of the committer, of the link or of a driver."""
+
+    def assert_soon(self):
+        """One client's SETs are answered soon."""
+        late = []
+        with Client(self.nodes.door.number) as client:
+            for at in range(ASKED):
+                begun = time.monotonic()
+                self.assertEqual(client.ask("SET", "one", f"{at}"), OK)
+                seconds = time.monotonic() - begun
+                late += [seconds] if seconds > SECONDS else []
+                self.assertLessEqual(len(late), MOST_LATE, f"after {at + 1} of them: {late}")
+
+    def test_alone(self):
+        self.assert_soon()
+
+    def test_beside_others_that_are_silent(self):
+        clients = [self.nodes.client() for _ in range(20 * OTHERS)]
+        self.assertEqual([client.ask("SET", "a", "v") for client in clients], len(clients) * [OK])
+        self.assert_soon()
+
+    def test_beside_others_that_ask(self):
+        ended = threading.Event()
+
+        def ask(number):
+            with Client(self.nodes.door.number) as client:
+                while not ended.is_set():
+                    found = client.ask_all(PIECE * [("SET", f"other{number}", "v")])
+                    self.assertEqual(found, PIECE * [OK])
+                    # (so that the threads in between sleep, and have to be woken)
+                    time.sleep(0.01)
+
+        def measure():
+            try:
+                self.assert_soon()
+            finally:
+                ended.set()
+
+        run_threads(measure, *(lambda number=number: ask(number) for number in range(OTHERS)))
+
+
+class ShortPipelines(ServingCases):
+    """Connections whose requests end as soon as they are sent. It catches a last reply, or a last request, that is lost where a connection ends."""
+
+    # What ends the requests, what is answered to that, and whether the client says that it sends no more.
+    ENDS = {
+        "the end of what is sent": (b"", b"", True),
+        "a fault": (b"P", NO_STAR, False),
+        "both": (b"P", NO_STAR, True),
+    }
+
+    def one(self, key, count, last, reply, is_ended):
+        """One connection asks for the numbers up to this count, and its requests end. It is answered all of them."""
+        with Client(self.nodes.door.number) as client:
+            client.send(b"".join(count * [spell("INCR", key)]) + last)
+            if is_ended:
+                client.end_sending()
+            self.assert_bytes(client.read_all(), b"".join(map(integer, range(1, count + 1))) + reply)
+
+    def test_all_replies_come(self):
+        for end, row in self.ENDS.items():
+
+            def ask(thread, end=end, row=row):
+                for turn in range(TURNS):
+                    self.one(f"{end} {thread} {turn}", 1 + turn % LONGEST, *row)
+
+            with self.case(end):
+                run_threads(*(lambda thread=thread: ask(thread) for thread in range(THREADS)))
