@@ -45,6 +45,7 @@ class Crashes(PairCases):
         answered = self.load.answered()
         primary, standby = self.assert_positions(self.nodes)
         self.assertEqual((primary, standby), (answered, answered))
+        self.assertEqual(self.nodes.standby.read_image().map, self.nodes.primary.read_image().map)
 
     def end_load(self):
         self.load.end()

@@ -10,6 +10,7 @@ from damaged_frames import SET_A
 from pair import HOST, LINES, PATIENCE, Client, PairCases, Port, ServingCases, wait_until
 from plain_image import STANDBY, Writer
 from plain_keyspace import Put
+from plain_replies import OK
 from plain_wire import Acknowledgement, Group, number, text
 from spelling import spell
 from standby_node import ACK_BYTES, Node, StandingBy
@@ -20,6 +21,7 @@ IS_SLOW = True
 
 # An image of 64 MB.
 LARGE = 2**20
+SET_REQUEST = spell("SET", "a", "1")
 AHEAD = b"standby ahead: this node takes no acknowledgement any more"
 # A change whose value has 65,536 bytes, of which some are left out.
 BEGUN_CHANGE = b"\1" + len(b"key").to_bytes(2, "big") + b"key" + (65_536).to_bytes(4, "big") + 1_000 * b"v"
@@ -104,6 +106,30 @@ class FakeStandby(PairCases):
                 nodes.client(1).send(requests)
         self.accepted(listener)
         self.assertIn(b"lost: a write failed", nodes.primary.errors.read_bytes())
+
+    def test_what_comes_behind_the_first_acknowledgement(self):
+        """A standby says where it is, and nothing more until a frame came: who says more in that piece is none, and none of it counts."""
+        nodes = self.pair()
+        nodes.end()
+        nodes.primary.format(LINES)
+        listener = self.listener(nodes.link)
+        nodes.primary.start()
+        first = self.accepted(listener)
+        wait_until(nodes.primary.is_listening, "a primary that listens")
+        client = nodes.client()
+        client.send(2 * SET_REQUEST)
+        wait_until(lambda: nodes.primary.read_image().record.position == 2, "a primary that holds both")
+        # (the primary waits for the first words of a link a short time only)
+        first.close()
+        second = self.accepted(listener)
+        second.sendall(text(Acknowledgement(1, 0)) + text(Acknowledgement(1, 2)))
+        self.assertEqual(second.recv(1), b"")
+        self.assertTrue(client.is_silent())
+        third = self.accepted(listener)
+        third.sendall(text(Acknowledgement(1, 0)))
+        self.assertEqual(third.recv(1), b"\1")
+        third.sendall(text(Acknowledgement(1, 2)))
+        self.assertEqual([client.reply(), client.reply()], 2 * [OK])
 
     def listener(self, port):
         """Where the primary dials, with little room for what is not read."""
