@@ -12,6 +12,7 @@ ghost use Rattle.wbl_engine.specs.Reopening.{RefusesReopening, StaysReadable};
 ghost use Rattle.wbl_engine.specs.Restarting.{IsReopened};
 ghost use Rattle.mv_keyspace.specs.Table.{records};
 ghost use Rattle.standby_stream.specs.Delta.{IsOpening, LeadsTo};
+ghost use Rattle.primary.specs.Recalling.{AreKeyspaces, BackKeeps, DeltaLeads, ImageRecalls, Past};
 ghost use Rattle.primary.specs.Resuming.{IsOver};
 ghost use Rattle.primary.specs.Standing.{Stands};
 
@@ -48,6 +49,11 @@ impl<E: Restarting, K: Keyspace + Drop> Primary<E, K> {
         ensures opening { IfOk result (λ opening. (opening.position ≡ (E.contents self.new.back.committer.engine).current.position)
             × IsOpening (E.contents self.new.back.committer.engine) opening) }
         ensures leads { IfOk result (λ opening. LeadsTo (E.contents self.new.back.committer.engine) opening (records (self.new.front.sequencer).table)) }
+        // what the image recalls of the past is kept, and what a standby is told leads from each position there
+        ensures keeps { OnOk result ((low : ℕ) (past : Past) → AreKeyspaces past → ImageRecalls low past (image_of (E.device self.old.back.committer.engine).words)
+            → BackKeeps E.contents low past self.new.back self.new.front.sequencer) }
+        ensures delta { IfOk result (λ opening. (low : ℕ) (past : Past) → AreKeyspaces past → ImageRecalls low past (image_of (E.device self.old.back.committer.engine).words)
+            → DeltaLeads low (E.contents self.new.back.committer.engine).current.position past opening) }
         ensures failures { ¬ IsErrOf result Refusal.Fault → (E.device self.new.back.committer.engine).failures ≡ (E.device self.old.back.committer.engine).failures }
         ensures refused { IfErr result (λ refusal. (refusal ≡ Refusal.Fault) ⊎ ((refusal ≡ Refusal.Memory)
             ⊎ (RefusesReopening (E.device self.old.back.committer.engine).lines (image_of (E.device self.old.back.committer.engine).words) Role.Primary refusal

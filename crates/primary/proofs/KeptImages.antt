@@ -1,0 +1,207 @@
+-- What a crash leaves of the past that a primary keeps, and what it keeps of it once it is opened again.
+use Rattle.std.proofs.Common.{◌≡◌, ℕ, ◌<◌, ◌≤◌, Bool, true, false, List, [], ◌++◌, Result, inl, inr, refl, sym, ap, subst, ◌∙◌, arith}
+use Rattle.std.proofs.lemmas.Bool.{cases_lt, cond-true, le-ltb, lt-ltb, cond-false}
+use Rattle.kv_types.specs.declared.refusal.Refusal.{Refusal}
+use Rattle.pmem.specs.Device.{State}
+use Rattle.pmem.specs.Crash.{IsImage}
+use Rattle.pmem.specs.Runs.{LeavesOnly}
+use Rattle.pmem.proofs.Leaving.{LeavesOnly-weaken, none_leaves}
+use Rattle.model.specs.declared.group.Group.{Group}
+use Rattle.model.specs.declared.record.Record.{Record}
+use Rattle.model.specs.declared.record.Role.{Role}
+use Rattle.model.specs.declared.work.FreeList.{FreeList}
+use Rattle.model.specs.declared.work.Work.{Work}
+use Rattle.model.specs.Group.{Contents, IsConsistent, after_group, without}
+use Rattle.model.specs.Image.{HasRecord, Image, IsMapOf, entries_of_lines, version_at}
+use Rattle.model.proofs.GroupsLemmas.{IsConsistent-after_group}
+use Rattle.model.proofs.MapLemmas.{IsMapOf-same, IsMapOf-unique}
+use Rattle.model.proofs.RecordLemmas.{HasRecord-unique}
+use Rattle.mv_keyspace.specs.Table.{records}
+use Rattle.mv_keyspace.proofs.PartTables.{map-from_table}
+use Rattle.wbl_engine.specs.declared.freeing.Freed.{Freed as Places}
+use Rattle.wbl_engine.specs.Contents.{Keeps}
+use Rattle.wbl_engine.specs.Freeing.{KeepsWithoutSome, cleared_contents}
+use Rattle.wbl_engine.specs.Reopening.{reopened}
+use Rattle.wbl_engine.specs.Restarting.{IsReopened}
+use Rattle.wbl_engine.proofs.RoomLemmas.{room_cases}
+use Rattle.wbl_engine.proofs.WithoutLemmas.{IsMapOf-contents_without, consistent_without}
+use Rattle.redis_core.specs.Sequencing.{Sequencing}
+use Rattle.group_commit.specs.Due.{due_now, has_group}
+use Rattle.group_commit.specs.Working.{FreesReached, Takes, TakesGroup}
+use Rattle.group_commit.specs.declared.committer.Committer.{Committer}
+use Rattle.group_commit.specs.declared.due.Due.{Due}
+use Rattle.group_commit.specs.declared.due.Due.TheVariants as due
+use Rattle.group_commit.specs.declared.stage.Done.{Done}
+use Rattle.group_commit.proofs.DueLemmas.{free-now}
+use Rattle.group_commit.proofs.FreedLemmas.{AllEnded-listed}
+use Rattle.pipes.specs.Waiting.{Waiting}
+use Rattle.standby_stream.specs.declared.opening.Opening.{Opening}
+use Rattle.standby_stream.specs.Delta.{LeadsTo}
+use Rattle.primary.specs.Recalling.{AreKeyspaces, DeltaLeads, Follows, ImageRecalls, KeepsPast, Past, RecallsEach}
+use Rattle.primary.specs.Resuming.{IsOver}
+use Rattle.primary.specs.Standing.{StandsOver}
+use Rattle.primary.proofs.KeptTurns.{committed-keeps, keeps-same, reached-ended, reached-remembers}
+use Rattle.primary.proofs.RecallLemmas.{recalls-each, recalls-same, recalls-without, remembers-opened}
+use Rattle.primary.proofs.RecallParts.{recalls-more}
+use Rattle.primary.proofs.TurnedLemmas.{group-is}
+
+-- ---- a crash
+
+-- an image that holds the contents recalls what they remember
+image-recalls : (low : ℕ) (past : Past) (contents : Contents) (items : List Work) (aside : List FreeList) (s : Sequencing) (image : Image) → IsConsistent contents → KeepsPast low past contents items aside s
+    → Keeps contents image → ImageRecalls low past image
+image-recalls low past contents items aside s image consistent keeps held =
+    record { contents = contents; keeps = held; consistent = consistent; now = keeps.now; recalls = recalls-each low contents.current.position past contents items aside s keeps.remembers }
+
+-- now
+pub crash-recalls : (low : ℕ) (past : Past) (device : State) (contents : Contents) (items : List Work) (aside : List FreeList) (s : Sequencing) (notices : List Places) (image : Image)
+    → StandsOver device contents items aside s notices → KeepsPast low past contents items aside s → IsImage device.words image → ImageRecalls low past image
+crash-recalls low past device contents items aside s notices image over keeps is = image-recalls low past contents items aside s image over.consistent keeps (over.durable image is)
+
+-- at any moment of a turn of the committer
+module _ {E : Type 0} (device : E → State) (contents : E → Contents) (is_faulted : E → Bool) (low : ℕ) (past : Past) (s : Sequencing) (notices : List Places) where
+  module _ {O : Type 0} (offered : O → List Group) (known_room : O → ℕ) (old new : Committer E) (before after : Waiting Work) (link link' : O) (has_room : Bool) (remote : ℕ) (result : Result Done Refusal)
+      (passed : remote ≤ low) (sound : is_faulted old.engine ≡ false) (over : StandsOver (device old.engine) (contents old.engine) before.items old.aside.items s notices)
+      (keeps : KeepsPast low past (contents old.engine) before.items old.aside.items s) where
+    abbrev c : Contents
+    c = contents old.engine
+
+    abbrev Left : Type 0
+    Left = LeavesOnly (device old.engine) (device new.engine) (ImageRecalls low past)
+
+    abbrev Took : Due → Type 0
+    Took step = Takes device contents is_faulted offered known_room step has_room remote old before link result new after link'
+
+    abbrev now : Due
+    now = due_now contents old before has_room remote
+
+    old-recalls : (image : Image) → Keeps c image → ImageRecalls low past image
+    old-recalls image held = image-recalls low past c before.items old.aside.items s image over.consistent keeps held
+
+    -- nothing was done to the device
+    still : new.engine ≡ old.engine → Left
+    still same =
+        subst (λ (e : E). LeavesOnly (device old.engine) (device e) (ImageRecalls low past)) (sym same)
+        (none_leaves (device old.engine) (ImageRecalls low past) (λ image is. old-recalls image (over.durable image is)))
+
+    committed : TakesGroup device contents is_faulted old before result new after → Left
+    committed took =
+        let kept = committed-keeps device contents is_faulted low past s notices old new before after result took over keeps in
+        let consistent = IsConsistent-after_group c took.group over.consistent (group-is device contents is_faulted old new before after result took s notices over) in
+        LeavesOnly-weaken (ImageRecalls low past)
+        (λ image either. elim either [
+          | inl was ↦ old-recalls image was
+          | inr is ↦ image-recalls low past (after_group c took.group) after.items (old.aside.items ++ took.lists) s image consistent kept is
+        ]) (took.commits.moments sound)
+
+    freed : (has_room ≡ true → has_group before.items ≡ false) → FreesReached device contents is_faulted has_room remote old before result new after → Left
+    freed none it = LeavesOnly-weaken (ImageRecalls low past) some (it.frees.moments sound)
+      where
+        some : (image : Image) → KeepsWithoutSome it.list.entries.items c image → ImageRecalls low past image
+        some image (gone, listed, held) =
+            let ended = reached-ended device contents is_faulted low past s notices old new before after has_room remote result none it over keeps in
+            let remembers = reached-remembers device contents is_faulted low past s notices old new before after has_room remote result none it over keeps in
+            record {
+              contents = without gone c;
+              keeps = held;
+              consistent = consistent_without c gone over.consistent;
+              now = IsMapOf-contents_without c gone (past c.current.position) (λ i so. AllEnded-listed c it.list.entries.items ended i (listed i so)) keeps.now;
+              recalls = λ p from below.
+                  recalls-more (without gone c).versions _ (λ i. Unit {0}) p (past p) (λ i held. tt)
+                  (recalls-without low c.current.position past c after.items it.list it.rest s (omega (arith, it.passed, passed)) ended remembers gone listed p from below);
+            }
+
+    leaves-by : (step : Due) → now ≡ step → Took step → Left
+    leaves-by due.Commit is (none, inl took) = committed took
+    leaves-by due.Commit is (none, inr lacks) = still lacks.engine
+    leaves-by due.Free is (none, inl frees) = freed (free-now contents old before has_room remote is).none frees
+    leaves-by due.Free is (none, inr lacks) = still lacks.engine
+    leaves-by due.Clear is (none, queue, clears) =
+        LeavesOnly-weaken (ImageRecalls low past)
+        (λ image either. elim either [
+          | inl was ↦ old-recalls image was
+          | inr is ↦
+              image-recalls low past (cleared_contents c) before.items old.aside.items s image (record { free = over.consistent.free; beyond = over.consistent.beyond })
+              (keeps-same low past c (cleared_contents c) before.items old.aside.items s refl refl (λ i. refl) keeps) is
+        ]) (clears.moments sound)
+    leaves-by due.Raise is (same, queue, raises) = still (ap (λ (one : Committer E). one.engine) raises.now)
+    leaves-by due.Hand is (queue, hands) = elim hands.came [
+      | inl handed ↦ still (ap (λ (one : Committer E). one.engine) handed.1)
+      | inr idle ↦ still (ap (λ (one : Committer E). one.engine) idle.1)
+    ]
+    leaves-by due.Nothing is (none, queue, answer, same) = still (ap (λ (one : Committer E). one.engine) same)
+
+    pub turn-leaves : Took now → Left
+    turn-leaves took = leaves-by now refl took
+
+-- ---- an opening
+
+-- a record that is opened again keeps its position
+reopened-at : (r : Record) → (reopened r).position ≡ r.position
+reopened-at r = elim (room_cases r) [
+  | inl full ↦ ap (λ (q : Record). q.position) full.1
+  | inr same ↦ ap (λ (q : Record). q.position) same.1
+]
+
+-- an image that recalls the past was opened again
+module _ (low : ℕ) (past : Past) (lines' : ℕ) (image : Image) (role : Role) (contents : Contents) (recalled : ImageRecalls low past image) (opened : IsReopened lines' image role contents) where
+  abbrev was : Contents
+  was = recalled.contents
+
+  lines : contents.lines ≡ was.lines
+  lines = opened.reopens.lines_are ∙ sym opened.reopens.undamaged.superblock.line_count ∙ recalled.keeps.superblock.line_count
+
+  own : lines' ≡ was.lines
+  own = sym opened.reopens.lines_are ∙ lines
+
+  -- the image has one record
+  same_record : opened.reopens.before ≡ was.current
+  same_record =
+      let before = opened.reopens.before in
+      HasRecord-unique was.lines image before was.current opened.reopens.undamaged.current.lawful.few
+      (subst (λ n. HasRecord n before image) own opened.reopens.undamaged.current.has_record) recalled.keeps.has_record
+
+  at : contents.current.position ≡ was.current.position
+  at = ap (λ (r : Record). r.position) opened.reopens.current ∙ reopened-at opened.reopens.before ∙ ap (λ (r : Record). r.position) same_record
+
+  same_versions : (i : ℕ) → contents.versions i ≡ was.versions i
+  same_versions i = elim (cases_lt i (entries_of_lines lines')) [
+    | inl within ↦
+        opened.reopens.versions i ∙ cond-true _ _ _ (lt-ltb i (entries_of_lines lines') within) ∙ ap (λ (r : Record). version_at r image i) same_record
+        ∙ recalled.keeps.versions i (subst (λ n. i < entries_of_lines n) own within)
+    | inr beyond ↦
+        opened.reopens.versions i ∙ cond-false _ _ _ (le-ltb i (entries_of_lines lines') beyond)
+        ∙ sym (recalled.consistent.beyond i (subst (λ n. entries_of_lines n ≤ i) own beyond))
+  ]
+
+  map_is : IsMapOf contents.versions (entries_of_lines contents.lines) (past contents.current.position)
+  map_is =
+      rw (at, lines)
+      (IsMapOf-same was.versions contents.versions (entries_of_lines was.lines) (past was.current.position) (λ i within. sym (same_versions i)) recalled.now)
+
+  -- it recalls it still
+  pub recalls-reopened : RecallsEach low contents.current.position past contents
+  recalls-reopened = rw at (recalls-same low was.current.position past was contents same_versions recalled.recalls)
+
+  -- a sequencer over it serves the keyspace there
+  module _ (s : Sequencing) (over : IsOver contents s) (consistent : IsConsistent contents) (keyspaces : AreKeyspaces past) where
+    serves : records over.table ≡ past contents.current.position
+    serves =
+        IsMapOf-unique (map-from_table contents.versions (entries_of_lines contents.lines) over.table consistent.beyond over.table_is) map_is over.table_is.keyspace
+        (keyspaces contents.current.position)
+
+    follows-opened : Follows past s
+    follows-opened = subst (Follows past) (sym over.starts_so) (record { served = serves; waiting = tt })
+
+    pub keeps-opened : KeepsPast low past contents [] [] s
+    keeps-opened = record {
+      now = map_is;
+      follows = follows-opened;
+      remembers = remembers-opened low contents.current.position past contents s (ap (λ (one : Sequencing). one.newest) over.starts_so) recalls-reopened;
+    }
+
+    pub delta-leads : (opening : Opening) → opening.position ≡ contents.current.position → LeadsTo contents opening (records s.table) → DeltaLeads low contents.current.position past opening
+    delta-leads opening position leads = record {
+      position_is = position;
+      leads = λ p from below. leads p (past p) (keyspaces p) (recalls-reopened p from below) ∙ ap (λ (one : Sequencing). records one.table) over.starts_so ∙ serves;
+    }
