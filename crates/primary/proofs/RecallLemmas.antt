@@ -192,10 +192,6 @@ pub recalls-each : (low position : ℕ) (past : Past) (contents : Contents) (ite
 recalls-each low position past contents items aside s remembers p from below =
     recalls-more contents.versions (IsHeld (aside ++ lists_of items) s.ended s.newest p) (λ i. Unit {0}) p (past p) (λ i held. tt) (remembers.earlier p from below)
 
-pub recalls-same : (low position : ℕ) (past : Past) (contents new : Contents) → ((i : ℕ) → new.versions i ≡ contents.versions i) → RecallsEach low position past contents → RecallsEach low position past new
-recalls-same low position past contents new same recalls p from below =
-    subst (λ (versions : Versions). Recalls versions (λ i. Unit {0}) p (past p)) (fun_ext (λ i. sym (same i))) (recalls p from below)
-
 pub recalls-still : (low low' position : ℕ) (past : Past) (contents : Contents) → low ≤ low' → RecallsEach low position past contents → RecallsEach low' position past contents
 recalls-still low low' position past contents rises recalls p from below = recalls p (omega (arith, rises, from)) below
 

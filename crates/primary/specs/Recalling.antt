@@ -1,17 +1,17 @@
 -- What a primary still tells of the keyspaces at which its standby may stand: nothing is freed that a delta may need.
-use Rattle.std.specs.Prelude.{◌≡◌, ℕ, ◌+◌, ◌<◌, ◌≤◌, List, [], ◌∷◌, ◌++◌, IsTrue}
+use Rattle.std.specs.Prelude.{◌≡◌, ℕ, ◌+◌, ◌<◌, ◌≤◌, List, [], ◌∷◌, ◌++◌, None, IsTrue, nat_lt, if◌then◌else◌}
 use Rattle.std.specs.List.{AllByRecursion}
 use Rattle.kv_types.specs.declared.place.EntryNo.{EntryNo}
 use Rattle.kv_types.specs.Keyspace.{IsKeyspace, Keyspace, play_all}
 use Rattle.model.specs.declared.group.Group.{Group}
 use Rattle.model.specs.declared.group.Part.{Part}
+use Rattle.model.specs.declared.record.Record.{Record}
 use Rattle.model.specs.declared.work.FreeList.{FreeList}
 use Rattle.model.specs.declared.work.Work.{Work}
-use Rattle.model.specs.Group.{Contents, IsConsistent, changes_of_part, is_listed}
-use Rattle.model.specs.Image.{Image, IsMapOf, entries_of_lines}
+use Rattle.model.specs.Group.{Contents, Versions, changes_of_part, is_listed}
+use Rattle.model.specs.Image.{Holds, Image, IsMapOf, entries_of_lines, version_at}
 use Rattle.mv_keyspace.specs.Table.{records}
 use Rattle.wbl_engine.specs.declared.freeing.Freed.{Freed}
-use Rattle.wbl_engine.specs.Contents.{Keeps}
 use Rattle.group_commit.specs.Group.{groups_of, lists_of}
 use Rattle.redis_core.specs.Sequencing.{Sequencing}
 use Rattle.standby_stream.specs.declared.opening.Opening.{Opening}
@@ -90,13 +90,16 @@ Recollects old new =
 abbrev pub RecallsEach : ℕ → ℕ → Past → Contents → Type 0
 RecallsEach low position past contents = (p : ℕ) → low ≤ p → p < position → Recalls contents.versions (λ i. Unit {0}) p (past p)
 
--- The image holds contents that are the keyspace at their position, and recall each from `low` on up to there.
+-- the versions of an image of `lines` lines under this record
+abbrev pub versions_under : ℕ → Record → Image → Versions
+versions_under lines r image = λ i. if nat_lt i (entries_of_lines lines) then version_at r image i else None
+
+-- The image holds the keyspace at the position of its record, and its versions recall each from `low` on up to there.
 pub record ImageRecalls (low : ℕ) (past : Past) (image : Image) : Type 0 where
-  pub contents : Contents
-  pub keeps : Keeps contents image
-  pub consistent : IsConsistent contents
-  pub now : IsMapOf contents.versions (entries_of_lines contents.lines) (past contents.current.position)
-  pub recalls : RecallsEach low contents.current.position past contents
+  pub lines : ℕ
+  pub current : Record
+  pub holds : Holds lines current (past current.position) image
+  pub recalls : (p : ℕ) → low ≤ p → p < current.position → Recalls (versions_under lines current image) (λ i. Unit {0}) p (past p)
 
 -- From each position at which the standby may stand, the delta leads to the keyspace at which the primary was opened.
 pub record DeltaLeads (low opened : ℕ) (past : Past) (opening : Opening) : Type 0 where

@@ -62,6 +62,10 @@ impl<E: Restarting, K: Keyspace + Drop> Primary<E, K> {
         ensures moments { (r : CommitRecord) → IsUndamaged (E.device self.old.back.committer.engine).lines r (image_of (E.device self.old.back.committer.engine).words)
             → LeavesOnly (E.device self.old.back.committer.engine) (E.device self.new.back.committer.engine)
             (StaysReadable (E.device self.old.back.committer.engine).lines r (image_of (E.device self.old.back.committer.engine).words)) }
+        // and at any moment a crash leaves an image that recalls what this one does
+        ensures leaves { (r : CommitRecord) (low : ℕ) (past : Past) → IsUndamaged (E.device self.old.back.committer.engine).lines r (image_of (E.device self.old.back.committer.engine).words)
+            → ImageRecalls low past (image_of (E.device self.old.back.committer.engine).words)
+            → LeavesOnly (E.device self.old.back.committer.engine) (E.device self.new.back.committer.engine) (ImageRecalls low past) }
     {
         let versions = self.back.committer.restart(alloc, Role::Primary)?;
         let lines = self.back.committer.lines();

@@ -32,8 +32,8 @@ use Rattle.world.specs.Cause.{EndsBy, Stretch}
 use Rattle.world.specs.Committing.{Committing, CommittingRefines, IsDown, next_primary, next_standby}
 use Rattle.world.specs.GroupSpan.{AreGroupsOf}
 use Rattle.world.specs.Link.{AreFramesSent, LinkRefines}
-use Rattle.primary.specs.Recalling.{AreKeyspaces, DeltaLeads, ImageRecalls, RecallsEach, Remembers}
-use Rattle.primary.proofs.KeptImages.{delta-leads, keeps-opened}
+use Rattle.primary.specs.Recalling.{AreKeyspaces, DeltaLeads, RecallsEach, Remembers}
+use Rattle.primary.proofs.KeptImages.{delta-leads, keeps-opened, recalls-of}
 use Rattle.primary.proofs.OpenedLemmas.{leads_to}
 use Rattle.world.specs.Recalling.{OpeningLeads, past_of}
 use Rattle.primary.specs.Resuming.{IsOver}
@@ -249,14 +249,11 @@ primary-reopens old sequencer committing notices device contents is_faulted hand
         let low = w.standby.position in
         let newest : sequencer.newest ≡ p = ap (λ (s : Sequencing). s.newest) over.starts_so ∙ at.at in
         let past = past_of calls in
-        let recalled : ImageRecalls low past (image_of old.device.words) =
-        record {
-          contents = lost.image.contents;
-          keeps = lost.image.keeps;
-          consistent = lost.image.contents_at.consistent;
-          now = subst (λ n. IsMapOf lost.image.contents.versions (entries_of_lines lost.image.contents.lines) (past n)) (sym lost.image.contents_at.at) lost.image.contents_at.map;
-          recalls = subst (λ n. RecallsEach low n past lost.image.contents) (sym lost.image.contents_at.at) lost.recalls;
-        } in
+        let here = lost.image.contents_at in
+        let recalled =
+        recalls-of low past lost.image.contents (image_of old.device.words) here.consistent
+        (subst (λ n. IsMapOf lost.image.contents.versions (entries_of_lines lost.image.contents.lines) (past n)) (sym here.at) here.map)
+        (subst (λ n. RecallsEach low n past lost.image.contents) (sym here.at) lost.recalls) lost.image.keeps in
         let keyspaces : AreKeyspaces past = λ q. IsKeyspace-keyspace_after (cut_at calls q) in
         let lines = old.device.lines in
         let kept = keeps-opened low past lines (image_of old.device.words) first.role contents recalled mine.reopens sequencer over at.consistent keyspaces in

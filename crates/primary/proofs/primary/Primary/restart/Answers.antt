@@ -4,7 +4,7 @@ use Rattle.model.specs.declared.record.Role.TheVariants as role
 use Rattle.pmem.specs.Crash.{image_of}
 use Rattle.placing.specs.Read.{AreOf}
 use Rattle.primary.proofs.ClosedLemmas.{consistent-read, laid-read, starts-so}
-use Rattle.primary.proofs.KeptImages.{delta-leads, keeps-opened}
+use Rattle.primary.proofs.KeptImages.{delta-leads, keeps-opened, reopening-leaves}
 use Rattle.primary.proofs.OpenedLemmas.{leads_to}
 use Rattle.primary.proofs.Restarted.{are_of_restarted, shows_restarted}
 use Rattle.primary.proofs.primary.Primary.restart.Given.{Over}
@@ -87,3 +87,15 @@ pub returns-in_err-sequencer-clause-refused : goal.returns-in_err-sequencer-clau
 returns-in_err-sequencer-clause-refused g c =
     let exit = err_from_is_err_and c.from_residual-in_err-sequencer.result c.from_residual-in_err-sequencer.ensures.1 in
     rw exit.1 (inr (inl (exit.2 ∙ c.in_err-sequencer.ensures.cause)))
+
+pub returns-clause-leaves : goal.returns-clause-leaves
+returns-clause-leaves g c = λ r low past undamaged recalled.
+    reopening-leaves low past (g.E.Durable.device c.args.self.now.back.committer.engine) (g.E.Durable.device c.restart.new.self.engine) _ r recalled undamaged (c.restart.ensures.moments r undamaged)
+
+pub returns-in_err-sequencer-clause-leaves : goal.returns-in_err-sequencer-clause-leaves
+returns-in_err-sequencer-clause-leaves g c = λ r low past undamaged recalled.
+    reopening-leaves low past (g.E.Durable.device c.args.self.now.back.committer.engine) (g.E.Durable.device c.restart.new.self.engine) _ r recalled undamaged (c.restart.ensures.moments r undamaged)
+
+pub returns-in_err-versions-clause-leaves : goal.returns-in_err-versions-clause-leaves
+returns-in_err-versions-clause-leaves g c = λ r low past undamaged recalled.
+    reopening-leaves low past (g.E.Durable.device c.args.self.now.back.committer.engine) (g.E.Durable.device c.restart.new.self.engine) _ r recalled undamaged (c.restart.ensures.moments r undamaged)
