@@ -6,3 +6,9 @@ pub mod TurnedLemmas
 pub mod ClosedLemmas
 pub mod SettledLemmas
 pub mod Restarted
+pub mod RecallParts
+pub mod RecallGroups
+pub mod RecallLemmas
+pub mod KeptLemmas
+pub mod KeptTurns
+pub mod KeptImages

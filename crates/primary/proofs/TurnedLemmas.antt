@@ -36,7 +36,7 @@ use Rattle.primary.proofs.LeadsLemmas.{leads-after}
 
 -- ---- the last part of a group is the newest
 
-rises_within : (before : ℕ) (versions : Versions) (parts : List Part) → AreParts before versions parts → before ≤ last_position before parts
+pub rises_within : (before : ℕ) (versions : Versions) (parts : List Part) → AreParts before versions parts → before ≤ last_position before parts
 rises_within before versions [] are = le_refl before
 rises_within before versions (part ∷ parts) are = omega (arith, are.0, rises_within part.position (part_versions versions part) parts are.2)
 
@@ -70,7 +70,7 @@ the_ok came = Ok came
 ok_is : (a b : Done) → the_ok a ≡ the_ok b → a ≡ b
 ok_is a b e = cc
 
-ok_not_err : (a : Done) {refusal : Refusal} → the_ok a ≡ Err refusal → ⊥
+pub ok_not_err : (a : Done) {refusal : Refusal} → the_ok a ≡ Err refusal → ⊥
 ok_not_err a e = cc
 
 module _ {E : Type 0} (device : E → State) (contents : E → Contents) (is_faulted : E → Bool) where
@@ -87,7 +87,7 @@ module _ {E : Type 0} (device : E → State) (contents : E → Contents) (is_fau
 
   -- ---- a group has committed
 
-  group-is : (old new : Committer E) (before after : Waiting Work) (result : Result Done Refusal) (took : TakesGroup device contents is_faulted old before result new after) (s : Sequencing) (notices : List Places)
+  pub group-is : (old new : Committer E) (before after : Waiting Work) (result : Result Done Refusal) (took : TakesGroup device contents is_faulted old before result new after) (s : Sequencing) (notices : List Places)
       → Over old before s notices → IsGroup (contents old.engine) took.group
   group-is old new before after result took s notices over =
       (AreWork-behind (contents old.engine) took.lists (work.Commit took.group ∷ after.items) (subst (AreWork (contents old.engine)) took.taken over.leads.work_is)).0

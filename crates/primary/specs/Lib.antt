@@ -3,3 +3,4 @@ pub mod Closing
 pub mod Resuming
 pub mod Standing
 pub mod Settled
+pub mod Recalling

@@ -9,6 +9,7 @@ ghost use Rattle.redis_core.specs.Sequencing.{Sequencing};
 ghost use Rattle.group_commit.specs.Due.{due_now};
 ghost use Rattle.group_commit.specs.Working.{Takes};
 ghost use Rattle.group_commit.specs.declared.stage.Done.TheVariants as done;
+ghost use Rattle.primary.specs.Recalling.{BackKeeps, ImageRecalls, Past};
 ghost use Rattle.primary.specs.Settled.{HasNothingInHand};
 ghost use Rattle.primary.specs.Standing.{BackStands, notices_of, position_after};
 
@@ -99,6 +100,15 @@ impl<E: Durable> Back<E> {
         ensures stays { IsErrOf result Refusal.Memory → (E.contents self.new.committer.engine).current.position ≡ (E.contents self.old.committer.engine).current.position }
         // what it says to be durable is
         ensures committed { IfOk result (λ came. (position : ℕ) → came ≡ done.Committed position → position ≡ (E.contents self.new.committer.engine).current.position) }
+        // what is recalled of the past from `low` on stays so, as long as the standby has passed no less than it is told to have
+        ensures keeps { IfOk result (λ _. (s : Sequencing) (notices : List Freed) (low : ℕ) (past : Past) → remote ≤ low → BackStands E.device E.contents self.old s notices
+            → BackKeeps E.contents low past self.old s → BackKeeps E.contents low past self.new s) }
+        ensures still { IsErrOf result Refusal.Memory → (s : Sequencing) (notices : List Freed) (low : ℕ) (past : Past) → remote ≤ low
+            → BackStands E.device E.contents self.old s notices → BackKeeps E.contents low past self.old s → BackKeeps E.contents low past self.new s }
+        // and at any moment of the step a crash leaves an image that recalls it, whatever it comes to
+        ensures leaves { E.is_faulted self.old.committer.engine ≡ false → (s : Sequencing) (notices : List Freed) (low : ℕ) (past : Past) → remote ≤ low
+            → BackStands E.device E.contents self.old s notices → BackKeeps E.contents low past self.old s
+            → LeavesOnly (E.device self.old.committer.engine) (E.device self.new.committer.engine) (ImageRecalls low past) }
         ensures same { O.is_same link.old link.new }
     {
         self.committer.turn(alloc, &mut self.work, link, remote)
@@ -129,6 +139,9 @@ impl<E: Restarting> Back<E> {
         ensures local { self.new.committer.local ≡ self.old.committer.local }
         ensures aside { self.new.committer.aside ≡ self.old.committer.aside }
         ensures work { self.new.work ≡ self.old.work }
+        // what is left recalls what was remembered
+        ensures recalls { (s : Sequencing) (notices : List Freed) (low : ℕ) (past : Past) → BackStands E.device E.contents self.old s notices
+            → BackKeeps E.contents low past self.old s → ImageRecalls low past (image_of (E.device self.new.committer.engine).words) }
     {
         self.committer.crash(picks);
     }

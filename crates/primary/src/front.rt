@@ -1,5 +1,5 @@
 //! What of a primary serves the connections.
-ghost use Rattle.std.specs.Prelude.{◌≡◌, ◌≢◌, ◌<◌, ◌++◌, ◌∷◌, ◌↔◌, [], List, length, false, true, Some, None, IfErr, OnOk, OnErr};
+ghost use Rattle.std.specs.Prelude.{◌≡◌, ◌≢◌, ℕ, ◌<◌, ◌++◌, ◌∷◌, ◌↔◌, [], List, length, false, true, Some, None, IfErr, OnOk, OnErr};
 ghost use Rattle.extent_heap.specs.Room.{has_room};
 ghost use Rattle.kv_types.specs.declared.item.Item.{Item};
 ghost use Rattle.kv_types.specs.declared.place.EntryNo.{EntryNo};
@@ -7,11 +7,14 @@ ghost use Rattle.kv_types.specs.declared.place.Extent.{Extent};
 ghost use Rattle.kv_types.specs.declared.reply.Held.{Held};
 ghost use Rattle.kv_types.specs.declared.reply.Reply.{Reply};
 ghost use Rattle.model.specs.declared.group.TheConstants.{MAX_PARTS};
+ghost use Rattle.model.specs.declared.work.FreeList.{FreeList};
+ghost use Rattle.model.specs.declared.work.Work.{Work};
 ghost use Rattle.model.specs.Group.{Contents};
 ghost use Rattle.multi_watch.specs.Session.{idle_session};
 ghost use Rattle.redis_core.specs.Sequencing.{Expects, IsAheadOf, MovesSeat, TakesBack, is_closed};
 ghost use Rattle.redis_core.specs.Turn.{Answers, OnServed, OnIdle, OnBlocked, OnGroupFull, OnEnded, OnUnserved};
 ghost use Rattle.primary.specs.Leading.{KeepsLead};
+ghost use Rattle.primary.specs.Recalling.{KeepsPast, Past, Recollects};
 ghost use Rattle.primary.specs.Settled.{HasNothingOpen};
 
 use kv_types::{Held, Item, Refusal};
@@ -71,6 +74,7 @@ impl<K: Keyspace> Front<K> {
         ensures expects { (contents : Contents) (entries : List EntryNo) (extents : List Extent) → IsAheadOf self.old.sequencer contents
             → Expects self.old.sequencer contents entries extents → Expects self.new.sequencer contents entries extents }
         ensures keeps { KeepsLead self.old.sequencer self.new.sequencer }
+        ensures recollects { Recollects self.old.sequencer self.new.sequencer }
     {
         self.sequencer.open_seat(alloc, seat)
     }
@@ -82,6 +86,7 @@ impl<K: Keyspace> Front<K> {
         ensures expects { (contents : Contents) (entries : List EntryNo) (extents : List Extent) → IsAheadOf self.old.sequencer contents
             → Expects self.old.sequencer contents entries extents → Expects self.new.sequencer contents entries extents }
         ensures keeps { KeepsLead self.old.sequencer self.new.sequencer }
+        ensures recollects { Recollects self.old.sequencer self.new.sequencer }
     {
         self.sequencer.close_seat(seat);
     }
@@ -113,6 +118,7 @@ impl<K: Keyspace> Front<K> {
         ensures expects { (contents : Contents) (entries : List EntryNo) (extents : List Extent) → IsAheadOf self.old.sequencer contents
             → Expects self.old.sequencer contents entries extents → Expects self.new.sequencer contents entries extents }
         ensures keeps { KeepsLead self.old.sequencer self.new.sequencer }
+        ensures recollects { Recollects self.old.sequencer self.new.sequencer }
     {
         self.sequencer.turn(alloc, seat, inlet, outlet)
     }
@@ -125,6 +131,8 @@ impl<K: Keyspace> Front<K> {
         ensures stands { (contents : Contents) (rest : List EntryNo) (others : List Extent) → IsAheadOf self.old.sequencer contents
             → Expects self.old.sequencer contents (freed.now.entries.items ++ rest) (freed.now.extents.items ++ others)
             → IsAheadOf self.new.sequencer contents × Expects self.new.sequencer contents rest others }
+        ensures keeps { (low : ℕ) (past : Past) (contents : Contents) (items : List Work) (aside : List FreeList) → KeepsPast low past contents items aside self.old.sequencer
+            → KeepsPast low past contents items aside self.new.sequencer }
     {
         self.sequencer.accept_freed(&freed.entries, &freed.extents);
     }

@@ -3,11 +3,13 @@ ghost use Rattle.std.specs.Prelude.{◌≡◌, ◌⊎◌, ◌<◌, ℕ, [], IfOk
 ghost use Rattle.pmem.specs.Device.{Only};
 ghost use Rattle.pmem.specs.Crash.{image_of};
 ghost use Rattle.model.specs.declared.image.TheConstants.{COUNTER_LIMIT};
+ghost use Rattle.model.specs.Image.{Image};
 ghost use Rattle.group_commit.specs.declared.stage.Stage.TheVariants.{Ready};
 ghost use Rattle.wbl_engine.specs.Contents.{IsDurable};
 ghost use Rattle.wbl_engine.specs.Reopening.{RefusesReopening};
 ghost use Rattle.wbl_engine.specs.Restarting.{IsReopened};
 ghost use Rattle.placing.specs.Read.{AreOf};
+ghost use Rattle.primary.specs.Recalling.{AreKeyspaces, BackKeeps, DeltaLeads, ImageRecalls, Past};
 ghost use Rattle.primary.specs.Resuming.{IsOpened};
 ghost use Rattle.primary.specs.Standing.{Stands};
 
@@ -54,6 +56,11 @@ pub fn open<P: Pmem + Drop, K: Keyspace + Drop>(
         opened.primary.front.sequencer opened.opening opened.position opened.epoch opened.keys) }
     ensures ready { IfOk result (λ opened. (opened.primary.back.work.items ≡ []) × (opened.primary.back.committer.stage ≡ Ready)
         × (opened.primary.back.committer.aside.items ≡ []) × (opened.primary.back.committer.local ≡ opened.position)) }
+    // what the image recalls of the past is kept, and what a standby is told leads from each position there
+    ensures keeps { IfOk result (λ opened. (low : ℕ) (past : Past) → AreKeyspaces past → ImageRecalls low past (image_of (P.state device).words)
+        → BackKeeps ⟦<WblEngine<P> as Durable>⟧.contents low past opened.primary.back opened.primary.front.sequencer) }
+    ensures delta { IfOk result (λ opened. (low : ℕ) (past : Past) → AreKeyspaces past → ImageRecalls low past (image_of (P.state device).words)
+        → DeltaLeads low opened.position past opened.opening) }
     ensures refused { IfErr result (λ refusal. (refusal ≡ Refusal.Fault) ⊎ ((refusal ≡ Refusal.Memory)
         ⊎ RefusesReopening (P.state device).lines (image_of (P.state device).words) Role.Primary refusal)) }
 {
@@ -78,6 +85,9 @@ fn assemble<E: Durable + Drop, K: Keyspace + Drop>(
     ensures opened { IfOk result (λ opened. IsOpened (E.contents engine) opened.primary.front.sequencer opened.opening opened.position opened.epoch opened.keys) }
     ensures ready { IfOk result (λ opened. (opened.primary.back.work.items ≡ []) × (opened.primary.back.committer.stage ≡ Ready)
         × (opened.primary.back.committer.aside.items ≡ []) × (opened.primary.back.committer.local ≡ opened.position)) }
+    ensures keeps { IfOk result (λ opened. (low : ℕ) (past : Past) (of : ℕ) (image : Image) → AreKeyspaces past → ImageRecalls low past image
+        → IsReopened of image Role.Primary (E.contents engine) → BackKeeps E.contents low past opened.primary.back opened.primary.front.sequencer
+        × DeltaLeads low opened.position past opened.opening) }
     ensures cause { IfErr result (λ refusal. refusal ≡ Refusal.Memory) }
 {
     let lines = engine.lines();

@@ -1,5 +1,5 @@
 //! A primary: what serves, and what commits.
-ghost use Rattle.std.specs.Prelude.{◌≡◌, [], List, true, false, IfOk, IfErr, OnErr};
+ghost use Rattle.std.specs.Prelude.{◌≡◌, ℕ, [], List, true, false, IfOk, IfErr, OnErr};
 ghost use Rattle.model.specs.declared.work.FreeList.{FreeList};
 ghost use Rattle.model.specs.declared.work.Work.{Work};
 ghost use Rattle.model.specs.Group.{Contents, IsConsistent};
@@ -7,6 +7,7 @@ ghost use Rattle.group_commit.specs.declared.stage.Stage.TheVariants.{Ready};
 ghost use Rattle.wbl_engine.specs.Contents.{IsDurable};
 ghost use Rattle.primary.specs.Closing.{ClosesOne, MayClose};
 ghost use Rattle.primary.specs.Leading.{AreLaid, Leads};
+ghost use Rattle.primary.specs.Recalling.{BackKeeps, KeepsPast, Past};
 ghost use Rattle.primary.specs.Resuming.{IsOver};
 ghost use Rattle.primary.specs.Standing.{BackStands, IsTold, Stands, notices_of};
 
@@ -96,6 +97,8 @@ pub fn close<E: Durable, K: Keyspace>(
         × (back.new.work.items ≡ back.old.work.items)) }
     ensures stands { BackStands E.device E.contents back.old front.old.sequencer [] → BackStands E.device E.contents back.new front.new.sequencer [] }
     ensures committer { back.new.committer ≡ back.old.committer }
+    ensures keeps { (low : ℕ) (past : Past) → BackStands E.device E.contents back.old front.old.sequencer [] → BackKeeps E.contents low past back.old front.old.sequencer
+        → BackKeeps E.contents low past back.new front.new.sequencer }
 {
     close_next(alloc, &mut front.sequencer, &mut back.work)
 }
@@ -106,6 +109,8 @@ pub fn take_back<K: Keyspace>(front: &mut Front<K>, done: &Done)
     ensures taken { IsTold done.now front.old.sequencer front.new.sequencer }
     ensures leads { (contents : Contents) (items : List Work) (aside : List FreeList) → Leads contents items aside front.old.sequencer (notices_of done.now)
         → Leads contents items aside front.new.sequencer [] }
+    ensures keeps { (low : ℕ) (past : Past) (contents : Contents) (items : List Work) (aside : List FreeList) → KeepsPast low past contents items aside front.old.sequencer
+        → KeepsPast low past contents items aside front.new.sequencer }
 {
     match done {
         Done::Freed(freed) => front.take_back(freed),

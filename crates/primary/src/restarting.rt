@@ -12,6 +12,7 @@ ghost use Rattle.wbl_engine.specs.Reopening.{RefusesReopening, StaysReadable};
 ghost use Rattle.wbl_engine.specs.Restarting.{IsReopened};
 ghost use Rattle.mv_keyspace.specs.Table.{records};
 ghost use Rattle.standby_stream.specs.Delta.{IsOpening, LeadsTo};
+ghost use Rattle.primary.specs.Recalling.{AreKeyspaces, BackKeeps, DeltaLeads, ImageRecalls, Past};
 ghost use Rattle.primary.specs.Resuming.{IsOver};
 ghost use Rattle.primary.specs.Standing.{Stands};
 
@@ -48,6 +49,11 @@ impl<E: Restarting, K: Keyspace + Drop> Primary<E, K> {
         ensures opening { IfOk result (λ opening. (opening.position ≡ (E.contents self.new.back.committer.engine).current.position)
             × IsOpening (E.contents self.new.back.committer.engine) opening) }
         ensures leads { IfOk result (λ opening. LeadsTo (E.contents self.new.back.committer.engine) opening (records (self.new.front.sequencer).table)) }
+        // what the image recalls of the past is kept, and what a standby is told leads from each position there
+        ensures keeps { OnOk result ((low : ℕ) (past : Past) → AreKeyspaces past → ImageRecalls low past (image_of (E.device self.old.back.committer.engine).words)
+            → BackKeeps E.contents low past self.new.back self.new.front.sequencer) }
+        ensures delta { IfOk result (λ opening. (low : ℕ) (past : Past) → AreKeyspaces past → ImageRecalls low past (image_of (E.device self.old.back.committer.engine).words)
+            → DeltaLeads low (E.contents self.new.back.committer.engine).current.position past opening) }
         ensures failures { ¬ IsErrOf result Refusal.Fault → (E.device self.new.back.committer.engine).failures ≡ (E.device self.old.back.committer.engine).failures }
         ensures refused { IfErr result (λ refusal. (refusal ≡ Refusal.Fault) ⊎ ((refusal ≡ Refusal.Memory)
             ⊎ (RefusesReopening (E.device self.old.back.committer.engine).lines (image_of (E.device self.old.back.committer.engine).words) Role.Primary refusal
@@ -56,6 +62,10 @@ impl<E: Restarting, K: Keyspace + Drop> Primary<E, K> {
         ensures moments { (r : CommitRecord) → IsUndamaged (E.device self.old.back.committer.engine).lines r (image_of (E.device self.old.back.committer.engine).words)
             → LeavesOnly (E.device self.old.back.committer.engine) (E.device self.new.back.committer.engine)
             (StaysReadable (E.device self.old.back.committer.engine).lines r (image_of (E.device self.old.back.committer.engine).words)) }
+        // and at any moment a crash leaves an image that recalls what this one does
+        ensures leaves { (r : CommitRecord) (low : ℕ) (past : Past) → IsUndamaged (E.device self.old.back.committer.engine).lines r (image_of (E.device self.old.back.committer.engine).words)
+            → ImageRecalls low past (image_of (E.device self.old.back.committer.engine).words)
+            → LeavesOnly (E.device self.old.back.committer.engine) (E.device self.new.back.committer.engine) (ImageRecalls low past) }
     {
         let versions = self.back.committer.restart(alloc, Role::Primary)?;
         let lines = self.back.committer.lines();

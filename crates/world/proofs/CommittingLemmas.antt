@@ -14,7 +14,6 @@ use Rattle.model.specs.declared.image.TheConstants.{COUNTER_LIMIT, STAMP_WINDOW}
 use Rattle.model.specs.declared.work.FreeList.{FreeList}
 use Rattle.model.specs.declared.work.Work.{Work}
 use Rattle.model.specs.declared.work.Work.TheVariants as work
-use Rattle.model.specs.Call.{position_of}
 use Rattle.model.specs.Image.{Image}
 use Rattle.model.proofs.RecordLemmas.{HasRecord-lines}
 use Rattle.model.specs.Group.{AreParts, Contents, IsConsistent, IsGroup, Versions, after_group, last_position, part_versions}
@@ -39,12 +38,13 @@ use Rattle.world.specs.Cause.{IsAtLimit, EndsBy}
 use Rattle.world.specs.Committing.{AreContentsAt, AreOfEpoch, Committing, CommittingRefines, EngineStands, Leads, StageRefines, OpensAtEither, NearOnly, next_primary}
 use Rattle.connections.specs.Going.{Goes}
 use Rattle.world.specs.GroupSpan.{AreGroupsOf, AreWorkOf, IsGroupOf, positions_of_lists}
-use Rattle.world.specs.Recalling.{Remembers}
+use Rattle.primary.specs.Recalling.{Remembers}
+use Rattle.primary.proofs.RecallParts.{remembers-committed}
+use Rattle.world.specs.Recalling.{past_of}
 use Rattle.world.proofs.EngineLemmas.{AreContentsAt-after_group, Opens-engine, keeps-opens, rests-same}
 use Rattle.world.proofs.GroupSpanLemmas.{IsGroupOf-grows, length-groups}
 use Rattle.primary.proofs.LeadsLemmas.{leads-after}
 use Rattle.world.proofs.QueueLemmas.{AreWorkOf-grows}
-use Rattle.world.proofs.RecallGroups.{remembers-committed}
 
 -- ---- while the list grows
 
@@ -171,8 +171,8 @@ commit-goes holder w old lists group new device device' contents contents' is_fa
 pub Remembers-committed : (holder : Holder) (w : World) (old : Committing) (lists : List FreeList) (group : Group) (new : Committing) (contents contents' : Contents) (s : Sequencing)
     → TakesLawful contents old lists group new → Same (after_group contents group) contents' → CommittingRefines w.primary.calls old w.primary.committer
     → AreContentsAt holder w.primary.calls w.primary.committer.position contents
-    → Remembers w.standby.position w.primary.committer.position w.primary.calls contents old.waiting.items old.aside s
-    → Remembers w.standby.position (next_primary w) w.primary.calls contents' new.waiting.items new.aside s
+    → Remembers w.standby.position w.primary.committer.position (past_of w.primary.calls) contents old.waiting.items old.aside s
+    → Remembers w.standby.position (next_primary w) (past_of w.primary.calls) contents' new.waiting.items new.aside s
 Remembers-committed holder w old lists group new contents contents' s takes moved stands at remembers =
     let calls = w.primary.calls in
     let low = w.standby.position in
@@ -181,12 +181,12 @@ Remembers-committed holder w old lists group new contents contents' s takes move
     let span = next.firsts.first in
     let ends : last_position group.before group.parts.items ≡ next_primary w =
     next.firsts.is.after ∙ sym (ap (λ works. (committed_first works w.primary.committer).position) next.firsts.from) in
-    let within : last_position group.before group.parts.items ≤ position_of calls = omega (arith, next.firsts.is.after, next.firsts.is.span_within.within) in
-    let after = remembers-committed holder low position calls contents lists group new.waiting.items old.aside s at takes.lawful within
-    (subst (λ (items : List Work). Remembers low position calls contents items old.aside s) takes.taken remembers) in
-    subst (λ (c : Contents). Remembers low (next_primary w) calls c new.waiting.items new.aside s) (sym (Same-is (after_group contents group) contents' moved))
-    (subst (λ (aside : List FreeList). Remembers low (next_primary w) calls (after_group contents group) new.waiting.items aside s) (sym takes.set_aside)
-    (subst (λ p. Remembers low p calls (after_group contents group) new.waiting.items (old.aside ++ lists) s) ends after))
+    let past = past_of calls in
+    let after = remembers-committed low position past contents lists group new.waiting.items old.aside s at.at at.consistent at.map takes.lawful
+    (subst (λ (items : List Work). Remembers low position past contents items old.aside s) takes.taken remembers) in
+    subst (λ (c : Contents). Remembers low (next_primary w) past c new.waiting.items new.aside s) (sym (Same-is (after_group contents group) contents' moved))
+    (subst (λ (aside : List FreeList). Remembers low (next_primary w) past (after_group contents group) new.waiting.items aside s) (sym takes.set_aside)
+    (subst (λ p. Remembers low p past (after_group contents group) new.waiting.items (old.aside ++ lists) s) ends after))
 
 -- at any moment of the engine's call, a crash leaves what was before it or what is after it
 pub commit-moments : (holder : Holder) (w : World) (old : Committing) (lists : List FreeList) (group : Group) (new : Committing) (device device' : State) (contents : Contents) (is_faulted : Bool)

@@ -1,6 +1,5 @@
 -- The images of nodes that crashed: what a crash leaves of an engine over the list of calls, and what a reopening makes of it.
 use Rattle.std.proofs.Common.{◌≡◌, ◌⊎◌, inl, inr, ℕ, ◌+◌, ◌≤◌, Bool, false, List, ◌∷◌, ◌++◌, length, refl, sym, ap, subst, ◌∙◌, arith, [], rules}
-use Rattle.std.proofs.lemmas.Bool.{cases_lt}
 use Rattle.std.proofs.lemmas.List.{length-append}
 use Rattle.kv_types.specs.declared.place.EntryNo.{EntryNo}
 use Rattle.kv_types.specs.declared.refusal.Refusal.{Refusal}
@@ -130,19 +129,6 @@ down-gaps holder calls p device contents' counted gapped down reopens =
     subst (λ n. Reopens n image holder.role contents' counted gapped) (sym down.sized) reopens in
     let through = keeps_through down.contents contents' image holder.role counted gapped down.lawful down.keeps own in
     omega (arith, ap (λ (r : Record). length r.gaps.items) through.current, gaps-reopened down.contents.current)
-
--- its versions are those that the image had
-pub down-versions : (holder : Holder) (calls : List Call) (p : ℕ) (device : State) (contents' : Contents) (counted : _) (gapped : List EntryNo) (down : IsDown holder calls p device)
-    → Reopens device.lines (image_of device.words) holder.role contents' counted gapped → (i : ℕ) → contents'.versions i ≡ down.contents.versions i
-down-versions holder calls p device contents' counted gapped down reopens i =
-    let image = image_of device.words in
-    let own : Reopens down.contents.lines image holder.role contents' counted gapped =
-    subst (λ n. Reopens n image holder.role contents' counted gapped) (sym down.sized) reopens in
-    let through = keeps_through down.contents contents' image holder.role counted gapped down.lawful down.keeps own in
-    elim (cases_lt i (entries_of_lines down.contents.lines)) [
-      | inl within ↦ through.versions i within
-      | inr past ↦ through.consistent.beyond i (subst (λ n. entries_of_lines n ≤ i) (sym through.lines_are) past) ∙ sym (down.contents_at.consistent.beyond i past)
-    ]
 
 -- an image that reopening may leave opens where the first one opened
 readable-opens : (holder : Holder) (calls : List Call) (p : ℕ) (contents : Contents) (image image' : Image) → AreContentsAt holder calls p contents → Keeps contents image

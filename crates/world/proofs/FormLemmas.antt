@@ -43,9 +43,10 @@ use Rattle.connections.specs.declared.connection.Connection.{Connection}
 use Rattle.world.specs.Standby.{Node, StandbyStands, ArrivalsRefine}
 use Rattle.world.specs.Headline.{start}
 use Rattle.world.specs.Pair.{NodesRefine, Pair, life_if}
-use Rattle.world.specs.Recalling.{Remembers}
+use Rattle.primary.specs.Recalling.{Remembers}
+use Rattle.primary.proofs.RecallLemmas.{remembers-new}
+use Rattle.world.specs.Recalling.{past_of}
 use Rattle.world.proofs.OpeningLemmas.{opening-none}
-use Rattle.world.proofs.RecallLemmas.{remembers-new}
 
 -- ---- the sequencer
 
@@ -169,8 +170,8 @@ pair-starts first second pair sessions sequencer none_ended none none_aside read
             notices_are = ap (λ (notices : List Freed). length notices) none_told;
             gaps = ap (λ (gaps : List Gap). length gaps) no_gap;
           };
-          remembers = subst (λ (items : List Work). Remembers 0 0 [] pair.contents items pair.committing.aside pair.sequencer) (sym none)
-              (subst (λ (lists : List FreeList). Remembers 0 0 [] pair.contents [] lists pair.sequencer) (sym none_aside) (remembers-new [] pair.contents pair.sequencer 0));
+          remembers = subst (λ (items : List Work). Remembers 0 0 (past_of []) pair.contents items pair.committing.aside pair.sequencer) (sym none)
+              (subst (λ (lists : List FreeList). Remembers 0 0 (past_of []) pair.contents [] lists pair.sequencer) (sym none_aside) (remembers-new (past_of []) pair.contents pair.sequencer 0));
           opening = opening-none 0 [] pair.opening never_opened;
           epoch = ap (λ (s : Stream). s.epoch) link;
           link = subst (λ (s : Stream). LinkRefines [] s pair.handed pair.remote start.primary.link) (sym link)

@@ -13,7 +13,6 @@ pub mod LivesLemmas
 pub mod AckLemmas
 pub mod StandbyLemmas
 pub mod ArrivalLemmas
-pub mod RecallGroups
 pub mod RecallLemmas
 pub mod OpeningLemmas
 pub mod PairLemmas

@@ -5,36 +5,30 @@ use Rattle.std.proofs.lemmas.List.{length-drop, length-take-le}
 use Rattle.kv_types.specs.declared.record_id.RecordId.TheVariants.{Field, Str}
 use Rattle.kv_types.specs.Keyspace.{Keyspace, play_all}
 use Rattle.model.specs.declared.call.Call.{Call}
-use Rattle.model.specs.declared.image.TheConstants.{MAX_LINES}
 use Rattle.model.specs.declared.record.Record.{Record}
-use Rattle.model.specs.Call.{cut_at, keyspace_after, position_of}
 use Rattle.model.specs.Group.{Contents, bytes_of_id}
 use Rattle.model.specs.Image.{Image, Version, bytes_at, counts, entries_of_lines, entry_bytes, entry_word, field_bytes, id_of, key_bytes, lines_of_bytes, version_in}
-use Rattle.model.specs.Standing.{Holder}
-use Rattle.model.proofs.CallsLemmas.{IsKeyspace-keyspace_after, keyspace_after-cut_at-append, position_of_grows}
+use Rattle.model.proofs.CallsLemmas.{keyspace_after-cut_at-append, position_of_grows}
 use Rattle.model.proofs.ReadEntryLemmas.{length-bytes_at}
 use Rattle.placing.specs.Read.{AreInOrder, Shows}
 use Rattle.placing.proofs.ReadLemmas.{read_is_of}
 use Rattle.standby_stream.specs.declared.opening.Opening.{Opening}
-use Rattle.standby_stream.specs.Delta.{DeltasFit, DeltasLeadOn, HaveTheirLines, IsOpening, delta_changes}
-use Rattle.world.specs.Committing.{AreContentsAt}
-use Rattle.world.specs.Recalling.{OpeningLeads, RecallsEach}
+use Rattle.standby_stream.specs.Delta.{HaveTheirLines, delta_changes}
+use Rattle.world.specs.Recalling.{OpeningLeads}
 
 -- of a primary that was formatted
 pub opening-none : (low : ℕ) (calls : List Call) (opening : Opening) → opening.position ≡ 0 → OpeningLeads low 0 calls opening
 opening-none low calls opening at = record {
-  position_is = at;
   within = omega arith;
-  leads = λ p from below. absurd (omega (arith, below));
+  delta = record { position_is = at; leads = λ p from below. absurd (omega (arith, below)) };
   size = λ p from below. absurd (omega (arith, below));
 }
 
 -- the standby goes on
 pub opening-on : (low low' opened : ℕ) (calls : List Call) (opening : Opening) → low ≤ low' → OpeningLeads low opened calls opening → OpeningLeads low' opened calls opening
 opening-on low low' opened calls opening rises leads = record {
-  position_is = leads.position_is;
   within = leads.within;
-  leads = λ p from below. leads.leads p (omega (arith, rises, from)) below;
+  delta = record { position_is = leads.delta.position_is; leads = λ p from below. leads.delta.leads p (omega (arith, rises, from)) below };
   size = λ p from below. leads.size p (omega (arith, rises, from)) below;
 }
 
@@ -43,34 +37,22 @@ pub opening-still : (low low' opened : ℕ) (calls more : List Call) (opening : 
 opening-still low low' opened calls more opening rises leads =
     let on = opening-on low low' opened calls opening rises leads in
     record {
-      position_is = on.position_is;
       within = omega (arith, on.within, position_of_grows calls more);
-      leads = λ p from below.
-          ap (λ (s : Keyspace). play_all s (delta_changes opening p)) (keyspace_after-cut_at-append calls more p (omega (arith, below, on.within)))
-          ∙ on.leads p from below ∙ sym (keyspace_after-cut_at-append calls more opened on.within);
+      delta = record {
+        position_is = on.delta.position_is;
+        leads = λ p from below.
+            ap (λ (s : Keyspace). play_all s (delta_changes opening p)) (keyspace_after-cut_at-append calls more p (omega (arith, below, on.within)))
+            ∙ on.delta.leads p from below ∙ sym (keyspace_after-cut_at-append calls more opened on.within);
+      };
       size = on.size;
     }
 
 -- it is forgotten once no standby can be below its position
 pub opening-forgotten : (low opened : ℕ) (calls : List Call) (opening new : Opening) → new.position ≡ opening.position → opened ≤ low → OpeningLeads low opened calls opening → OpeningLeads low opened calls new
 opening-forgotten low opened calls opening new at passed leads = record {
-  position_is = at ∙ leads.position_is;
   within = leads.within;
-  leads = λ p from below. absurd (omega (arith, passed, from, below));
+  delta = record { position_is = at ∙ leads.delta.position_is; leads = λ p from below. absurd (omega (arith, passed, from, below)) };
   size = λ p from below. absurd (omega (arith, passed, from, below));
-}
-
--- of a primary that is opened again at this position
-pub opening-opened : DeltasLeadOn → DeltasFit → (holder : Holder) (low position : ℕ) (calls : List Call) (contents : Contents) (opening : Opening) → AreContentsAt holder calls position contents
-    → position ≤ position_of calls → AreInOrder contents → HaveTheirLines contents → contents.lines ≤ MAX_LINES → opening.position ≡ position → IsOpening contents opening
-    → RecallsEach low position calls contents → OpeningLeads low position calls opening
-opening-opened lead_on fit holder low position calls contents opening are within order lines few at is recalls = record {
-  position_is = at;
-  within = within;
-  leads = λ p from below.
-      lead_on contents opening p (keyspace_after (cut_at calls p)) (keyspace_after (cut_at calls position)) is
-      (IsKeyspace-keyspace_after (cut_at calls p)) (IsKeyspace-keyspace_after (cut_at calls position)) are.map are.consistent.beyond (recalls p from below);
-  size = λ p from below. fit contents opening p is order lines few;
 }
 
 -- ---- the versions of an image

@@ -1,5 +1,5 @@
 -- What telling the sequencer of freed places does to the pair, of what it does to its parts.
-use Rattle.std.proofs.Common.{rules, ◌≡◌, ◌+◌, ◌-◌, true, false, List, ◌∷◌, ◌++◌, length, Ok, refl, sym, ap, subst, ◌∙◌, arith, le_refl, true≢false, []}
+use Rattle.std.proofs.Common.{rules, ◌≡◌, true, false, List, ◌∷◌, ◌++◌, length, Ok, refl, sym, ap, subst, ◌∙◌, arith, le_refl, true≢false, []}
 use Rattle.std.proofs.lemmas.Bool.{le-ltb, lt-ltb}
 use Rattle.kv_types.specs.declared.place.EntryNo.{EntryNo}
 use Rattle.kv_types.specs.declared.place.Extent.{Extent}
@@ -16,7 +16,8 @@ use Rattle.connections.specs.Session.{SeatsFollow, SequencerRefines, seats_of}
 use Rattle.primary.proofs.FreedQueue.{Leads-accepted}
 use Rattle.world.proofs.LivesLemmas.{nodes-refine, own-runs}
 use Rattle.world.proofs.PairLemmas.{goes-steps, none-added, stays-does}
-use Rattle.world.proofs.RecallLemmas.{remembers-on}
+use Rattle.primary.proofs.RecallLemmas.{remembers-on}
+use Rattle.world.specs.Recalling.{past_of}
 
 -- ---- the sequencer is told
 
@@ -45,7 +46,7 @@ accept-does old sequencer notice rest told takes expected = record { steps = ste
           subst (SeatsFollow calls (seats_of old.sessions.connections.items)) (sym takes.after) (record { by_call = parts.follow.by_call; session = parts.follow.session }),
           Leads-accepted old.contents old.committing.waiting.items old.committing.aside old.sequencer sequencer notice rest
               (subst (Leads old.contents old.committing.waiting.items old.committing.aside old.sequencer) told parts.leads) takes expected,
-          remembers-on w.standby.position w.standby.position w.primary.committer.position calls old.contents old.committing.waiting.items old.committing.aside old.sequencer sequencer
+          remembers-on w.standby.position w.standby.position w.primary.committer.position (past_of calls) old.contents old.committing.waiting.items old.committing.aside old.sequencer sequencer
               (le_refl w.standby.position) ended newest parts.remembers,
         )
 

@@ -36,7 +36,9 @@ use Rattle.world.specs.Committing.{CommittingRefines, Leads, OpensAt, StageRefin
 use Rattle.world.specs.GroupSpan.{AreWorkOf, positions_of_lists}
 use Rattle.world.specs.Pair.{Does, FreeingRefines, IsCut, Pair, PairRefines, PartsRefine}
 use Rattle.world.specs.Effect.{ClearsOldest}
-use Rattle.world.specs.Recalling.{Remembers}
+use Rattle.primary.specs.Recalling.{Remembers}
+use Rattle.primary.proofs.RecallLemmas.{remembers-same}
+use Rattle.world.specs.Recalling.{past_of}
 use Rattle.world.specs.Standby.{Arrived, Node}
 use Rattle.connections.specs.declared.connections.Connections.{Connections}
 use Rattle.connections.specs.declared.transcript.Transcript.{Transcript}
@@ -46,7 +48,6 @@ use Rattle.primary.proofs.FreedQueue.{Leads-cleared}
 use Rattle.world.proofs.LivesLemmas.{enabled-is, nodes-refine, own-runs}
 use Rattle.world.proofs.PairLemmas.{Led, cut-for, none-added, rests-primary, rests-standby, stays-does, tells}
 use Rattle.world.proofs.QueueLemmas.{clear-disabled, clear-enabled}
-use Rattle.world.proofs.RecallLemmas.{remembers-same}
 use Rattle.world.proofs.PairTurns.{Took, Waiting-same}
 use Rattle.world.proofs.FreeingLemmas.{engine-cleared, cleared-moments, primary-steps}
 use Rattle.world.proofs.PairFreeing.{fault-does, pair_with, refused-does}
@@ -127,8 +128,8 @@ module _ {E : Type 0} (device : E → State) (contents : E → Contents) (is_fau
           } in
           let leads : Leads new.contents waiting'.items after.aside.items sequencer new.notices =
           rw (one.left, it.aside) (Leads-cleared from.contents new.contents sequencer notices places (rw (alone.no_work, alone.no_aside) at parts.leads) clears answer.2) in
-          let remembers : Remembers low p calls new.contents waiting'.items after.aside.items sequencer =
-          rw (one.left, it.aside) (remembers-same low p calls from.contents new.contents [] [] sequencer clears.versions (rw (alone.no_work, alone.no_aside) at parts.remembers)) in
+          let remembers : Remembers low p (past_of calls) new.contents waiting'.items after.aside.items sequencer =
+          rw (one.left, it.aside) (remembers-same low p (past_of calls) from.contents new.contents [] [] sequencer clears.versions (rw (alone.no_work, alone.no_aside) at parts.remembers)) in
           search (
             rules,
             parts,

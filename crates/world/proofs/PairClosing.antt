@@ -1,33 +1,27 @@
 -- What closing a group or a free list does to the pair, of what it does to its sequencer and its queue.
-use Rattle.std.proofs.Common.{rules, ◌≡◌, inl, inr, ◌+◌, ◌++◌, ◌∷◌, Bool, true, false, List, length, Result, Ok, Err, IfOk, IfErr, OnErr, refl, sym, ap, ap₂, subst, ◌∙◌, append-nil, length-append, true≢false, []}
+use Rattle.std.proofs.Common.{rules, ◌≡◌, inl, inr, ◌+◌, Bool, true, false, List, length, Result, Ok, Err, IfOk, IfErr, OnErr, refl, sym, ap, ap₂, subst, ◌∙◌, length-append, true≢false}
 use Rattle.kv_types.specs.declared.refusal.Refusal.{Refusal}
 use Rattle.kv_types.specs.declared.refusal.Refusal.TheVariants.{Memory}
 use Rattle.pipes.specs.Waiting.{Waiting}
-use Rattle.model.specs.declared.work.FreeList.{FreeList}
 use Rattle.model.specs.declared.work.Work.{Work}
 use Rattle.model.specs.declared.work.Work.TheVariants as work
 use Rattle.model.specs.Call.{position_of}
-use Rattle.model.specs.Group.{AreEnded, Contents}
 use Rattle.model.specs.Standing.{Holder}
-use Rattle.wbl_engine.specs.declared.freeing.Freed.{Freed}
-use Rattle.group_commit.specs.Group.{after_work, lists_of}
-use Rattle.group_commit.specs.Working.{entries_of_lists}
-use Rattle.group_commit.proofs.WorkLemmas.{lists_of-append}
 use Rattle.redis_core.specs.Sequencing.{Sequencing, ended_by_parts}
 use Rattle.machine.specs.declared.event.Event.TheVariants as events
 use Rattle.machine.specs.Event.{Commits, Frees, Work as MachineWork, World, Closes, closed_group, closed_list, listed, may_happen, spans_of}
 use Rattle.machine.specs.Sound.{IsChain}
 use Rattle.primary.specs.Closing.{ClosesGroup, ClosesList, ClosesOne, MayClose}
-use Rattle.world.specs.Committing.{CommittingRefines, Leads}
+use Rattle.world.specs.Committing.{CommittingRefines}
 use Rattle.world.specs.GroupSpan.{AreWorkOf}
-use Rattle.world.specs.Recalling.{Remembers}
-use Rattle.connections.specs.Session.{SequencerRefines, seats_of}
+use Rattle.world.specs.Recalling.{past_of}
+use Rattle.connections.specs.Session.{seats_of}
 use Rattle.world.specs.Pair.{FreeingRefines, Pair, PartsRefine, PairRefines, Steps, Does}
 use Rattle.world.proofs.LivesLemmas.{nodes-refine, own-runs}
 use Rattle.primary.proofs.LeadsLemmas.{Leads-group, Leads-list}
 use Rattle.world.proofs.ClosingLemmas.{AreWorkOf-push, IsGroupOf-handed, closes-group, closes-list, follow-handed, follow-listed, grouped, may-close, may-not-close, sequencer-handed, sequencer-listed}
-use Rattle.world.proofs.RecallGroups.{remembers-grouped}
-use Rattle.world.proofs.RecallLemmas.{remembers-listed}
+use Rattle.primary.proofs.KeptLemmas.{remembers-group, remembers-list}
+use Rattle.world.proofs.RecallLemmas.{waits-along}
 use Rattle.world.proofs.PairLemmas.{cut-same, goes-steps, none-added, stays-does, tells}
 
 -- what waits for the committer, and the sequencer
@@ -51,23 +45,6 @@ group-committing first second old waiting sequencer w parts closes =
       local_is = parts.committing.local_is;
     }
 
--- what is remembered is so behind the group
-Remembers-group : (w : World) (contents : Contents) (before after : Waiting Work) (aside : List FreeList) (old new : Sequencing) (notices : List Freed)
-    → IsChain w.primary.committer.position (spans_of w.primary.committer.waiting) w.primary.committer.closed → SequencerRefines w.primary.calls w.primary.committer.closed old
-    → AreWorkOf w.primary.calls before.items w.primary.committer.waiting → Leads contents after.items aside new notices → ClosesGroup old before new after
-    → Remembers w.standby.position w.primary.committer.position w.primary.calls contents before.items aside old
-    → Remembers w.standby.position w.primary.committer.position w.primary.calls contents after.items aside new
-Remembers-group w contents before after aside old new notices chain stands are leads closes remembers =
-    let items = before.items in
-    let group = closes.group in
-    let calls = w.primary.calls in
-    let low = w.standby.position in
-    let position = w.primary.committer.position in
-    let lists : lists_of after.items ≡ lists_of items = ap lists_of closes.last ∙ lists_of-append items (work.Commit group ∷ []) ∙ append-nil (lists_of items) in
-    subst (λ (xs : List Work). Remembers low position calls contents xs aside new) (sym closes.last)
-    (remembers-grouped low position w.primary.committer.closed calls contents (after_work contents after.items) items w.primary.committer.waiting aside group old new stands closes.hands are chain
-    (subst (λ (xs : List FreeList). AreEnded (after_work contents after.items) (entries_of_lists (aside ++ xs) ++ new.ended)) lists leads.listed) remembers)
-
 group-parts : (first second : Holder) (old : Pair) (waiting : Waiting Work) (sequencer : Sequencing) (w : World)
     → IsChain w.primary.committer.position (spans_of w.primary.committer.waiting) w.primary.committer.closed → PartsRefine first second old w
     → ClosesGroup old.sequencer old.committing.waiting sequencer waiting → PartsRefine first second (with_work waiting sequencer old) (grouped old.sequencer w)
@@ -88,8 +65,8 @@ group-parts first second old waiting sequencer w chain parts closes =
       follow-handed w.primary.calls (seats_of old.sessions.connections.items) s sequencer closes.group closes.hands parts.follow,
       group-committing first second old waiting sequencer w parts closes,
       Leads-group old.contents old.committing.waiting waiting old.committing.aside s sequencer old.notices parts.engine.contents_at.consistent parts.leads closes,
-      Remembers-group w old.contents old.committing.waiting waiting old.committing.aside s sequencer old.notices chain parts.sequencer parts.committing.work
-          (Leads-group old.contents old.committing.waiting waiting old.committing.aside s sequencer old.notices parts.engine.contents_at.consistent parts.leads closes) closes parts.remembers,
+      remembers-group w.standby.position w.primary.committer.position (past_of w.primary.calls) old.contents old.committing.waiting waiting old.committing.aside s sequencer old.notices
+          parts.engine.contents_at.at parts.engine.contents_at.consistent parts.leads closes (waits-along w.primary.calls w.primary.committer.closed s parts.sequencer) parts.remembers,
     )
 
 -- ---- a free list
@@ -127,8 +104,8 @@ list-parts first second old waiting sequencer w parts closes =
       follow-listed w.primary.calls (seats_of old.sessions.connections.items) s sequencer closes.list closes.hands parts.follow,
       list-committing first second old waiting sequencer w parts closes,
       Leads-list old.contents old.committing.waiting waiting old.committing.aside s sequencer old.notices parts.leads closes,
-      subst (λ (items : List Work). Remembers w.standby.position w.primary.committer.position w.primary.calls old.contents items old.committing.aside sequencer) (sym closes.last)
-          (remembers-listed w.standby.position w.primary.committer.position w.primary.calls old.contents old.committing.waiting.items old.committing.aside s sequencer closes.list closes.hands parts.remembers),
+      remembers-list w.standby.position w.primary.committer.position (past_of w.primary.calls) old.contents old.committing.waiting waiting old.committing.aside s sequencer old.notices
+          parts.engine.contents_at.at parts.engine.contents_at.consistent parts.leads closes parts.remembers,
     )
 
 -- ---- one of the two, or none

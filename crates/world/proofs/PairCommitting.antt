@@ -17,7 +17,8 @@ use Rattle.world.specs.GroupSpan.{AreGroupsOf}
 use Rattle.world.specs.Cause.{Stretch, Breaks, RestsAtLimit, EndsBy, Resting}
 use Rattle.world.specs.Committing.{Committing, EngineStands, Leads, NearOnly, CommittingRefines, next_primary}
 use Rattle.world.specs.Link.{LinkRefines}
-use Rattle.world.specs.Recalling.{Remembers}
+use Rattle.primary.specs.Recalling.{Remembers}
+use Rattle.world.specs.Recalling.{past_of}
 use Rattle.connections.specs.Session.{SequencerRefines}
 use Rattle.world.specs.Pair.{Pair, PartsRefine, Steps, Does}
 use Rattle.world.proofs.EngineLemmas.{moves-same}
@@ -73,9 +74,9 @@ shown-parts first second old committing w committer parts waiting aside committi
       subst (λ p. EngineStands first w.primary.calls p old.device old.contents old.is_faulted) (sym position) parts.engine,
       subst (λ (waits : Waiting Work). Leads old.contents waits.items committing.aside old.sequencer old.notices) (sym waiting)
           (subst (λ (lists : List FreeList). Leads old.contents old.committing.waiting.items lists old.sequencer old.notices) (sym aside) parts.leads),
-      subst (λ p. Remembers w.standby.position p w.primary.calls old.contents committing.waiting.items committing.aside old.sequencer) (sym position)
-          (subst (λ (waits : Waiting Work). Remembers w.standby.position w.primary.committer.position w.primary.calls old.contents waits.items committing.aside old.sequencer) (sym waiting)
-          (subst (λ (lists : List FreeList). Remembers w.standby.position w.primary.committer.position w.primary.calls old.contents old.committing.waiting.items lists old.sequencer) (sym aside) parts.remembers)),
+      subst (λ p. Remembers w.standby.position p (past_of w.primary.calls) old.contents committing.waiting.items committing.aside old.sequencer) (sym position)
+          (subst (λ (waits : Waiting Work). Remembers w.standby.position w.primary.committer.position (past_of w.primary.calls) old.contents waits.items committing.aside old.sequencer) (sym waiting)
+          (subst (λ (lists : List FreeList). Remembers w.standby.position w.primary.committer.position (past_of w.primary.calls) old.contents old.committing.waiting.items lists old.sequencer) (sym aside) parts.remembers)),
     )
 
 pub raise-does : (old : Pair) (committing : Committing) (did : Bool)

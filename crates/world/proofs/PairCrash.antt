@@ -114,7 +114,7 @@ primary-crashes old sessions transcript committing device contents is_faulted k 
           image = image;
           gaps = parts.freeing.gaps;
           opened = refl;
-          recalls = recalls-crashed w.standby.position p calls old.contents old.contents old.committing.waiting.items old.committing.aside old.sequencer (λ i. refl) parts.remembers;
+          recalls = recalls-crashed w.standby.position p calls old.contents old.committing.waiting.items old.committing.aside old.sequencer parts.remembers;
           epoch = parts.epoch;
           frames = AreFramesSent-cut old.link.epoch calls p old.frames w.wire.frames
               (subst (λ e. All (IsFrameWithin e p) w.wire.frames) (sym parts.epoch) (frames_within-weaker w.primary.epoch sound.sent p w.wire.frames behind sound.wire.frames)) parts.frames;

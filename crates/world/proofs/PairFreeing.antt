@@ -1,5 +1,5 @@
 -- What freeing a list does to the pair, of what it does to its parts.
-use Rattle.std.proofs.Common.{rules, ◌≡◌, ◌⊎◌, ◌+◌, ◌-◌, ◌<◌, ◌≤◌, ℕ, inl, inr, Bool, true, false, cond, List, ◌∷◌, ◌++◌, length, drop, Result, Ok, Err, Vec, Global, refl, sym, ap, subst, ◌∙◌, arith, length-append, true≢false, []}
+use Rattle.std.proofs.Common.{rules, ◌≡◌, ◌⊎◌, ◌<◌, ◌≤◌, ℕ, inl, inr, Bool, true, false, cond, List, ◌∷◌, ◌++◌, length, drop, Result, Ok, Err, Vec, Global, refl, sym, ap, subst, ◌∙◌, arith, length-append, true≢false, []}
 use Rattle.kv_types.specs.declared.refusal.Refusal.{Refusal}
 use Rattle.kv_types.specs.declared.refusal.Refusal.TheVariants.{Memory, Fault}
 use Rattle.pmem.specs.Device.{State}
@@ -17,13 +17,13 @@ use Rattle.pipes.specs.Waiting.{Waiting}
 use Rattle.redis_core.specs.Sequencing.{Sequencing}
 use Rattle.standby_stream.specs.declared.opening.Opening.{Opening}
 use Rattle.standby_stream.specs.Stream.{Stream}
-use Rattle.group_commit.specs.Due.{due_now, has_group, left_by, reached_by}
+use Rattle.group_commit.specs.Due.{due_now, left_by}
 use Rattle.group_commit.specs.Working.{FreesReached, entries_of_lists}
 use Rattle.group_commit.specs.declared.committer.Committer.{Committer}
 use Rattle.group_commit.specs.declared.due.Due.TheVariants as due
 use Rattle.group_commit.specs.declared.stage.Done.{Done}
 use Rattle.group_commit.specs.declared.stage.Stage.{Stage}
-use Rattle.group_commit.proofs.DueLemmas.{FreeIsDue, free-now, no-groups}
+use Rattle.group_commit.proofs.DueLemmas.{FreeIsDue, free-now}
 use Rattle.group_commit.proofs.FreedLemmas.{AreEnded-first}
 use Rattle.group_commit.proofs.GroupsLemmas.{Same-is}
 use Rattle.machine.specs.declared.event.Event.{Event}
@@ -35,7 +35,10 @@ use Rattle.world.specs.Committing.{CommittingRefines, Leads, OpensAt, OpensAtEit
 use Rattle.world.specs.GroupSpan.{AreWorkOf, positions_of_lists}
 use Rattle.world.specs.Pair.{Does, FreeingRefines, IsCut, Pair, PairRefines, PartsRefine}
 use Rattle.world.specs.Effect.{FreesOldest}
-use Rattle.world.specs.Recalling.{Remembers}
+use Rattle.primary.specs.Recalling.{Remembers}
+use Rattle.primary.proofs.KeptTurns.{remembers-reached}
+use Rattle.primary.proofs.RecallLemmas.{remembers-freed}
+use Rattle.world.specs.Recalling.{past_of}
 use Rattle.world.specs.Standby.{Arrived, Node}
 use Rattle.connections.specs.declared.connections.Connections.{Connections}
 use Rattle.connections.specs.declared.transcript.Transcript.{Transcript}
@@ -47,16 +50,10 @@ use Rattle.primary.proofs.TurnedLemmas.{Leads-reached}
 use Rattle.world.proofs.LivesLemmas.{enabled-is, is_own, nodes-refine, own-runs}
 use Rattle.world.proofs.PairLemmas.{Led, cut-for, cut-same, none-added, rests-standby, stays-does, tells}
 use Rattle.world.proofs.QueueLemmas.{free-disabled, free-enabled, reached-positions, room-link}
-use Rattle.world.proofs.RecallLemmas.{remembers-aside, remembers-freed}
 use Rattle.world.proofs.PairTurns.{Took, Waiting-same, pair_of}
 use Rattle.world.proofs.FreeingLemmas.{engine-freed, freed-moments, primary-steps}
 
 -- ---- what a turn reaches
-
-remembers-reached : (has_room : Bool) (low position : ℕ) (calls : List Call) (contents : Contents) (items : List Work) (aside : List FreeList) (s : Sequencing) → (has_room ≡ true → has_group items ≡ false)
-    → Remembers low position calls contents items aside s → Remembers low position calls contents (left_by has_room items) (reached_by has_room aside items) s
-remembers-reached true low position calls contents items aside s none remembers = remembers-aside low position calls contents items aside s (no-groups items (none refl)) remembers
-remembers-reached false low position calls contents items aside s none remembers = remembers
 
 -- what waits for the machine's committer
 work_left : (calls : List Call) (room room' : Bool) (items : List Work) (works : List MachineWork) → room ≡ room' → AreWorkOf calls items works → AreWorkOf calls (left_by room items) (cond room' [] works)
@@ -198,12 +195,12 @@ module _ {E : Type 0} (device : E → State) (contents : E → Contents) (is_fau
           let leads : Leads new.contents waiting'.items after.aside.items sequencer new.notices =
           rw (moved, it.aside)
           (Leads-freed old.contents waiting'.items frees.list frees.rest sequencer notices places consistent laid (leads-then (Ok ok) frees first second w parts) answer.2 answer.3) in
-          let remembers : Remembers low p calls new.contents waiting'.items after.aside.items sequencer =
+          let remembers : Remembers low p (past_of calls) new.contents waiting'.items after.aside.items sequencer =
           rw (moved, it.aside)
-          (remembers-freed low p calls old.contents waiting'.items frees.list frees.rest sequencer (passed-then (Ok ok) frees first second w stands) ended
+          (remembers-freed low p (past_of calls) old.contents waiting'.items frees.list frees.rest sequencer (passed-then (Ok ok) frees first second w stands) ended
           (rw frees.left
-          (subst (λ (xs : List FreeList). Remembers low p calls old.contents (left_by (link_has_room handed.items) waiting.items) xs sequencer) frees.reached
-          (remembers-reached (link_has_room handed.items) low p calls old.contents waiting.items before.aside.items sequencer may.none parts.remembers)))) in
+          (subst (λ (xs : List FreeList). Remembers low p (past_of calls) old.contents (left_by (link_has_room handed.items) waiting.items) xs sequencer) frees.reached
+          (remembers-reached (link_has_room handed.items) low p (past_of calls) old.contents waiting.items before.aside.items sequencer may.none parts.remembers)))) in
           search (
             rules,
             parts,

@@ -32,7 +32,9 @@ use Rattle.connections.proofs.SessionLemmas.{length-released, released-told}
 use Rattle.connections.proofs.SeatLemmas.{follow-kept}
 use Rattle.connections.proofs.SequencerLemmas.{still-same}
 use Rattle.world.proofs.StillLemmas.{freeing-still, leads-still}
-use Rattle.world.proofs.RecallLemmas.{remembers-on, remembers-still}
+use Rattle.primary.proofs.RecallLemmas.{remembers-on}
+use Rattle.world.specs.Recalling.{past_of}
+use Rattle.world.proofs.RecallLemmas.{remembers-still}
 use Rattle.world.proofs.OpeningLemmas.{opening-still}
 use Rattle.world.proofs.EngineLemmas.{Opens-engine, moves-rest, rests-same, EngineStands-grows}
 use Rattle.world.proofs.CommittingLemmas.{CommittingRefines-grows}
@@ -203,7 +205,7 @@ seats-parts first second old sessions transcript sequencer connections w parts s
       rules,
       leads-still old.contents old.committing.waiting.items old.committing.aside old.sequencer sequencer old.notices still parts.leads,
       freeing-still old.sequencer sequencer old.notices old.contents w.primary (with_connections connections w).primary still refl refl refl refl parts.freeing,
-      remembers-on w.standby.position w.standby.position w.primary.committer.position w.primary.calls old.contents old.committing.waiting.items old.committing.aside old.sequencer sequencer (le_refl w.standby.position) still.ended still.newest parts.remembers,
+      remembers-on w.standby.position w.standby.position w.primary.committer.position (past_of w.primary.calls) old.contents old.committing.waiting.items old.committing.aside old.sequencer sequencer (le_refl w.standby.position) still.ended still.newest parts.remembers,
     )
 
 sessions-parts : (first second : Holder) (old : Pair) (sessions : Connections) (transcript : Transcript) (connections : List Connection) (w : World) → PartsRefine first second old w
@@ -319,8 +321,8 @@ called-parts first second old sessions transcript sequencer w c call stands sess
       engine = EngineStands-grows first w.primary.calls (call ∷ []) w.primary.committer.position old.device old.contents old.is_faulted (primary-within w stands.sound) parts.engine;
       leads = leads-still old.contents old.committing.waiting.items old.committing.aside old.sequencer sequencer old.notices still parts.leads;
       freeing = freeing-still old.sequencer sequencer old.notices old.contents w.primary (called c call w).primary still refl refl refl refl parts.freeing;
-      remembers = remembers-still w.standby.position w.standby.position w.primary.committer.position w.primary.calls (call ∷ []) old.contents old.committing.waiting.items old.committing.aside old.sequencer sequencer
-          (le_refl w.standby.position) (primary-within w stands.sound) still.ended still.newest parts.remembers w.primary.committer.waiting parts.committing.work;
+      remembers = remembers-still w.standby.position w.primary.committer.position w.primary.committer.closed w.primary.calls (call ∷ []) old.contents old.committing.waiting.items old.committing.aside old.sequencer sequencer
+          old.notices parts.engine.contents_at.at parts.sequencer parts.leads still.ended still.newest parts.remembers;
       opening = opening-still w.standby.position w.standby.position w.primary.opened w.primary.calls (call ∷ []) old.opening (le_refl w.standby.position) parts.opening;
       epoch = parts.epoch;
       link = LinkRefines-grows w.primary.calls (call ∷ []) old.link old.handed old.remote w.primary.link parts.link;

@@ -242,7 +242,7 @@ opening-parts first second old known opening w behind same kept parts =
     elim (cases_lt known old.opening.position) [
       | inl below ↦ subst (OpeningLeads w.standby.position w.primary.opened w.primary.calls) (sym (kept below)) parts.opening
       | inr passed ↦ opening-forgotten w.standby.position w.primary.opened w.primary.calls old.opening opening same
-          (let at = parts.opening.position_is in omega (arith, passed, at, behind)) parts.opening
+          (let at = parts.opening.delta.position_is in omega (arith, passed, at, behind)) parts.opening
     ] in
     search (rules, told)
 

@@ -1,5 +1,4 @@
 -- What the reopening of a node that crashed does to the pair.
-use mathlib.Core.Path.{fun_ext}
 use Rattle.std.proofs.Common.{rules, le_refl, ◌≡◌, inl, inr, ℕ, Bool, true, false, ◌&&◌, List, length, Result, Ok, Err, refl, sym, ap, subst, ◌∙◌, arith, true≢false, []}
 use Rattle.kv_types.specs.declared.refusal.Refusal.{Refusal}
 use Rattle.kv_types.specs.declared.refusal.Refusal.TheVariants.{Fault, Memory}
@@ -9,21 +8,18 @@ use Rattle.pipes.specs.Waiting.{Waiting}
 use Rattle.model.specs.declared.group.Group.{Group}
 use Rattle.model.specs.declared.record.Role.TheVariants as role
 use Rattle.model.specs.Call.{cut_at, keyspace_after}
-use Rattle.model.specs.declared.work.FreeList.{FreeList}
-use Rattle.model.specs.declared.work.Work.{Work}
-use Rattle.model.specs.Group.{AreEnded, Contents, Versions}
-use Rattle.model.specs.Image.{Image}
+use Rattle.model.specs.Group.{AreEnded, Contents}
+use Rattle.model.specs.Image.{Image, IsMapOf, entries_of_lines}
 use Rattle.model.specs.Standing.{Holder}
-use Rattle.model.proofs.CallsLemmas.{keyspace_after-cut_at-position}
+use Rattle.model.proofs.CallsLemmas.{IsKeyspace-keyspace_after, keyspace_after-cut_at-position}
 use Rattle.mv_keyspace.specs.Table.{records}
 use Rattle.group_commit.specs.declared.stage.Stage.TheVariants.{Ready}
 use Rattle.redis_core.specs.Sequencing.{Sequencing}
 use Rattle.standby.specs.Following.{Follows}
 use Rattle.placing.specs.Read.{Shows}
 use Rattle.standby_stream.specs.declared.opening.Opening.{Opening}
-use Rattle.standby_stream.specs.Delta.{IsOpening, Recalls}
+use Rattle.standby_stream.specs.Delta.{IsOpening}
 use Rattle.standby_stream.specs.Stream.{Stream, new_stream}
-use Rattle.standby_stream.proofs.DeltaLemmas.{delta_leads_on}
 use Rattle.standby_stream.proofs.FitLemmas.{deltas_fit}
 use Rattle.wbl_engine.specs.declared.freeing.Freed.{Freed}
 use Rattle.wbl_engine.specs.Reopening.{RefusesReopening}
@@ -36,7 +32,10 @@ use Rattle.world.specs.Cause.{EndsBy, Stretch}
 use Rattle.world.specs.Committing.{Committing, CommittingRefines, IsDown, next_primary, next_standby}
 use Rattle.world.specs.GroupSpan.{AreGroupsOf}
 use Rattle.world.specs.Link.{AreFramesSent, LinkRefines}
-use Rattle.world.specs.Recalling.{OpeningLeads, RecallsEach, Remembers}
+use Rattle.primary.specs.Recalling.{AreKeyspaces, DeltaLeads, RecallsEach, Remembers}
+use Rattle.primary.proofs.KeptImages.{delta-leads, keeps-opened, recalls-of}
+use Rattle.primary.proofs.OpenedLemmas.{leads_to}
+use Rattle.world.specs.Recalling.{OpeningLeads, past_of}
 use Rattle.primary.specs.Resuming.{IsOver}
 use Rattle.connections.specs.Session.{SequencerRefines}
 use Rattle.world.specs.Standby.{ArrivalsRefine, Node, StandbyRefines, StandbyStands}
@@ -45,9 +44,8 @@ use Rattle.world.proofs.DownLemmas.{restart-refused}
 use Rattle.world.proofs.EngineLemmas.{moves-same}
 use Rattle.world.proofs.FormLemmas.{committing-nothing, leads-nothing}
 use Rattle.world.proofs.PairLemmas.{Led, cut-for, none-added, primary-stands, rests-primary, rests-standby, standby-stands, tells, standby-refines}
-use Rattle.world.proofs.OpenedLemmas.{IsNotOpened, IsOpened, opened-breaks, opened-gaps, opened-limit, opened-moves, opened-rests, opened-stands, opened-versions, table-there}
-use Rattle.world.proofs.OpeningLemmas.{have_their_lines, in_order, opening-opened}
-use Rattle.world.proofs.RecallLemmas.{remembers-opened}
+use Rattle.world.proofs.OpenedLemmas.{IsNotOpened, IsOpened, opened-breaks, opened-gaps, opened-limit, opened-moves, opened-rests, opened-stands, table-there}
+use Rattle.world.proofs.OpeningLemmas.{have_their_lines, in_order}
 use Rattle.world.proofs.PairLives.{stays-acts}
 use Rattle.world.proofs.PairStandby.{arrivals-stand, link-epoch, standby-either}
 
@@ -249,17 +247,26 @@ primary-reopens old sequencer committing notices device contents is_faulted hand
           remote_is = refl;
         })) in
         let low = w.standby.position in
-        let same_versions = opened-versions first calls p old.device device contents is_faulted lost.image mine in
         let newest : sequencer.newest ≡ p = ap (λ (s : Sequencing). s.newest) over.starts_so ∙ at.at in
-        let remembered : Remembers low p calls contents committing.waiting.items committing.aside sequencer =
-        subst (λ (items : List Work). Remembers low p calls contents items committing.aside sequencer) (sym begins.no_work)
-        (subst (λ (lists : List FreeList). Remembers low p calls contents [] lists sequencer) (sym begins.none_aside)
-        (remembers-opened low p calls lost.image.contents contents sequencer same_versions newest lost.recalls)) in
-        let recalled : RecallsEach low p calls contents =
-        λ q from below. subst (λ (versions : Versions). Recalls versions (λ i. Unit {0}) q (keyspace_after (cut_at calls q))) (fun_ext (λ i. sym (same_versions i))) (lost.recalls q from below) in
+        let past = past_of calls in
+        let here = lost.image.contents_at in
+        let recalled =
+        recalls-of low past lost.image.contents (image_of old.device.words) here.consistent
+        (subst (λ n. IsMapOf lost.image.contents.versions (entries_of_lines lost.image.contents.lines) (past n)) (sym here.at) here.map)
+        (subst (λ n. RecallsEach low n past lost.image.contents) (sym here.at) lost.recalls) lost.image.keeps in
+        let keyspaces : AreKeyspaces past = λ q. IsKeyspace-keyspace_after (cut_at calls q) in
+        let lines = old.device.lines in
+        let kept = keeps-opened low past lines (image_of old.device.words) first.role contents recalled mine.reopens sequencer over at.consistent keyspaces in
+        let remembered : Remembers low p past contents committing.waiting.items committing.aside sequencer =
+        rw (begins.no_work, begins.none_aside) (subst (λ n. Remembers low n past contents [] [] sequencer) at.at kept.remembers) in
         let told : OpeningLeads low p calls opening =
-        opening-opened (λ contents opening. delta_leads_on contents opening (λ i. Unit {0})) deltas_fit first low p calls contents opening at (omega (arith, lost.ends)) (in_order contents begins.image begins.shows)
-        (have_their_lines contents begins.image begins.shows) engine.lawful.few (begins.opened_at ∙ at.at) begins.tells recalled in
+        record {
+          within = omega (arith, lost.ends);
+          delta = subst (λ n. DeltaLeads low n past opening) at.at
+              (delta-leads low past lines (image_of old.device.words) first.role contents recalled mine.reopens sequencer over at.consistent keyspaces opening begins.opened_at
+              (leads_to contents sequencer opening at.consistent over begins.tells));
+          size = λ q from below. deltas_fit contents opening q begins.tells (in_order contents begins.image begins.shows) (have_their_lines contents begins.image begins.shows) engine.lawful.few;
+        } in
         let ended = length sequencer.ended in
         let gaps = length contents.current.gaps.items in
         let w' = with_primary (reopened_primary ended gaps w.primary) w in

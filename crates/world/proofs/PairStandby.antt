@@ -26,7 +26,7 @@ use Rattle.connections.specs.Going.{Goes}
 use Rattle.world.specs.Cause.{Stretch, Breaks, RestsAtFrameLimit, EndsBy, Resting}
 use Rattle.world.specs.Committing.{NearOnly, Moves, next_standby}
 use Rattle.world.specs.Link.{IsFrameOf, AreFramesOf, LinkRefines, AreFramesSent}
-use Rattle.world.specs.Recalling.{OpeningLeads}
+use Rattle.world.specs.Recalling.{OpeningLeads, past_of}
 use Rattle.world.specs.Standby.{Arrived, Node, StandbyStands, StandbyRefines, ArrivalsRefine, AppliesFirst, told_by}
 use Rattle.world.specs.Pair.{Pair, EitherRefines, NodesRefine, PartsRefine, PairRefines, Steps, Acts, Does, life_if}
 use Rattle.world.proofs.EngineLemmas.{moves-same}
@@ -34,7 +34,7 @@ use Rattle.world.proofs.FrameLemmas.{length-sent}
 use Rattle.world.proofs.PairLemmas.{Led, cut-for, cut-same, goes-either, goes-map, goes-steps, none-added, primary-stands, rests-primary, standby-refines, tells, untouched}
 use Rattle.world.proofs.PairLink.{link-alone}
 use Rattle.world.proofs.OpeningLemmas.{opening-on}
-use Rattle.world.proofs.RecallLemmas.{recalls-still, remembers-on}
+use Rattle.primary.proofs.RecallLemmas.{recalls-still, remembers-on}
 
 -- ---- the standby
 
@@ -54,7 +54,7 @@ standby-parts : (first second : Holder) (old : Pair) (arrivals : Arrived) (node 
 standby-parts first second old arrivals node runs w machine told later parts arrivals_stand node_stands =
     search (
       rules,
-      remembers-on w.standby.position machine.position w.primary.committer.position w.primary.calls old.contents old.committing.waiting.items old.committing.aside old.sequencer old.sequencer later refl refl parts.remembers,
+      remembers-on w.standby.position machine.position w.primary.committer.position (past_of w.primary.calls) old.contents old.committing.waiting.items old.committing.aside old.sequencer old.sequencer later refl refl parts.remembers,
       opening-on w.standby.position machine.position w.primary.opened w.primary.calls old.opening later parts.opening,
     )
 
@@ -66,7 +66,7 @@ standby-either first second old arrivals node runs w machine told later parts ar
   | inl up ↦ inl (up.0, standby-parts first second old arrivals node runs w machine told later up.1 arrivals_stand node_stands)
   | inr down ↦
       let lost = down.1 in
-      inr (down.0, search (rules, recalls-still w.standby.position machine.position w.primary.committer.position w.primary.calls lost.image.contents later lost.recalls))
+      inr (down.0, search (rules, recalls-still w.standby.position machine.position w.primary.committer.position (past_of w.primary.calls) lost.image.contents later lost.recalls))
 ]
 
 frames-stand : {first second : Holder} {pair : Pair} {w : World} → EitherRefines first second pair w → AreFramesSent pair.link.epoch w.primary.calls pair.frames w.wire.frames
@@ -147,8 +147,8 @@ delta-frame epoch low opened calls opening frame leads below is =
       span_within = record { rising = below; within = leads.within };
       epoch_is = is.epoch_is;
       before = is.before;
-      after = is.after ∙ leads.position_is;
-      plays = ap (play_all (keyspace_after (cut_at calls low))) is.changes ∙ leads.leads low (le_refl low) below;
+      after = is.after ∙ leads.delta.position_is;
+      plays = ap (play_all (keyspace_after (cut_at calls low))) is.changes ∙ leads.delta.leads low (le_refl low) below;
       size = subst (λ (changes : List Change). changes_size changes ≤ MAX_BODY_BYTES) (sym is.changes) (leads.size low (le_refl low) below);
     }
 
@@ -156,13 +156,13 @@ delta-frames : (epoch low opened : ℕ) (calls : List Call) (opening : Opening) 
     → AreFramesOf epoch calls (option_items delta) (due_delta low opened)
 delta-frames epoch low opened calls opening delta leads is = elim (cases_lt low opened) [
   | inl below ↦
-      let one = is.due (omega (arith, below, leads.position_is)) in
+      let one = is.due (omega (arith, below, leads.delta.position_is)) in
       subst (λ (spans : List Span). AreFramesOf epoch calls (option_items delta) spans) (sym (ap (λ b. cond b (record { before = low; after = opened } ∷ []) []) (lt-ltb low opened below)))
       (subst (λ (d : Option Frame). AreFramesOf epoch calls (option_items d) (record { before = low; after = opened } ∷ [])) (sym one.1)
       (delta-frame epoch low opened calls opening one.0 leads below one.2, tt))
   | inr passed ↦
       subst (λ (spans : List Span). AreFramesOf epoch calls (option_items delta) spans) (sym (ap (λ b. cond b (record { before = low; after = opened } ∷ []) []) (le-ltb low opened passed)))
-      (subst (λ (d : Option Frame). AreFramesOf epoch calls (option_items d) []) (sym (is.none (omega (arith, passed, leads.position_is)))) tt)
+      (subst (λ (d : Option Frame). AreFramesOf epoch calls (option_items d) []) (sym (is.none (omega (arith, passed, leads.delta.position_is)))) tt)
 ]
 
 -- the position that the standby tells is its own

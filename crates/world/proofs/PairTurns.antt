@@ -33,7 +33,8 @@ use Rattle.machine.specs.declared.event.Event.{Event}
 use Rattle.machine.specs.declared.event.Event.TheVariants as events
 use Rattle.machine.specs.Event.{World, Committer as MachineCommitter, committed_first, from_group, may_happen, with_committer}
 use Rattle.world.specs.Committing.{EngineStands, CommittingRefines, link_has_room, next_primary}
-use Rattle.world.specs.Recalling.{Remembers}
+use Rattle.primary.specs.Recalling.{Remembers}
+use Rattle.world.specs.Recalling.{past_of}
 use Rattle.connections.specs.Session.{SequencerRefines}
 use Rattle.world.specs.Standby.{Arrived, Node}
 use Rattle.world.specs.Pair.{Pair, PartsRefine, PairRefines, Steps, Does}
@@ -183,7 +184,7 @@ module _ {E : Type 0} (device : E → State) (contents : E → Contents) (is_fau
 
       parts-after : (first second : Holder) (w : World) (committer : MachineCommitter) → PartsRefine first second old w → TakesLawful old.contents old.committing took.lists took.group new.committing
           → CommittingRefines w.primary.calls new.committing committer × EngineStands first w.primary.calls committer.position new.device new.contents new.is_faulted
-          → committer.closed ≡ w.primary.committer.closed → Remembers w.standby.position committer.position w.primary.calls new.contents new.committing.waiting.items new.committing.aside sequencer
+          → committer.closed ≡ w.primary.committer.closed → Remembers w.standby.position committer.position (past_of w.primary.calls) new.contents new.committing.waiting.items new.committing.aside sequencer
           → PartsRefine first second new (with_committer committer w)
       parts-after first second w committer parts takes stand closed remembers =
           record {

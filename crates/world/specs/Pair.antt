@@ -21,7 +21,8 @@ use Rattle.machine.specs.Sound.{Sound}
 use Rattle.world.specs.Cause.{EndsBy}
 use Rattle.world.specs.Committing.{Committing, EngineStands, IsDown, Leads, Moves, CommittingRefines, next_primary, next_standby}
 use Rattle.world.specs.Link.{AreFramesSent, LinkRefines}
-use Rattle.world.specs.Recalling.{OpeningLeads, RecallsEach, Remembers}
+use Rattle.primary.specs.Recalling.{RecallsEach, Remembers}
+use Rattle.world.specs.Recalling.{OpeningLeads, past_of}
 use Rattle.connections.specs.Session.{SessionsRefine, SequencerRefines, SeatsFollow, HasSeat, AddsOne, released_of, seats_of}
 use Rattle.world.specs.Standby.{Arrived, Node, StandbyRefines, ArrivalsRefine}
 use Rattle.connections.specs.declared.connections.Connections.{Connections}
@@ -72,7 +73,7 @@ pub record PartsRefine (first second : Holder) (pair : Pair) (w : World) : Type 
   pub engine : EngineStands first w.primary.calls w.primary.committer.position pair.device pair.contents pair.is_faulted
   pub leads : Leads pair.contents pair.committing.waiting.items pair.committing.aside pair.sequencer pair.notices
   pub freeing : FreeingRefines pair.sequencer pair.notices pair.contents w.primary
-  pub remembers : Remembers w.standby.position w.primary.committer.position w.primary.calls pair.contents pair.committing.waiting.items pair.committing.aside pair.sequencer
+  pub remembers : Remembers w.standby.position w.primary.committer.position (past_of w.primary.calls) pair.contents pair.committing.waiting.items pair.committing.aside pair.sequencer
   pub opening : OpeningLeads w.standby.position w.primary.opened w.primary.calls pair.opening
   pub epoch : pair.link.epoch ≡ w.primary.epoch
   pub link : LinkRefines w.primary.calls pair.link pair.handed pair.remote w.primary.link
@@ -93,7 +94,7 @@ pub record DownRefine (first second : Holder) (pair : Pair) (w : World) : Type 0
   pub image : IsDown first w.primary.calls w.primary.committer.position pair.device
   pub gaps : length image.contents.current.gaps.items ≡ w.primary.gaps
   pub opened : w.primary.opened ≡ w.primary.committer.position
-  pub recalls : RecallsEach w.standby.position w.primary.committer.position w.primary.calls image.contents
+  pub recalls : RecallsEach w.standby.position w.primary.committer.position (past_of w.primary.calls) image.contents
   pub epoch : pair.link.epoch ≡ w.primary.epoch
   pub frames : AreFramesSent pair.link.epoch w.primary.calls pair.frames w.wire.frames
   pub arrivals : ArrivalsRefine pair.link.epoch w.primary.calls pair.arrivals w.standby.waiting w.wire.acknowledgements

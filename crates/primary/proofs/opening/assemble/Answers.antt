@@ -1,6 +1,8 @@
 use Rattle.std.proofs.Common.{ap, sym, ◌∙◌}
 use Rattle.model.specs.declared.record.Record.{Record}
+use Rattle.model.specs.declared.record.Role.TheVariants as role
 use Rattle.primary.proofs.ClosedLemmas.{consistent-read, laid-read}
+use Rattle.primary.proofs.KeptImages.{delta-leads, keeps-opened}
 use Rattle.primary.proofs.OpenedLemmas.{leads_to}
 use Rattle.primary.proofs.opening.assemble.Goals as goal
 
@@ -16,18 +18,25 @@ returns g c =
     let position = sym c.position.ensures in
     let epoch = ap (λ (r : Record). r.epoch) c.record.ensures in
     let over = resumed.sequencer contents lines position (sym epoch) c.requires.read in
+    let consistent = consistent-read contents _ _ c.requires.read in
+    let at = resumed.opening.0 ∙ c.position.ensures in
+    let leads = leads_to contents _ _ consistent over (resumed.opening.1 contents lines c.requires.read) in
     record {
-      stands = made.stands over (consistent-read contents _ _ c.requires.read) (laid-read contents _ _ c.requires.read) c.requires.durable;
+      stands = made.stands over consistent (laid-read contents _ _ c.requires.read) c.requires.durable;
       engine = made.engine;
       opened = rw made.sequencer (record {
         over = over;
-        opened_at = resumed.opening.0 ∙ c.position.ensures;
+        opened_at = at;
         opening_is = resumed.opening.1 contents lines c.requires.read;
-        leads = leads_to contents _ _ (consistent-read contents _ _ c.requires.read) over (resumed.opening.1 contents lines c.requires.read);
+        leads = leads;
         position_is = c.position.ensures;
         epoch_is = epoch;
         keys_are = resumed.keys;
       });
       ready = (made.ready.0, made.ready.1, made.ready.2, made.ready.3 ∙ position);
+      keeps = λ low past of image keyspaces recalled reopened. (
+        rw (made.sequencer, made.engine, made.ready.0, made.ready.2) (keeps-opened low past of image role.Primary contents recalled reopened _ over consistent keyspaces),
+        rw c.position.ensures (delta-leads low past of image role.Primary contents recalled reopened _ over consistent keyspaces _ at leads),
+      );
       cause = tt;
     }

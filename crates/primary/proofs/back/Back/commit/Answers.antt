@@ -1,4 +1,6 @@
 use Rattle.std.proofs.Common.{nat_lt}
+use Rattle.primary.proofs.KeptImages.{turn-leaves}
+use Rattle.primary.proofs.KeptTurns.{kept-for-all, refused-keeps}
 use Rattle.primary.proofs.LeadsLemmas.{gives-work}
 use Rattle.primary.proofs.TurnedLemmas.{told-for-all, turn-again, turn-committed, turn-position, turn-rises, turn-stays}
 use Rattle.primary.proofs.back.Back.commit.Goals as goal
@@ -47,3 +49,24 @@ pub returns-clause-committed : goal.returns-clause-committed
 returns-clause-committed g c =
     let E = g.E.Durable in
     turn-committed E.device E.contents E.is_faulted (E.contents c.args.self.now.committer.engine).current.position c.turn.new.self c.turn.result (returns-clause-position g c)
+
+pub returns-clause-keeps : goal.returns-clause-keeps
+returns-clause-keeps g c =
+    let E = g.E.Durable in
+    let O = g.O.Outlet in
+    kept-for-all E.device E.contents E.is_faulted O.offered O.known_room c.args.self.now.committer c.turn.new.self c.args.self.now.work c.turn.new.work c.args.link.now c.turn.new.link
+    (nat_lt 0 (O.known_room c.turn.new.link)) c.args.remote c.turn.result c.turn.ensures.takes
+
+pub returns-clause-still : goal.returns-clause-still
+returns-clause-still g c = λ refused s notices low past passed stands keeps.
+    let E = g.E.Durable in
+    let O = g.O.Outlet in
+    refused-keeps E.device E.contents E.is_faulted low past s notices O.offered O.known_room c.args.self.now.committer c.turn.new.self c.args.self.now.work c.turn.new.work c.args.link.now c.turn.new.link
+    (nat_lt 0 (O.known_room c.turn.new.link)) c.args.remote passed stands keeps c.turn.result c.turn.ensures.takes refused
+
+pub returns-clause-leaves : goal.returns-clause-leaves
+returns-clause-leaves g c = λ sound s notices low past passed stands keeps.
+    let E = g.E.Durable in
+    let O = g.O.Outlet in
+    turn-leaves E.device E.contents E.is_faulted low past s notices O.offered O.known_room c.args.self.now.committer c.turn.new.self c.args.self.now.work c.turn.new.work c.args.link.now c.turn.new.link
+    (nat_lt 0 (O.known_room c.turn.new.link)) c.args.remote c.turn.result passed sound stands keeps c.turn.ensures.takes

@@ -1,0 +1,185 @@
+-- What of its past a primary keeps over a turn of the committer.
+use Rattle.std.proofs.Common.{◌≡◌, ℕ, ◌≤◌, Bool, true, false, List, [], ◌∷◌, ◌++◌, Result, Ok, Err, IfOk, IsErrOf, refl, sym, ap, subst, ◌∙◌, inl, inr, arith}
+use Rattle.pmem.specs.Device.{State}
+use Rattle.kv_types.specs.declared.refusal.Refusal.{Refusal}
+use Rattle.kv_types.specs.declared.refusal.Refusal.TheVariants.{Memory}
+use Rattle.model.specs.declared.group.Group.{Group}
+use Rattle.model.specs.declared.record.Record.{Record}
+use Rattle.model.specs.declared.work.FreeList.{FreeList}
+use Rattle.model.specs.declared.work.Work.{Work}
+use Rattle.model.specs.Group.{AreEnded, Contents, after_free, after_group, is_listed, last_position}
+use Rattle.model.specs.Image.{IsMapOf, entries_of_lines}
+use Rattle.model.proofs.MapLemmas.{IsMapOf-same}
+use Rattle.wbl_engine.specs.declared.freeing.Freed.{Freed as Places}
+use Rattle.wbl_engine.proofs.WithoutLemmas.{IsMapOf-contents_without}
+use Rattle.redis_core.specs.Sequencing.{Sequencing}
+use Rattle.group_commit.specs.Due.{due_now, has_group, left_by, reached_by}
+use Rattle.group_commit.specs.Working.{ClearsGap, FreesReached, Takes, TakesGroup, entries_of_lists}
+use Rattle.group_commit.specs.declared.committer.Committer.{Committer}
+use Rattle.group_commit.specs.declared.due.Due.{Due}
+use Rattle.group_commit.specs.declared.due.Due.TheVariants as due
+use Rattle.group_commit.specs.declared.stage.Done.{Done}
+use Rattle.group_commit.specs.declared.stage.Done.TheVariants as done
+use Rattle.group_commit.proofs.DueLemmas.{clear-now, free-now, no-groups}
+use Rattle.group_commit.proofs.FreedLemmas.{AllEnded-listed, AreEnded-first}
+use Rattle.group_commit.proofs.GroupsLemmas.{Same-is}
+use Rattle.pipes.specs.Waiting.{Waiting}
+use Rattle.primary.specs.Leading.{Leads}
+use Rattle.primary.specs.Recalling.{KeepsPast, Past, Remembers}
+use Rattle.primary.specs.Standing.{StandsOver}
+use Rattle.primary.proofs.RecallLemmas.{remembers-aside, remembers-freed, remembers-same}
+use Rattle.primary.proofs.RecallParts.{map-committed, remembers-committed}
+use Rattle.primary.proofs.TurnedLemmas.{Leads-reached, group-is, ok_not_err}
+
+-- what is reached stands aside
+pub remembers-reached : (has_room : Bool) (low position : ℕ) (past : Past) (contents : Contents) (items : List Work) (aside : List FreeList) (s : Sequencing) → (has_room ≡ true → has_group items ≡ false)
+    → Remembers low position past contents items aside s → Remembers low position past contents (left_by has_room items) (reached_by has_room aside items) s
+remembers-reached true low position past contents items aside s none remembers = remembers-aside low position past contents items aside s (no-groups items (none refl)) remembers
+remembers-reached false low position past contents items aside s none remembers = remembers
+
+-- contents of the same position, with the same versions
+pub keeps-same : (low : ℕ) (past : Past) (contents new : Contents) (items : List Work) (aside : List FreeList) (s : Sequencing) → new.current.position ≡ contents.current.position → new.lines ≡ contents.lines
+    → ((i : ℕ) → new.versions i ≡ contents.versions i) → KeepsPast low past contents items aside s → KeepsPast low past new items aside s
+keeps-same low past contents new items aside s at lines versions keeps =
+    let same = remembers-same low contents.current.position past contents new items aside s versions keeps.remembers in
+    record {
+      now = rw (at, lines) (IsMapOf-same contents.versions new.versions (entries_of_lines contents.lines) (past contents.current.position) (λ i within. sym (versions i)) keeps.now);
+      follows = keeps.follows;
+      remembers = subst (λ p. Remembers low p past new items aside s) (sym at) same;
+    }
+
+module _ {E : Type 0} (device : E → State) (contents : E → Contents) (is_faulted : E → Bool) (low : ℕ) (past : Past) (s : Sequencing) (notices : List Places) where
+  abbrev Stood : Committer E → Waiting Work → Type 0
+  Stood c waiting = StandsOver (device c.engine) (contents c.engine) waiting.items c.aside.items s notices
+
+  abbrev Kept : Committer E → Waiting Work → Type 0
+  Kept c waiting = KeepsPast low past (contents c.engine) waiting.items c.aside.items s
+
+  unmoved : (old new : Committer E) (before after : Waiting Work) → new.engine ≡ old.engine → new.aside.items ≡ old.aside.items → after ≡ before → Kept old before → Kept new after
+  unmoved old new before after engine aside queue keeps = rw (queue, aside, engine) keeps
+
+  -- ---- a group has committed
+
+  -- what an engine then contains
+  pub committed-keeps : (old new : Committer E) (before after : Waiting Work) (result : Result Done Refusal) (took : TakesGroup device contents is_faulted old before result new after) → Stood old before
+      → Kept old before → KeepsPast low past (after_group (contents old.engine) took.group) after.items (old.aside.items ++ took.lists) s
+  committed-keeps old new before after result took over keeps =
+      let c = contents old.engine in
+      let group = took.group in
+      let parts = group.parts.items in
+      let lawful = group-is device contents is_faulted old new before after result took s notices over in
+      let remembers = subst (λ (xs : List Work). Remembers low c.current.position past c xs old.aside.items s) took.taken keeps.remembers in
+      let ends : last_position group.before parts ≡ last_position c.current.position parts = ap (λ p. last_position p parts) lawful.before in
+      let map_is = map-committed low c.current.position past c took.lists group after.items old.aside.items s refl over.consistent keeps.now lawful remembers in
+      let remembered = remembers-committed low c.current.position past c took.lists group after.items old.aside.items s refl over.consistent keeps.now lawful remembers in
+      record {
+        now = subst (λ p. IsMapOf (after_group c group).versions (entries_of_lines c.lines) (past p)) ends map_is;
+        follows = keeps.follows;
+        remembers = subst (λ p. Remembers low p past (after_group c group) after.items (old.aside.items ++ took.lists) s) ends remembered;
+      }
+
+  group-keeps : (old new : Committer E) (before after : Waiting Work) (came : Done) → TakesGroup device contents is_faulted old before (Ok came) new after → Stood old before → Kept old before → Kept new after
+  group-keeps old new before after came took over keeps =
+      let is = Same-is (after_group (contents old.engine) took.group) (contents new.engine) took.commits.moved in
+      subst (λ (c : Contents). KeepsPast low past c after.items new.aside.items s) (sym is)
+      (subst (λ (xs : List FreeList). KeepsPast low past (after_group (contents old.engine) took.group) after.items xs s) (sym took.set_aside)
+      (committed-keeps old new before after (Ok came) took over keeps))
+
+  -- ---- a list was freed
+
+  -- what is reached
+  module _ (old new : Committer E) (before after : Waiting Work) (has_room : Bool) (remote : ℕ) (result : Result Done Refusal) (none : has_room ≡ true → has_group before.items ≡ false)
+      (it : FreesReached device contents is_faulted has_room remote old before result new after) (over : Stood old before) (keeps : Kept old before) where
+    pub reached-remembers : Remembers low (contents old.engine).current.position past (contents old.engine) after.items (it.list ∷ it.rest) s
+    reached-remembers =
+        let c = contents old.engine in
+        rw it.left
+        (subst (λ (xs : List FreeList). Remembers low c.current.position past c (left_by has_room before.items) xs s) it.reached
+        (remembers-reached has_room low c.current.position past c before.items old.aside.items s none keeps.remembers))
+
+    pub reached-ended : AreEnded (contents old.engine) it.list.entries.items
+    reached-ended =
+        let c = contents old.engine in
+        let leads = subst (λ (xs : List FreeList). Leads c (left_by has_room before.items) xs s notices) it.reached (Leads-reached c has_room before.items old.aside.items s notices none over.leads) in
+        AreEnded-first c it.list.entries.items (entries_of_lists it.rest) leads.aside_ended
+
+  freed-keeps : (old new : Committer E) (before after : Waiting Work) (has_room : Bool) (remote : ℕ) (came : Done) → remote ≤ low → (has_room ≡ true → has_group before.items ≡ false)
+      → FreesReached device contents is_faulted has_room remote old before (Ok came) new after → Stood old before → Kept old before → Kept new after
+  freed-keeps old new before after has_room remote came passed none it over keeps =
+      let c = contents old.engine in
+      let entries = it.list.entries.items in
+      let ended = reached-ended old new before after has_room remote (Ok came) none it over keeps in
+      let is = Same-is (after_free entries c) (contents new.engine) it.frees.moved in
+      let kept : KeepsPast low past (after_free entries c) after.items it.rest s =
+      record {
+        now = IsMapOf-contents_without c (λ i. is_listed i entries) (past c.current.position) (AllEnded-listed c entries ended) keeps.now;
+        follows = keeps.follows;
+        remembers = remembers-freed low c.current.position past c after.items it.list it.rest s (omega (arith, it.passed, passed)) ended
+            (reached-remembers old new before after has_room remote (Ok came) none it over keeps);
+      } in
+      subst (λ (c : Contents). KeepsPast low past c after.items new.aside.items s) (sym is)
+      (subst (λ (xs : List FreeList). KeepsPast low past (after_free entries c) after.items xs s) (sym it.frees.aside) kept)
+
+  -- ---- a gap was cleared
+
+  cleared-keeps : (old new : Committer E) (before after : Waiting Work) (came : Done) → old.aside.items ≡ [] → after ≡ before → ClearsGap device contents is_faulted old (Ok came) new → Kept old before
+      → Kept new after
+  cleared-keeps old new before after came alone queue clears keeps =
+      let cleared = clears.answer.3 in
+      let at = ap (λ (r : Record). r.position) cleared.current in
+      let same = keeps-same low past (contents old.engine) (contents new.engine) before.items old.aside.items s at cleared.lines_are cleared.versions keeps in
+      rw (queue, clears.aside ∙ sym alone) same
+
+  -- ---- any turn
+
+  module _ {O : Type 0} (offered : O → List Group) (known_room : O → ℕ) (old new : Committer E) (before after : Waiting Work) (link link' : O) (has_room : Bool) (remote : ℕ) (passed : remote ≤ low)
+      (over : Stood old before) (keeps : Kept old before) where
+    abbrev Took : Due → Result Done Refusal → Type 0
+    Took step result = Takes device contents is_faulted offered known_room step has_room remote old before link result new after link'
+
+    abbrev now : Due
+    now = due_now contents old before has_room remote
+
+    keeps-by : (step : Due) (came : Done) → now ≡ step → Took step (Ok came) → Kept new after
+    keeps-by due.Commit came is (none, inl took) = group-keeps old new before after came took over keeps
+    keeps-by due.Commit came is (none, inr lacks) = absurd (ok_not_err came lacks.answer)
+    keeps-by due.Free came is (none, inl frees) = freed-keeps old new before after has_room remote came passed (free-now contents old before has_room remote is).none frees over keeps
+    keeps-by due.Free came is (none, inr lacks) = absurd (ok_not_err came lacks.answer)
+    keeps-by due.Clear came is (none, queue, clears) = cleared-keeps old new before after came (clear-now contents old before has_room remote is).no_aside queue clears keeps
+    keeps-by due.Raise came is (same, queue, raises) = rw (queue, raises.now) keeps
+    keeps-by due.Hand came is (queue, hands) = elim hands.came [
+      | inl handed ↦ rw (queue, handed.1) keeps
+      | inr idle ↦ rw (queue, idle.1) keeps
+    ]
+    keeps-by due.Nothing came is (none, queue, answer, same) = rw (queue, same) keeps
+
+    pub turn-keeps : (result : Result Done Refusal) → Took now result → IfOk result (λ came. Kept new after)
+    turn-keeps (Ok came) took = keeps-by now came refl took
+    turn-keeps (Err refusal) took = tt
+
+    -- where memory was refused
+    refused-by : (step : Due) → now ≡ step → Took step (Err Memory) → Kept new after
+    refused-by due.Commit is (none, inl took) = absurd (elim took.commits.causes [ inl e ↦ cc | inr e ↦ cc ])
+    refused-by due.Commit is (none, inr lacks) = unmoved old new before after lacks.engine lacks.aside lacks.queue keeps
+    refused-by due.Free is (none, inl it) =
+        let so = free-now contents old before has_room remote is in
+        let remembers = reached-remembers old new before after has_room remote (Err Memory) so.none it over keeps in
+        rw (it.frees.kept, it.frees.memory refl) (record { now = keeps.now; follows = keeps.follows; remembers = remembers })
+    refused-by due.Free is (none, inr lacks) = unmoved old new before after lacks.engine lacks.aside lacks.queue keeps
+    refused-by due.Clear is (none, queue, clears) =
+        unmoved old new before after (clears.memory refl) (clears.aside ∙ sym (clear-now contents old before has_room remote is).no_aside) queue keeps
+    refused-by due.Raise is (same, queue, raises) = absurd (ok_not_err done.Raised (sym raises.answer))
+    refused-by due.Hand is (queue, hands) = absurd (elim hands.came [ inl handed ↦ ok_not_err done.Handed (sym handed.0) | inr idle ↦ ok_not_err done.Idle (sym idle.0) ])
+    refused-by due.Nothing is (none, queue, answer, same) = absurd (ok_not_err done.Idle (sym answer))
+
+    pub refused-keeps : (result : Result Done Refusal) → Took now result → IsErrOf result Memory → Kept new after
+    refused-keeps result took refused = refused-by now refl (subst (Took now) refused took)
+
+module _ {E : Type 0} (device : E → State) (contents : E → Contents) (is_faulted : E → Bool) {O : Type 0} (offered : O → List Group) (known_room : O → ℕ) (old new : Committer E) (before after : Waiting Work)
+    (link link' : O) (has_room : Bool) (remote : ℕ) where
+  pub kept-for-all : (result : Result Done Refusal) → Takes device contents is_faulted offered known_room (due_now contents old before has_room remote) has_room remote old before link result new after link'
+      → IfOk result (λ came. (s : Sequencing) (notices : List Places) (low : ℕ) (past : Past) → remote ≤ low → StandsOver (device old.engine) (contents old.engine) before.items old.aside.items s notices
+      → KeepsPast low past (contents old.engine) before.items old.aside.items s → KeepsPast low past (contents new.engine) after.items new.aside.items s)
+  kept-for-all (Ok came) took = λ s notices low past passed over keeps.
+      turn-keeps device contents is_faulted low past s notices offered known_room old new before after link link' has_room remote passed over keeps (Ok came) took
+  kept-for-all (Err refusal) took = tt
