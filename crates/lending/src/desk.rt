@@ -18,8 +18,8 @@ const LENT: u64 = 1;
 /// The borrower has the place, which is empty.
 const TAKEN: u64 = 2;
 
-/// A value lies there, for the lender.
-const RETURNED: u64 = 3;
+/// A value lies there, for the lender, who takes it back just where it finds this word.
+pub const RETURNED: u64 = 3;
 
 /// The place is empty, and nobody has it yet.
 const NEW: u64 = 4;
