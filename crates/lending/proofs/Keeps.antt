@@ -9,7 +9,7 @@ use Rattle.atomic_table.specs.Table as table
 use Rattle.atomic_table.proofs.Lists.{at_set}
 use Rattle.lending.specs.declared.view.LendingView.{LendingView}
 use Rattle.lending.specs.Phases.{Phase, new, home, lent, taken, returned, word_of, place_of, is_new, lent_of, taken_of, Agrees, lender_has, borrower_has}
-use Rattle.lending.specs.Rule.{Suits, Ruled, opening, lending, borrowing, Opens, Lends, Gives, Takes, TakesBack}
+use Rattle.lending.specs.Rule.{Suits, Ruled, opening, asking, lending, borrowing, Opens, Lends, Gives, Takes, TakesBack}
 
 at_end : {A : Type 0} (l : List A) (a b : A) (j : ℕ) → get_elem? (l ++ a ∷ []) j ≡ some b → (get_elem? l j ≡ some b) ⊎ ((j ≡ length l) × (a ≡ b))
 at_end [] a b zero e = inr (refl, some-injective a b e)
@@ -85,18 +85,18 @@ module _ {T : Type 0} (offers : T → Type 0) (keeps : T → T → Type 0) where
       borrowing = λ is. absurd (apart ((was.borrowing is).0 ∙ sym (mine.borrowing borrows).0));
     }
 
-  -- a step that changes nothing
+  -- a step that finds another word than it looks for
   stays : (lender borrower own n : ℕ) (v : LendingView T) (p : Phase T) (held : List (ℕ × Option T)) (tells : Me (Option T) (LendingView T) → Type 0)
-      → n ≡ word_of p → Agrees offers keeps p → Suits lender borrower p own v → tells (v, held) → Stepped lender borrower own n p held tells
+      → n ≡ word_of p → Agrees offers keeps p → Suits lender borrower p own v → tells (asking n v, held) → Stepped lender borrower own n p held tells
   stays lender borrower own n v p held tells word agrees mine told = record {
     after = p;
-    w = v;
+    w = asking n v;
     act = table.keeps;
     valid = tt;
     word = word;
     place = refl;
     agrees = agrees;
-    suits = mine;
+    suits = record { lending = mine.lending; borrowing = mine.borrowing };
     others = λ seat u apart was. was;
     told = told;
   }
@@ -169,11 +169,11 @@ module _ {T : Type 0} (offers : T → Type 0) (keeps : T → T → Type 0) where
     takes_one borrows = allows slots own v [] (λ n. either (n == 1) 2 n) (Takes offers (step slots 0 1 2 none) (v, [])) by_phase
       where
         by_phase : (l b : ℕ) (p : Phase T) → Agrees offers keeps p → Suits l b p own v → Stepped l b own (either (word_of p == 1) 2 (word_of p)) p [] (Takes offers (step slots 0 1 2 none) (v, []) (word_of p))
-        by_phase l b new agrees mine = stays l b own 4 v new [] (Takes offers (step slots 0 1 2 none) (v, []) 4) refl agrees mine ((λ e. absurd (omega (arith, e))), λ _. refl)
-        by_phase l b home agrees mine = stays l b own 0 v home [] (Takes offers (step slots 0 1 2 none) (v, []) 0) refl agrees mine ((λ e. absurd (omega (arith, e))), λ _. refl)
+        by_phase l b new agrees mine = stays l b own 4 v new [] (Takes offers (step slots 0 1 2 none) (v, []) 4) refl agrees mine ((λ e. absurd (omega (arith, e))), λ _. (refl, refl))
+        by_phase l b home agrees mine = stays l b own 0 v home [] (Takes offers (step slots 0 1 2 none) (v, []) 0) refl agrees mine ((λ e. absurd (omega (arith, e))), λ _. (refl, refl))
         by_phase l b (lent x) agrees mine = record {
           after = taken x;
-          w = record v { taken = Some x };
+          w = record (asking 1 v) { taken = Some x };
           act = takes 0 (Some x);
           valid = refl;
           word = refl;
@@ -183,21 +183,21 @@ module _ {T : Type 0} (offers : T → Type 0) (keeps : T → T → Type 0) where
           others = beside_borrower l b own v (lent x) (taken x) mine borrows refl refl;
           told = ((λ e. (x, agrees, refl, refl)), λ n. absurd (n refl));
         }
-        by_phase l b (taken x) agrees mine = stays l b own 2 v (taken x) [] (Takes offers (step slots 0 1 2 none) (v, []) 2) refl agrees mine ((λ e. absurd (omega (arith, e))), λ _. refl)
-        by_phase l b (returned x y) agrees mine = stays l b own 3 v (returned x y) [] (Takes offers (step slots 0 1 2 none) (v, []) 3) refl agrees mine ((λ e. absurd (omega (arith, e))), λ _. refl)
+        by_phase l b (taken x) agrees mine = stays l b own 2 v (taken x) [] (Takes offers (step slots 0 1 2 none) (v, []) 2) refl agrees mine ((λ e. absurd (omega (arith, e))), λ _. (refl, refl))
+        by_phase l b (returned x y) agrees mine = stays l b own 3 v (returned x y) [] (Takes offers (step slots 0 1 2 none) (v, []) 3) refl agrees mine ((λ e. absurd (omega (arith, e))), λ _. (refl, refl))
 
     -- the lender asks where something is out, and where nothing is
     pub takes_back : (held : List (ℕ × Option T)) → v.lends ≡ true → Allows (Ruled offers keeps) slots own (v, held) 0 (λ n. either (n == 3) 0 n) (TakesBack keeps (step slots 0 3 0 none) (v, held))
     takes_back held lends = allows slots own v held (λ n. either (n == 3) 0 n) (TakesBack keeps (step slots 0 3 0 none) (v, held)) by_phase
       where
         by_phase : (l b : ℕ) (p : Phase T) → Agrees offers keeps p → Suits l b p own v → Stepped l b own (either (word_of p == 3) 0 (word_of p)) p held (TakesBack keeps (step slots 0 3 0 none) (v, held) (word_of p))
-        by_phase l b new agrees mine = stays l b own 4 v new held (TakesBack keeps (step slots 0 3 0 none) (v, held) 4) refl agrees mine ((λ e. absurd (omega (arith, e))), λ _. refl)
-        by_phase l b home agrees mine = stays l b own 0 v home held (TakesBack keeps (step slots 0 3 0 none) (v, held) 0) refl agrees mine ((λ e. absurd (omega (arith, e))), λ _. refl)
-        by_phase l b (lent x) agrees mine = stays l b own 1 v (lent x) held (TakesBack keeps (step slots 0 3 0 none) (v, held) 1) refl agrees mine ((λ e. absurd (omega (arith, e))), λ _. refl)
-        by_phase l b (taken x) agrees mine = stays l b own 2 v (taken x) held (TakesBack keeps (step slots 0 3 0 none) (v, held) 2) refl agrees mine ((λ e. absurd (omega (arith, e))), λ _. refl)
+        by_phase l b new agrees mine = stays l b own 4 v new held (TakesBack keeps (step slots 0 3 0 none) (v, held) 4) refl agrees mine ((λ e. absurd (omega (arith, e))), λ _. (refl, refl))
+        by_phase l b home agrees mine = stays l b own 0 v home held (TakesBack keeps (step slots 0 3 0 none) (v, held) 0) refl agrees mine ((λ e. absurd (omega (arith, e))), λ _. (refl, refl))
+        by_phase l b (lent x) agrees mine = stays l b own 1 v (lent x) held (TakesBack keeps (step slots 0 3 0 none) (v, held) 1) refl agrees mine ((λ e. absurd (omega (arith, e))), λ _. (refl, refl))
+        by_phase l b (taken x) agrees mine = stays l b own 2 v (taken x) held (TakesBack keeps (step slots 0 3 0 none) (v, held) 2) refl agrees mine ((λ e. absurd (omega (arith, e))), λ _. (refl, refl))
         by_phase l b (returned x y) agrees mine = record {
           after = home;
-          w = record v { lent = None };
+          w = record (asking 3 v) { lent = None };
           act = takes 0 (Some y);
           valid = refl;
           word = refl;

@@ -1,2 +1,3 @@
+pub mod Ends
 pub mod Phases
 pub mod Rule

@@ -1,5 +1,5 @@
 -- The rule of a lending, which holds between any two steps, and what each step tells its seat.
-use Rattle.std.specs.Prelude.{◌≡◌, ◌≢◌, ℕ, true, false, List, [], ◌∷◌, Option, Some, None}
+use Rattle.std.specs.Prelude.{◌≡◌, ◌≢◌, ℕ, ◌+◌, true, false, List, [], ◌∷◌, Option, Some, None}
 use mathlib.Core.Option.{some}
 use lib.ListN.{get_elem?}
 use Rattle.atomic_table.specs.Table.{State, Me, Step, rest}
@@ -30,7 +30,7 @@ module _ {T : Type 0} where
 
   -- the first seat is for both ends
   abbrev pub opening : LendingView T
-  opening = record { lends = true; borrows = true; new = true; lent = None; taken = None }
+  opening = record { lends = true; borrows = true; new = true; lent = None; taken = None; asked = 0; found = 0 }
 
   -- what a split leaves, and what it gives to the new seat
   abbrev pub lending : LendingView T → LendingView T
@@ -56,11 +56,18 @@ module _ {T : Type 0} where
   abbrev pub Gives : At T → Seat T → ℕ → Seat T → Type 0
   Gives step m found m' = (m'.0 ≡ record m.0 { taken = None }) × (m'.1 ≡ rest m.1)
 
+  -- the seat asked once more, and found this word
+  abbrev pub asking : ℕ → LendingView T → LendingView T
+  asking found v = record v { asked = v.asked + 1; found = found }
+
   -- where the seat found the word that it looked for, it took the place, with a value of which the terms speak
   abbrev pub Takes : (T → Type 0) → At T → Seat T → ℕ → Seat T → Type 0
-  Takes offers step m found m' = (found ≡ step.first → (v : T) × offers v × (m'.0 ≡ record m.0 { taken = Some v }) × (m'.1 ≡ (0, Some v) ∷ m.1)) × (found ≢ step.first → m' ≡ m)
+  Takes offers step m found m' =
+      (found ≡ step.first → (v : T) × offers v × (m'.0 ≡ record (asking found m.0) { taken = Some v }) × (m'.1 ≡ (0, Some v) ∷ m.1))
+      × (found ≢ step.first → (m'.0 ≡ asking found m.0) × (m'.1 ≡ m.1))
 
   -- where the seat found the word that it looked for, it took the place, with a value that the terms allow of the one that it lent
   abbrev pub TakesBack : (T → T → Type 0) → At T → Seat T → ℕ → Seat T → Type 0
   TakesBack keeps step m found m' =
-      (found ≡ step.first → (v : T) × (w : T) × (m.0.lent ≡ Some v) × keeps v w × (m'.0 ≡ record m.0 { lent = None }) × (m'.1 ≡ (0, Some w) ∷ m.1)) × (found ≢ step.first → m' ≡ m)
+      (found ≡ step.first → (v : T) × (w : T) × (m.0.lent ≡ Some v) × keeps v w × (m'.0 ≡ record (asking found m.0) { lent = None }) × (m'.1 ≡ (0, Some w) ∷ m.1))
+      × (found ≢ step.first → (m'.0 ≡ asking found m.0) × (m'.1 ≡ m.1))

@@ -6,5 +6,6 @@ mod rule;
 mod terms;
 mod view;
 
-pub use desk::{Borrower, Lender, lending};
+pub use desk::{Borrower, Lender, NotYet, RETURNED, lending};
 pub use terms::Terms;
+pub use view::EndView;

@@ -12,4 +12,18 @@ pub struct LendingView<T> {
     pub lent: Option<T>,
     /// The value that the borrower has taken and not given back, as it took it.
     pub taken: Option<T>,
+    /// How often it has asked for the value of the other end.
+    pub asked: u64,
+    /// The word that it found when it asked last.
+    pub found: u64,
+}
+
+/// What a clause sees of an end. No value of this type is made.
+pub struct EndView<T> {
+    /// Of a lender the value that is out, as it was lent. Of a borrower the value that it has taken and not given back, as it took it.
+    pub value: Option<T>,
+    /// How often it has asked for the value of the other end.
+    pub asked: u64,
+    /// The word that it found when it asked last: where the value was.
+    pub found: u64,
 }

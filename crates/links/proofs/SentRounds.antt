@@ -1,6 +1,6 @@
 -- What a link sent, step by step and round by round, and what was written of it.
-use Rattle.std.proofs.Common.{◌≡◌, ⊎_elim, ℕ, ◌+◌, ◌<◌, ◌≤◌, List, [], ◌∷◌, ◌++◌, length, Option, Some, None, Result, Ok, Err, IfOk, OnOk, refl, sym, ap, subst, ◌∙◌, append-nil, append_assoc, arith}
-use Rattle.std.specs.Prelude.{slice_get}
+use Rattle.std.proofs.Common.{◌≡◌, ⊎_elim, true, true≢false, ℕ, ◌+◌, ◌<◌, ◌≤◌, List, [], ◌∷◌, ◌++◌, length, Option, Some, None, Result, Ok, Err, OnOk, refl, sym, ap, subst, ◌∙◌, append-nil, append_assoc, arith}
+use Rattle.std.specs.Prelude.{is_none, slice_get}
 use Rattle.std.proofs.lemmas.Bool.{cases_lt}
 use Rattle.std.proofs.lemmas.Grind.{flat_map-append}
 use Rattle.std.proofs.Math.Seq.{get_or-append_seam}
@@ -10,9 +10,9 @@ use Rattle.kv_types.specs.declared.refusal.Refusal.{Refusal}
 use Rattle.model.specs.declared.group.Group.{Group}
 use Rattle.pipes.specs.declared.limits.TheConstants.{KEPT_GROUPS}
 use Rattle.frames.specs.declared.frame.Frame.{Frame}
-use Rattle.standby_stream.specs.Sent.{IsSent, MaySend}
-use Rattle.standby_stream.specs.Stream.{Stream, Frames, IsDue, IsFrameOf, IsFull, TakesNext, acknowledged}
-use Rattle.links.specs.Sending.{HasSent, Rounds, unbegun, round, Sends, nothing, more, Step, again, fresh, waits, stays, Waits, delta_text, frame_text, frames_text}
+use Rattle.standby_stream.specs.Sent.{MaySend}
+use Rattle.standby_stream.specs.Stream.{Stream, Frames, IsDue, IsFull, TakesNext, acknowledged}
+use Rattle.links.specs.Sending.{HasSent, Rounds, unbegun, round, Sends, nothing, more, Step, again, fresh, waits, stays, HasNone, Waits, delta_text, frame_text, frames_text}
 use Rattle.links.proofs.Serving.{Appends-join, Appends-none}
 
 same_frame : (kept : List Frame) (own frame : Frame) → slice_get (kept ++ own ∷ []) (length kept) ≡ Some frame → own ≡ frame
@@ -49,15 +49,24 @@ module _ {I : Type 0} (gives : I → Option Group → I → Type 0) where
       ⊎_elim (λ (kept : old.next < length old.kept). let is = (told.kept kept).0 in absurd cc) (λ (beyond : length old.kept ≤ old.next). omega (arith, within, beyond))
       (cases_lt old.next (length old.kept))
 
+  -- where none is given there is none
+  pub Waits-none : (given : Option ℕ) (old new : Stream) (groups left : I) → old.next ≤ length old.kept → given ≡ None → Given given old new groups left → Waits gives old groups left
+  Waits-none (Some index) old new groups left within none told = absurd cc
+  Waits-none None old new groups left within none told = record {
+    all_sent = none_left old new groups left within told;
+    due = λ due. let next = told.next due in none_given next.0 old new groups left next.1 next.2;
+    full = λ full. (told.none full).2;
+  }
+
+  pub HasNone-there : (given : Option ℕ) (old new : Stream) (groups left : I) → is_none given ≡ true → (◌≡◌ {A = Result (Option ℕ) Refusal} (Ok given) (Ok None) → Waits gives old groups left)
+      → MaySend old given new → HasNone gives new left
+  HasNone-there (Some index) old new groups left none rests sends = absurd (true≢false (sym none))
+  HasNone-there None old new groups left none rests sends = record { before = groups; waits = subst (λ (link : Stream). Waits gives link groups left) (sym sends) (rests refl) }
+
   pub Step-none : (given : Option ℕ) (old new : Stream) (groups left : I) → old.next ≤ length old.kept → given ≡ None → Given given old new groups left → Step gives old groups [] new left
   Step-none (Some index) old new groups left within none told = absurd cc
   Step-none None old new groups left within none told =
-      subst (λ (link : Stream). Step gives old groups [] link left) (sym told.sends)
-      (waits old groups left (record {
-        all_sent = none_left old new groups left within told;
-        due = λ due. let next = told.next due in none_given next.0 old new groups left next.1 next.2;
-        full = λ full. (told.none full).2;
-      }))
+      subst (λ (link : Stream). Step gives old groups [] link left) (sym told.sends) (waits old groups left (Waits-none None old new groups left within none told))
 
   sent-fresh : (found : Option Group) (index : ℕ) (old new : Stream) (groups left : I) (frame : Frame) → IsDue old → TakesNext gives old.pending groups found left → Frames old found (Some index) new
       → slice_get new.kept index ≡ Some frame → Step gives old groups (frame ∷ []) new left

@@ -1,5 +1,5 @@
 -- What is sent on a link.
-use Rattle.std.specs.Prelude.{◌≡◌, ℕ, ◌+◌, ◌≤◌, List, [], ◌∷◌, ◌++◌, Option, Some, None, length, slice_get}
+use Rattle.std.specs.Prelude.{◌≡◌, ◌⊎◌, ℕ, ◌+◌, ◌≤◌, List, [], ◌∷◌, ◌++◌, Option, Some, None, length, slice_get}
 use Rattle.std.specs.List.{flat_map}
 use Rattle.std.specs.Io.KnownBytes.{Appends}
 use Rattle.model.specs.declared.group.Group.{Group}
@@ -27,6 +27,15 @@ pub record Waits {I : Type 0} (gives : I → Option Group → I → Type 0) (lin
   pub all_sent : link.next ≡ length link.kept
   pub due : IsDue link → TakesNext gives link.pending groups None left
   pub full : IsFull link → left ≡ groups
+
+-- No frame is left to send: at the last look there was none.
+pub record HasNone {I : Type 0} (gives : I → Option Group → I → Type 0) (link : Stream) (left : I) : Type 0 where
+  pub before : I
+  pub waits : Waits gives link before left
+
+-- so many frames were sent, or all that there were
+abbrev pub WorksOff : {I : Type 0} → (I → Option Group → I → Type 0) → ℕ → Stream → Stream → I → Type 0
+WorksOff gives most old new left = (new.next ≡ old.next + most) ⊎ HasNone gives new left
 
 -- What a link does at a time: it sends the kept frame whose turn it is, or else that of the next group, which it keeps from then on; or it sends none, or
 -- keeps the next group for which there was no memory.

@@ -5,7 +5,7 @@ ghost use Rattle.model.specs.declared.group.Group.{Group as Item};
 ghost use Rattle.frames.specs.declared.frame.Frame.{Frame as Kept};
 ghost use Rattle.standby_stream.specs.Sent.{Grows, MaySend, between};
 ghost use Rattle.standby_stream.specs.Stream.{IsDue, Frames, TakesNext, acknowledged};
-ghost use Rattle.links.specs.Sending.{HasSent, Sends, Step, delta_text, frame_text, frames_text};
+ghost use Rattle.links.specs.Sending.{HasSent, Sends, Step, Waits, WorksOff, delta_text, frame_text, frames_text};
 ghost use Rattle.links.specs.declared.log.Lost.TheVariants.{Ended};
 
 use crate::log::Lost;
@@ -61,6 +61,8 @@ pub fn put_next<I: Inlet<Item = Group>>(
     ensures step { (sent : List Kept) × Step I.take_gives outgoing.old.link groups.old sent outgoing.new.link groups.new × OnOk result (out.new.items ≡ out.old.items ++ frames_text sent) }
     ensures again { (outgoing.old.link).next < length (outgoing.old.link).kept → IfOk result (λ given. (given ≡ Some (outgoing.old.link).next)
         × (outgoing.new.link ≡ record outgoing.old.link { next = (outgoing.old.link).next + 1 }) × (groups.new ≡ groups.old)) }
+    // it puts none only where there is none
+    ensures rests { result ≡ Ok None → Waits I.take_gives outgoing.old.link groups.old groups.new }
     ensures next { IsDue outgoing.old.link → IfOk result (λ given. (found : Option Item) × TakesNext I.take_gives (outgoing.old.link).pending groups.old found groups.new × Frames outgoing.old.link found given outgoing.new.link) }
     ensures cause { IfErr result (λ refusal. refusal ≡ Memory) }
 {
@@ -71,7 +73,7 @@ pub fn put_next<I: Inlet<Item = Group>>(
     Ok(Some(index))
 }
 
-/// Puts frames last while there are some, `FRAMES_AT_ONCE` at most: each once and in order, as `put_next` does.
+/// Puts frames last while there are some, `FRAMES_AT_ONCE` at most: each once and in order, as `put_next` does. So one is put where one is due.
 ///
 /// # Errors
 ///
@@ -86,6 +88,8 @@ pub fn put_frames<I: Inlet<Item = Group>>(
     ensures put { OnOk result (out.new.items ≡ out.old.items ++ frames_text (between (outgoing.old.link).next (outgoing.new.link).next (outgoing.new.link).kept)) }
     ensures rises { OnOk result ((outgoing.old.link).next ≤ (outgoing.new.link).next) }
     ensures grows { OnOk result (Grows (outgoing.old.link).kept (outgoing.new.link).kept) }
+    // as many as may be put at once, or all that there is
+    ensures works_off { OnOk result (WorksOff I.take_gives FRAMES_AT_ONCE outgoing.old.link outgoing.new.link groups.new) }
     ensures cause { IfErr result (λ refusal. refusal ≡ Memory) }
 {
     for _ in 0..FRAMES_AT_ONCE {
@@ -111,6 +115,7 @@ fn put_due<I: Inlet<Item = Group>>(
 ) -> Result<(), Refusal>
     ensures sends { (frames : List Kept) × Sends I.take_gives (acknowledged marks.new.remote outgoing.old.link) groups.old frames outgoing.new.link groups.new
         × OnOk result (out.new.items ≡ out.old.items ++ frames_text frames) }
+    ensures works_off { OnOk result (WorksOff I.take_gives FRAMES_AT_ONCE (acknowledged marks.new.remote outgoing.old.link) outgoing.new.link groups.new) }
     ensures rises { marks.old.remote ≤ marks.new.remote }
     ensures cause { IfErr result (λ refusal. refusal ≡ Memory) }
 {

@@ -2,7 +2,6 @@
 use Rattle.std.specs.Prelude.{◌≡◌, ◌≤◌, ℕ, Bool, nat_lt, Option, Some, None, List, [], ◌∷◌, true, Ok, Err, Result}
 use Rattle.pmem.specs.Device.{State}
 use Rattle.kv_types.specs.declared.refusal.Refusal.{Refusal}
-use Rattle.kv_types.specs.declared.refusal.Refusal.TheVariants as refusal
 use Rattle.model.specs.declared.group.Group.{Group}
 use Rattle.model.specs.Group.{Contents}
 use Rattle.marks.specs.declared.view.MarkView.{MarkView}
@@ -11,11 +10,11 @@ use Rattle.pipes.specs.declared.ring_pipe.RingOutlet.{RingOutlet}
 use Rattle.pipes.specs.Ring.{offered_at}
 use Rattle.redis_core.specs.Sequencing.{Sequencing}
 use Rattle.group_commit.specs.declared.stage.Done.{Done}
-use Rattle.group_commit.specs.declared.stage.Done.TheVariants as done
 use Rattle.group_commit.specs.Due.{due_now}
 use Rattle.group_commit.specs.Working.{Takes}
 use Rattle.primary.specs.Settled.{HasNothingInHand}
 use Rattle.primary.specs.Standing.{BackStands, notices_of}
+use Rattle.serving.specs.Stepping.{EndAs}
 use Rattle.serving.specs.declared.committing.Stepped.{Stepped}
 use Rattle.serving.specs.declared.commit_job.CommitJob.{CommitJob}
 use Rattle.primary.specs.declared.back.Back.{Back}
@@ -34,12 +33,6 @@ GoesBy remote None = Unit {0}
 abbrev pub HasNothingAtHome : {E : Type 0} → (E → Contents) → Option (CommitJob E) → Type 0
 HasNothingAtHome contents (Some job) = HasNothingInHand (contents job.back.committer.engine) job.back.work.items job.back.committer.aside.items
 HasNothingAtHome contents None = ⊥
-
--- a step for which memory was refused is as none: it is taken again later
-abbrev pub passed_on : Result Done Refusal → Result Done Refusal
-passed_on (Ok came) = Ok came
-passed_on (Err refusal.Memory) = Ok done.Idle
-passed_on (Err other) = Err other
 
 -- by what is known of an engine
 module _ {E : Type 0} (device : E → State) (contents : E → Contents) where
@@ -81,10 +74,11 @@ module _ {E : Type 0} (device : E → State) (contents : E → Contents) where
       AreSteps remote old link (came ∷ all) new link' =
           (between : Back E) × (at : RingOutlet Group P) × IsStep remote old link came between at × AreSteps remote between at all new link'
 
-    -- All steps were taken by the remote mark of the job, which stays. Each sequencer that was ahead of it is so after them, and what they committed is shown.
+    -- All steps were taken by the remote mark of the job, which stays, until they end. Each sequencer that was ahead of it is so after them, and what they
+    -- committed is shown.
     abbrev pub DoesSteps : CommitJob E → CommitJob E → Type 0
     DoesSteps old new =
         ((s : Sequencing) → BackStands device contents old.back s [] → StandsAfter new.back s new.came)
         × IsShownAfter new.back new.marks new.came
         × (new.remote ≡ old.remote)
-        × ((all : List (Result Done Refusal)) × AreSteps old.remote old.back old.groups all new.back new.groups)
+        × ((all : List (Result Done Refusal)) × AreSteps old.remote old.back old.groups all new.back new.groups × EndAs all new.came)

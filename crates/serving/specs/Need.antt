@@ -1,5 +1,5 @@
 -- How much room a request may need, and that it is enough.
-use Rattle.std.specs.Prelude.{ℕ, ◌≤◌, List, length, Option, Some, None}
+use Rattle.std.specs.Prelude.{ℕ, ◌≤◌, List, length, if◌then◌else◌, Option, Some, None}
 use Rattle.std.specs.List.{AllByRecursion}
 use Rattle.kv_types.specs.declared.change.Change.{Change}
 use Rattle.kv_types.specs.declared.command_name.CommandName.{CommandName}
@@ -13,6 +13,7 @@ use Rattle.model.specs.Image.{lines_of_bytes}
 use Rattle.serving.specs.declared.needs.Asked.{Asked}
 use Rattle.serving.specs.declared.needs.Asked.TheVariants.{AtMost, Begins, Runs, Drops}
 use Rattle.serving.specs.declared.needs.Need.{Need}
+use Rattle.serving.specs.declared.needs.Queued.{Queued}
 
 -- the most that the request puts, with an extent for each version
 abbrev pub need_of : List (List ℕ) → Need
@@ -36,6 +37,13 @@ asked_by (Fault fault) = AtMost (record { count = 0; lines = 1 })
 abbrev pub asked_by_next : Option Item → Asked
 asked_by_next (Some item) = asked_by item
 asked_by_next None = AtMost (record { count = 0; lines = 1 })
+
+-- what an item that asks for this may need in its turn, where that waits for EXEC
+abbrev pub need_in_turn : Queued → Asked → Need
+need_in_turn queued Runs = queued.need
+need_in_turn queued (AtMost need) = if queued.is_open then record { count = 0; lines = 1 } else need
+need_in_turn queued Begins = record { count = 0; lines = 1 }
+need_in_turn queued Drops = record { count = 0; lines = 1 }
 
 -- The changes put no more versions, and none takes an extent of more lines.
 pub record IsEnough (need : Need) (changes : List Change) : Type 0 where

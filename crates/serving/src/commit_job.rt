@@ -1,7 +1,8 @@
 //! What the committer's thread is lent, and what it does with it.
-ghost use Rattle.std.specs.Prelude.{◌≡◌, [], None, OnOk};
-ghost use Rattle.primary.specs.Standing.{BackStands};
+ghost use Rattle.std.specs.Prelude.{◌≡◌, [], Ok, Err, None, IfErr, IfOk, OnOk};
+ghost use Rattle.primary.specs.Standing.{BackStands, IsTold};
 ghost use Rattle.serving.specs.CommitJob.{DoesSteps, IsLed, IsShown, IsShownAfter, StandsAfter};
+ghost use Rattle.serving.specs.declared.committing.Stepped.{Stepped as Steps};
 
 use crate::committing::{Stepped, take_steps};
 use crate::step_time::StepTime;
@@ -90,6 +91,8 @@ pub(crate) fn settle<E: Durable, K: Keyspace>(
     requires shown { IsShownAfter E.device E.contents job.now.back job.now.marks job.now.came }
     ensures stands { OnOk result (BackStands E.device E.contents job.now.back front.new.sequencer []) }
     ensures shown { OnOk result (IsShown E.device E.contents job.now.back job.now.marks) }
+    ensures told { IfOk result (λ did. (stepped : Steps) × (job.now.came ≡ Ok stepped) × (did ≡ stepped.any) × IsTold stepped.last front.old.sequencer front.new.sequencer) }
+    ensures refused { IfErr result (λ refusal. job.now.came ≡ Err refusal) }
 {
     match &job.came {
         Ok(stepped) => {
@@ -123,18 +126,18 @@ pub(crate) fn do_each<R: Wait + Clock + Copy, T: Drop, L: Task<T>>(
     owner: Waker,
     most: u32,
 )
-    requires { borrower ≡ None }
+    requires { borrower.value ≡ None }
 {
     let mut borrower = borrower;
     let mut idle = Idle::new(most);
     for _ in rt.forever() {
         match borrower.take() {
-            Some(value) => {
+            Ok(value) => {
                 borrower.give_back(L::run(&rt, alloc, value));
                 owner.wake();
                 idle.busy();
             }
-            None => idle.wait(&rt, &sleeper),
+            Err(_) => idle.wait(&rt, &sleeper),
         }
     }
 }

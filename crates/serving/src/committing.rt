@@ -5,7 +5,8 @@ ghost use Rattle.group_commit.specs.Due.{due_now};
 ghost use Rattle.group_commit.specs.declared.stage.Done.{Done as Came};
 ghost use Rattle.redis_core.specs.Sequencing.{Sequencing};
 ghost use Rattle.primary.specs.Standing.{BackStands, notices_of, position_after};
-ghost use Rattle.serving.specs.CommitJob.{AreSteps, IsShown, IsStep, passed_on};
+ghost use Rattle.serving.specs.CommitJob.{AreSteps, IsShown, IsStep};
+ghost use Rattle.serving.specs.Stepping.{EndAs, does_something, is_passed, passed_on};
 ghost use Rattle.serving.specs.Steps.{does_step};
 
 use group_commit::{Done, Due};
@@ -34,7 +35,8 @@ pub(crate) fn is_step_due<E: Durable, O: Outlet<Item = Group>>(
     groups: &mut O,
     remote: u64,
 ) -> bool
-    ensures { let has_room = nat_lt 0 (O.known_room groups.new) in result ≡ does_step has_room (due_now E.contents back.now.committer back.now.work has_room remote) }
+    ensures due { let has_room = nat_lt 0 (O.known_room groups.new) in result ≡ does_step has_room (due_now E.contents back.now.committer back.now.work has_room remote) }
+    ensures offered { O.offered groups.new ≡ O.offered groups.old }
 {
     let has_room = groups.room() > 0;
     match back.due(has_room, remote) {
@@ -62,7 +64,7 @@ pub(crate) fn take_steps<E: Durable>(
     ensures stands { IfOk result (λ stepped. (s : Sequencing) → BackStands E.device E.contents back.old s []
         → BackStands E.device E.contents back.new s (notices_of stepped.last)) }
     ensures shown { OnOk result (IsShown E.device E.contents back.new marks.new) }
-    ensures steps { (all : List (Result Came Cause)) × AreSteps E.device E.contents E.is_faulted remote back.old groups.old all back.new groups.new }
+    ensures steps { (all : List (Result Came Cause)) × AreSteps E.device E.contents E.is_faulted remote back.old groups.old all back.new groups.new × EndAs all result }
 {
     let mut any = false;
     for _ in 0..MOST_STEPS {
@@ -122,7 +124,9 @@ fn call(done: &Done, link: &Waker) {
     }
 }
 
-fn is_something(done: &Done) -> bool {
+fn is_something(done: &Done) -> bool
+    ensures { result ≡ does_something done.now }
+{
     match done {
         Done::Idle => false,
         _ => true,
@@ -131,7 +135,8 @@ fn is_something(done: &Done) -> bool {
 
 /// Whether a step did something of which the front needs not be told.
 fn gives_nothing_back(done: &Done) -> bool
-    ensures { result ≡ true → notices_of done.now ≡ [] }
+    ensures nothing { result ≡ true → notices_of done.now ≡ [] }
+    ensures passed { result ≡ is_passed done.now }
 {
     match done {
         Done::Committed(_) | Done::Raised | Done::Handed => true,

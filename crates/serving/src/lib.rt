@@ -2,6 +2,8 @@
 #![tactic(auto)]
 
 mod accepting;
+mod again;
+mod callers;
 mod closing;
 mod commit_job;
 mod committing;
@@ -13,10 +15,12 @@ mod needs;
 mod node;
 mod open_connection;
 mod open_connections;
+mod places;
 mod shared_entrance;
 mod starting;
 mod step_time;
 mod stop;
+mod tended;
 mod turns;
 
 pub use accepting::Acceptor;

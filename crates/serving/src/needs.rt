@@ -56,7 +56,9 @@ impl Queued {
     };
 
     /// The room that an item may need in its turn.
-    pub(crate) fn need(&self, asked: Asked) -> Need {
+    pub(crate) fn need(&self, asked: Asked) -> Need
+        ensures { result ≡ spec.need_in_turn self.now asked }
+    {
         match asked {
             Asked::Runs => self.need,
             Asked::AtMost(need) if !self.is_open => need,

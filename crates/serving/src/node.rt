@@ -1,9 +1,11 @@
 //! The node's thread: it serves the connections, and has committed what they changed and freed what has ended.
-ghost use Rattle.std.specs.Prelude.{◌≡◌, ◌≤◌, ◌↔◌, max, None, false, true, IsSome, OnOk};
+ghost use Rattle.std.specs.Prelude.{◌≡◌, ◌≤◌, ◌↔◌, max, None, false, true, IfOk, IsSome, OnOk};
 ghost use Rattle.primary.specs.Settled.{HasNothingOpen};
 ghost use Rattle.primary.specs.Standing.{Stands};
 ghost use Rattle.serving.specs.CommitJob.{GoesBy, HasNothingAtHome, IsHereOrLent, IsShown, remote_of};
 ghost use Rattle.serving.specs.Serving.{HasRead, Serves};
+ghost use Rattle.serving.specs.Tending.{Fetches, TakesRound, Tends};
+ghost use Rattle.serving.specs.Visiting.{ServesRound};
 
 use crate::closing::close_due;
 use crate::commit_job::{CommitJob, Committing, run_job, settle};
@@ -12,6 +14,7 @@ use crate::gathering::Gathering;
 use crate::open_connections::OpenConnections;
 use crate::step_time::StepTime;
 use crate::stop::Stop;
+use crate::tended::{Fetched, JobCame, Tended};
 use group_commit::Done;
 use kv_types::Refusal;
 use lending::Lender;
@@ -76,7 +79,7 @@ pub(crate) fn serve<R: Wait + Clock, E: Durable + Drop, K: Keyspace + Drop>(
 ) -> Stop
     requires stands { Stands E.device E.contents primary }
     requires shown { IsShown E.device E.contents primary.back node.committer_marks }
-    requires none { lent.lender ≡ None }
+    requires none { lent.lender.value ≡ None }
 {
     let Primary { front, back } = primary;
     let Lent { lender, waker } = lent;
@@ -114,8 +117,8 @@ fn take_rounds<R: Wait + Clock, E: Durable + Drop, K: Keyspace>(
     sleeper: &Sleeper,
     listener_closed: &Arc<Flag>,
 ) -> Stop
-    requires stands { IsHereOrLent E.device E.contents state.old.home state.old.lender state.old.front.sequencer }
-    requires remote { (remote_of state.old.home ≤ state.old.marks.remote) × (remote_of state.old.lender ≤ state.old.marks.remote) }
+    requires stands { IsHereOrLent E.device E.contents state.old.home state.old.lender.value state.old.front.sequencer }
+    requires remote { (remote_of state.old.home ≤ state.old.marks.remote) × (remote_of state.old.lender.value ≤ state.old.marks.remote) }
 {
     for _ in rt.forever() {
         let is_busy = match take_round(rt, alloc, state) {
@@ -133,22 +136,29 @@ fn take_rounds<R: Wait + Clock, E: Durable + Drop, K: Keyspace>(
 
 /// Takes the job back if it is done and has committed what is due, so that this goes on while connections are served. Then it has committed what became due
 /// meanwhile. Answers whether anything was done. The job goes by no more of the remote mark than was read of it.
+///
+/// # Errors
+///
+/// That with which the engine refused a step.
 fn take_round<R: Wait + Clock, E: Durable + Drop, K: Keyspace>(
     rt: &R,
     alloc: Global,
     state: &mut NodeState<E, K>,
 ) -> Result<bool, Refusal>
-    requires stands { IsHereOrLent E.device E.contents state.old.home state.old.lender state.old.front.sequencer }
-    requires remote { (remote_of state.old.home ≤ state.old.marks.remote) × (remote_of state.old.lender ≤ state.old.marks.remote) }
-    ensures stands { OnOk result (IsHereOrLent E.device E.contents state.new.home state.new.lender state.new.front.sequencer) }
-    ensures remote { OnOk result ((remote_of state.new.home ≤ state.new.marks.remote) × (remote_of state.new.lender ≤ state.new.marks.remote)) }
+    requires stands { IsHereOrLent E.device E.contents state.old.home state.old.lender.value state.old.front.sequencer }
+    requires remote { (remote_of state.old.home ≤ state.old.marks.remote) × (remote_of state.old.lender.value ≤ state.old.marks.remote) }
+    ensures stands { OnOk result (IsHereOrLent E.device E.contents state.new.home state.new.lender.value state.new.front.sequencer) }
+    ensures remote { OnOk result ((remote_of state.new.home ≤ state.new.marks.remote) × (remote_of state.new.lender.value ≤ state.new.marks.remote)) }
     ensures read { HasRead state.old.marks state.new.marks }
+    ensures round { IfOk result (TakesRound E.device E.contents E.is_faulted state.old.marks.remote state.old.connections state.old.gathering
+        state.old.home state.old.lender state.old.front.sequencer state.new.marks.remote state.new.connections state.new.gathering
+        state.new.home state.new.lender state.new.front.sequencer) }
 {
     let fetched = fetch(&mut state.front, &mut state.lender, &mut state.home)?;
     let before = commit_due(rt, alloc, state)?;
     let served = serve_connections(rt, alloc, state);
     let after = commit_due(rt, alloc, state)?;
-    Ok(fetched | before | served | after)
+    Ok(fetched.is_busy() | before.is_busy() | served | after.is_busy())
 }
 
 /// Takes in who waits at the entrance, and serves who called. Answers whether there was anybody.
@@ -163,6 +173,8 @@ fn serve_connections<R: Wait, E: Durable + Drop, K: Keyspace>(
     ensures waits { state.new.connections.is_short ≡ true → ¬ (HasNothingAtHome E.contents state.new.home × HasNothingOpen state.new.front.sequencer) }
     ensures home { state.new.home ≡ state.old.home }
     ensures lender { state.new.lender ≡ state.old.lender }
+    ensures gathering { state.new.gathering ≡ state.old.gathering }
+    ensures visits { ServesRound state.old.connections state.new.connections state.old.front.sequencer state.new.front.sequencer }
 {
     let is_working = is_room_coming(&state.home);
     let admitted = state.connections.admit(rt, alloc, &mut state.front);
@@ -172,17 +184,20 @@ fn serve_connections<R: Wait, E: Durable + Drop, K: Keyspace>(
     admitted | served
 }
 
-/// Has committed what is due by the marks as they are now. Answers whether there was anything to do.
+/// Has committed what is due by the marks as they are now. Answers what was done.
 fn commit_due<R: Clock, E: Durable + Drop, K: Keyspace>(
     rt: &R,
     alloc: Global,
     state: &mut NodeState<E, K>,
-) -> Result<bool, Refusal>
-    requires stands { IsHereOrLent E.device E.contents state.old.home state.old.lender state.old.front.sequencer }
-    requires remote { remote_of state.old.lender ≤ state.old.marks.remote }
-    ensures stands { OnOk result (IsHereOrLent E.device E.contents state.new.home state.new.lender state.new.front.sequencer) }
-    ensures remote { OnOk result ((remote_of state.new.home ≤ state.new.marks.remote) × (remote_of state.new.lender ≤ state.new.marks.remote)) }
+) -> Result<Tended, Refusal>
+    requires stands { IsHereOrLent E.device E.contents state.old.home state.old.lender.value state.old.front.sequencer }
+    requires remote { remote_of state.old.lender.value ≤ state.old.marks.remote }
+    ensures stands { OnOk result (IsHereOrLent E.device E.contents state.new.home state.new.lender.value state.new.front.sequencer) }
+    ensures remote { OnOk result ((remote_of state.new.home ≤ state.new.marks.remote) × (remote_of state.new.lender.value ≤ state.new.marks.remote)) }
     ensures read { HasRead state.old.marks state.new.marks }
+    ensures tends { IfOk result (Tends E.device E.contents E.is_faulted state.new.marks.remote state.old.connections.is_short state.old.gathering
+        state.new.gathering state.old.home state.old.lender state.old.front.sequencer state.new.home state.new.lender state.new.front.sequencer) }
+    ensures connections { state.new.connections ≡ state.old.connections }
 {
     let remote = state.marks.read_remote();
     let is_short = state.connections.is_short();
@@ -230,29 +245,38 @@ fn is_room_coming<E: Durable>(home: &Option<CommitJob<E>>) -> bool
     }
 }
 
-/// Takes the job back where the committer's thread is done with it, and tells the front what came of it. Answers whether anything did.
+/// Takes the job back where the committer's thread is done with it, and tells the front what came of it.
+///
+/// # Errors
+///
+/// That with which the engine refused a step of it.
 fn fetch<E: Durable + Drop, K: Keyspace>(
     front: &mut Front<K>,
     lender: &mut Lender<CommitJob<E>, Committing<E>>,
     home: &mut Option<CommitJob<E>>,
-) -> Result<bool, Refusal>
-    requires { IsHereOrLent E.device E.contents home.old lender.old front.old.sequencer }
-    ensures stands { OnOk result (IsHereOrLent E.device E.contents home.new lender.new front.new.sequencer) }
-    ensures remote { (remote_of home.new ≤ max (remote_of home.old) (remote_of lender.old)) × (remote_of lender.new ≤ remote_of lender.old) }
+) -> Result<Fetched, Refusal>
+    requires { IsHereOrLent E.device E.contents home.old lender.old.value front.old.sequencer }
+    ensures stands { OnOk result (IsHereOrLent E.device E.contents home.new lender.new.value front.new.sequencer) }
+    ensures remote { (remote_of home.new ≤ max (remote_of home.old) (remote_of lender.old.value)) × (remote_of lender.new.value ≤ remote_of lender.old.value) }
+    ensures fetches { IfOk result (Fetches E.device E.contents E.is_faulted home.old lender.old front.old.sequencer home.new lender.new front.new.sequencer) }
 {
     if home.is_some() {
-        return Ok(false);
+        return Ok(Fetched::Here);
     }
-    let Some(job) = lender.take_back() else {
-        return Ok(false);
+    let job = match lender.take_back() {
+        Ok(job) => job,
+        Err(not_yet) => return Ok(Fetched::Away(not_yet)),
     };
     let did = settle(front, &job);
     drop(home.replace(job));
-    did
+    Ok(Fetched::Back(did?))
 }
 
-/// Closes what is due. Where a step is due then, and steps take long, the job is lent; otherwise its steps are taken here. Answers whether there was
-/// anything to do.
+/// Closes what is due. Where a step is due then, and steps take long, the job is lent; otherwise its steps are taken here. Answers what was done.
+///
+/// # Errors
+///
+/// That with which the engine refused a step. Where memory for closing is refused, that is closed later.
 fn commit<R: Clock, E: Durable + Drop, K: Keyspace>(
     rt: &R,
     alloc: Global,
@@ -263,34 +287,44 @@ fn commit<R: Clock, E: Durable + Drop, K: Keyspace>(
     gathering: &mut Gathering,
     remote: u64,
     is_short: bool,
-) -> Result<bool, Refusal>
-    requires stands { IsHereOrLent E.device E.contents home.old lender.old front.old.sequencer }
-    requires remote { remote_of lender.old ≤ remote }
-    ensures stands { OnOk result (IsHereOrLent E.device E.contents home.new lender.new front.new.sequencer) }
+) -> Result<Tended, Refusal>
+    requires stands { IsHereOrLent E.device E.contents home.old lender.old.value front.old.sequencer }
+    requires remote { remote_of lender.old.value ≤ remote }
+    ensures stands { OnOk result (IsHereOrLent E.device E.contents home.new lender.new.value front.new.sequencer) }
     // a job that was here goes by this remote mark, and one that was lent by an earlier one
-    ensures goes_by { IsSome home.old → OnOk result (GoesBy remote home.new × GoesBy remote lender.new) }
-    ensures remote { OnOk result ((remote_of home.new ≤ remote) × (remote_of lender.new ≤ remote)) }
+    ensures goes_by { IsSome home.old → OnOk result (GoesBy remote home.new × GoesBy remote lender.new.value) }
+    ensures remote { OnOk result ((remote_of home.new ≤ remote) × (remote_of lender.new.value ≤ remote)) }
+    ensures tends { IfOk result (Tends E.device E.contents E.is_faulted remote is_short gathering.old gathering.new home.old lender.old front.old.sequencer
+        home.new lender.new front.new.sequencer) }
 {
     let Some(job) = home.take() else {
-        return Ok(false);
+        return Ok(Tended::AWAY);
     };
     let mut job = job;
     job.remote = remote;
     let closed = close_due(alloc, front, &mut job.back, gathering, remote, is_short);
-    let is_closed = matches!(closed, Ok(true));
     if !is_step_due(&job.back, &mut job.groups, remote) {
         drop(home.replace(job));
-        return Ok(is_closed);
+        return Ok(Tended {
+            closed,
+            job: JobCame::Rests,
+        });
     }
     if job.step_time.is_long {
         lender.lend(job);
         waker.wake();
-        return Ok(true);
+        return Ok(Tended {
+            closed,
+            job: JobCame::Lent,
+        });
     }
     let job = run_job(rt, alloc, job);
     let did = settle(front, &job);
     drop(home.replace(job));
-    Ok(is_closed | did?)
+    Ok(Tended {
+        closed,
+        job: JobCame::Stepped(did?),
+    })
 }
 
 fn rest<R: Wait + Clock>(rt: &R, idle: &mut Idle, sleeper: &Sleeper, is_busy: bool) {

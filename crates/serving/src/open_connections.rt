@@ -1,19 +1,24 @@
 //! The connections that are open, as the node's thread knows them.
-ghost use Rattle.std.specs.Prelude.{◌≡◌, ℕ, ◌≤◌};
+ghost use Rattle.std.specs.Prelude.{◌≡◌, ◌⊎◌, ℕ, ◌≤◌, false, Some};
+ghost use Rattle.redis_core.specs.Sequencing.{Sequencing};
+ghost use Rattle.serving.specs.Callers.{answers_of};
+ghost use Rattle.serving.specs.Places.{PutsAt};
 ghost use Rattle.serving.specs.Serving.{HasRead, Serves, WaitsOnlyFor};
+ghost use Rattle.serving.specs.Visiting.{Admits, Floor, Heeds, HeedsCalls, Stays, StaysListed, Visits, VisitsEach, floor_of};
 ghost use Rattle.wakes.specs.Waiting.{MayWait};
 
+use crate::again::Again;
+use crate::callers::Callers;
 use crate::open_connection::OpenConnection;
+use crate::places::Places;
 use crate::shared_entrance::{SharedEntrance, leave, next_arrival};
 use crate::turns::{Served, take_turns};
 use clients::{ReplyQueue, RequestQueue};
 use lobby::Arrival;
 use marks::ThreadMarks;
 use mv_keyspace::Keyspace;
-use pipes::MAX_SEATS;
 use primary::Front;
 use std::alloc::{AllocError, Global};
-use std::collections::VecDeque;
 use std::sync::{Arc, Wait};
 use wakes::{DueIn, ReadyList, SeatNumber, SeatWaker};
 
@@ -23,13 +28,13 @@ const MOST_CALLS: usize = 64;
 /// The connections that are open, each at the place of its seat's number, and who is to be served.
 #[derive(Drop)]
 pub struct OpenConnections {
-    places: Vec<Option<OpenConnection>>,
+    places: Places,
     /// Seats that were not done when they were served last, each once. Who has waited longest is first.
-    again: VecDeque<SeatNumber>,
+    again: Again,
     /// Whether a request that was looked at in this round waits for room that is on its way.
     is_short: bool,
     entrance: Arc<SharedEntrance>,
-    ready: Arc<ReadyList>,
+    callers: Callers,
     due: DueIn,
 }
 
@@ -46,11 +51,11 @@ impl OpenConnections {
         due: DueIn,
     ) -> Result<OpenConnections, AllocError> {
         Ok(OpenConnections {
-            places: no_places(alloc)?,
-            again: VecDeque::with_capacity(alloc, MAX_SEATS)?,
+            places: Places::new(alloc)?,
+            again: Again::new(alloc)?,
             is_short: false,
             entrance,
-            ready,
+            callers: Callers::new(ready),
             due,
         })
     }
@@ -62,7 +67,10 @@ impl OpenConnections {
         alloc: Global,
         front: &mut Front<K>,
     ) -> bool
-        ensures { Serves front.old.sequencer front.new.sequencer }
+        ensures serves { Serves front.old.sequencer front.new.sequencer }
+        ensures admits { Admits (floor_of self.old front.old.sequencer) (floor_of self.new front.new.sequencer) ⊎ Stays (floor_of self.old front.old.sequencer) (floor_of self.new front.new.sequencer) }
+        ensures nobody { result ≡ false → Stays (floor_of self.old front.old.sequencer) (floor_of self.new front.new.sequencer) }
+        ensures callers { (self.new).callers ≡ (self.old).callers }
     {
         let Some(arrival) = next_arrival(rt, &self.entrance) else {
             return false;
@@ -87,6 +95,8 @@ impl OpenConnections {
         ensures serves { Serves front.old.sequencer front.new.sequencer }
         ensures read { HasRead marks.old marks.new }
         ensures short { WaitsOnlyFor (self.new).is_short is_working front.new.sequencer }
+        ensures visits { (between : Floor) × VisitsEach (self.old).again (record (floor_of self.old front.old.sequencer) { is_short = false }) between
+            × HeedsCalls (answers_of (self.old).callers.answers) (answers_of (self.new).callers.answers) between (floor_of self.new front.new.sequencer) }
     {
         self.is_short = false;
         let again = self.serve_unfinished(rt, alloc, front, is_working, marks);
@@ -113,10 +123,12 @@ impl OpenConnections {
         ensures serves { Serves front.old.sequencer front.new.sequencer }
         ensures read { HasRead marks.old marks.new }
         ensures short { WaitsOnlyFor (self.new).is_short is_working front.new.sequencer }
+        ensures visits { VisitsEach (self.old).again (floor_of self.old front.old.sequencer) (floor_of self.new front.new.sequencer) }
+        ensures callers { (self.new).callers ≡ (self.old).callers }
     {
         let mut any = false;
         for _ in 0..self.again.len() {
-            let Some(number) = self.again.pop_front() else {
+            let Some(number) = self.again.next() else {
                 return any;
             };
             any |= self.serve_place(rt, alloc, front, is_working, marks, number);
@@ -136,10 +148,11 @@ impl OpenConnections {
         ensures serves { Serves front.old.sequencer front.new.sequencer }
         ensures read { HasRead marks.old marks.new }
         ensures short { WaitsOnlyFor (self.new).is_short is_working front.new.sequencer }
+        ensures heeds { HeedsCalls (answers_of (self.old).callers.answers) (answers_of (self.new).callers.answers) (floor_of self.old front.old.sequencer) (floor_of self.new front.new.sequencer) }
     {
         let mut any = false;
         for _ in 0..MOST_CALLS {
-            let Some(number) = self.ready.next(rt) else {
+            let Some(number) = self.callers.next(rt) else {
                 return any;
             };
             any |= self.serve_call(rt, alloc, front, is_working, marks, number);
@@ -161,8 +174,10 @@ impl OpenConnections {
         ensures serves { Serves front.old.sequencer front.new.sequencer }
         ensures read { HasRead marks.old marks.new }
         ensures short { WaitsOnlyFor (self.new).is_short is_working front.new.sequencer }
+        ensures heeds { Heeds number.number (floor_of self.old front.old.sequencer) (floor_of self.new front.new.sequencer) }
+        ensures callers { (self.new).callers ≡ (self.old).callers }
     {
-        if self.is_again(number) {
+        if self.places.is_again(number) {
             return false;
         }
         self.serve_place(rt, alloc, front, is_working, marks, number)
@@ -182,17 +197,17 @@ impl OpenConnections {
         ensures serves { Serves front.old.sequencer front.new.sequencer }
         ensures read { HasRead marks.old marks.new }
         ensures short { WaitsOnlyFor (self.new).is_short is_working front.new.sequencer }
+        ensures visits { Visits number.number (floor_of self.old front.old.sequencer) (floor_of self.new front.new.sequencer) }
+        ensures callers { (self.new).callers ≡ (self.old).callers }
     {
-        let Some(connection) = self.lift(number) else {
+        let Some(connection) = self.places.lift(number) else {
             return false;
         };
         let mut connection = connection;
         let mut is_short = self.is_short;
         let (any, served) = take_turns(alloc, front, is_working, &mut connection, &mut is_short);
         self.is_short = is_short;
-        if any {
-            self.wake(marks, connection.arrival(), front.position());
-        }
+        self.wake(any, marks, connection.arrival(), front.position());
         match served {
             Served::Over => {
                 let arrival = connection.close(front);
@@ -208,22 +223,29 @@ impl OpenConnections {
                 any
             }
             Served::Idle => {
-                self.put(connection, false);
+                self.put(connection);
                 any
             }
         }
     }
 
-    /// Calls the driver to the connection, if its reader waits for room, and to its replies, now or once they are covered.
+    /// Where the connection was answered anything, calls the driver to it, if its reader waits for room, and to its replies, now or once they are covered.
     fn wake(
         &mut self,
+        any: bool,
         marks: &mut ThreadMarks,
         arrival: &Arrival<RequestQueue, ReplyQueue>,
         position: u64,
     )
+        ensures places { (self.new).places ≡ (self.old).places }
+        ensures again { (self.new).again ≡ (self.old).again }
         ensures short { (self.new).is_short ≡ (self.old).is_short }
+        ensures callers { (self.new).callers ≡ (self.old).callers }
         ensures read { HasRead marks.old marks.new }
     {
+        if !any {
+            return;
+        }
         if arrival.requests.flags.reader_waits.take() {
             arrival.requests.reader.wake();
         }
@@ -244,41 +266,27 @@ impl OpenConnections {
         drop(replies);
     }
 
-    /// Takes the connection at a place out of it, to be served.
-    fn lift(&mut self, number: SeatNumber) -> Option<OpenConnection>
-        ensures { (self.new).is_short ≡ (self.old).is_short }
-    {
-        match self.places.get_mut(number.index()) {
-            Some(place) => place.take(),
-            None => None,
-        }
-    }
-
-    /// Puts a connection at its place.
-    fn put(&mut self, connection: OpenConnection, is_again: bool)
-        ensures { (self.new).is_short ≡ (self.old).is_short }
+    /// Puts a connection at its place, where it is served once somebody calls.
+    fn put(&mut self, connection: OpenConnection)
+        ensures put { PutsAt connection.arrival.seat (Some (record connection { is_again = false })) (self.old).places.connections.items (self.new).places.connections.items }
+        ensures again { (self.new).again ≡ (self.old).again }
+        ensures short { (self.new).is_short ≡ (self.old).is_short }
+        ensures callers { (self.new).callers ≡ (self.old).callers }
     {
         let mut connection = connection;
-        connection.is_again = is_again;
-        match self.places.get_mut(connection.number().index()) {
-            Some(place) => drop(place.replace(connection)),
-            None => drop(connection),
-        }
+        connection.is_again = false;
+        self.places.put(connection);
     }
 
-    // (there is room for each seat; one that found none would be served when somebody calls)
+    /// Puts a connection at its place, and serves it in the next round. (There is room for each seat; one that found none would be served when somebody calls.)
     fn serve_again(&mut self, connection: OpenConnection)
-        ensures { (self.new).is_short ≡ (self.old).is_short }
+        ensures listed { (s : Sequencing) → StaysListed connection connection.arrival.seat (floor_of self.old s) (floor_of self.new s) }
+        ensures short { (self.new).is_short ≡ (self.old).is_short }
+        ensures callers { (self.new).callers ≡ (self.old).callers }
     {
-        let is_again = self.again.push_back(connection.number()).is_ok();
-        self.put(connection, is_again);
-    }
-
-    fn is_again(&self, number: SeatNumber) -> bool {
-        match self.places.get(number.index()) {
-            Some(Some(connection)) => connection.is_again,
-            _ => false,
-        }
+        let mut connection = connection;
+        connection.is_again = self.again.add(connection.number());
+        self.places.put(connection);
     }
 }
 
@@ -305,12 +313,4 @@ fn both_hold(marks: &mut ThreadMarks) -> u64
 {
     let seen = marks.read();
     seen.local.min(seen.remote)
-}
-
-fn no_places(alloc: Global) -> Result<Vec<Option<OpenConnection>>, AllocError> {
-    let mut places = Vec::with_capacity(alloc, MAX_SEATS)?;
-    for _ in 0..MAX_SEATS {
-        places.push(None)?;
-    }
-    Ok(places)
 }

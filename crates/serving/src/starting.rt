@@ -147,7 +147,7 @@ fn start_committer<
     D: Pmem + Send + 'static,
     E: Durable<Device = D> + Drop + Send + 'static,
 >(rt: R, alloc: Global, wake: Waker, is_wanted: bool) -> Option<Lent<E>>
-    ensures { IfSome result (λ lent. lent.lender ≡ None) }
+    ensures { IfSome result (λ lent. lent.lender.value ≡ None) }
 {
     if !is_wanted {
         return None;
@@ -167,7 +167,7 @@ fn is_doing<
     T: Drop + Send + 'static,
     L: Task<T> + Send + 'static,
 >(rt: R, alloc: Global, borrower: Borrower<T, L>, sleeper: Sleeper, owner: Waker) -> bool
-    requires { borrower ≡ None }
+    requires { borrower.value ≡ None }
 {
     let spawned = thread::spawn(&rt, move || {
         do_each(rt, alloc, borrower, sleeper, owner, NODE_SPIN)

@@ -2,6 +2,8 @@
 ghost use Rattle.std.specs.Prelude.{◌≡◌, ◌≢◌, max, nat_lt, not, ◌&&◌, ◌||◌, false, true, if◌then◌else◌};
 ghost use Rattle.extent_heap.specs.Room.{has_room};
 ghost use Rattle.primary.specs.Settled.{HasNothingOpen};
+ghost use Rattle.serving.specs.Ending as ending;
+ghost use Rattle.serving.specs.Ending.{EndTurns, lacks_room};
 ghost use Rattle.serving.specs.Serving.{Serves, WaitsOnlyFor};
 ghost use Rattle.serving.specs.Turns.{TakesTurns};
 
@@ -43,6 +45,7 @@ pub(crate) fn take_turns<K: Keyspace>(
     ensures short { WaitsOnlyFor is_short.new is_working front.new.sequencer }
     // it waits only where something is under way
     ensures waits { result.1 ≡ Served.Waits → ¬ ((is_working ≡ false) × HasNothingOpen front.new.sequencer) }
+    ensures ends { EndTurns is_short.old front.old.sequencer connection.old result.0 front.new.sequencer connection.new result.1 }
 {
     let mut any = false;
     for _ in 0..MOST_TURNS {
@@ -75,6 +78,7 @@ fn is_served(turn: Turn) -> bool
 /// How serving a connection ends with a turn at which nothing was served.
 fn ended_by(turn: Turn, is_read: bool) -> Served
     ensures waits { result ≡ Served.Waits → turn ≡ Turn.GroupFull }
+    ensures by { result ≡ ending.ended_by turn is_read }
 {
     match turn {
         Turn::GroupFull => Served::Waits,
@@ -93,6 +97,8 @@ fn waits_for_room<K: Keyspace>(
 ) -> bool
     // it waits only where something is under way
     ensures waits { result ≡ true → ¬ ((is_working ≡ false) × HasNothingOpen front.now.sequencer) }
+    // and only if an older one waits, or there may be no room for it
+    ensures lacks { result ≡ true → lacks_room need is_short front.now.sequencer ≡ true }
     // where something is, it is taken only if no older one waits and there is room for it
     ensures taken { result ≡ false → ¬ ((is_working ≡ false) × HasNothingOpen front.now.sequencer)
         → (nat_lt 0 need.count && (is_short || not (has_room need.count (max need.lines 1) (front.now.sequencer).room))) ≡ false }

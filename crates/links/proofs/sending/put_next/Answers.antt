@@ -1,6 +1,6 @@
 use Rattle.std.proofs.Common.{[], ◌∷◌, sym, append-nil}
 use Rattle.std.proofs.lemmas.Result.{err_from_is_err_and}
-use Rattle.links.proofs.SentRounds.{OnOk-err, Step-none, Step-sent, Step-stays, one_put}
+use Rattle.links.proofs.SentRounds.{OnOk-err, Step-none, Step-sent, Step-stays, Waits-none, one_put}
 use Rattle.links.proofs.sending.put_next.Goals as goal
 
 pub returns-clause-put : goal.returns-clause-put
@@ -36,3 +36,8 @@ returns-clause-step g c =
           (record { kept = told.again; none = told.full; next = told.next; sends = told.sends }) c.frame.ensures,
       one_put _ _ frame c.in_ok-put_frame.ensures.put,
     )
+
+pub returns-in_default-clause-rests : goal.returns-in_default-clause-rests
+returns-in_default-clause-rests g c = λ _.
+    let told = c.in_ok-index.ensures in
+    Waits-none g.I.Inlet.take_gives c.in_ok-index.field-0 _ _ _ _ c.args.outgoing.now.within c.in_default.is (record { kept = told.again; none = told.full; next = told.next; sends = told.sends })

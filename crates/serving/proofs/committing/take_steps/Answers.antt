@@ -1,15 +1,23 @@
-use Rattle.std.proofs.Common.{rules, [], ◌∷◌, ◌++◌}
+use Rattle.std.proofs.Common.{rules, Bool, ◌||◌, [], ◌∷◌, ◌++◌, Err, sym, ap, ◌∙◌, arith}
+use Rattle.std.proofs.lemmas.Result.{err_from_is_err_and}
+use Rattle.serving.proofs.EndingLemmas.{ends-here, ends-most, ends-refused, none-yet, one-more}
 use Rattle.serving.proofs.StepsLemmas.{steps-more}
 use Rattle.serving.proofs.committing.take_steps.Goals as goal
+
+pub loop-init : goal.loop-init
+loop-init g c = (c.requires.stands, c.requires.shown, (λ s over. over), ([], (search rules, search rules), none-yet))
 
 pub returns-in_err-done-clause-steps : goal.returns-in_err-done-clause-steps
 returns-in_err-done-clause-steps g c =
     let E = g.E.Durable in
     let before = c.loop.invariant.3 in
-    let step = c.take_step.ensures.step in (
+    let step = c.take_step.ensures.step in
+    let exit = err_from_is_err_and c.from_residual.result c.from_residual.ensures.1 in (
       before.0 ++ step.0 ∷ [],
       steps-more E.device E.contents E.is_faulted c.args.remote c.args.back.now c.loop.back c.take_step.new.back c.args.groups.now c.loop.groups c.take_step.new.groups
           before.0 step.0 before.1 step.1,
+      ends-refused before.0 c.loop.counter c.loop.any step.0 c.in_err-done.field-0.0 c.from_residual.result before.2 (omega (arith, c.loop-test.true))
+          (sym c.in_err-done.was ∙ step.2) (exit.1 ∙ ap Err exit.2),
     )
 
 pub returns-then-not-gives_nothing_back-clause-stands : goal.returns-then-not-gives_nothing_back-clause-stands
@@ -23,6 +31,8 @@ returns-then-not-gives_nothing_back-clause-steps g c =
       before.0 ++ step.0 ∷ [],
       steps-more E.device E.contents E.is_faulted c.args.remote c.args.back.now c.loop.back c.take_step.new.back c.args.groups.now c.loop.groups c.take_step.new.groups
           before.0 step.0 before.1 step.1,
+      ends-here before.0 c.loop.counter c.loop.any _ step.0 c.in_ok-done.done before.2 (omega (arith, c.loop-test.true)) (sym c.in_ok-done.was ∙ step.2)
+          (sym c.gives_nothing_back.ensures.passed ∙ search rules) (ap (λ (b : Bool). c.loop.any || b) c.is_something-any.ensures),
     )
 
 pub loop-preserved : goal.loop-preserved
@@ -31,7 +41,7 @@ loop-preserved g c =
     let before = c.loop.invariant.3 in
     let step = c.take_step.ensures.step in
     let led = c.loop.invariant.0 in
-    let nothing = c.gives_nothing_back.ensures (search rules) in (
+    let nothing = c.gives_nothing_back.ensures.nothing (search rules) in (
       (led.0, rw nothing at (c.in_ok-done.ensures.stands led.0 led.1)),
       c.in_ok-done.ensures.shown,
       λ s over. rw nothing at (c.in_ok-done.ensures.stands s (c.loop.invariant.2 s over)),
@@ -39,5 +49,12 @@ loop-preserved g c =
         before.0 ++ step.0 ∷ [],
         steps-more E.device E.contents E.is_faulted c.args.remote c.args.back.now c.loop.back c.take_step.new.back c.args.groups.now c.loop.groups c.take_step.new.groups
             before.0 step.0 before.1 step.1,
+        one-more before.0 c.loop.counter c.loop.any _ step.0 c.in_ok-done.done before.2 (sym c.in_ok-done.was ∙ step.2) (sym c.gives_nothing_back.ensures.passed ∙ search rules)
+            (ap (λ (b : Bool). c.loop.any || b) c.is_something-any.ensures),
       ),
     )
+
+pub returns-clause-steps : goal.returns-clause-steps
+returns-clause-steps g c =
+    let before = c.loop.invariant.3 in
+    (before.0, before.1, ends-most before.0 c.loop.counter c.loop.any before.2 (omega (arith, c.loop-test.false, c.loop.auto.counter-end)))

@@ -4,6 +4,7 @@ use Rattle.redis_core.specs.Sequencing.{Sequencing}
 use Rattle.group_commit.specs.declared.stage.Done.{Done}
 use Rattle.primary.specs.Standing.{BackStands}
 use Rattle.serving.specs.CommitJob.{AreSteps, IsShown}
+use Rattle.serving.proofs.EndingLemmas.{GoOn}
 use Rattle.serving.proofs.committing.take_steps.Given as goal
 
 abbrev pub invariant-loop : goal.invariant-loop
@@ -12,4 +13,4 @@ invariant-loop g l =
     ((s : Sequencing) × BackStands E.device E.contents l.back s [])
     × IsShown E.device E.contents l.back l.marks
     × ((s : Sequencing) → BackStands E.device E.contents l.fn.back s [] → BackStands E.device E.contents l.back s [])
-    × ((all : List (Result Done Refusal)) × AreSteps E.device E.contents E.is_faulted l.remote l.fn.back l.fn.groups all l.back l.groups)
+    × ((all : List (Result Done Refusal)) × AreSteps E.device E.contents E.is_faulted l.remote l.fn.back l.fn.groups all l.back l.groups × GoOn all l.counter l.any)

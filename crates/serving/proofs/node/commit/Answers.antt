@@ -1,5 +1,6 @@
-use Rattle.std.proofs.Common.{subst, sym}
+use Rattle.std.proofs.Common.{rules, refl, sym, subst, ap, ◌∙◌}
 use Rattle.serving.specs.CommitJob.{IsHereOrLent}
+use Rattle.serving.proofs.TendingLemmas.{closes-or-lacks, tends-home}
 use Rattle.serving.proofs.node.commit.Goals as goal
 
 pub settle-did-requires-clause-stands : goal.settle-did-requires-clause-stands
@@ -8,4 +9,60 @@ settle-did-requires-clause-stands g c = c.run_job-job.ensures.0 c.close_due-clos
 pub returns-then-job-clause-stands : goal.returns-then-job-clause-stands
 returns-then-job-clause-stands g c =
     let E = g.E.Durable in
-    subst (λ home. IsHereOrLent E.device E.contents home c.lend.new.self c.close_due-closed.new.front.sequencer) (sym c.take.ensures.after) (_, c.lend.ensures, c.close_due-closed.ensures.stands)
+    subst (λ home. IsHereOrLent E.device E.contents home c.lend.new.self.value c.close_due-closed.new.front.sequencer) (sym c.take.ensures.after)
+    (_, ap (λ end. end.value) c.lend.ensures, c.close_due-closed.ensures.stands)
+
+pub returns-then-not-is_step_due-clause-tends : goal.returns-then-not-is_step_due-clause-tends
+returns-then-not-is_step_due-clause-tends g c =
+    let E = g.E.Durable in
+    let job = c.in-Some.job in
+    let closed = c.close_due-closed in
+    tends-home E.device E.contents E.is_faulted c.args.remote c.args.is_short c.args.gathering.now closed.new.gathering c.args.home.now job c.args.lender.now c.args.front.now.sequencer
+    c.replace.new.self c.args.lender.now closed.new.front.sequencer _ (sym c.take.ensures.value ∙ c.in-Some.is) (record {
+      ready = record { back = closed.new.back; marks = job.marks; groups = c.is_step_due.new.groups; link = job.link; remote = c.args.remote; came = job.came; step_time = job.step_time };
+      between = closed.new.front.sequencer;
+      closes = closes-or-lacks c.args.gathering.now closed.new.gathering c.args.remote c.args.is_short c.args.front.now.sequencer closed.new.front.sequencer job.back.work closed.new.back.work closed.result
+          closed.ensures.closes closed.ensures.cause;
+      committer = closed.ensures.committer;
+      by = refl;
+      offered = c.is_step_due.ensures.offered;
+      times = refl;
+      steps = (sym c.is_step_due.ensures.due ∙ search rules, c.replace.ensures.after, refl, refl);
+    })
+
+pub returns-then-job-clause-tends : goal.returns-then-job-clause-tends
+returns-then-job-clause-tends g c =
+    let E = g.E.Durable in
+    let job = c.in-Some.job in
+    let closed = c.close_due-closed in
+    tends-home E.device E.contents E.is_faulted c.args.remote c.args.is_short c.args.gathering.now closed.new.gathering c.args.home.now job c.args.lender.now c.args.front.now.sequencer
+    c.take.new.self c.lend.new.self closed.new.front.sequencer _ (sym c.take.ensures.value ∙ c.in-Some.is) (record {
+      ready = record { back = closed.new.back; marks = job.marks; groups = c.is_step_due.new.groups; link = job.link; remote = c.args.remote; came = job.came; step_time = job.step_time };
+      between = closed.new.front.sequencer;
+      closes = closes-or-lacks c.args.gathering.now closed.new.gathering c.args.remote c.args.is_short c.args.front.now.sequencer closed.new.front.sequencer job.back.work closed.new.back.work closed.result
+          closed.ensures.closes closed.ensures.cause;
+      committer = closed.ensures.committer;
+      by = refl;
+      offered = c.is_step_due.ensures.offered;
+      times = refl;
+      steps = (sym c.is_step_due.ensures.due ∙ search rules, c.if-job.true, c.take.ensures.after, c.lend.ensures, refl);
+    })
+
+pub returns-clause-tends : goal.returns-clause-tends
+returns-clause-tends g c =
+    let E = g.E.Durable in
+    let job = c.in-Some.job in
+    let closed = c.close_due-closed in
+    let told = c.in_ok-did.ensures.told in
+    tends-home E.device E.contents E.is_faulted c.args.remote c.args.is_short c.args.gathering.now closed.new.gathering c.args.home.now job c.args.lender.now c.args.front.now.sequencer
+    c.replace-2.new.self c.args.lender.now c.settle-did.new.front.sequencer _ (sym c.take.ensures.value ∙ c.in-Some.is) (record {
+      ready = record { back = closed.new.back; marks = job.marks; groups = c.is_step_due.new.groups; link = job.link; remote = c.args.remote; came = job.came; step_time = job.step_time };
+      between = closed.new.front.sequencer;
+      closes = closes-or-lacks c.args.gathering.now closed.new.gathering c.args.remote c.args.is_short c.args.front.now.sequencer closed.new.front.sequencer job.back.work closed.new.back.work closed.result
+          closed.ensures.closes closed.ensures.cause;
+      committer = closed.ensures.committer;
+      by = refl;
+      offered = c.is_step_due.ensures.offered;
+      times = refl;
+      steps = (sym c.is_step_due.ensures.due ∙ search rules, c.if-job.false, c.run_job-job.result, c.replace-2.ensures.after, refl, (c.run_job-job.ensures, told.0, told.1, told.2, told.3));
+    })

@@ -1,4 +1,8 @@
+use Rattle.std.proofs.Common.{◌≡◌, ap, arith, subst, sym}
+use Rattle.serving.specs.Visiting.{ServesRound}
+use Rattle.serving.specs.declared.open_connections.OpenConnections.{OpenConnections}
 use Rattle.serving.proofs.HereOrLent.{here_or_lent_still}
+use Rattle.serving.proofs.TendingLemmas.{tends-same}
 use Rattle.serving.proofs.node.take_round.Goals as goal
 
 -- the job stayed where it was while connections were served
@@ -7,4 +11,43 @@ commit_due-requires-2-clause-stands g c =
     let E = g.E.Durable in
     let before = c.commit_due.new.state in
     let served = c.serve_connections-served.ensures in
-    rw (served.home, served.lender) (here_or_lent_still E.device E.contents before.home before.lender _ _ served.serves.keeps c.in_ok-before.ensures.stands)
+    rw (served.home, served.lender) (here_or_lent_still E.device E.contents before.home before.lender.value _ _ served.serves.keeps c.in_ok-before.ensures.stands)
+
+pub returns-clause-round : goal.returns-clause-round
+returns-clause-round g c =
+    let E = g.E.Durable in
+    let tended = c.commit_due.new.state in
+    let served = c.serve_connections-served.new.state in
+    let last = c.commit_due-2.new.state in
+    let serving = c.serve_connections-served.ensures in
+    let still : last.connections ≡ served.connections = c.commit_due-2.ensures.connections in
+    let first_read = c.commit_due.ensures.read in
+    let last_read = c.commit_due-2.ensures.read in
+    let one = c.is_busy.ensures in
+    let two = c.is_busy-2.ensures in
+    let three = c.is_busy-3.ensures in
+    record {
+      fetched = c.in_ok-fetched.fetched;
+      home1 = c.fetch.new.home;
+      lender1 = c.fetch.new.lender;
+      told = c.fetch.new.front.sequencer;
+      fetches = c.in_ok-fetched.ensures.fetches;
+      mark = tended.marks.remote;
+      before = c.in_ok-before.before;
+      noted1 = tended.gathering;
+      home2 = tended.home;
+      lender2 = tended.lender;
+      tended = tended.front.sequencer;
+      tends = c.in_ok-before.ensures.tends;
+      has_served = c.serve_connections-served.result;
+      served = served.front.sequencer;
+      serves = serving.serves;
+      visits = subst (λ (after : OpenConnections). ServesRound c.args.state.now.connections after tended.front.sequencer served.front.sequencer) (sym still)
+          (subst (λ (before : OpenConnections). ServesRound before served.connections tended.front.sequencer served.front.sequencer) c.commit_due.ensures.connections serving.visits);
+      after = c.in_ok-after.after;
+      tends_again = tends-same E.device E.contents E.is_faulted last.marks.remote served.connections.is_short last.connections.is_short served.gathering tended.gathering last.gathering
+          served.home tended.home served.lender tended.lender served.front.sequencer last.home last.lender last.front.sequencer c.in_ok-after.after
+          (ap (λ (connections : OpenConnections). connections.is_short) (sym still)) serving.gathering serving.home serving.lender c.in_ok-after.ensures.tends;
+      rises = (first_read.1, omega (arith, serving.read.1, last_read.1));
+      is_busy_is = cc;
+    }

@@ -4,5 +4,5 @@ use Rattle.serving.proofs.node.take_rounds.Given as goal
 
 abbrev pub invariant-loop : goal.invariant-loop
 invariant-loop g l =
-    IsHereOrLent g.E.Durable.device g.E.Durable.contents l.state.home l.state.lender l.state.front.sequencer
-    × (remote_of l.state.home ≤ l.state.marks.remote) × (remote_of l.state.lender ≤ l.state.marks.remote)
+    IsHereOrLent g.E.Durable.device g.E.Durable.contents l.state.home l.state.lender.value l.state.front.sequencer
+    × (remote_of l.state.home ≤ l.state.marks.remote) × (remote_of l.state.lender.value ≤ l.state.marks.remote)

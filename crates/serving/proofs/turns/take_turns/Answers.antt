@@ -1,5 +1,6 @@
-use Rattle.std.proofs.Common.{rules}
+use Rattle.std.proofs.Common.{rules, refl, sym, inl, inr, add-zero, arith}
 use Rattle.serving.proofs.TurnsLemmas.{connection-looks, connection-none, connection-rests, connection-served, serves-still, serves-then, waits-still}
+use Rattle.serving.proofs.TurnsEnd.{served-count}
 use Rattle.serving.proofs.turns.take_turns.Goals as goal
 
 pub returns-then-waits_for_room-clause-turns : goal.returns-then-waits_for_room-clause-turns
@@ -22,7 +23,36 @@ loop-preserved g c =
           c.take_turn-turn.result (c.is_served.ensures.served (search rules)) c.take_turn-turn.ensures.turn,
       serves-then _ c.loop.front.sequencer _ c.loop.invariant.1 c.take_turn-turn.ensures.serves,
       waits-still c.loop.is_short c.args.is_working c.loop.front.sequencer c.take_turn-turn.new.front.sequencer c.take_turn-turn.ensures.serves c.loop.invariant.2,
+      c.loop.invariant.3,
+      served-count c.args.connection.now c.loop.connection c.look_ahead-asked.new.self c.take_turn-turn.new.self c.loop.front.sequencer c.take_turn-turn.new.front.sequencer
+          c.take_turn-turn.result c.loop.counter c.loop.invariant.4 c.look_ahead-asked.ensures.looks (c.is_served.ensures.served (search rules)) c.take_turn-turn.ensures.turn,
     )
 
 pub loop-init : goal.loop-init
-loop-init g c = (connection-none c.args.front.now.sequencer c.args.connection.now, serves-still c.args.front.now.sequencer, c.requires.short)
+loop-init g c = (connection-none c.args.front.now.sequencer c.args.connection.now, serves-still c.args.front.now.sequencer, c.requires.short, refl, sym (add-zero _))
+
+pub returns-then-waits_for_room-clause-ends : goal.returns-then-waits_for_room-clause-ends
+returns-then-waits_for_room-clause-ends g c = inr (inl (record {
+  waits = refl;
+  looked = c.loop.connection;
+  turns = c.loop.invariant.0;
+  looks = c.look_ahead-asked.ensures.looks;
+  lacks = rw (c.need.ensures, c.look_ahead-asked.ensures.asked, c.loop.invariant.3) at (c.waits_for_room.ensures.lacks c.if-waits_for_room.true);
+}))
+
+pub returns-then-not-is_served-clause-ends : goal.returns-then-not-is_served-clause-ends
+returns-then-not-is_served-clause-ends g c = inr (inr (record {
+  between = c.loop.front.sequencer;
+  looked = c.loop.connection;
+  at = c.look_ahead-asked.new.self;
+  turns = c.loop.invariant.0;
+  looks = c.look_ahead-asked.ensures.looks;
+  last = c.take_turn-turn.result;
+  turned = c.take_turn-turn.ensures.turn;
+  unserved = c.is_served.ensures.unserved (search rules);
+  is_read = c.is_read-is_read.result;
+  came_is = c.ended_by.ensures.by;
+}))
+
+pub returns-clause-ends : goal.returns-clause-ends
+returns-clause-ends g c = inl (record { busy = refl; most = omega (arith, c.loop.invariant.4, c.loop-test.false, c.loop.auto.counter-end) })

@@ -1,0 +1,129 @@
+-- What a round of the node's thread does with the committer's job: it looks for it, closes what is due, and has the steps taken that are due then.
+use Rattle.std.specs.Prelude.{◌≡◌, ◌≢◌, ℕ, ◌+◌, ◌≤◌, Bool, true, false, ◌||◌, nat_lt, Option, Some, None, Ok, Err, Result}
+use Rattle.pmem.specs.Device.{State}
+use Rattle.kv_types.specs.declared.refusal.Refusal.{Refusal}
+use Rattle.kv_types.specs.declared.refusal.Refusal.TheVariants as refusal
+use Rattle.lending.specs.declared.desk.TheConstants.{RETURNED}
+use Rattle.lending.specs.declared.view.EndView.{EndView}
+use Rattle.model.specs.declared.work.Work.{Work}
+use Rattle.model.specs.Group.{Contents}
+use Rattle.pipes.specs.Waiting.{Waiting}
+use Rattle.pipes.specs.Ring.{offered_at}
+use Rattle.rtrb.specs.Ring.{known_free}
+use Rattle.redis_core.specs.Sequencing.{Sequencing}
+use Rattle.group_commit.specs.Due.{due_now}
+use Rattle.primary.specs.Standing.{IsTold}
+use Rattle.serving.specs.Closing.{ClosesBoth}
+use Rattle.serving.specs.CommitJob.{DoesSteps}
+use Rattle.serving.specs.Serving.{Serves}
+use Rattle.serving.specs.Steps.{does_step}
+use Rattle.serving.specs.Visiting.{ServesRound}
+use Rattle.serving.specs.declared.commit_job.CommitJob.{CommitJob}
+use Rattle.serving.specs.declared.committing.Stepped.{Stepped}
+use Rattle.serving.specs.declared.gathering.Gathering.{Gathering}
+use Rattle.serving.specs.declared.open_connections.OpenConnections.{OpenConnections}
+use Rattle.serving.specs.declared.tended.Fetched.{Fetched}
+use Rattle.serving.specs.declared.tended.Fetched.TheVariants as fetched
+use Rattle.serving.specs.declared.tended.JobCame.{JobCame}
+use Rattle.serving.specs.declared.tended.JobCame.TheVariants as came
+use Rattle.serving.specs.declared.tended.Tended.{Tended}
+
+-- ---- whether anything was done
+
+abbrev pub did_fetch : Fetched → Bool
+did_fetch (fetched.Back did) = did
+did_fetch _ = false
+
+abbrev pub did_close : Result Bool Refusal → Bool
+did_close (Ok did) = did
+did_close (Err refusal) = false
+
+abbrev pub did_step : JobCame → Bool
+did_step came.Lent = true
+did_step (came.Stepped did) = did
+did_step _ = false
+
+abbrev pub did_tend : Tended → Bool
+did_tend tended = did_close tended.closed || did_step tended.job
+
+-- ---- what was done
+
+-- what is due was closed, or memory for it was refused
+abbrev pub ClosesOrLacks : Gathering → ℕ → Bool → Sequencing → Waiting Work → Sequencing → Waiting Work → Gathering → Result Bool Refusal → Type 0
+ClosesOrLacks gathering remote is_short old before new after noted (Ok did) = ClosesBoth gathering remote is_short old before new after noted did
+ClosesOrLacks gathering remote is_short old before new after noted (Err cause) = cause ≡ refusal.Memory
+
+-- by what is known of an engine
+module _ {E : Type 0} (device : E → State) (contents : E → Contents) (is_faulted : E → Bool) where
+  -- All steps of the job were taken that it was to take, and the front was told of what they gave back. `did` is whether they did anything.
+  abbrev pub ComesBack : CommitJob E → CommitJob E → Sequencing → Sequencing → Bool → Type 0
+  ComesBack lent job old new did =
+      DoesSteps device contents is_faulted lent job × (stepped : Stepped) × (job.came ≡ Ok stepped) × (did ≡ stepped.any) × IsTold stepped.last old new
+
+  -- The job was here; or it was asked for once, and is away by the word that was found, or has come back.
+  abbrev pub Fetches : Option (CommitJob E) → EndView (CommitJob E) → Sequencing → Option (CommitJob E) → EndView (CommitJob E) → Sequencing → Fetched → Type 0
+  Fetches home lender old home' lender' new fetched.Here = (home ≢ None) × (home' ≡ home) × (lender' ≡ lender) × (new ≡ old)
+  Fetches home lender old home' lender' new (fetched.Away not_yet) =
+      (home ≡ None) × (not_yet.found ≢ RETURNED) × (home' ≡ None) × (lender' ≡ record lender { asked = lender.asked + 1; found = not_yet.found }) × (new ≡ old)
+  Fetches home lender old home' lender' new (fetched.Back did) =
+      (home ≡ None) × (lent : CommitJob E) × (job : CommitJob E) × (lender.value ≡ Some lent) × (home' ≡ Some job)
+      × (lender' ≡ record lender { value = None; asked = lender.asked + 1; found = RETURNED }) × ComesBack lent job old new did
+
+  -- whether a step of the job is due, by its remote mark
+  abbrev pub is_due : CommitJob E → Bool
+  is_due job =
+      let has_room = nat_lt 0 (known_free job.groups.producer) in
+      does_step has_room (due_now contents job.back.committer job.back.work has_room job.remote)
+
+  -- Where a step of the job is due it is lent, if steps took long, or else its steps are taken here. Otherwise it rests here.
+  abbrev pub HasStepsTaken : CommitJob E → EndView (CommitJob E) → Sequencing → Option (CommitJob E) → EndView (CommitJob E) → Sequencing → JobCame → Type 0
+  HasStepsTaken job lender old home' lender' new came.Away = ⊥
+  HasStepsTaken job lender old home' lender' new came.Rests = (is_due job ≡ false) × (home' ≡ Some job) × (lender' ≡ lender) × (new ≡ old)
+  HasStepsTaken job lender old home' lender' new came.Lent =
+      (is_due job ≡ true) × (job.step_time.is_long ≡ true) × (home' ≡ None) × (lender' ≡ record lender { value = Some job }) × (new ≡ old)
+  HasStepsTaken job lender old home' lender' new (came.Stepped did) =
+      (is_due job ≡ true) × (job.step_time.is_long ≡ false) × (job' : CommitJob E) × (home' ≡ Some job') × (lender' ≡ lender) × ComesBack job job' old new did
+
+  -- What is due is closed, and then the job, which goes by this remote mark, is lent, or has its steps taken, or rests.
+  pub record TendsJob (remote : ℕ) (is_short : Bool) (gathering noted : Gathering) (job : CommitJob E) (lender : EndView (CommitJob E)) (old : Sequencing)
+      (home' : Option (CommitJob E)) (lender' : EndView (CommitJob E)) (new : Sequencing) (tended : Tended) : Type 0 where
+    -- once what is due is closed
+    pub ready : CommitJob E
+    pub between : Sequencing
+    pub closes : ClosesOrLacks gathering remote is_short old job.back.work between ready.back.work noted tended.closed
+    pub committer : ready.back.committer ≡ job.back.committer
+    pub by : ready.remote ≡ remote
+    pub offered : offered_at ready.groups ≡ offered_at job.groups
+    pub times : ready.step_time ≡ job.step_time
+    pub steps : HasStepsTaken ready lender between home' lender' new tended.job
+
+  -- While the job is away nothing is closed.
+  abbrev pub Tends : ℕ → Bool → Gathering → Gathering → Option (CommitJob E) → EndView (CommitJob E) → Sequencing → Option (CommitJob E) → EndView (CommitJob E) → Sequencing → Tended → Type 0
+  Tends remote is_short gathering noted (Some job) lender old home' lender' new tended = TendsJob remote is_short gathering noted job lender old home' lender' new tended
+  Tends remote is_short gathering noted None lender old home' lender' new tended =
+      (tended ≡ record { closed = Ok false; job = came.Away }) × (noted ≡ gathering) × (home' ≡ None) × (lender' ≡ lender) × (new ≡ old)
+
+  -- A round of the node's thread: it looks for the job, tends it by the remote mark as it is then, serves connections, and tends it once more. `is_busy` is
+  -- whether anything was done.
+  pub record TakesRound (known : ℕ) (connections : OpenConnections) (gathering : Gathering) (home : Option (CommitJob E)) (lender : EndView (CommitJob E)) (old : Sequencing)
+      (read : ℕ) (connections' : OpenConnections) (noted : Gathering) (home' : Option (CommitJob E)) (lender' : EndView (CommitJob E)) (new : Sequencing) (is_busy : Bool) : Type 0 where
+    pub fetched : Fetched
+    pub home1 : Option (CommitJob E)
+    pub lender1 : EndView (CommitJob E)
+    pub told : Sequencing
+    pub fetches : Fetches home lender old home1 lender1 told fetched
+    pub mark : ℕ
+    pub before : Tended
+    pub noted1 : Gathering
+    pub home2 : Option (CommitJob E)
+    pub lender2 : EndView (CommitJob E)
+    pub tended : Sequencing
+    pub tends : Tends mark connections.is_short gathering noted1 home1 lender1 told home2 lender2 tended before
+    pub has_served : Bool
+    pub served : Sequencing
+    pub serves : Serves tended served
+    pub visits : ServesRound connections connections' tended served
+    pub after : Tended
+    pub tends_again : Tends read connections'.is_short noted1 noted home2 lender2 served home' lender' new after
+    pub rises : (known ≤ mark) × (mark ≤ read)
+    pub is_busy_is : is_busy ≡ (((did_fetch fetched || did_tend before) || has_served) || did_tend after)
