@@ -21,8 +21,8 @@ FREE_FENCES = 1
 CLEAR_FENCES = 3
 REOPEN_FENCES = 2
 
-# The nodes that have to run for an event: for most the primary. Those that crash and open again need not run.
-NODES_OF = {"open_link": ("primary", "standby"), "deliver": ("standby",), "apply": ("standby",), "crash": (), "reopen": ()}
+# The nodes that have to run for an event: for most the primary. Those that crash, open again or are fenced need not run.
+NODES_OF = {"open_link": ("primary", "standby"), "deliver": ("standby",), "apply": ("standby",), "crash": (), "reopen": (), "fence": ()}
 
 DEFAULT_LINES = (4_096, 4_096)
 
@@ -80,6 +80,7 @@ class Node:
     def __init__(self, lines, role, fail):
         self.image = plain_image.Writer(lines, role)
         self.runs = True
+        self.is_over = False
         # frames that joined on and were not taken
         self.refused = 0
         self.fences = 0
@@ -146,7 +147,7 @@ class Node:
 
     def reopen(self):
         """Whether it had crashed."""
-        if self.runs:
+        if self.runs or self.is_over:
             return False
         if self.gaps == plain_image.MOST_GAPS:
             self.fence(CLEAR_FENCES)
@@ -154,6 +155,11 @@ class Node:
         self.image.reopen()
         self.runs = True
         return True
+
+    def end(self):
+        """Whether anything could happen to it until then. Its image stays."""
+        was_over, self.is_over, self.runs = self.is_over, True, False
+        return not was_over
 
 
 class Machine:
@@ -464,3 +470,6 @@ class Machine:
 
     def reopen(self, node):
         return getattr(self, node).reopen()
+
+    def fence(self):
+        return self.primary.end()

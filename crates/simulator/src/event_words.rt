@@ -61,6 +61,7 @@ fn event_alone(name: &str) -> Option<Event> {
         "send" => Some(Event::Send),
         "apply" => Some(Event::Apply),
         "raise-remote" => Some(Event::RaiseRemote),
+        "fence" => Some(Event::Fence),
         _ => None,
     }
 }

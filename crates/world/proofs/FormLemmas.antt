@@ -42,7 +42,9 @@ use Rattle.connections.specs.Session.{ConnectionsRefine, SessionsRefine, Sequenc
 use Rattle.connections.specs.declared.connection.Connection.{Connection}
 use Rattle.world.specs.Standby.{Node, StandbyStands, ArrivalsRefine}
 use Rattle.world.specs.Headline.{start}
-use Rattle.world.specs.Pair.{NodesRefine, Pair, life_if}
+use Rattle.world.specs.Condition.{life_as, runs}
+use Rattle.world.specs.declared.condition.Condition.TheVariants as condition
+use Rattle.world.specs.Pair.{NodesRefine, Pair, allowed, life_if}
 use Rattle.world.specs.Recalling.{Remembers}
 use Rattle.world.proofs.OpeningLemmas.{opening-none}
 use Rattle.world.proofs.RecallLemmas.{remembers-new}
@@ -137,16 +139,15 @@ pub pair-starts : (first second : Holder) (pair : Pair) → SessionsRefine pair.
     → pair.committing.waiting.items ≡ [] → pair.committing.aside ≡ [] → pair.committing.stage ≡ Ready → pair.committing.local ≡ 0 → pair.notices ≡ [] → EngineStands first [] 0 pair.device pair.contents pair.is_faulted
     → pair.contents.current.gaps.items ≡ [] → IsAheadOf pair.sequencer pair.contents → Expects pair.sequencer pair.contents [] [] → pair.link ≡ new_stream FIRST_EPOCH → pair.handed.items ≡ [] → pair.remote ≡ 0 → pair.opening.position ≡ 0 → pair.frames ≡ []
     → ((epoch : ℕ) → ArrivalsRefine epoch [] pair.arrivals [] []) → StandbyStands second pair.link.epoch [] 0 pair.standby
-    → first.role ≡ Role.Primary → second.role ≡ Role.Standby → first.epoch ≡ FIRST_EPOCH → second.epoch ≡ FIRST_EPOCH → pair.primary_runs ≡ true → pair.standby_runs ≡ true → NodesRefine first second pair start
+    → first.role ≡ Role.Primary → second.role ≡ Role.Standby → first.epoch ≡ FIRST_EPOCH → second.epoch ≡ FIRST_EPOCH → pair.primary_condition ≡ condition.Running → pair.standby_runs ≡ true → NodesRefine first second pair start
 pair-starts first second pair sessions sequencer none_ended none none_aside ready mark none_told engine no_gap ahead expects link no_group remote never_opened no_frame arrivals standby first_role second_role first_epoch second_epoch serves follows =
     record {
-      sound = sound-start true false;
+      sound = sound-start allowed;
       lives = record {
-        restarts = refl;
-        failovers = refl;
+        allowed_are = refl;
         primary_sure = refl;
         standby_sure = refl;
-        primary = sym (ap life_if serves);
+        primary = sym (ap life_as serves);
         standby = sym (ap life_if follows);
         first_role = first_role;
         second_role = second_role;
@@ -154,7 +155,7 @@ pair-starts first second pair sessions sequencer none_ended none none_aside read
         second_epoch = second_epoch;
       };
       parts = inl (
-        serves,
+        ap runs serves,
         record {
           sessions = sessions;
           sequencer = sequencer;

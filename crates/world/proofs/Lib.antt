@@ -31,6 +31,7 @@ pub mod PairLives
 pub mod PairCrash
 pub mod OpenedLemmas
 pub mod PairReopen
+pub mod PairFence
 pub mod FormLemmas
 pub mod RunningLemmas
 pub mod GivenLemmas

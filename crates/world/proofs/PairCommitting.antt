@@ -23,6 +23,7 @@ use Rattle.world.specs.Pair.{Pair, PartsRefine, Steps, Does}
 use Rattle.world.proofs.EngineLemmas.{moves-same}
 use Rattle.world.proofs.PairLink.{link-alone}
 use Rattle.world.proofs.PairLemmas.{Opens-standby, goes-map, goes-steps, none-added}
+use Rattle.world.specs.Condition.{runs}
 
 -- ---- a group committed
 
@@ -34,8 +35,8 @@ ends-commit Exhausted P Q both ends = both RestsAtLimit ends
 ends-commit refusal P Q both ends = absurd ends
 
 -- the first group that waits has committed
-pub commit-steps : (first second : Holder) (w : World) (old new : Pair) → new.standby.device ≡ old.standby.device → Sound w → Runs first second new.primary_runs new.standby_runs w events.Commit
-    → new.primary_runs ≡ true → new.device.failures ≡ old.device.failures
+pub commit-steps : (first second : Holder) (w : World) (old new : Pair) → new.standby.device ≡ old.standby.device → Sound w → Runs first second new.primary_condition new.standby_runs w events.Commit
+    → runs new.primary_condition ≡ true → new.device.failures ≡ old.device.failures
     → NearOnly first w.primary.calls w.primary.committer.position (next_primary w) old.device new.device → true ≡ may_happen w events.Commit
     → PartsRefine first second new (with_committer (committed_first (from_group w.primary.committer.waiting) w.primary.committer) w) → Steps first second w events.Commit true old new
 commit-steps first second w old new device' sound runs serves failures only done parts =

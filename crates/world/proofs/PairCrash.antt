@@ -11,7 +11,7 @@ use Rattle.model.specs.Standing.{Holder}
 use Rattle.machine.specs.declared.event.Event.TheVariants as events
 use Rattle.machine.specs.declared.event.Cut.TheVariants as cuts
 use Rattle.machine.specs.declared.event.Node.TheVariants as node
-use Rattle.machine.specs.Event.{World, At, Life, Step, crashed, is_enabled, is_running, is_stopped, left}
+use Rattle.machine.specs.Event.{Allowed, World, At, Life, Step, crashed, is_enabled, is_running, is_stopped, left}
 use Rattle.machine.specs.Sound.{IsFrameWithin}
 use Rattle.machine.proofs.SoundEvents.{sound-step}
 use Rattle.world.specs.Committing.{Committing}
@@ -31,6 +31,9 @@ use Rattle.world.proofs.PairStandby.{arrivals-stand, follower, standby-either}
 use Rattle.world.proofs.RecallLemmas.{recalls-crashed}
 use Rattle.frames.specs.declared.frame.Frame.{Frame}
 use Rattle.world.specs.Link.{AreAcksSent, AreFramesRead}
+use Rattle.world.specs.Condition.{life_as, runs}
+use Rattle.world.specs.declared.condition.Condition.{Condition}
+use Rattle.world.specs.declared.condition.Condition.TheVariants.{Running, Crashed, Ended}
 
 -- ---- a node that is crashed already
 
@@ -38,15 +41,20 @@ crashed_if : (runs : Bool) → (is_running (life_if runs) || is_stopped (life_if
 crashed_if true = refl
 crashed_if false = refl
 
+crashed_as : (condition : Condition) → (is_running (life_as condition) || is_stopped (life_as condition)) ≡ runs condition
+crashed_as Running = refl
+crashed_as Crashed = refl
+crashed_as Ended = refl
+
 -- to crash a node is enabled where it runs
-crash-enabled : {first second : Holder} {serves follows : Bool} {w : World} (k : ℕ) (picks : Vec ℕ Global) → AreLives first second serves follows w
-    → (is_enabled w (events.Crash node.Primary cuts.Between k picks) ≡ serves) × (is_enabled w (events.Crash node.Standby cuts.Between k picks) ≡ follows)
+crash-enabled : {first second : Holder} {serves : Condition} {follows : Bool} {w : World} (k : ℕ) (picks : Vec ℕ Global) → AreLives first second serves follows w
+    → (is_enabled w (events.Crash node.Primary cuts.Between k picks) ≡ runs serves) × (is_enabled w (events.Crash node.Standby cuts.Between k picks) ≡ follows)
 crash-enabled {first} {second} {serves} {follows} {w} k picks lives = (
-  ap (λ b. b && (is_running w.primary.life || is_stopped w.primary.life)) lives.restarts ∙ ap (λ (l : Life). is_running l || is_stopped l) lives.primary ∙ crashed_if serves,
-  ap (λ b. b && (is_running w.standby.life || is_stopped w.standby.life)) lives.restarts ∙ ap (λ (l : Life). is_running l || is_stopped l) lives.standby ∙ crashed_if follows,
+  ap (λ (a : Allowed). a.restarts && (is_running w.primary.life || is_stopped w.primary.life)) lives.allowed_are ∙ ap (λ (l : Life). is_running l || is_stopped l) lives.primary ∙ crashed_as serves,
+  ap (λ (a : Allowed). a.restarts && (is_running w.standby.life || is_stopped w.standby.life)) lives.allowed_are ∙ ap (λ (l : Life). is_running l || is_stopped l) lives.standby ∙ crashed_if follows,
 )
 
-pub primary-crashed : (old : Pair) (k : ℕ) (picks : Vec ℕ Global) → old.primary_runs ≡ false → Acts old (events.Crash node.Primary cuts.Between k picks) (Ok false) old
+pub primary-crashed : (old : Pair) (k : ℕ) (picks : Vec ℕ Global) → runs old.primary_condition ≡ false → Acts old (events.Crash node.Primary cuts.Between k picks) (Ok false) old
 primary-crashed old k picks down = stays-acts old (events.Crash node.Primary cuts.Between k picks) (λ first second w stands. (crash-enabled k picks stands.lives).0 ∙ down)
 
 pub standby-crashed : (old : Pair) (k : ℕ) (picks : Vec ℕ Global) → old.standby_runs ≡ false → Acts old (events.Crash node.Standby cuts.Between k picks) (Ok false) old
@@ -68,7 +76,7 @@ pub record HasCrashed (lines : ℕ) (old new : State) : Type 0 where
 -- its sessions, its transcript, its committer and its engine once it crashed
 abbrev pub with_crashed_primary : Connections → Transcript → Committing → State → Contents → Bool → Pair → Pair
 with_crashed_primary sessions transcript committing device contents is_faulted pair =
-    record pair { sessions = sessions; transcript = transcript; committing = committing; device = device; contents = contents; is_faulted = is_faulted; primary_runs = false }
+    record pair { sessions = sessions; transcript = transcript; committing = committing; device = device; contents = contents; is_faulted = is_faulted; primary_condition = Crashed }
 
 StandbyRefines-cut : (holder : Holder) (epoch : ℕ) (calls : List Call) (p n : ℕ) (node : Node) (runs : Bool) → p ≤ n → StandbyRefines holder epoch calls p node runs
     → StandbyRefines holder epoch (cut_at calls n) p node runs
@@ -78,7 +86,7 @@ StandbyRefines-cut holder epoch calls p n node runs le refines = record {
 }
 
 pub primary-crashes : (old : Pair) (sessions : Connections) (transcript : Transcript) (committing : Committing) (device : State) (contents : Contents) (is_faulted : Bool) (k : ℕ) (picks : Vec ℕ Global) (position : ℕ)
-    → old.primary_runs ≡ true → position ≡ old.contents.current.position → HasCrashed old.contents.lines old.device device
+    → runs old.primary_condition ≡ true → position ≡ old.contents.current.position → HasCrashed old.contents.lines old.device device
     → ((w : World) → SessionsRefine old.sessions old.transcript w.primary.connections w.primary.calls → SessionsRefine sessions transcript (map left w.primary.connections) (cut_at w.primary.calls position))
     → ((c seat : ℕ) → ¬ HasSeat (seats_of sessions.connections.items) c seat) → AddsOne old.transcript.calls transcript.calls
     → Acts old (events.Crash node.Primary cuts.Between k picks) (Ok true) (with_crashed_primary sessions transcript committing device contents is_faulted old)
@@ -122,7 +130,7 @@ primary-crashes old sessions transcript committing device contents is_faulted k 
               (subst (λ e. All (IsFrameWithin e p) w.standby.waiting) (sym parts.epoch) (frames_within-weaker w.primary.epoch sound.sent p w.standby.waiting behind sound.standby.frames)) parts.arrivals;
           standby = StandbyRefines-cut second old.link.epoch calls w.standby.position p old.standby old.standby_runs (omega (arith, sound.standby.behind, behind)) parts.standby;
         } in
-        let refines : EitherRefines first second new w' = inr (refl, down) in
+        let refines : EitherRefines first second new w' = inr (inl (refl, down)) in
         record {
           world = w';
           step = step;

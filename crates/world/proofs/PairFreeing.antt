@@ -50,6 +50,7 @@ use Rattle.world.proofs.QueueLemmas.{free-disabled, free-enabled, reached-positi
 use Rattle.world.proofs.RecallLemmas.{remembers-aside, remembers-freed}
 use Rattle.world.proofs.PairTurns.{Took, Waiting-same, pair_of}
 use Rattle.world.proofs.FreeingLemmas.{engine-freed, freed-moments, primary-steps}
+use Rattle.world.specs.declared.condition.Condition.{Condition}
 
 -- ---- what a turn reaches
 
@@ -68,11 +69,11 @@ work_left calls room room' items works same are = subst (λ (b : Bool). AreWorkO
 
 -- ---- a turn of a committer that is ready
 
-module _ {E : Type 0} (device : E → State) (contents : E → Contents) (is_faulted : E → Bool) (sessions : Connections) (transcript : Transcript) (sequencer : Sequencing) (link : Stream) (opening : Opening) (remote : ℕ) (frames : List (Vec ℕ Global)) (arrivals : Arrived) (standby : Node) (primary_runs standby_runs : Bool) where
+module _ {E : Type 0} (device : E → State) (contents : E → Contents) (is_faulted : E → Bool) (sessions : Connections) (transcript : Transcript) (sequencer : Sequencing) (link : Stream) (opening : Opening) (remote : ℕ) (frames : List (Vec ℕ Global)) (arrivals : Arrived) (standby : Node) (primary_condition : Condition) (standby_runs : Bool) where
   -- a pair with this committer, with this work waiting for it, with these notices and with these groups at the link
   abbrev pub pair_with : Committer E → Waiting Work → List Freed → Waiting Group → Pair
   pair_with committer waiting notices handed =
-      pair_of device contents is_faulted sessions transcript sequencer notices link opening remote frames arrivals standby primary_runs standby_runs committer waiting handed
+      pair_of device contents is_faulted sessions transcript sequencer notices link opening remote frames arrivals standby primary_condition standby_runs committer waiting handed
 
   -- memory was refused, and the engine was not touched
   pub refused-does : (event : Event) → is_own event ≡ true → asks_memory event ≡ true → (before after : Committer E) (waiting waiting' : Waiting Work) (notices notices' : List Freed) (handed handed' : Waiting Group) (refusal : Refusal)

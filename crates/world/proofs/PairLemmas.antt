@@ -41,6 +41,7 @@ use Rattle.world.proofs.LinkLemmas.{LinkRefines-grows}
 use Rattle.world.proofs.StandbyLemmas.{StandbyStands-grows}
 use Rattle.world.proofs.DownLemmas.{IsDown-grows, Opens-down}
 use Rattle.world.proofs.ArrivalLemmas.{ArrivalsRefine-grows}
+use Rattle.world.specs.Condition.{runs}
 
 -- ---- what stands
 
@@ -63,7 +64,8 @@ Opens-standby holder epoch calls position node false refines = Opens-down holder
 pub standby-refines : {first second : Holder} {pair : Pair} {w : World} → EitherRefines first second pair w → StandbyRefines second pair.link.epoch w.primary.calls w.standby.position pair.standby pair.standby_runs
 standby-refines parts = elim parts [
   | inl up ↦ up.1.standby
-  | inr down ↦ down.1.standby
+  | inr (inl down) ↦ down.1.standby
+  | inr (inr fenced) ↦ fenced.1.standby
 ]
 
 pub standby-stands : (first second : Holder) (pair : Pair) (w : World) → EitherRefines first second pair w → Opens second w.primary.calls w.standby.position pair.standby.device
@@ -72,13 +74,15 @@ standby-stands first second pair w parts = Opens-standby second pair.link.epoch 
 pub primary-stands : (first second : Holder) (pair : Pair) (w : World) → EitherRefines first second pair w → Opens first w.primary.calls w.primary.committer.position pair.device
 primary-stands first second pair w parts = elim parts [
   | inl up ↦ Opens-engine _ _ _ _ _ _ up.1.engine
-  | inr down ↦ Opens-down first w.primary.calls w.primary.committer.position pair.device down.1.image
+  | inr (inl down) ↦ Opens-down first w.primary.calls w.primary.committer.position pair.device down.1.image
+  | inr (inr fenced) ↦ fenced.1.opens
 ]
 
 pub sessions-stand : {first second : Holder} {pair : Pair} {w : World} → EitherRefines first second pair w → SessionsRefine pair.sessions pair.transcript w.primary.connections w.primary.calls
 sessions-stand parts = elim parts [
   | inl up ↦ up.1.sessions
-  | inr down ↦ down.1.sessions
+  | inr (inl down) ↦ down.1.sessions
+  | inr (inr fenced) ↦ fenced.1.sessions
 ]
 
 -- ---- steps
@@ -93,7 +97,7 @@ untouched first second old new w w' device device' parts =
 
 -- an event that touches no device
 pub goes-either : (first second : Holder) (w w' : World) (event : Event) (did : Bool) (old new : Pair) → new.device ≡ old.device → new.standby.device ≡ old.standby.device → NodesRefine first second old w
-    → Runs first second new.primary_runs new.standby_runs w event → Happens w event w'
+    → Runs first second new.primary_condition new.standby_runs w event → Happens w event w'
     → Goes (may_happen w event) did (EitherRefines first second new w') (EitherRefines first second new w) → Steps first second w event did old new
 goes-either first second w w' event true old new device device' before runs happens goes =
     let step : Step w event true w' = record { done = goes.done ∙ sym (enabled-is runs); happens = λ did. happens; stands = λ did. absurd (true≢false did) } in
@@ -113,7 +117,7 @@ goes-either first second w w' event false old new device device' before runs hap
 
 -- of one whose primary runs
 pub goes-steps : (first second : Holder) (w w' : World) (event : Event) (did : Bool) (old new : Pair) → new.device ≡ old.device → new.standby.device ≡ old.standby.device → NodesRefine first second old w
-    → Runs first second new.primary_runs new.standby_runs w event → new.primary_runs ≡ true → Happens w event w'
+    → Runs first second new.primary_condition new.standby_runs w event → runs new.primary_condition ≡ true → Happens w event w'
     → Goes (may_happen w event) did (PartsRefine first second new w') (PartsRefine first second new w) → Steps first second w event did old new
 goes-steps first second w w' event did old new device device' before runs serves happens goes =
     goes-either first second w w' event did old new device device' before runs happens (goes-map goes (λ moved. inl (serves, moved)) (λ stayed. inl (serves, stayed)))
@@ -153,7 +157,7 @@ cut-for first second event refusal old new w stands same enabled cause =
 
 -- memory was refused, and neither device was touched
 pub cut-same : (first second : Holder) (event : Event) (refusal : Refusal) (old new : Pair) (w : World) → asks_memory event ≡ true → refusal ≡ Memory → new.device ≡ old.device
-    → new.standby.device ≡ old.standby.device → TellsTheSame old.transcript new.transcript → Runs first second old.primary_runs old.standby_runs w event → may_happen w event ≡ true → NodesRefine first second old w
+    → new.standby.device ≡ old.standby.device → TellsTheSame old.transcript new.transcript → Runs first second old.primary_condition old.standby_runs w event → may_happen w event ≡ true → NodesRefine first second old w
     → IsCut first second event refusal old new w
 cut-same first second event refusal old new w asks memory device device' same runs enabled stands =
     cut-for first second event refusal old new w stands same (enabled-is runs ∙ enabled)

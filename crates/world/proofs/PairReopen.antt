@@ -30,7 +30,7 @@ use Rattle.wbl_engine.specs.Reopening.{RefusesReopening}
 use Rattle.machine.specs.declared.event.Event.{Event}
 use Rattle.machine.specs.declared.event.Event.TheVariants as events
 use Rattle.machine.specs.declared.event.Node.TheVariants as node
-use Rattle.machine.specs.Event.{Committer as MachineCommitter, World, Step, is_crashed, is_enabled, new_link, reopened_primary, reopened_standby, with_primary, with_standby}
+use Rattle.machine.specs.Event.{Allowed, Committer as MachineCommitter, World, Step, is_crashed, is_enabled, new_link, reopened_primary, reopened_standby, with_primary, with_standby}
 use Rattle.machine.proofs.SoundEvents.{sound-step}
 use Rattle.world.specs.Cause.{EndsBy, Stretch}
 use Rattle.world.specs.Committing.{Committing, CommittingRefines, IsDown, next_primary, next_standby}
@@ -50,6 +50,10 @@ use Rattle.world.proofs.OpeningLemmas.{have_their_lines, in_order, opening-opene
 use Rattle.world.proofs.RecallLemmas.{remembers-opened}
 use Rattle.world.proofs.PairLives.{stays-acts}
 use Rattle.world.proofs.PairStandby.{arrivals-stand, link-epoch, standby-either}
+use Rattle.world.proofs.LivesLemmas.{fenced-not-crashed, not-crashed}
+use Rattle.world.specs.Condition.{has_crashed, life_as}
+use Rattle.world.specs.declared.condition.Condition.{Condition}
+use Rattle.world.specs.declared.condition.Condition.TheVariants.{Running, Crashed, Ended}
 
 -- ---- a node that runs
 
@@ -61,14 +65,19 @@ runs_if : (runs : Bool) → runs ≡ true → is_crashed (life_if runs) ≡ fals
 runs_if true is = refl
 runs_if false is = absurd (true≢false (sym is))
 
-primary-opens : {first second : Holder} {serves follows : Bool} {w : World} → AreLives first second serves follows w → is_enabled w (events.Reopen node.Primary) ≡ is_crashed (life_if serves)
-primary-opens {first} {second} {serves} {follows} {w} lives = ap (λ b. b && is_crashed w.primary.life) lives.restarts ∙ ap is_crashed lives.primary
+crashed_as : (condition : Condition) → is_crashed (life_as condition) ≡ has_crashed condition
+crashed_as Running = refl
+crashed_as Crashed = refl
+crashed_as Ended = refl
 
-standby-opens : {first second : Holder} {serves follows : Bool} {w : World} → AreLives first second serves follows w → is_enabled w (events.Reopen node.Standby) ≡ is_crashed (life_if follows)
-standby-opens {first} {second} {serves} {follows} {w} lives = ap (λ b. b && is_crashed w.standby.life) lives.restarts ∙ ap is_crashed lives.standby
+primary-opens : {first second : Holder} {serves : Condition} {follows : Bool} {w : World} → AreLives first second serves follows w → is_enabled w (events.Reopen node.Primary) ≡ has_crashed serves
+primary-opens {first} {second} {serves} {follows} {w} lives = ap (λ (a : Allowed). a.restarts && is_crashed w.primary.life) lives.allowed_are ∙ ap is_crashed lives.primary ∙ crashed_as serves
 
-pub primary-runs-on : (old : Pair) → old.primary_runs ≡ true → Acts old (events.Reopen node.Primary) (Ok false) old
-primary-runs-on old runs = stays-acts old (events.Reopen node.Primary) (λ first second w stands. primary-opens stands.lives ∙ runs_if old.primary_runs runs)
+standby-opens : {first second : Holder} {serves : Condition} {follows : Bool} {w : World} → AreLives first second serves follows w → is_enabled w (events.Reopen node.Standby) ≡ is_crashed (life_if follows)
+standby-opens {first} {second} {serves} {follows} {w} lives = ap (λ (a : Allowed). a.restarts && is_crashed w.standby.life) lives.allowed_are ∙ ap is_crashed lives.standby
+
+pub primary-runs-on : (old : Pair) → has_crashed old.primary_condition ≡ false → Acts old (events.Reopen node.Primary) (Ok false) old
+primary-runs-on old whole = stays-acts old (events.Reopen node.Primary) (λ first second w stands. primary-opens stands.lives ∙ whole)
 
 pub standby-runs-on : (old : Pair) → old.standby_runs ≡ true → Acts old (events.Reopen node.Standby) (Ok false) old
 standby-runs-on old runs = stays-acts old (events.Reopen node.Standby) (λ first second w stands. standby-opens stands.lives ∙ runs_if old.standby_runs runs)
@@ -167,8 +176,8 @@ standby-reopening-cut old node' result refusal is fallen refused =
 
 -- ---- the primary
 
-abbrev pub with_primary_node : Sequencing → Committing → List Freed → State → Contents → Bool → Waiting Group → Stream → Opening → ℕ → Bool → Pair → Pair
-with_primary_node sequencer committing notices device contents is_faulted handed link opening remote runs pair =
+abbrev pub with_primary_node : Sequencing → Committing → List Freed → State → Contents → Bool → Waiting Group → Stream → Opening → ℕ → Condition → Pair → Pair
+with_primary_node sequencer committing notices device contents is_faulted handed link opening remote condition pair =
     record pair {
       sequencer = sequencer;
       committing = committing;
@@ -180,7 +189,7 @@ with_primary_node sequencer committing notices device contents is_faulted handed
       link = link;
       opening = opening;
       remote = remote;
-      primary_runs = runs;
+      primary_condition = condition;
     }
 
 -- what a primary begins with once it is opened again
@@ -198,18 +207,19 @@ pub record Begins (contents : Contents) (sequencer : Sequencing) (committing : C
   pub image : Image
   pub shows : Shows contents image
 
-pub primary-reopens : (old : Pair) (sequencer : Sequencing) (committing : Committing) (notices : List Freed) (device : State) (contents : Contents) (is_faulted : Bool) (handed : Waiting Group) (link : Stream) (opening : Opening) → old.primary_runs ≡ false
+pub primary-reopens : (old : Pair) (sequencer : Sequencing) (committing : Committing) (notices : List Freed) (device : State) (contents : Contents) (is_faulted : Bool) (handed : Waiting Group) (link : Stream) (opening : Opening) → has_crashed old.primary_condition ≡ true
     → IsOpened role.Primary old.device device contents is_faulted → Begins contents sequencer committing notices handed link opening
-    → Acts old (events.Reopen node.Primary) (Ok true) (with_primary_node sequencer committing notices device contents is_faulted handed link opening 0 true old)
+    → Acts old (events.Reopen node.Primary) (Ok true) (with_primary_node sequencer committing notices device contents is_faulted handed link opening 0 Running old)
 primary-reopens old sequencer committing notices device contents is_faulted handed link opening fallen opened begins = record { steps = steps; cut = tt; calls = none-added _ _ refl }
   where
     new : Pair
-    new = with_primary_node sequencer committing notices device contents is_faulted handed link opening 0 true old
+    new = with_primary_node sequencer committing notices device contents is_faulted handed link opening 0 Running old
 
     fallen-parts : {first second : Holder} {w : World} → EitherRefines first second old w → DownRefine first second old w
     fallen-parts parts = elim parts [
-      | inl up ↦ absurd (true≢false (sym up.0 ∙ fallen))
-      | inr down ↦ down.1
+      | inl up ↦ absurd (not-crashed old.primary_condition up.0 fallen)
+      | inr (inl down) ↦ down.1
+      | inr (inr fenced) ↦ absurd (fenced-not-crashed old.primary_condition fenced.0 fallen)
     ]
 
     steps : (first second : Holder) (w : World) → NodesRefine first second old w → Steps first second w (events.Reopen node.Primary) true old new
@@ -264,7 +274,7 @@ primary-reopens old sequencer committing notices device contents is_faulted hand
         let gaps = length contents.current.gaps.items in
         let w' = with_primary (reopened_primary ended gaps w.primary) w in
         let step : Step w event true w' =
-        record { done = sym (primary-opens lives ∙ opens_if old.primary_runs fallen); happens = λ did. inl (record { ended = ended; gaps = gaps; some = opened-gaps first calls p old.device device contents is_faulted lost.image mine; few = engine.lawful.current.few; now = refl }); stands = λ did. absurd (true≢false did) } in
+        record { done = sym (primary-opens lives ∙ fallen); happens = λ did. inl (record { ended = ended; gaps = gaps; some = opened-gaps first calls p old.device device contents is_faulted lost.image mine; few = engine.lawful.current.few; now = refl }); stands = λ did. absurd (true≢false did) } in
         let parts : PartsRefine first second new w' =
         record {
           sessions = lost.sessions;
@@ -304,21 +314,22 @@ primary-reopens old sequencer committing notices device contents is_faulted hand
         }
 
 pub primary-reopening-cut : (old : Pair) (sequencer : Sequencing) (committing : Committing) (device : State) (contents : Contents) (is_faulted : Bool) (result : Result Bool Refusal) (refusal : Refusal) → result ≡ Err refusal
-    → old.primary_runs ≡ false → IsNotOpened role.Primary old.device device refusal
-    → Acts old (events.Reopen node.Primary) result (with_primary_node sequencer committing old.notices device contents is_faulted old.handed old.link old.opening old.remote old.primary_runs old)
+    → has_crashed old.primary_condition ≡ true → IsNotOpened role.Primary old.device device refusal
+    → Acts old (events.Reopen node.Primary) result (with_primary_node sequencer committing old.notices device contents is_faulted old.handed old.link old.opening old.remote old.primary_condition old)
 primary-reopening-cut old sequencer committing device' contents is_faulted result refusal is fallen refused =
     subst (λ (r : Result Bool Refusal). Acts old event r new) (sym is) (record { steps = tt; cut = cut; calls = none-added _ _ refl })
   where
     new : Pair
-    new = with_primary_node sequencer committing old.notices device' contents is_faulted old.handed old.link old.opening old.remote old.primary_runs old
+    new = with_primary_node sequencer committing old.notices device' contents is_faulted old.handed old.link old.opening old.remote old.primary_condition old
 
     event : Event
     event = events.Reopen node.Primary
 
     image : {first second : Holder} {w : World} → EitherRefines first second old w → IsDown first w.primary.calls w.primary.committer.position old.device
     image parts = elim parts [
-      | inl up ↦ absurd (true≢false (sym up.0 ∙ fallen))
-      | inr down ↦ down.1.image
+      | inl up ↦ absurd (not-crashed old.primary_condition up.0 fallen)
+      | inr (inl down) ↦ down.1.image
+      | inr (inr fenced) ↦ absurd (fenced-not-crashed old.primary_condition fenced.0 fallen)
     ]
 
     cut : (first second : Holder) (w : World) → NodesRefine first second old w → IsCut first second event refusal old new w
@@ -343,7 +354,7 @@ primary-reopening-cut old sequencer committing device' contents is_faulted resul
                     (opened-limit first calls p next device device' full.1.0 down refused.moments why.1 full.1.1 full.1.2, there)
               ]
         ] in
-        cut-for first second event refusal old new w stands (tells old.transcript) (primary-opens stands.lives ∙ opens_if old.primary_runs fallen) ends
+        cut-for first second event refusal old new w stands (tells old.transcript) (primary-opens stands.lives ∙ fallen) ends
       where
         memory_no_fault : Memory ≡ Fault → ⊥
         memory_no_fault is = cc

@@ -64,22 +64,27 @@ pub standby-either : (first second : Holder) (old : Pair) (arrivals : Arrived) (
     → EitherRefines first second (with_standby_as arrivals node runs old) (record w { standby = machine; wire = record w.wire { acknowledgements = told } })
 standby-either first second old arrivals node runs w machine told later parts arrivals_stand node_stands = elim parts [
   | inl up ↦ inl (up.0, standby-parts first second old arrivals node runs w machine told later up.1 arrivals_stand node_stands)
-  | inr down ↦
+  | inr (inl down) ↦
       let lost = down.1 in
-      inr (down.0, search (rules, recalls-still w.standby.position machine.position w.primary.committer.position w.primary.calls lost.image.contents later lost.recalls))
+      inr (inl (down.0, search (rules, recalls-still w.standby.position machine.position w.primary.committer.position w.primary.calls lost.image.contents later lost.recalls)))
+  | inr (inr fenced) ↦
+      let left = fenced.1 in
+      inr (inr (fenced.0, record { sessions = left.sessions; opens = left.opens; epoch = left.epoch; frames = left.frames; arrivals = arrivals_stand; standby = node_stands }))
 ]
 
-frames-stand : {first second : Holder} {pair : Pair} {w : World} → EitherRefines first second pair w → AreFramesSent pair.link.epoch w.primary.calls pair.frames w.wire.frames
+pub frames-stand : {first second : Holder} {pair : Pair} {w : World} → EitherRefines first second pair w → AreFramesSent pair.link.epoch w.primary.calls pair.frames w.wire.frames
 frames-stand parts = elim parts [
   | inl up ↦ up.1.frames
-  | inr down ↦ down.1.frames
+  | inr (inl down) ↦ down.1.frames
+  | inr (inr fenced) ↦ fenced.1.frames
 ]
 
 pub arrivals-stand : {first second : Holder} {pair : Pair} {w : World} → EitherRefines first second pair w
     → ArrivalsRefine pair.link.epoch w.primary.calls pair.arrivals w.standby.waiting w.wire.acknowledgements
 arrivals-stand parts = elim parts [
   | inl up ↦ up.1.arrivals
-  | inr down ↦ down.1.arrivals
+  | inr (inl down) ↦ down.1.arrivals
+  | inr (inr fenced) ↦ fenced.1.arrivals
 ]
 
 -- a standby that runs
@@ -90,7 +95,8 @@ follower follows parts = (standby-refines parts).stands follows
 pub link-epoch : {first second : Holder} {pair : Pair} {w : World} → EitherRefines first second pair w → pair.link.epoch ≡ w.primary.epoch
 link-epoch parts = elim parts [
   | inl up ↦ up.1.epoch
-  | inr down ↦ down.1.epoch
+  | inr (inl down) ↦ down.1.epoch
+  | inr (inr fenced) ↦ fenced.1.epoch
 ]
 
 -- the epoch of the standby's node is the machine's
@@ -101,7 +107,7 @@ own-epoch first second old w follows stands = (follower follows stands.parts).ep
 
 -- an event of a standby that runs
 standby-runs : {first second : Holder} {pair : Pair} {w : World} → pair.standby_runs ≡ true → NodesRefine first second pair w → (event : Event) → (is_running w.standby.life ≡ true → nodes_run w event ≡ true) → is_plain event ≡ true
-    → Runs first second pair.primary_runs pair.standby_runs w event
+    → Runs first second pair.primary_condition pair.standby_runs w event
 standby-runs {first} {second} {pair} {w} follows stands event nodes plain = record {
   lives = stands.lives;
   nodes = nodes (ap is_running stands.lives.standby ∙ ap (λ b. is_running (life_if b)) follows);
@@ -109,7 +115,7 @@ standby-runs {first} {second} {pair} {w} follows stands event nodes plain = reco
 }
 
 -- an event of both
-both-run : {first second : Holder} {pair : Pair} {w : World} → pair.standby_runs ≡ true → PairRefines first second pair w → Runs first second pair.primary_runs pair.standby_runs w events.OpenLink
+both-run : {first second : Holder} {pair : Pair} {w : World} → pair.standby_runs ≡ true → PairRefines first second pair w → Runs first second pair.primary_condition pair.standby_runs w events.OpenLink
 both-run {first} {second} {pair} {w} follows stands =
     standby-runs follows (nodes-refine stands) events.OpenLink (λ runs. ap (λ b. b && is_running w.standby.life) (ap is_running (serving stands)) ∙ runs) refl
 

@@ -44,6 +44,7 @@ use Rattle.world.proofs.LivesLemmas.{enabled-is, nodes-refine, own-runs}
 use Rattle.world.proofs.PairLemmas.{Led, cut-for, cut-same, none-added, rests-standby, stays-does, tells}
 use Rattle.world.proofs.PairCommitting.{commit-steps, ends-commit, hand-does, raise-does, same_closed}
 use Rattle.world.proofs.QueueLemmas.{commit-disabled, commit-enabled}
+use Rattle.world.specs.declared.condition.Condition.{Condition}
 
 -- a turn that took its step was not refused
 abbrev pub went : Result Done Refusal → Result Bool Refusal
@@ -122,7 +123,7 @@ module _ {E : Type 0} (device : E → State) (contents : E → Contents) (is_fau
         → Took step (link_has_room handed.items) remote before works handed result after works' handed'
     took-step step is took = subst (λ (step : Due). Took step (link_has_room handed.items) remote before works handed result after works' handed') is (took-due took)
 
-module _ {E : Type 0} (device : E → State) (contents : E → Contents) (is_faulted : E → Bool) (sessions : Connections) (transcript : Transcript) (sequencer : Sequencing) (notices : List Freed) (link : Stream) (opening : Opening) (remote : ℕ) (frames : List (Vec ℕ Global)) (arrivals : Arrived) (standby : Node) (primary_runs standby_runs : Bool) where
+module _ {E : Type 0} (device : E → State) (contents : E → Contents) (is_faulted : E → Bool) (sessions : Connections) (transcript : Transcript) (sequencer : Sequencing) (notices : List Freed) (link : Stream) (opening : Opening) (remote : ℕ) (frames : List (Vec ℕ Global)) (arrivals : Arrived) (standby : Node) (primary_condition : Condition) (standby_runs : Bool) where
   -- a pair with this committer, with this work waiting for it, and with these groups at the link
   abbrev pub pair_of : Committer E → Waiting Work → Waiting Group → Pair
   pair_of committer work waiting = record {
@@ -141,7 +142,7 @@ module _ {E : Type 0} (device : E → State) (contents : E → Contents) (is_fau
     frames = frames;
     arrivals = arrivals;
     standby = standby;
-    primary_runs = primary_runs;
+    primary_condition = primary_condition;
     standby_runs = standby_runs;
   }
 

@@ -15,7 +15,7 @@ use Rattle.model.specs.Standing.{Holder, new_holder}
 use Rattle.machine.specs.declared.event.Event.{Event}
 use Rattle.machine.specs.declared.event.Event.TheVariants.{Commit, Free, ClearGap, Apply, OpenLink, Promote, Reopen, Send}
 use Rattle.machine.specs.declared.event.Node.TheVariants as node_of
-use Rattle.machine.specs.Event.{Run, World, IsSure, Work, Commits, Frees, Committer, committed_first, from_group, last_world, spans_of}
+use Rattle.machine.specs.Event.{Allowed, Run, World, IsSure, Work, Commits, Frees, Committer, committed_first, from_group, last_world, spans_of}
 use Rattle.machine.specs.Law.{Grows}
 use Rattle.machine.specs.Promise.{IsPromised, IsReleased, Tells, released_in}
 use Rattle.machine.specs.Sound.{IsChain, Sound}
@@ -33,7 +33,7 @@ use Rattle.world.specs.Committing.{FormattingOnly, FromOnly, Moves, NearOnly, Op
 use Rattle.world.specs.declared.trace.EarlyEnd.{EarlyEnd}
 use Rattle.world.specs.declared.trace.EarlyEnd.TheVariants.{AtFormatting, AtEvent}
 use Rattle.world.specs.Headline.{AnyWorld, Enables, start, primary_position, standby_position, AreMoments, IsKept, KeepsItsWord, PlaysOn, AreMoves, OpensFrom, OpensIn, Reaches, StandsAfter, IsCutAfter, Plays, HasSent, primary_holder, standby_holder}
-use Rattle.world.specs.Pair.{Pair, NodesRefine, HasWorld, IsCut, Steps}
+use Rattle.world.specs.Pair.{Pair, NodesRefine, allowed, HasWorld, IsCut, Steps}
 use Rattle.world.specs.Step.{AcksBy, FramesBy, touches_primary, touches_standby}
 use Rattle.connections.specs.Session.{released_of}
 use Rattle.world.proofs.EngineLemmas.{rests-same}
@@ -189,18 +189,18 @@ record MomentsFrom (touches : Event → Bool) (last : Stretch) (position next : 
   moments : AreMoments touches last position next holder w events done worlds old new
 
 moments-from : (touches : Event → Bool) (last : Stretch) (position next : World → ℕ) (holder : World → Holder) → IsOfNode position next → IsLast last
-    → (w : World) (events : List Event) (done : List Bool) (worlds : List World) (old reached new : State) → Run w events done worlds → Sound w → IsSure w
+    → (w : World) (events : List Event) (done : List Bool) (worlds : List World) (old reached new : State) → Run w events done worlds → Sound w → IsSure w → w.allowed.promotions ≡ false
     → AreMoves touches position holder w events done worlds old reached
     → last (holder (last_world w worlds)) (last_world w worlds).primary.calls (position (last_world w worlds)) (next (last_world w worlds)) reached new → MomentsFrom touches last position next holder w events done worlds old new
-moments-from touches last position next holder node from w [] [] [] old reached new run sound sure are ends =
+moments-from touches last position next holder node from w [] [] [] old reached new run sound sure none are ends =
     let all : last (holder w) w.primary.calls (position w) (next w) old new = subst (λ (d : State). last (holder w) w.primary.calls (position w) (next w) d new) (sym are) ends in
     let onward : LeavesOnly old new (OpensIn holder (position w) w []) = from (holder w) w.primary.calls (position w) (next w) old new (node.onward w sound) all in
     record { from = onward; moments = (λ prefix call released. in-lower holder _ (position w) w [] old new (node.holds w sound prefix call released) onward, all) }
-moments-from touches last position next holder node from w (event ∷ events) (did ∷ done) (w' ∷ worlds) old reached new run sound sure are ends =
+moments-from touches last position next holder node from w (event ∷ events) (did ∷ done) (w' ∷ worlds) old reached new run sound sure none are ends =
     let sound' = sound-step w event did w' run.0 sound in
     let sure' = sure-step w event did w' run.0 sure in
-    let rises = node.rises w w' (grows-step w event did w' run.0 sound) sure'.1 in
-    let rest = moments-from touches last position next holder node from w' events done worlds are.0 reached new run.1 sound' sure'.0 are.3 ends in
+    let rises = node.rises w w' (grows-step w event did w' run.0 sound) (sure'.epoch none) in
+    let rest = moments-from touches last position next holder node from w' events done worlds are.0 reached new run.1 sound' sure'.sure (ap (λ (a : Allowed). a.promotions) sure'.allowed ∙ none) are.3 ends in
     let onward : LeavesOnly old new (OpensIn holder (position w) w (w' ∷ worlds)) =
     LeavesOnly-then
     (LeavesOnly-weaken (OpensIn holder (position w) w (w' ∷ worlds)) (λ image opens. inl opens)
@@ -210,20 +210,20 @@ moments-from touches last position next holder node from w (event ∷ events) (d
       from = onward;
       moments = (are.0, λ prefix call released. in-lower holder _ (position w) w (w' ∷ worlds) old new (node.holds w sound prefix call released) onward, are.1, are.2, rest.moments);
     }
-moments-from touches last position next holder node from w events done worlds old reached new run sound sure are ends = absurd run
+moments-from touches last position next holder node from w events done worlds old reached new run sound sure none are ends = absurd run
 
--- no failover comes in a run of the pair
+-- no fence fails in a run of the pair
 sure-start : IsSure start
-sure-start = record { failovers = refl; primary_sure = refl; standby_sure = refl; primary_whole = refl; standby_whole = refl }
+sure-start = record { failures = refl; primary_sure = refl; standby_sure = refl; primary_whole = refl; standby_whole = refl }
 
 -- ---- what is told at the end
 
 -- the promise of what tells the last world, by these very worlds
 promised-by : (events : List Event) (done : List Bool) (worlds : List World) (calls : List Call) (released : ℕ → List ℕ) (primary standby : ℕ) → Run start events done worlds
-    → Tells (last_world start worlds) calls released primary standby → (promised : IsPromised true false events done calls released primary standby) × (promised.worlds ≡ worlds)
+    → Tells (last_world start worlds) calls released primary standby → (promised : IsPromised allowed events done calls released primary standby) × (promised.worlds ≡ worlds)
 promised-by events done worlds calls released primary standby run tells =
     let w = last_world start worlds in
-    let promised = promised-told true false events done worlds calls released primary standby run tells in (
+    let promised = promised-told allowed events done worlds calls released primary standby run tells in (
       record {
         worlds = worlds;
         run = run;
@@ -234,9 +234,9 @@ promised-by events done worlds calls released primary standby run tells =
         covered = λ prefix call out.
             let in_last : IsReleased w.primary.calls (released_in w) prefix call =
             record { rest = out.rest; stands = sym tells.list ∙ out.stands; written = omega (arith, out.written, ap length (tells.bytes call.connection)) } in
-            covered-run true false events done worlds run prefix call in_last;
+            covered-run allowed events done worlds run prefix call in_last;
         stays = λ prefix call some.
-            let in_last = released-stays start events done worlds prefix call run (sound-start true false) some in
+            let in_last = released-stays start events done worlds prefix call run (sound-start allowed) some in
             record { rest = in_last.rest; stands = tells.list ∙ in_last.stands; written = omega (arith, in_last.written, ap length (tells.bytes call.connection)) };
         held = promised.held;
         behind = promised.behind;
@@ -264,9 +264,9 @@ kept : (Last : World → Type 0) (first_last second_last : Stretch) (first secon
 kept Last first_last second_last first second began events done calls released frames acknowledgements primary standby primary' standby' first_from second_from reaches tells last messages primary_ends standby_ends =
     let w = last_world start reaches.worlds in
     let promised = promised-by events done reaches.worlds calls (λ c. slice_index_or released c []) (primary_position w) (standby_position w) reaches.run tells in
-    let primary_moments = moments-from touches_primary first_last primary_position next_primary (primary_holder first.lines) of_primary first_from start events done reaches.worlds began.device primary primary' reaches.run (sound-start true false) sure-start
+    let primary_moments = moments-from touches_primary first_last primary_position next_primary (primary_holder first.lines) of_primary first_from start events done reaches.worlds began.device primary primary' reaches.run (sound-start allowed) sure-start refl
     reaches.primary_moves primary_ends in
-    let standby_moments = moments-from touches_standby second_last standby_position next_standby (standby_holder second.lines) of_standby second_from start events done reaches.worlds began.standby.device standby standby' reaches.run (sound-start true false) sure-start
+    let standby_moments = moments-from touches_standby second_last standby_position next_standby (standby_holder second.lines) of_standby second_from start events done reaches.worlds began.standby.device standby standby' reaches.run (sound-start allowed) sure-start refl
     reaches.standby_moves standby_ends in
     record {
       primary_at = primary_position w;

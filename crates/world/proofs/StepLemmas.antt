@@ -20,19 +20,22 @@ use Rattle.world.proofs.GivenLemmas.{calls-step, released-step}
 use Rattle.world.proofs.LivesLemmas.{nodes-refine, serves-as, sure-lives}
 use Rattle.world.proofs.PairLemmas.{primary-stands, roomier-stands, sessions-stand, standby-stands}
 use Rattle.world.proofs.PairLives.{idle-step, own-acts}
+use Rattle.world.specs.Condition.{runs}
 
 -- ---- what can be seen
 
 pub frames-sent : (first second : Holder) (pair : Pair) (w : World) → EitherRefines first second pair w → AreFramesSent w.primary.epoch w.primary.calls pair.frames w.wire.frames
 frames-sent first second pair w parts = elim parts [
   | inl up ↦ subst (λ epoch. AreFramesSent epoch w.primary.calls pair.frames w.wire.frames) up.1.epoch up.1.frames
-  | inr down ↦ subst (λ epoch. AreFramesSent epoch w.primary.calls pair.frames w.wire.frames) down.1.epoch down.1.frames
+  | inr (inl down) ↦ subst (λ epoch. AreFramesSent epoch w.primary.calls pair.frames w.wire.frames) down.1.epoch down.1.frames
+  | inr (inr fenced) ↦ subst (λ epoch. AreFramesSent epoch w.primary.calls pair.frames w.wire.frames) fenced.1.epoch fenced.1.frames
 ]
 
 pub acks-sent : (first second : Holder) (pair : Pair) (w : World) → EitherRefines first second pair w → AreAcksSent pair.arrivals.acknowledgements.items w.wire.acknowledgements
 acks-sent first second pair w parts = elim parts [
   | inl up ↦ up.1.arrivals.acknowledged
-  | inr down ↦ down.1.arrivals.acknowledged
+  | inr (inl down) ↦ down.1.arrivals.acknowledged
+  | inr (inr fenced) ↦ fenced.1.arrivals.acknowledged
 ]
 
 pub shows : (first second : Holder) (pair : Pair) (w : World) → NodesRefine first second pair w → Shows first second w pair
@@ -98,13 +101,13 @@ leaves-still event pair =
     record { primary = λ idle. refl; standby = λ idle. refl; frames = frames-still event pair.frames; acknowledgements = acks-still event pair.arrivals.acknowledgements.items; effect = effect-still event pair }
 
 -- its nodes do not run
-pub idle-is : {old : Pair} {event : Event} {took : Bool} → took ≡ takes_part old.primary_runs old.standby_runs event → took ≡ false → IsStep old event (Ok false) old
+pub idle-is : {old : Pair} {event : Event} {took : Bool} → took ≡ takes_part (runs old.primary_condition) old.standby_runs event → took ≡ false → IsStep old event (Ok false) old
 idle-is {old} {event} {took} takes idle =
     is-step old event (Ok false) old (idle-step takes idle) (leaves-still event old)
 
 -- the primary takes part alone
-pub own-is : {old new : Pair} {event event' : Event} {result : Result Bool Refusal} {took : Bool} → event ≡ event' → took ≡ takes_part old.primary_runs old.standby_runs event → took ≡ true
-    → (takes_part old.primary_runs old.standby_runs event' ≡ true → old.primary_runs ≡ true) → Does old event' result new → Leaves event' result old new → IsStep old event result new
+pub own-is : {old new : Pair} {event event' : Event} {result : Result Bool Refusal} {took : Bool} → event ≡ event' → took ≡ takes_part (runs old.primary_condition) old.standby_runs event → took ≡ true
+    → (takes_part (runs old.primary_condition) old.standby_runs event' ≡ true → runs old.primary_condition ≡ true) → Does old event' result new → Leaves event' result old new → IsStep old event result new
 own-is {old} {new} {event} {event'} {result} {took} is takes took_part own does leaves =
     is-step old event result new (own-acts is takes took_part own does) (subst (λ (e : Event). Leaves e result old new) (sym is) leaves)
 
@@ -132,7 +135,7 @@ adds-roomy old transcript new roomier room adds = record {
   room = adds.room ∙ roomier.enough (omega (arith, room, old.calls.ok.0));
 }
 
-turn-step : (old : Pair) (c : ℕ) (result : Result Bool Refusal) (new : Pair) → old.primary_runs ≡ true → Turns old c result new → Leaves (Turn c) result old new → IsStep old (Turn c) result new
+turn-step : (old : Pair) (c : ℕ) (result : Result Bool Refusal) (new : Pair) → runs old.primary_condition ≡ true → Turns old c result new → Leaves (Turn c) result old new → IsStep old (Turn c) result new
 turn-step old c (Ok did) new runs turns leaves = record {
   happened = λ first second w stands.
       happened first second w (Turn c) did old new stands
@@ -162,10 +165,10 @@ turn-step old c (Err refusal) new runs turns leaves =
       room = λ room. absurd (omega (arith, room.room, turns.refused.1, old.transcript.calls.ok.0));
     }
 
-pub turn-is : {old new : Pair} {event : Event} {c : ℕ} {result : Result Bool Refusal} {took : Bool} → event ≡ Turn c → took ≡ takes_part old.primary_runs old.standby_runs event → took ≡ true
+pub turn-is : {old new : Pair} {event : Event} {c : ℕ} {result : Result Bool Refusal} {took : Bool} → event ≡ Turn c → took ≡ takes_part (runs old.primary_condition) old.standby_runs event → took ≡ true
     → Turns old c result new → Leaves (Turn c) result old new → IsStep old event result new
 turn-is {old} {new} {event} {c} {result} {took} is takes took_part turns leaves =
-    let runs = ap (takes_part old.primary_runs old.standby_runs) (sym is) ∙ sym takes ∙ took_part in
+    let runs = ap (takes_part (runs old.primary_condition) old.standby_runs) (sym is) ∙ sym takes ∙ took_part in
     subst (λ (e : Event). IsStep old e result new) (sym is) (turn-step old c result new runs turns leaves)
 
 -- ---- a run

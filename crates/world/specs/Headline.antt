@@ -15,14 +15,15 @@ use Rattle.machine.specs.Promise.{IsPromised, IsReleased, released_in}
 use Rattle.world.specs.Committing.{Moves, OpensAt, FormattingOnly, next_primary, next_standby}
 use Rattle.world.specs.Cause.{Stretch, Resting, UnformedBy, EndsBy}
 use Rattle.world.specs.Link.{AreAcksSent, AreFramesSent}
-use Rattle.world.specs.Pair.{Pair, NodesRefine, IsCut}
+use Rattle.world.specs.Pair.{Pair, NodesRefine, IsCut, allowed}
 use Rattle.world.specs.Step.{touches_primary, touches_standby}
 use Rattle.world.specs.declared.trace.EarlyEnd.{EarlyEnd}
 use Rattle.world.specs.declared.trace.EarlyEnd.TheVariants.{AtFormatting, AtEvent}
 
--- Two nodes that were formatted together and may crash between two events. No fence is asked to fail, no call is cut, and no failover comes.
+-- Two nodes that were formatted together, may crash between two events, and of which the primary may be fenced. No fence of a device is asked to fail, no call is cut,
+-- and no standby is promoted.
 abbrev pub start : World
-start = start_with true false
+start = start_with allowed
 
 -- the position of a node in a world
 abbrev pub primary_position : World → ℕ
@@ -83,7 +84,7 @@ pub record IsKept (Last : World → Type 0) (first_last second_last : Stretch) (
   -- the positions of the two nodes at the end
   pub primary_at : ℕ
   pub standby_at : ℕ
-  pub promised : IsPromised true false events done calls (λ c. slice_index_or released c []) primary_at standby_at
+  pub promised : IsPromised allowed events done calls (λ c. slice_index_or released c []) primary_at standby_at
   pub last : Last (last_world start promised.worlds)
   pub messages : HasSent (last_world start promised.worlds) frames acknowledgements
   -- the moments of either device, cut by the same events

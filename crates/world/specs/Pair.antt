@@ -1,4 +1,4 @@
--- How a pair of nodes with its connections refines the machine's, while its primary runs and while it is crashed.
+-- How a pair of nodes with its connections refines the machine's, while its primary runs, while it is crashed, and once it was fenced.
 use Rattle.std.specs.Prelude.{◌≡◌, ◌⊎◌, ◌&&◌, ℕ, ◌<◌, Bool, true, false, if◌then◌else◌, List, [], length, slice_index_or, Vec, vec_capacity, Result, IfOk, IfErr}
 use Rattle.std.specs.Global.{Global}
 use Rattle.pmem.specs.Device.{State}
@@ -14,12 +14,14 @@ use Rattle.redis_core.specs.Sequencing.{Sequencing}
 use Rattle.standby_stream.specs.Stream.{Stream}
 use Rattle.standby_stream.specs.declared.opening.Opening.{Opening}
 use Rattle.machine.specs.declared.event.Event.{Event}
-use Rattle.machine.specs.Event.{Crashed, Life, Primary, Running, World, Step, is_enabled, new_committer, new_link}
+use Rattle.machine.specs.Event.{Allowed, Crashed, Life, Primary, Running, World, Step, is_enabled, new_committer, new_link}
 use Rattle.machine.specs.Row.{are_running, row}
 use Rattle.machine.specs.Promise.{released_in}
 use Rattle.machine.specs.Sound.{Sound}
 use Rattle.world.specs.Cause.{EndsBy}
-use Rattle.world.specs.Committing.{Committing, EngineStands, IsDown, Leads, Moves, CommittingRefines, next_primary, next_standby}
+use Rattle.world.specs.Committing.{Committing, EngineStands, IsDown, Leads, Moves, Opens, CommittingRefines, next_primary, next_standby}
+use Rattle.world.specs.Condition.{has_crashed, has_ended, life_as, runs}
+use Rattle.world.specs.declared.condition.Condition.{Condition}
 use Rattle.world.specs.Link.{AreFramesSent, LinkRefines}
 use Rattle.world.specs.Recalling.{OpeningLeads, RecallsEach, Remembers}
 use Rattle.connections.specs.Session.{SessionsRefine, SequencerRefines, SeatsFollow, HasSeat, AddsOne, released_of, seats_of}
@@ -52,8 +54,9 @@ pub record Pair : Type 0 where
   pub frames : List (Vec ℕ Global)
   pub arrivals : Arrived
   pub standby : Node
-  -- whether each node runs; otherwise it is crashed, and nothing is said of what it held beside its image
-  pub primary_runs : Bool
+  -- the primary runs, or is crashed, or was fenced
+  pub primary_condition : Condition
+  -- whether the standby runs; otherwise it is crashed, and nothing is said of what it held beside its image
   pub standby_runs : Bool
 
 -- What has ended, what was freed and the record's gaps are as many as the machine's.
@@ -99,19 +102,31 @@ pub record DownRefine (first second : Holder) (pair : Pair) (w : World) : Type 0
   pub arrivals : ArrivalsRefine pair.link.epoch w.primary.calls pair.arrivals w.standby.waiting w.wire.acknowledgements
   pub standby : StandbyRefines second pair.link.epoch w.primary.calls w.standby.position pair.standby pair.standby_runs
 
+-- The parts of one whose primary was fenced: of the primary there is its device, on which each crash leaves an image that opens where the primary stood. The list
+-- of calls stays what it was, with all that was released.
+pub record FencedRefine (first second : Holder) (pair : Pair) (w : World) : Type 0 where
+  pub sessions : SessionsRefine pair.sessions pair.transcript w.primary.connections w.primary.calls
+  pub opens : Opens first w.primary.calls w.primary.committer.position pair.device
+  pub epoch : pair.link.epoch ≡ w.primary.epoch
+  pub frames : AreFramesSent pair.link.epoch w.primary.calls pair.frames w.wire.frames
+  pub arrivals : ArrivalsRefine pair.link.epoch w.primary.calls pair.arrivals w.standby.waiting w.wire.acknowledgements
+  pub standby : StandbyRefines second pair.link.epoch w.primary.calls w.standby.position pair.standby pair.standby_runs
+
 -- ---- lives
+
+-- what happens to the nodes of a pair: they crash between two events and are opened again, and the primary is fenced
+abbrev pub allowed : Allowed
+allowed = record { restarts = true; fencing = true; promotions = false; failures = false }
 
 abbrev pub life_if : Bool → Life
 life_if runs = if runs then Running else Crashed
 
--- Each node runs or is crashed, as it is said of it; a crash may come between two events, but no failover, and no fence was asked to fail; and the images are those of
--- a primary and a standby of the pair's epoch.
-pub record AreLives (first second : Holder) (primary_runs standby_runs : Bool) (w : World) : Type 0 where
-  pub restarts : w.restarts ≡ true
-  pub failovers : w.failovers ≡ false
+-- Each node is in the condition that is said of it; no fence of a device was asked to fail; and the images are those of a primary and a standby of the pair's epoch.
+pub record AreLives (first second : Holder) (primary_condition : Condition) (standby_runs : Bool) (w : World) : Type 0 where
+  pub allowed_are : w.allowed ≡ allowed
   pub primary_sure : w.primary.disk.failing ≡ false
   pub standby_sure : w.standby.disk.failing ≡ false
-  pub primary : w.primary.life ≡ life_if primary_runs
+  pub primary : w.primary.life ≡ life_as primary_condition
   pub standby : w.standby.life ≡ life_if standby_runs
   pub first_role : first.role ≡ Role.Primary
   pub second_role : second.role ≡ Role.Standby
@@ -123,18 +138,21 @@ pub record AreLives (first second : Holder) (primary_runs standby_runs : Bool) (
 -- its primary runs, and it refines a world that a run may reach
 pub record PairRefines (first second : Holder) (pair : Pair) (w : World) : Type 0 where
   pub sound : Sound w
-  pub lives : AreLives first second pair.primary_runs pair.standby_runs w
-  pub serves : pair.primary_runs ≡ true
+  pub lives : AreLives first second pair.primary_condition pair.standby_runs w
+  pub serves : runs pair.primary_condition ≡ true
   pub parts : PartsRefine first second pair w
 
--- its parts refine the machine's, whether its primary runs or not
+-- its parts refine the machine's, whether its primary runs, is crashed or was fenced
 abbrev pub EitherRefines : Holder → Holder → Pair → World → Type 0
-EitherRefines first second pair w = ((pair.primary_runs ≡ true) × PartsRefine first second pair w) ⊎ ((pair.primary_runs ≡ false) × DownRefine first second pair w)
+EitherRefines first second pair w =
+    ((runs pair.primary_condition ≡ true) × PartsRefine first second pair w)
+    ⊎ ((has_crashed pair.primary_condition ≡ true) × DownRefine first second pair w)
+    ⊎ ((has_ended pair.primary_condition ≡ true) × FencedRefine first second pair w)
 
--- it refines such a world, whether its primary runs or not
+-- it refines such a world, whatever the condition of its primary
 pub record NodesRefine (first second : Holder) (pair : Pair) (w : World) : Type 0 where
   pub sound : Sound w
-  pub lives : AreLives first second pair.primary_runs pair.standby_runs w
+  pub lives : AreLives first second pair.primary_condition pair.standby_runs w
   pub parts : EitherRefines first second pair w
 
 -- there is a world that it refines

@@ -7,7 +7,7 @@ use Rattle.model.specs.declared.call.Call.{Call}
 use Rattle.model.specs.Call.{MayReply, cut_at, position_of, state_after}
 use Rattle.model.specs.Standing.{Holder}
 use Rattle.machine.specs.declared.event.Event.{Event}
-use Rattle.machine.specs.declared.event.Event.TheVariants.{Apply, ClearGap, Commit, Crash, Free, OpenLink, Reopen, Send, Turn, Write}
+use Rattle.machine.specs.declared.event.Event.TheVariants.{Apply, ClearGap, Commit, Crash, Free, OpenLink, Promote, Reopen, Send, Turn, Write}
 use Rattle.machine.specs.declared.event.Node.TheVariants as node
 use Rattle.machine.specs.Event.{Connection, World, connection_of}
 use Rattle.machine.specs.Promise.{IsReleased, released_in}
@@ -75,11 +75,13 @@ pub record Shows (first second : Holder) (w : World) (pair : Pair) : Type 0 wher
 
 -- ---- what an event gave
 
--- the list of calls after an event: a turn adds the call of the connection's first waiting item, and a crash of the primary drops the calls that its image does not hold
+-- The list of calls after an event: a turn adds the call of the connection's first waiting item, a crash of the primary drops the calls that its image does not hold,
+-- and a promotion those that the standby's does not.
 abbrev pub CallsBy : World → Event → Bool → List Call → Type 0
 CallsBy w (Turn c) true new =
     (call : Call) × (call.connection ≡ c) × (take 1 (connection_of w c).inbound.waiting ≡ call.item ∷ []) × MayReply (state_after w.primary.calls) call × (new ≡ w.primary.calls ++ call ∷ [])
 CallsBy w (Crash node.Primary call k picks) true new = new ≡ cut_at w.primary.calls w.primary.committer.position
+CallsBy w Promote true new = new ≡ cut_at w.primary.calls w.standby.position
 CallsBy w event did new = new ≡ w.primary.calls
 
 -- the bytes that an event releases to connection c: only a write does, the first of those that its gate let out

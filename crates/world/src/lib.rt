@@ -5,6 +5,7 @@ mod arrivals;
 mod committing;
 mod condition;
 mod crashing;
+mod fencing;
 mod form;
 mod history;
 mod pair;
