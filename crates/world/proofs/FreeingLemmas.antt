@@ -27,6 +27,7 @@ use Rattle.world.specs.Pair.{Pair, PairRefines, PartsRefine, Steps}
 use Rattle.world.proofs.EngineLemmas.{keeps-opens, moves-rest}
 use Rattle.world.proofs.LivesLemmas.{Runs, enabled-is, is_own, lives-step, own-runs}
 use Rattle.world.proofs.PairLemmas.{standby-stands}
+use Rattle.world.specs.Condition as condition
 
 -- ---- the engine
 
@@ -120,7 +121,7 @@ primary-steps event first second w w' old new own stands runs follows device' fa
     record {
       world = w';
       step = step;
-      stands = record { sound = sound-step w event true w' step stands.sound; lives = lives-step lives happens; parts = inl (runs ∙ stands.serves, parts) };
+      stands = record { sound = sound-step w event true w' step stands.sound; lives = lives-step lives happens; parts = inl (ap condition.runs runs ∙ stands.serves, parts) };
       moves = record {
         primary = record {
           leaves = LeavesOnly-weaken (OpensAtEither first w.primary.calls w.primary.committer.position w'.primary.committer.position) (λ image at. inr at) moments;

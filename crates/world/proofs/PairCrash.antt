@@ -1,5 +1,5 @@
 -- What a crash of a node does to the pair.
-use Rattle.std.proofs.Common.{rules, le_refl, ◌≡◌, inr, ℕ, ◌≤◌, Bool, true, false, ◌&&◌, ◌||◌, List, map, Ok, Vec, Global, All, refl, sym, ap, subst, ◌∙◌, arith, true≢false, []}
+use Rattle.std.proofs.Common.{rules, le_refl, ◌≡◌, inl, inr, ℕ, ◌≤◌, Bool, true, false, ◌&&◌, ◌||◌, List, map, Ok, Vec, Global, All, refl, sym, ap, subst, ◌∙◌, arith, true≢false, []}
 use Rattle.pmem.specs.Device.{State}
 use Rattle.pmem.specs.Crash.{IsImage, IsSettled, image_of}
 use Rattle.pmem.specs.Runs.{LeavesOnly}
