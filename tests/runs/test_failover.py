@@ -1,8 +1,8 @@
-"""The fence of the primary: it does nothing more, whether it runs or is crashed, and the standby goes on."""
+"""The fence of the primary, which does nothing more then, whether it ran or was crashed, and the promotion of its standby, which goes on from what it has."""
 
 from simulation import Runs, Schedule
 from spelling import spell
-from worked_cases import GET_A, NULL, OK, SET_A
+from worked_cases import GET_A, NULL, OK, ONE, SET_A
 
 PROGRAMS = ["simulator"]
 
@@ -78,3 +78,86 @@ class Fences(Runs):
         self.assertEqual(trace.released, [b"", b""])
         self.assertEqual([line.position for line in trace.nodes.values()], [1, 0])
         self.assertNotEqual(trace.calls[1].reply, NULL)
+
+
+class Promotions(Runs):
+    """Runs in which the standby is promoted."""
+
+    def test_only_after_the_fence(self):
+        schedule = Schedule()
+        schedule.add("promote", "crash primary 0", "promote", "fence", "crash standby 0", "promote", "reopen standby", "promote", "promote", "fence")
+        trace = self.play(schedule)
+        self.assertEqual(trace.done, [False, True, False, True, True, False, True, True, False, True])
+
+    def test_it_serves_what_was_released(self):
+        schedule = Schedule(1)
+        schedule.serve_to_end(0, 0, SET_A)
+        schedule.add("fence", "promote", "enter")
+        schedule.feed(1, GET_A)
+        schedule.serve(1)
+        trace = self.play(schedule)
+        self.assertEqual([call.reply for call in trace.calls], [OK, ONE])
+        # the reply waits, as there is no standby to acknowledge anything
+        self.assertEqual(trace.released, [OK, b""])
+        self.assertEqual([(line.position, line.epoch, line.role) for line in trace.nodes.values()], [(1, 1, "primary"), (1, 2, "primary")])
+
+    def test_a_held_read_was_of_nothing(self):
+        # of a SET that is durable on the primary alone, as the standby knows nothing of it
+        for name, sent in {"not sent": [], "sent": ["send"], "delivered": ["send", "deliver 0"]}.items():
+            with self.case(name):
+                schedule = Schedule(2)
+                schedule.group(0, SET_A)
+                schedule.add(*sent)
+                schedule.feed(1, GET_A)
+                schedule.serve(1)
+                schedule.read_marks(1)
+                schedule.add("release 1", "fence", "promote", "release 1", "write 1 1", "enter")
+                schedule.feed(2, GET_A)
+                schedule.serve(2)
+                schedule.read_marks(2)
+                schedule.write_out(2)
+                trace = self.play(schedule)
+                self.assertEqual([(call.connection, call.reply) for call in trace.calls], [(2, NULL)])
+                # that reply rests on no change, so it is released
+                self.assertEqual(trace.released, [b"", b"", NULL])
+                self.assertEqual([(line.position, line.epoch, line.role) for line in trace.nodes.values()], [(1, 1, "primary"), (0, 2, "primary")])
+
+    def test_connections_of_the_former_primary_are_over(self):
+        schedule = Schedule(2)
+        schedule.serve_to_end(0, 0, SET_A)
+        schedule.feed(1, GET_A)
+        schedule.add("offer 1", "fence", "promote")
+        before = len(schedule.events)
+        for c in range(2):
+            schedule.add(f"feed {c} GET a", f"offer {c}", f"turn {c}", f"hold {c}", f"read {c} local", f"release {c}", f"write {c} 0", f"leave {c}")
+        trace = self.play(schedule)
+        self.assertEqual(set(trace.done[before:]), {False})
+
+    def test_it_commits_frees_and_crashes_like_any_primary(self):
+        schedule = Schedule(1)
+        schedule.serve_to_end(0, 0, SET_A)
+        schedule.add("fence", "promote", "enter")
+        schedule.group(1, spell("SET", "b", "2"), spell("SET", "a", "3"))
+        schedule.add("send", "deliver 1", "open-link", "apply", "ack-delivered 0", "raise-remote", "free")
+        schedule.add("crash primary 0 1", "reopen primary", "clear-gap", "accept-freed", "enter", "fence", "promote")
+        trace = self.play(schedule)
+        self.assertEqual([(frame.epoch, frame.before, frame.after) for frame in trace.frames], [(1, 0, 1), (2, 1, 3)])
+        self.assertEqual(trace.records["standby"], [((b"a",), b"3"), ((b"b",), b"2")])
+        self.assertEqual(trace.records["primary"], [((b"a",), b"1")])
+        self.assertEqual([(line.position, line.epoch) for line in trace.nodes.values()], [(1, 1), (3, 2)])
+
+    def test_by_one_call(self):
+        schedule = Schedule(1)
+        schedule.serve_to_end(0, 0, SET_A)
+        schedule.add("fence", "promote", "enter")
+        schedule.group(1, SET_A)
+        self.play(schedule, "--whole")
+
+    def test_a_fence_of_its_device_fails(self):
+        # of the record of a primary (fences 4 and 5 of the standby, after those of formatting), and of its opening
+        for fence in range(4, 8):
+            with self.case("fences", fence=fence):
+                schedule = Schedule()
+                schedule.add("fence", "promote")
+                trace = self.play(schedule, fail=(0, fence))
+                self.assertEqual(trace.ended, "at event 1, line 3: refusal 1: device fault")

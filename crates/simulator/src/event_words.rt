@@ -62,6 +62,7 @@ fn event_alone(name: &str) -> Option<Event> {
         "apply" => Some(Event::Apply),
         "raise-remote" => Some(Event::RaiseRemote),
         "fence" => Some(Event::Fence),
+        "promote" => Some(Event::Promote),
         _ => None,
     }
 }

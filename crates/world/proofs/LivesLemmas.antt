@@ -6,9 +6,9 @@ use Rattle.machine.specs.declared.event.Event.TheVariants.{Turn, CloseGroup, Com
 use Rattle.machine.specs.declared.event.Cut.TheVariants as cut
 use Rattle.machine.specs.declared.event.Node.TheVariants as node_of
 use Rattle.machine.specs.World as machine
-use Rattle.machine.specs.Event.{Acknowledgement, Allowed, Disk, Frame, Standby, World, IsSure, Happens, Takes, is_enabled, may_happen, nodes_run, told, torn, with_link, without_first}
+use Rattle.machine.specs.Event.{Acknowledgement, Allowed, Disk, Frame, Standby, World, IsSure, Happens, Takes, is_enabled, is_retired, is_running, may_happen, nodes_run, told, torn, with_link, without_first}
 use Rattle.machine.proofs.SureLemmas.{unfailed}
-use Rattle.world.specs.Pair.{AreLives, NodesRefine, Pair, PairRefines, life_if}
+use Rattle.world.specs.Pair.{AreLives, NodesRefine, Pair, PairRefines}
 use Rattle.world.specs.Condition.{has_crashed, has_ended, life_as, runs}
 use Rattle.world.specs.declared.condition.Condition.{Condition}
 use Rattle.world.specs.declared.condition.Condition.TheVariants.{Running, Crashed, Ended}
@@ -111,11 +111,11 @@ plain-happens w CloseGroup new plain first second h =
     ]
 plain-happens w event new plain first second h = of w _ new h (record { allowed = refl; primary_disk = refl; standby_disk = refl; primary = refl; standby = refl; epoch = refl })
 
-pub lives-like : {first second : Holder} {serves : Condition} {follows : Bool} {w w' : World} → SameLives w w' → AreLives first second serves follows w → AreLives first second serves follows w'
+pub lives-like : {first second : Holder} {serves follows : Condition} {w w' : World} → SameLives w w' → AreLives first second serves follows w → AreLives first second serves follows w'
 lives-like same lives = record {
   allowed_are = same.allowed ∙ lives.allowed_are;
-  primary_sure = ap (λ (d : Disk). d.failing) same.primary_disk ∙ lives.primary_sure;
-  standby_sure = ap (λ (d : Disk). d.failing) same.standby_disk ∙ lives.standby_sure;
+  primary_disk = same.primary_disk ∙ lives.primary_disk;
+  standby_disk = same.standby_disk ∙ lives.standby_disk;
   primary = same.primary ∙ lives.primary;
   standby = same.standby ∙ lives.standby;
   first_role = lives.first_role;
@@ -124,40 +124,36 @@ lives-like same lives = record {
   second_epoch = lives.second_epoch ∙ sym same.epoch;
 }
 
--- what a node that runs, or is crashed, has of a call that failed
-torn_if : (runs : Bool) → torn (life_if runs) ≡ []
-torn_if true = refl
-torn_if false = refl
-
+-- what a node has of a call that failed
 torn_as : (condition : Condition) → torn (life_as condition) ≡ []
 torn_as Running = refl
 torn_as Crashed = refl
 torn_as Ended = refl
 
-pub sure-lives : {first second : Holder} {serves : Condition} {follows : Bool} {w : World} → AreLives first second serves follows w → IsSure w
+pub sure-lives : {first second : Holder} {serves follows : Condition} {w : World} → AreLives first second serves follows w → IsSure w
 sure-lives {first} {second} {serves} {follows} {w} lives = record {
   failures = ap (λ (a : Allowed). a.failures) lives.allowed_are;
-  primary_sure = lives.primary_sure;
-  standby_sure = lives.standby_sure;
+  primary_sure = ap (λ (d : Disk). d.failing) lives.primary_disk;
+  standby_sure = ap (λ (d : Disk). d.failing) lives.standby_disk;
   primary_whole = ap torn lives.primary ∙ torn_as serves;
-  standby_whole = ap torn lives.standby ∙ torn_if follows;
+  standby_whole = ap torn lives.standby ∙ torn_as follows;
 }
 
 -- ---- an event whose nodes run
 
 -- the nodes that take part in the event run, and none crashes in it
-pub record Runs (first second : Holder) (serves : Condition) (follows : Bool) (w : World) (event : Event) : Type 0 where
+pub record Runs (first second : Holder) (serves follows : Condition) (w : World) (event : Event) : Type 0 where
   pub lives : AreLives first second serves follows w
   pub nodes : nodes_run w event ≡ true
   pub plain : is_plain event ≡ true
 
 -- what has something to do is enabled
-pub enabled-is : {first second : Holder} {serves : Condition} {follows : Bool} {w : World} {event : Event} → Runs first second serves follows w event → is_enabled w event ≡ may_happen w event
+pub enabled-is : {first second : Holder} {serves follows : Condition} {w : World} {event : Event} → Runs first second serves follows w event → is_enabled w event ≡ may_happen w event
 enabled-is {first} {second} {serves} {follows} {w} {event} runs = ap (λ b. b && may_happen w event) runs.nodes
 
 -- the same nodes run afterwards
-pub lives-step : {first second : Holder} {serves : Condition} {follows : Bool} {w w' : World} {event : Event} → Runs first second serves follows w event → Happens w event w' → AreLives first second serves follows w'
-lives-step {first} {second} {serves} {follows} {w} {w'} {event} runs happens = lives-like (plain-happens w event w' runs.plain runs.lives.primary_sure runs.lives.standby_sure happens) runs.lives
+pub lives-step : {first second : Holder} {serves follows : Condition} {w w' : World} {event : Event} → Runs first second serves follows w event → Happens w event w' → AreLives first second serves follows w'
+lives-step {first} {second} {serves} {follows} {w} {w'} {event} runs happens = lives-like (plain-happens w event w' runs.plain (ap (λ (d : Disk). d.failing) runs.lives.primary_disk) (ap (λ (d : Disk). d.failing) runs.lives.standby_disk) happens) runs.lives
 
 running-life : (condition : Condition) → runs condition ≡ true → life_as condition ≡ machine.Running
 running-life Running up = refl
@@ -168,11 +164,33 @@ pub serving : {first second : Holder} {pair : Pair} {w : World} → PairRefines 
 serving {first} {second} {pair} {w} stands = stands.lives.primary ∙ running-life pair.primary_condition stands.serves
 
 -- an event that needs the primary alone
-pub own-runs : {first second : Holder} {pair : Pair} {w : World} → PairRefines first second pair w → (event : Event) → is_own event ≡ true → Runs first second pair.primary_condition pair.standby_runs w event
+pub own-runs : {first second : Holder} {pair : Pair} {w : World} → PairRefines first second pair w → (event : Event) → is_own event ≡ true → Runs first second pair.primary_condition pair.standby_condition w event
 own-runs {first} {second} {pair} {w} stands event own = record { lives = stands.lives; nodes = own-nodes w event own (serving stands); plain = own-plain event own }
 
 pub nodes-refine : {first second : Holder} {pair : Pair} {w : World} → PairRefines first second pair w → NodesRefine first second pair w
 nodes-refine stands = record { sound = stands.sound; lives = stands.lives; parts = inl (stands.serves, stands.parts) }
+
+pub running-as : (condition : Condition) → is_running (life_as condition) ≡ runs condition
+running-as Running = refl
+running-as Crashed = refl
+running-as Ended = refl
+
+pub retired-as : (condition : Condition) → is_retired (life_as condition) ≡ has_ended condition
+retired-as Running = refl
+retired-as Crashed = refl
+retired-as Ended = refl
+
+-- a node that runs is not over
+pub not-over : (condition : Condition) → runs condition ≡ true → has_ended condition ≡ false
+not-over Running up = refl
+not-over Crashed up = refl
+not-over Ended up = absurd (true≢false (sym up))
+
+-- nor is one that is crashed
+pub crashed-not-over : (condition : Condition) → has_crashed condition ≡ true → has_ended condition ≡ false
+crashed-not-over Running down = refl
+crashed-not-over Crashed down = refl
+crashed-not-over Ended down = absurd (true≢false (sym down))
 
 -- a primary that runs is not crashed, and was not fenced
 pub not-crashed : (condition : Condition) → runs condition ≡ true → has_crashed condition ≡ true → ⊥

@@ -5,23 +5,19 @@ use Rattle.machine.specs.declared.event.Event.TheVariants.{Fence}
 use Rattle.machine.specs.declared.event.Node.TheVariants as node
 use Rattle.machine.specs.Event.{Allowed, Life, Retired, World, Step, is_enabled, is_retired, with_life}
 use Rattle.machine.proofs.SoundEvents.{sound-step}
-use Rattle.world.specs.Condition.{has_ended, life_as}
+use Rattle.world.specs.Condition.{has_ended}
 use Rattle.world.specs.declared.condition.Condition.{Condition}
-use Rattle.world.specs.declared.condition.Condition.TheVariants.{Running, Crashed, Ended}
+use Rattle.world.specs.declared.condition.Condition.TheVariants.{Ended}
 use Rattle.world.specs.Pair.{Acts, AreLives, EitherRefines, FencedRefine, NodesRefine, Pair, Steps}
+use Rattle.world.proofs.LivesLemmas.{retired-as}
 use Rattle.world.proofs.PairLemmas.{none-added, primary-stands, sessions-stand, standby-refines, untouched}
 use Rattle.world.proofs.PairLives.{stays-acts}
-use Rattle.world.proofs.PairStandby.{arrivals-stand, frames-stand, link-epoch}
-
-retired_as : (condition : Condition) → is_retired (life_as condition) ≡ has_ended condition
-retired_as Running = refl
-retired_as Crashed = refl
-retired_as Ended = refl
+use Rattle.world.proofs.PairStandby.{arrivals-stand, frames-stand, link-epoch, own-frames}
 
 -- it is enabled where the primary was not fenced
-fence-enabled : {first second : Holder} {serves : Condition} {follows : Bool} {w : World} → AreLives first second serves follows w → is_enabled w Fence ≡ not (has_ended serves)
+fence-enabled : {first second : Holder} {serves follows : Condition} {w : World} → AreLives first second serves follows w → is_enabled w Fence ≡ not (has_ended serves)
 fence-enabled {first} {second} {serves} {follows} {w} lives =
-    ap (λ (a : Allowed). a.fencing && not (is_retired w.primary.life)) lives.allowed_are ∙ ap (λ (l : Life). not (is_retired l)) lives.primary ∙ ap not (retired_as serves)
+    ap (λ (a : Allowed). a.fencing && not (is_retired w.primary.life)) lives.allowed_are ∙ ap (λ (l : Life). not (is_retired l)) lives.primary ∙ ap not (retired-as serves)
 
 pub primary-fenced : (old : Pair) → has_ended old.primary_condition ≡ true → Acts old Fence (Ok false) old
 primary-fenced old fenced = stays-acts old Fence (λ first second w stands. fence-enabled stands.lives ∙ ap not fenced)
@@ -45,6 +41,7 @@ primary-fences old unfenced = record { steps = steps; cut = tt; calls = none-add
           opens = primary-stands first second old w stands.parts;
           epoch = link-epoch stands.parts;
           frames = frames-stand stands.parts;
+          own = own-frames stands.parts;
           arrivals = arrivals-stand stands.parts;
           standby = standby-refines stands.parts;
         } in

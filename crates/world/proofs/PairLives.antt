@@ -9,35 +9,25 @@ use Rattle.machine.specs.declared.event.Cut.TheVariants as cut
 use Rattle.machine.specs.declared.event.Node.{Node}
 use Rattle.machine.specs.declared.event.Node.TheVariants as node_of
 use Rattle.machine.specs.Event.{Allowed, World, is_between, is_enabled, is_retired, is_running, may_cut, may_happen, nodes_run}
-use Rattle.world.specs.Pair.{Acts, AreLives, Does, NodesRefine, Pair, life_if, takes_part}
-use Rattle.world.proofs.LivesLemmas.{serves-as}
+use Rattle.world.specs.Pair.{Acts, AreLives, Does, NodesRefine, Pair, takes_part}
+use Rattle.world.proofs.LivesLemmas.{retired-as, running-as, serves-as}
 use Rattle.world.proofs.PairLemmas.{none-added, untouched}
-use Rattle.world.specs.Condition.{life_as, runs}
+use Rattle.world.specs.Condition.{has_ended, runs}
 use Rattle.world.specs.declared.condition.Condition.{Condition}
-use Rattle.world.specs.declared.condition.Condition.TheVariants.{Running, Crashed, Ended}
-
-running_if : (runs : Bool) → is_running (life_if runs) ≡ runs
-running_if true = refl
-running_if false = refl
-
-running_as : (condition : Condition) → is_running (life_as condition) ≡ runs condition
-running_as Running = refl
-running_as Crashed = refl
-running_as Ended = refl
 
 -- the nodes of an event run just where they are said to
-nodes-take : {first second : Holder} {serves : Condition} {follows : Bool} {w : World} → AreLives first second serves follows w → (event : Event) → nodes_run w event ≡ takes_part (runs serves) follows event
+nodes-take : {first second : Holder} {serves follows : Condition} {w : World} → AreLives first second serves follows w → (event : Event) → nodes_run w event ≡ takes_part (runs serves) (runs follows) event
 nodes-take {first} {second} {serves} {follows} {w} lives OpenLink =
-    ap (λ b. b && is_running w.standby.life) (ap is_running lives.primary ∙ running_as serves) ∙ ap (λ b. runs serves && b) (ap is_running lives.standby ∙ running_if follows)
-nodes-take {first} {second} {serves} {follows} {w} lives (Deliver frame piece) = ap is_running lives.standby ∙ running_if follows
-nodes-take {first} {second} {serves} {follows} {w} lives Apply = ap is_running lives.standby ∙ running_if follows
-nodes-take {first} {second} {serves} {follows} {w} lives (FailFence node_of.Primary n) = ap is_running lives.primary ∙ running_as serves
-nodes-take {first} {second} {serves} {follows} {w} lives (FailFence node_of.Standby n) = ap is_running lives.standby ∙ running_if follows
+    ap (λ b. b && is_running w.standby.life) (ap is_running lives.primary ∙ running-as serves) ∙ ap (λ b. runs serves && b) (ap is_running lives.standby ∙ running-as follows)
+nodes-take {first} {second} {serves} {follows} {w} lives (Deliver frame piece) = ap is_running lives.standby ∙ running-as follows
+nodes-take {first} {second} {serves} {follows} {w} lives Apply = ap is_running lives.standby ∙ running-as follows
+nodes-take {first} {second} {serves} {follows} {w} lives (FailFence node_of.Primary n) = ap is_running lives.primary ∙ running-as serves
+nodes-take {first} {second} {serves} {follows} {w} lives (FailFence node_of.Standby n) = ap is_running lives.standby ∙ running-as follows
 nodes-take lives (Crash node call k picks) = refl
 nodes-take lives (Reopen node) = refl
 nodes-take lives Fence = refl
-nodes-take {first} {second} {serves} {follows} {w} lives Promote = ap is_running lives.standby ∙ running_if follows
-nodes-take {first} {second} {serves} {follows} {w} lives event = ap is_running lives.primary ∙ running_as serves
+nodes-take {first} {second} {serves} {follows} {w} lives Promote = ap is_running lives.standby ∙ running-as follows
+nodes-take {first} {second} {serves} {follows} {w} lives event = ap is_running lives.primary ∙ running-as serves
 
 -- an event that is not enabled
 pub stays-acts : (old : Pair) (event : Event) → ((first second : Holder) (w : World) → NodesRefine first second old w → is_enabled w event ≡ false) → Acts old event (Ok false) old
@@ -54,7 +44,7 @@ stays-acts old event never =
     }
 
 -- its nodes do not run
-pub idle-acts : (old : Pair) (event : Event) → takes_part (runs old.primary_condition) old.standby_runs event ≡ false → Acts old event (Ok false) old
+pub idle-acts : (old : Pair) (event : Event) → takes_part (runs old.primary_condition) (runs old.standby_condition) event ≡ false → Acts old event (Ok false) old
 idle-acts old event idle = stays-acts old event (λ first second w stands. ap (λ b. b && may_happen w event) (nodes-take stands.lives event ∙ idle))
 
 -- ---- events that do not come
@@ -66,8 +56,11 @@ not-both false b e = refl
 pub fail-fence-acts : (old : Pair) (n : Node) (k : ℕ) → Acts old (FailFence n k) (Ok false) old
 fail-fence-acts old n k = stays-acts old (FailFence n k) (λ first second w stands. not-both (nodes_run w (FailFence n k)) w.allowed.failures (ap (λ (a : Allowed). a.failures) stands.lives.allowed_are))
 
-pub promote-acts : (old : Pair) → Acts old Promote (Ok false) old
-promote-acts old = stays-acts old Promote (λ first second w stands. not-both (nodes_run w Promote) (w.allowed.promotions && is_retired w.primary.life) (ap (λ (a : Allowed). a.promotions && is_retired w.primary.life) stands.lives.allowed_are))
+-- a primary that was not fenced is not succeeded
+pub promote-acts : (old : Pair) → has_ended old.primary_condition ≡ false → Acts old Promote (Ok false) old
+promote-acts old unfenced =
+    stays-acts old Promote (λ first second w stands.
+    not-both (nodes_run w Promote) (w.allowed.promotions && is_retired w.primary.life) (not-both w.allowed.promotions (is_retired w.primary.life) (ap is_retired stands.lives.primary ∙ retired-as old.primary_condition ∙ unfenced)))
 
 -- a crash that does not come inside a call comes between two
 pub between : (call : Cut) → is_between call ≡ true → call ≡ cut.Between
@@ -89,11 +82,11 @@ does-acts old event (Ok did) new runs does = record { steps = λ first second w 
 does-acts old event (Err refusal) new runs does = record { steps = tt; cut = λ first second w stands. does.cut first second w (serves-as runs stands); calls = does.calls }
 
 -- it does where the primary takes part alone
-pub own-acts : {old new : Pair} {event event' : Event} {result : Result Bool Refusal} {took : Bool} → event ≡ event' → took ≡ takes_part (runs old.primary_condition) old.standby_runs event → took ≡ true
-    → (takes_part (runs old.primary_condition) old.standby_runs event' ≡ true → runs old.primary_condition ≡ true) → Does old event' result new → Acts old event result new
+pub own-acts : {old new : Pair} {event event' : Event} {result : Result Bool Refusal} {took : Bool} → event ≡ event' → took ≡ takes_part (runs old.primary_condition) (runs old.standby_condition) event → took ≡ true
+    → (takes_part (runs old.primary_condition) (runs old.standby_condition) event' ≡ true → runs old.primary_condition ≡ true) → Does old event' result new → Acts old event result new
 own-acts {old} {new} {event} {event'} {result} {took} is takes took_part own does =
-    let runs = own (ap (takes_part (runs old.primary_condition) old.standby_runs) (sym is) ∙ sym takes ∙ took_part) in
+    let runs = own (ap (takes_part (runs old.primary_condition) (runs old.standby_condition)) (sym is) ∙ sym takes ∙ took_part) in
     subst (λ (e : Event). Acts old e result new) (sym is) (does-acts old event' result new runs does)
 
-pub idle-step : {old : Pair} {event : Event} {took : Bool} → took ≡ takes_part (runs old.primary_condition) old.standby_runs event → took ≡ false → Acts old event (Ok false) old
+pub idle-step : {old : Pair} {event : Event} {took : Bool} → took ≡ takes_part (runs old.primary_condition) (runs old.standby_condition) event → took ≡ false → Acts old event (Ok false) old
 idle-step {old} {event} {took} takes idle = idle-acts old event (sym takes ∙ idle)

@@ -17,7 +17,7 @@ has_crashed Running = false
 has_crashed Crashed = true
 has_crashed Ended = false
 
--- nothing happens to it any more
+-- nothing happens to it any more: a primary that was fenced, or a standby that was promoted
 abbrev pub has_ended : Condition → Bool
 has_ended Running = false
 has_ended Crashed = false

@@ -14,11 +14,11 @@ use Rattle.machine.specs.Promise.{IsReleased, released_in}
 use Rattle.machine.specs.Row.{touches}
 use Rattle.connections.specs.Session.{AddsOne, TranscriptRefines, released_of}
 use Rattle.connections.specs.declared.transcript.Transcript.{Transcript}
-use Rattle.world.specs.Committing.{Opens}
+use Rattle.world.specs.Committing.{Opens, promoted_holder}
 pub use Rattle.world.specs.Effect.{AddsMessage}
 use Rattle.world.specs.Effect.{Effect}
 use Rattle.world.specs.Link.{AreAcksSent, AreFramesSent}
-use Rattle.world.specs.Pair.{Does, HasRoom, IsCut, NodesRefine, Pair, Steps}
+use Rattle.world.specs.Pair.{Does, HasRoom, HasStandby, IsCut, IsPromotionCut, NodesRefine, Pair, Steps, Succeeds}
 
 -- ---- what an event leaves as it was
 
@@ -69,7 +69,7 @@ pub record Shows (first second : Holder) (w : World) (pair : Pair) : Type 0 wher
   pub frames : AreFramesSent w.primary.epoch w.primary.calls pair.frames w.wire.frames
   pub acknowledgements : AreAcksSent pair.arrivals.acknowledgements.items w.wire.acknowledgements
   pub primary : Opens first w.primary.calls w.primary.committer.position pair.device
-  pub standby : Opens second w.primary.calls w.standby.position pair.standby.device
+  pub standby : HasStandby pair → Opens second w.primary.calls w.standby.position pair.standby.device
   pub held : (prefix : List Call) (call : Call) → IsReleased w.primary.calls (released_in w) prefix call
       → (position_of (prefix ++ call ∷ []) ≤ w.primary.committer.position) × (position_of (prefix ++ call ∷ []) ≤ w.standby.position)
 
@@ -116,12 +116,34 @@ pub record WasCut (first second : Holder) (w : World) (event : Event) (refusal :
   pub cut : IsCut first second event refusal old new w
   pub before : Shows first second w old
 
--- What an event did to a pair, of all worlds that it stood for: a step, or it was cut, or a turn lacked room. Where there was room for a call, none is asked for.
-pub record IsStep (old : Pair) (event : Event) (result : Result Bool Refusal) (new : Pair) : Type 0 where
+-- What an event that is no promotion did to a pair, of all worlds that it stood for: a step, or it was cut, or a turn lacked room. Where there was room for a call, none is
+-- asked for.
+pub record Acted (old : Pair) (event : Event) (result : Result Bool Refusal) (new : Pair) : Type 0 where
   pub happened : IfOk result (λ did. (first second : Holder) (w : World) → NodesRefine first second old w → Happened first second w event did old new)
   pub refused : IfErr result (λ refusal. ((first second : Holder) (w : World) → NodesRefine first second old w → WasCut first second w event refusal old new) ⊎ LacksRoom event refusal old new)
   pub leaves : Leaves event result old new
   pub room : HasRoom old → AddsOne old.transcript.calls new.transcript.calls
+
+-- A standby was promoted, of a pair that stood for this world: what was seen of the pair before it and after it. The list is cut where the standby stood, and nothing was released.
+pub record Succeeded (first second : Holder) (w : World) (old new : Pair) : Type 0 where
+  pub succeeds : Succeeds second w old new
+  pub before : Shows first second w old
+  pub after : Shows (promoted_holder second) succeeds.former succeeds.world new
+  pub called : CallsBy w Promote true new.transcript.calls.items
+  pub released : (c : ℕ) → released_to new c ≡ released_to old c
+
+-- what a promotion did to a pair, of all worlds that it stood for, where it was begun: a step, or it was cut; and no message was made
+pub record WasPromoted (old : Pair) (event : Event) (result : Result Bool Refusal) (new : Pair) : Type 0 where
+  pub event_is : event ≡ Promote
+  pub succeeded : IfOk result (λ did. (did ≡ true) × ((first second : Holder) (w : World) → NodesRefine first second old w → Succeeded first second w old new))
+  pub refused : IfErr result (λ refusal. (first second : Holder) (w : World) → NodesRefine first second old w → IsPromotionCut second refusal old new w × Shows first second w old)
+  pub frames : new.frames ≡ old.frames
+  pub acknowledgements : new.arrivals.acknowledgements.items ≡ old.arrivals.acknowledgements.items
+  pub room : HasRoom old → AddsOne old.transcript.calls new.transcript.calls
+
+-- what an event did to a pair
+abbrev pub IsStep : Pair → Event → Result Bool Refusal → Pair → Type 0
+IsStep old event result new = Acted old event result new ⊎ WasPromoted old event result new
 
 -- ---- a turn
 

@@ -8,7 +8,7 @@ pub(crate) enum Condition {
     Running,
     /// There is its image. What it held beside that is made anew when it is opened again.
     Crashed,
-    /// There is its device, and nothing happens to it any more: a primary that was fenced.
+    /// There is its device, and nothing happens to it any more: a primary that was fenced, or a standby that was promoted.
     Ended,
 }
 

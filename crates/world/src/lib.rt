@@ -10,6 +10,7 @@ mod form;
 mod history;
 mod pair;
 mod playing;
+mod promoting;
 mod trace;
 mod wire;
 
