@@ -491,6 +491,12 @@ class Writer:
         for self.record in reopened(self.record):
             self._put_record()
 
+    def promote(self):
+        """It is a primary's, of the next epoch."""
+        self.role = PRIMARY
+        self.record = self.record._replace(number=self.record.number + 1, epoch=self.record.epoch + 1, role=PRIMARY)
+        self._put_record()
+
     def _make(self, part, stamp, position):
         """The versions that a part writes, and the ends of those that it replaces or removes."""
         puts = [change for change in part.changes if isinstance(change, Put)]

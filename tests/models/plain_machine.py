@@ -20,9 +20,11 @@ COMMIT_FENCES = 3
 FREE_FENCES = 1
 CLEAR_FENCES = 3
 REOPEN_FENCES = 2
+PROMOTE_FENCES = 2
 
-# The nodes that have to run for an event: for most the primary. Those that crash and open again need not run.
-NODES_OF = {"open_link": ("primary", "standby"), "deliver": ("standby",), "apply": ("standby",), "crash": (), "reopen": ()}
+# The nodes that have to run for an event: for most the primary. Those that crash, open again or are fenced need not run.
+NODES_OF = {"open_link": ("primary", "standby"), "deliver": ("standby",), "apply": ("standby",), "crash": (), "reopen": (), "fence": (),
+            "promote": ("standby",)}
 
 DEFAULT_LINES = (4_096, 4_096)
 
@@ -60,11 +62,12 @@ class Group(typing.NamedTuple):
 
 
 class Frame(typing.NamedTuple):
-    """What is sent: the changes that lead from the position before to the one after."""
+    """What is sent: the changes that lead from the position before to the one after, by the primary of this epoch."""
 
     before: int
     after: int
     changes: tuple
+    epoch: int
 
 
 class FreeList(typing.NamedTuple):
@@ -80,6 +83,7 @@ class Node:
     def __init__(self, lines, role, fail):
         self.image = plain_image.Writer(lines, role)
         self.runs = True
+        self.is_over = False
         # frames that joined on and were not taken
         self.refused = 0
         self.fences = 0
@@ -146,7 +150,7 @@ class Node:
 
     def reopen(self):
         """Whether it had crashed."""
-        if self.runs:
+        if self.runs or self.is_over:
             return False
         if self.gaps == plain_image.MOST_GAPS:
             self.fence(CLEAR_FENCES)
@@ -154,6 +158,17 @@ class Node:
         self.image.reopen()
         self.runs = True
         return True
+
+    def promote(self):
+        """Its image is a primary's, which is to be opened again."""
+        self.fence(PROMOTE_FENCES)
+        self.image.promote()
+        self.crash()
+
+    def end(self):
+        """Whether anything could happen to it until then. Its image stays."""
+        was_over, self.is_over, self.runs = self.is_over, True, False
+        return not was_over
 
 
 class Machine:
@@ -170,6 +185,7 @@ class Machine:
         self.parts = []
         self.done = []
         self.ended = None
+        self.epoch = 1
         self._begin(plain_delta.FORMATTED)
         self.frames = []
         self.arrived = []
@@ -177,6 +193,9 @@ class Machine:
         try:
             self.primary = Node(lines[0], plain_image.PRIMARY, fail[0])
             self.standby = Node(lines[1], plain_image.STANDBY, fail[1])
+            # the nodes by the device that each was given, whatever becomes of them, and the parts that the image of one has which was succeeded
+            self.given = {"primary": self.primary, "standby": self.standby}
+            self.former_parts = None
             self.redis = plain_redis.Redis(self.primary.image.room)
         except Fault:
             self.redis = plain_redis.Redis()
@@ -347,12 +366,12 @@ class Machine:
 
     def frame_of(self, group):
         """All changes of the calls between the positions of a group."""
-        return Frame(*group, tuple(change for part in self.redis.parts[group.before:group.after] for change in part))
+        return Frame(*group, tuple(change for part in self.redis.parts[group.before:group.after] for change in part), self.epoch)
 
     def due_delta(self):
         """The frame that a standby is due which is behind the position at which the primary was opened, or None."""
         before, after = self.standby.position, self.opening.position
-        return Frame(before, after, plain_delta.changes_since(before, self.opening)) if before < after else None
+        return Frame(before, after, plain_delta.changes_since(before, self.opening), self.epoch) if before < after else None
 
     def open_link(self):
         self.delta = self.due_delta()
@@ -381,7 +400,7 @@ class Machine:
     def apply(self):
         if not self.arrived:
             return False
-        before, after, changes = self.arrived.pop(0)
+        before, after, changes, _ = self.arrived.pop(0)
         if before == self.standby.position:
             self.standby.take(changes, after - before, self._is_told(after))
         if after <= self.standby.position:
@@ -395,9 +414,11 @@ class Machine:
     def ack_delivered(self, number):
         if int(number) < len(self.acknowledgements):
             position = self.acknowledgements[int(number)]
-            self.kept = [frame for frame in self.kept if frame.after > position]
-            self.again = [frame for frame in self.again if frame.after > position]
-            self.known = max(self.known, position)
+            # one that the standby of an earlier epoch made tells nothing
+            if self.epoch == 1:
+                self.kept = [frame for frame in self.kept if frame.after > position]
+                self.again = [frame for frame in self.again if frame.after > position]
+                self.known = max(self.known, position)
             return True
 
     def raise_remote(self):
@@ -464,3 +485,26 @@ class Machine:
 
     def reopen(self, node):
         return getattr(self, node).reopen()
+
+    # ---- failover
+
+    def fence(self):
+        return self.primary.end()
+
+    def promote(self):
+        """The standby goes on as the primary of the next epoch, from its image. The node that was the primary takes its place, and nothing happens to
+        it."""
+        if not self.primary.is_over:
+            return False
+        self.standby.promote()
+        self.primary, self.standby = self.standby, self.primary
+        self.arrived = []
+        self.former_parts = self.redis.parts
+        self.epoch += 1
+        self._crash_primary(self.primary.position)
+        return self.primary.reopen()
+
+    def parts_of(self, node):
+        """The parts of the list that the image of this node is of."""
+        is_former = self.former_parts is not None and self.given[node] is self.standby
+        return self.former_parts if is_former else self.redis.parts

@@ -235,15 +235,15 @@ def told_frames(machine):
 
 
 def told_between(machine):
-    """The frames and acknowledgements of a run of the plain machine, with the number of changes of each frame, all of epoch 1
+    """The frames and acknowledgements of a run of the plain machine, with the number of changes of each frame; a standby acknowledges in epoch 1 alone
     (docs/replication.md)."""
-    frames = [Frame(1, before, after, len(changes)) for before, after, changes in told_frames(machine)]
+    frames = [Frame(epoch, before, after, len(changes)) for before, after, changes, epoch in told_frames(machine)]
     return frames, [(1, position) for position in machine.acknowledgements]
 
 
 def texts_between(machine):
     """The same as bytes."""
-    groups = [plain_wire.Group(1, *frame) for frame in told_frames(machine)]
+    groups = [plain_wire.Group(epoch, *frame) for *frame, epoch in told_frames(machine)]
     acknowledgements = [plain_wire.Acknowledgement(1, position) for position in machine.acknowledgements]
     return [plain_wire.text(group) for group in groups], [plain_wire.text(ack) for ack in acknowledgements]
 
@@ -278,7 +278,7 @@ class Runs(common.Cases):
         machine = plain_machine.Machine(lines, fail, told_positions(trace)).play(events)
         self.assert_played(trace, machine, len(events), len(head))
         if lines[1] >= lines[0] + MORE_LINES:
-            self.assertEqual(machine.standby.refused, 0, "frames that the standby has no room for, though it has lines to spare")
+            self.assertEqual(machine.given["standby"].refused, 0, "frames that the standby has no room for, though it has lines to spare")
         if machine.ended is None:
             for place, node in enumerate(NODES):
                 self.assert_image(trace, machine, node, lines[place])
@@ -310,7 +310,7 @@ class Runs(common.Cases):
     def assert_image(self, trace, machine, node, lines):
         """The image is, word for word, that of what the node did to it, and it reads so: just these entries are in use. Where places may differ it has
         the same versions, wherever they are."""
-        writer, parts, words = getattr(machine, node).image, machine.redis.parts, plain_image.Words(lines, trace.words[node])
+        writer, parts, words = machine.given[node].image, machine.parts_of(node), plain_image.Words(lines, trace.words[node])
         image = plain_image.read_image(words)
         record = image.record
         self.assertEqual(image.map, dict(plain_keyspace.keyspace_after(parts[:record.position]).records()))
@@ -326,5 +326,6 @@ class Runs(common.Cases):
             self.assertEqual(record, writer.record)
             self.assertEqual([entry for entry, end in versions.counted if not end], writer.live)
             self.assertEqual([entry for entry, end in versions.counted if end], writer.ended)
-        told = NodeLine(record.position, record.number, record.cp, record.cd, record.epoch, node, len(record.gaps))
+        role = next(name for name, role in ROLES.items() if role == record.role)
+        told = NodeLine(record.position, record.number, record.cp, record.cd, record.epoch, role, len(record.gaps))
         self.assertEqual(trace.nodes[node], told)

@@ -1,5 +1,5 @@
 -- What a promotion leaves obeys the rules of an image.
-use Rattle.std.proofs.Common.{◌≡◌, Bool, true, false, inl, inr, Result, Ok, Err, sym, ◌∙◌}
+use Rattle.std.proofs.Common.{◌≡◌, Bool, true, false, inl, inr, Result, Ok, Err, OnOk, refl, sym, ◌∙◌}
 use Rattle.std.proofs.lemmas.Bool.{cases_Bool}
 use Rattle.kv_types.specs.declared.refusal.Refusal.{Refusal}
 use Rattle.kv_types.specs.declared.refusal.Refusal.TheVariants.{Exhausted, Fault}
@@ -25,3 +25,10 @@ promoted_obeys result x faulted old new ok when_faulted when_exhausted moved are
       | inl is ↦ ok_is_no_refusal x Fault (sym ok ∙ when_faulted is)
       | inr sound ↦ ok_is_no_refusal x Exhausted (sym ok ∙ when_exhausted sound reached)
     ]))
+
+-- and so does what any promotion leaves that succeeds
+pub promotion_lawful : {T : Type 0} (result : Result T Refusal) (faulted : Bool) (old new : Contents)
+    → (faulted ≡ true → result ≡ Err Fault) → (faulted ≡ false → ExhaustsPromotion old.current → result ≡ Err Exhausted)
+    → OnOk result (Same (promoted old) new) → AreLawful old → OnOk result (AreLawful new)
+promotion_lawful (Ok x) faulted old new when_faulted when_exhausted moved are = promoted_obeys (Ok x) x faulted old new refl when_faulted when_exhausted moved are
+promotion_lawful (Err refusal) faulted old new when_faulted when_exhausted moved are = tt

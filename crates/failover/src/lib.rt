@@ -5,4 +5,4 @@ mod fenced;
 mod promoting;
 
 pub use fenced::{Fenced, fence, operator_fence};
-pub use promoting::{Promoted, promote};
+pub use promoting::{Promoted, promote, promote_image};

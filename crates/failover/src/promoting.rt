@@ -1,5 +1,5 @@
 //! A standby's image becomes a primary's.
-ghost use Rattle.std.specs.Prelude.{◌≡◌, ◌≢◌, ◌⊎◌, ◌+◌, ◌<◌, true, false, Err, MatchResult, OnOk, IfOk, IfErr};
+ghost use Rattle.std.specs.Prelude.{◌≡◌, ◌≢◌, ◌⊎◌, ◌+◌, ◌<◌, true, false, Err, MatchResult, OnOk, OnErr, IfOk, IfErr, IsErrOf};
 ghost use Rattle.kv_types.specs.declared.refusal.Refusal.TheVariants.{NotFenced, Fault, Exhausted};
 ghost use Rattle.pmem.specs.Runs.{LeavesOnly};
 ghost use Rattle.wbl_engine.specs.Contents.{IsDurable, Same};
@@ -79,14 +79,49 @@ pub fn promote<E: Durable, K: Keyspace + Drop>(
         (λ node. LeavesOnly (E.device standby.engine) (E.device node.engine) (IsBeforeOrPromoted (E.contents standby.engine)))
         (λ refused. LeavesOnly (E.device standby.engine) (E.device refused.1.engine) (IsBeforeOrPromoted (E.contents standby.engine))) }
 {
-    if fenced.epoch() != standby.epoch() {
-        return Err((Refusal::NotFenced, standby));
-    }
     let mut standby = standby;
-    match standby.engine.promote() {
+    match promote_image(&mut standby, fenced) {
         Ok(()) => Ok(Promoted {
             engine: standby.engine,
         }),
         Err(refusal) => Err((refusal, standby)),
     }
+}
+
+/// Promotes the image of a standby in its place, as `promote` does: the standby is to follow no more then, and its engine is to be opened as a primary's. Its keyspace and
+/// its heap stay what they are.
+///
+/// # Errors
+///
+/// As at `promote`.
+pub fn promote_image<E: Durable, K: Keyspace>(
+    standby: &mut Standby<E, K>,
+    fenced: Fenced,
+) -> Result<(), Refusal>
+    ensures unfenced { fenced ≢ (E.contents standby.old.engine).current.epoch → (result ≡ Err NotFenced) × (standby.new ≡ standby.old) }
+    ensures fenced { OnOk result (fenced ≡ (E.contents standby.old.engine).current.epoch) }
+    ensures moved { OnOk result (Same (promoted (E.contents standby.old.engine)) (E.contents standby.new.engine)) }
+    ensures durable { OnOk result (IsDurable (E.device standby.new.engine) (E.contents standby.new.engine)) }
+    ensures sound { OnOk result ((E.is_faulted standby.new.engine ≡ false)
+        × ((E.device standby.new.engine).failures ≡ (E.device standby.old.engine).failures)) }
+    ensures lawful { AreLawful (E.contents standby.old.engine) → OnOk result (AreLawful (E.contents standby.new.engine)) }
+    ensures causes { IfErr result (λ refusal. (refusal ≡ NotFenced) ⊎ ((refusal ≡ Fault) ⊎ (refusal ≡ Exhausted))) }
+    ensures not_fenced { IsErrOf result NotFenced
+        → (fenced ≢ (E.contents standby.old.engine).current.epoch) × (standby.new ≡ standby.old) }
+    ensures exhausted { IsErrOf result Exhausted
+        → ExhaustsPromotion (E.contents standby.old.engine).current × (standby.new ≡ standby.old) }
+    ensures exhausts { fenced ≡ (E.contents standby.old.engine).current.epoch → E.is_faulted standby.old.engine ≡ false
+        → ExhaustsPromotion (E.contents standby.old.engine).current → result ≡ Err Exhausted }
+    ensures fault { IsErrOf result Fault
+        → (E.is_faulted standby.old.engine ≡ true) ⊎ ((E.device standby.old.engine).failures < (E.device standby.new.engine).failures) }
+    ensures stopped { IsErrOf result Fault → E.is_faulted standby.new.engine ≡ true }
+    ensures stays { OnErr result (Same (E.contents standby.old.engine) (E.contents standby.new.engine)) }
+    // at any moment of the call
+    ensures moments { fenced ≡ (E.contents standby.old.engine).current.epoch → E.is_faulted standby.old.engine ≡ false
+        → LeavesOnly (E.device standby.old.engine) (E.device standby.new.engine) (IsBeforeOrPromoted (E.contents standby.old.engine)) }
+{
+    if fenced.epoch() != standby.epoch() {
+        return Err(Refusal::NotFenced);
+    }
+    standby.engine.promote()
 }

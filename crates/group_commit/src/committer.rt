@@ -114,6 +114,18 @@ impl<E: Durable> Committer<E> {
         !self.engine.record().gaps.is_empty()
     }
 
+    /// Takes this engine for its own, and leaves its own in its place. What is in hand, what stands aside and the local mark stay: they are of the engine that was given away,
+    /// until the other one is restarted.
+    pub fn exchange_engine(&mut self, engine: &mut E)
+        ensures taken { self.new.engine ≡ engine.old }
+        ensures given { engine.new ≡ self.old.engine }
+        ensures stage { self.new.stage ≡ self.old.stage }
+        ensures local { self.new.local ≡ self.old.local }
+        ensures aside { self.new.aside ≡ self.old.aside }
+    {
+        std::mem::swap(&mut self.engine, engine);
+    }
+
     /// The engine's device, as it is.
     pub fn into_device(self) -> E::Device
         ensures { E.Device.state result ≡ E.device self.engine }

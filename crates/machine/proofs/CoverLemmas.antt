@@ -14,7 +14,7 @@ use Rattle.machine.specs.declared.event.Event.{Event}
 use Rattle.machine.specs.declared.event.Event.TheVariants.{Enter, Feed, Offer, Turn, CloseGroup, Apply, Commit, Free, ClearGap, Hold, Read, Release, Write, Leave, FailFence, Crash, Reopen, Fence, Promote}
 use Rattle.machine.specs.declared.event.Mark.{Mark}
 use Rattle.machine.specs.declared.event.Mark.TheVariants.{Local, Remote}
-use Rattle.machine.specs.Event.{Connection, Remains, At, AsPrimary, World, get_connection, crashed, promoted, OpensPrimary, Fails, is_open, changed_at, with_inbound, with_outbound, with_connections, on_inbound, with_call, fed_with, offered_next, taken_first, held_first, having_read, having_released, written, left, may_happen, Happens, Step, Run, start_with, last_world}
+use Rattle.machine.specs.Event.{Connection, Remains, At, AsPrimary, Allowed, World, get_connection, crashed, promoted, OpensPrimary, Fails, is_open, changed_at, with_inbound, with_outbound, with_connections, on_inbound, with_call, fed_with, offered_next, taken_first, held_first, having_read, having_released, written, left, may_happen, Happens, Step, Run, start_with, last_world}
 use Rattle.machine.specs.Promise.{SomeWorld, HasMarks, IsReleased, released_in}
 use Rattle.machine.specs.Sound.{Sound}
 use Rattle.machine.proofs.ConnectionLemmas.{get-changed_other, get-entered, same-changed}
@@ -189,10 +189,10 @@ no-call : (prefix : List Call) (call : Call) (rest : List Call) → [] ≡ prefi
 no-call [] call rest e = cc
 no-call (x ∷ prefix) call rest e = cc
 
-pub covered-run : (restarts failovers : Bool) (events : List Event) (done : List Bool) (worlds : List World) → Run (start_with restarts failovers) events done worlds → (prefix : List Call) (call : Call)
-    → let last = last_world (start_with restarts failovers) worlds in IsReleased last.primary.calls (released_in last) prefix call → SomeWorld (HasMarks prefix call) (start_with restarts failovers ∷ worlds)
-covered-run restarts failovers events done worlds run prefix call released =
-    elim (covered-from (start_with restarts failovers) events done worlds run (sound-start restarts failovers) prefix call released) [
+pub covered-run : (allowed : Allowed) (events : List Event) (done : List Bool) (worlds : List World) → Run (start_with allowed) events done worlds → (prefix : List Call) (call : Call)
+    → let last = last_world (start_with allowed) worlds in IsReleased last.primary.calls (released_in last) prefix call → SomeWorld (HasMarks prefix call) (start_with allowed ∷ worlds)
+covered-run allowed events done worlds run prefix call released =
+    elim (covered-from (start_with allowed) events done worlds run (sound-start allowed) prefix call released) [
       | inl some ↦ some
       | inr before ↦ absurd (no-call prefix call before.rest before.stands)
     ]

@@ -7,7 +7,7 @@ use Rattle.kv_types.specs.Reading.{items_at}
 use Rattle.model.specs.declared.call.Call.{Call}
 use Rattle.model.specs.Call.{Serves, is_nonempty, state_after, position_of}
 use Rattle.machine.specs.declared.event.Event.{Event}
-use Rattle.machine.specs.Event.{World, Connection, Life, Retired, Remains, At, AsPrimary, is_open, Run, start_with, last_world, asked, Span, Frame, Acknowledgement, Link, next_to_send, told, nodes_run, may_happen, may_cut, is_between, is_enabled, is_retired, is_running, crashed, promoted, Fails, OpensPrimary, with_primary, Happens}
+use Rattle.machine.specs.Event.{Allowed, World, Connection, Life, Retired, Remains, At, AsPrimary, is_open, Run, start_with, last_world, asked, Span, Frame, Acknowledgement, Link, next_to_send, told, nodes_run, may_happen, may_cut, is_between, is_enabled, is_retired, is_running, crashed, promoted, Fails, OpensPrimary, with_primary, Happens}
 use Rattle.machine.specs.Event.{Step}
 use Rattle.machine.specs.Promise.{Tells, IsPromised, EveryRunIsPromised, fed_to, SomeWorld, HasMarks}
 use Rattle.machine.proofs.GroupLemmas.{chain-le, frames_within-weaker}
@@ -34,35 +34,35 @@ use Rattle.machine.proofs.CrashLemmas.{all-over, get-over}
 use Rattle.machine.proofs.SoundConnection.{both, both_ways}
 use Rattle.machine.proofs.GrowLemmas.{released-stays}
 
-pub serves-run : (restarts failovers : Bool) (events : List Event) (done : List Bool) (worlds : List World) → Run (start_with restarts failovers) events done worlds → Serves (λ c. items_at REQUEST_LIMITS (fed_to c events done)) (last_world (start_with restarts failovers) worlds).primary.calls
-serves-run restarts failovers events done worlds run = λ c.
-    let w = last_world (start_with restarts failovers) worlds in
-    let prefix = sound-items w (sound-run restarts failovers events done worlds run) c in
-    record { rest = prefix.rest; joined = prefix.joined ∙ ap asked (fed-run restarts failovers events done worlds c run) }
+pub serves-run : (allowed : Allowed) (events : List Event) (done : List Bool) (worlds : List World) → Run (start_with allowed) events done worlds → Serves (λ c. items_at REQUEST_LIMITS (fed_to c events done)) (last_world (start_with allowed) worlds).primary.calls
+serves-run allowed events done worlds run = λ c.
+    let w = last_world (start_with allowed) worlds in
+    let prefix = sound-items w (sound-run allowed events done worlds run) c in
+    record { rest = prefix.rest; joined = prefix.joined ∙ ap asked (fed-run allowed events done worlds c run) }
 
 pub every_run_is_promised : EveryRunIsPromised
-every_run_is_promised restarts failovers events done worlds run =
-    let w = last_world (start_with restarts failovers) worlds in
-    let s = sound-run restarts failovers events done worlds run in
+every_run_is_promised allowed events done worlds run =
+    let w = last_world (start_with allowed) worlds in
+    let s = sound-run allowed events done worlds run in
     record {
       worlds = worlds;
       run = run;
       tells = record { list = refl; bytes = λ c. refl; primary_position = refl; standby_position = refl };
       legal = s.legal;
-      serves = serves-run restarts failovers events done worlds run;
+      serves = serves-run allowed events done worlds run;
       begins = released-begins w s;
-      covered = covered-run restarts failovers events done worlds run;
-      stays = λ prefix call some. released-stays (start_with restarts failovers) events done worlds prefix call run (sound-start restarts failovers) some;
+      covered = covered-run allowed events done worlds run;
+      stays = λ prefix call some. released-stays (start_with allowed) events done worlds prefix call run (sound-start allowed) some;
       held = λ prefix call released. (released-held w s prefix call released).1;
       behind = omega (arith, s.standby.behind, chain-le _ _ _ s.link.waiting);
       within = omega (arith, s.committer.closed, chain-le _ _ _ s.committer.waiting);
     }
 
 -- the promise of whatever tells the last world of a run
-pub promised-told : (restarts failovers : Bool) (events : List Event) (done : List Bool) (worlds : List World) (calls : List Call) (released : ℕ → List ℕ) (primary standby : ℕ) → Run (start_with restarts failovers) events done worlds
-    → Tells (last_world (start_with restarts failovers) worlds) calls released primary standby → IsPromised restarts failovers events done calls released primary standby
-promised-told restarts failovers events done worlds calls released primary standby run tells =
-    rw (tells.list, fun_ext tells.bytes, tells.primary_position, tells.standby_position) (every_run_is_promised restarts failovers events done worlds run)
+pub promised-told : (allowed : Allowed) (events : List Event) (done : List Bool) (worlds : List World) (calls : List Call) (released : ℕ → List ℕ) (primary standby : ℕ) → Run (start_with allowed) events done worlds
+    → Tells (last_world (start_with allowed) worlds) calls released primary standby → IsPromised allowed events done calls released primary standby
+promised-told allowed events done worlds calls released primary standby run tells =
+    rw (tells.list, fun_ext tells.bytes, tells.primary_position, tells.standby_position) (every_run_is_promised allowed events done worlds run)
 
 -- ---- the laws
 
@@ -78,9 +78,9 @@ in_order w s =
     )
 
 pub frames_are_committed : FramesAreCommitted
-frames_are_committed restarts failovers events done worlds run =
-    let w = last_world (start_with restarts failovers) worlds in
-    let s = sound-run restarts failovers events done worlds run in
+frames_are_committed allowed events done worlds run =
+    let w = last_world (start_with allowed) worlds in
+    let s = sound-run allowed events done worlds run in
     let le = chain-le _ _ _ s.link.waiting in
     (frames_within-weaker w.primary.epoch s.sent w.primary.committer.position w.wire.frames le s.wire.frames, frames_within-weaker w.primary.epoch s.sent w.primary.committer.position w.standby.waiting le s.standby.frames)
 
@@ -153,8 +153,8 @@ low-marks w (event ∷ events) (did ∷ done) (new ∷ worlds) prefix call run n
 low-marks w events done worlds prefix call run none some = absurd run
 
 pub nothing_is_released_unacknowledged : NothingIsReleasedUnacknowledged
-nothing_is_released_unacknowledged restarts failovers events done worlds run none prefix call released =
-    omega (arith, low-marks (start_with restarts failovers) events done worlds prefix call run none (covered-run restarts failovers events done worlds run prefix call released))
+nothing_is_released_unacknowledged allowed events done worlds run none prefix call released =
+    omega (arith, low-marks (start_with allowed) events done worlds prefix call run none (covered-run allowed events done worlds run prefix call released))
 
 -- ---- what was not made
 
@@ -220,17 +220,17 @@ nothing_happens_fenced w Apply fenced other = cc
 nothing_happens_fenced w (FailFence nodes.Primary n) fenced other = not-run w (FailFence nodes.Primary n) (retired-stands w.primary.life fenced)
 nothing_happens_fenced w (FailFence nodes.Standby n) fenced other = cc
 nothing_happens_fenced w (Crash nodes.Primary call k picks) fenced other =
-    let uncut : ((is_between call || w.failovers) && may_cut w nodes.Primary call) ≡ false = and-false (is_between call || w.failovers) _ (retired-uncut w call fenced) in
-    and-false w.restarts ((is_between call || w.failovers) && may_cut w nodes.Primary call) uncut
+    let uncut : ((is_between call || w.allowed.failures) && may_cut w nodes.Primary call) ≡ false = and-false (is_between call || w.allowed.failures) _ (retired-uncut w call fenced) in
+    and-false w.allowed.restarts ((is_between call || w.allowed.failures) && may_cut w nodes.Primary call) uncut
 nothing_happens_fenced w (Crash nodes.Standby call k picks) fenced other = cc
-nothing_happens_fenced w (Reopen nodes.Primary) fenced other = and-false w.restarts _ (retired-uncut w cut.Reopen fenced)
+nothing_happens_fenced w (Reopen nodes.Primary) fenced other = and-false w.allowed.restarts _ (retired-uncut w cut.Reopen fenced)
 nothing_happens_fenced w (Reopen nodes.Standby) fenced other = cc
-nothing_happens_fenced w Fence fenced other = and-false w.failovers _ (ap not fenced)
+nothing_happens_fenced w Fence fenced other = and-false w.allowed.fencing _ (ap not fenced)
 nothing_happens_fenced w Promote fenced other = cc
 nothing_happens_fenced w event fenced other = not-run w event (retired-stands w.primary.life fenced)
 
 pub only_fenced_is_succeeded : OnlyFencedIsSucceeded
-only_fenced_is_succeeded w unfenced = not-enabled w Promote (and-false w.failovers _ unfenced)
+only_fenced_is_succeeded w unfenced = not-enabled w Promote (and-false w.allowed.promotions _ unfenced)
 
 succeeded-by : (w : World) → Sound w → (new : World) → OpensPrimary 0 (promoted w) new → IsSucceededBy w new
 succeeded-by w s new opens =
@@ -245,10 +245,10 @@ succeeded-by w s new opens =
     })
 
 pub promotions_succeed : PromotionsSucceed
-promotions_succeed restarts failovers events done worlds run new step runs =
-    let w = last_world (start_with restarts failovers) worlds in
-    let fenced = (both w.failovers (is_retired w.primary.life) (enabled-may w Promote (sym step.done))).1 in
+promotions_succeed allowed events done worlds run new step runs =
+    let w = last_world (start_with allowed) worlds in
+    let fenced = (both w.allowed.promotions (is_retired w.primary.life) (enabled-may w Promote (sym step.done))).1 in
     elim (step.happens refl) [
-      | inl opens ↦ succeeded-by w (sound-run restarts failovers events done worlds run) new opens
+      | inl opens ↦ succeeded-by w (sound-run allowed events done worlds run) new opens
       | inr fails ↦ absurd (both_ways (is_running new.primary.life) runs (ap (λ (x : World). is_running x.primary.life) fails.now ∙ retired-stands w.primary.life fenced))
     ]

@@ -6,7 +6,7 @@ use Rattle.machine.specs.declared.event.Node.{Node}
 use Rattle.machine.specs.declared.event.Node.TheVariants as nodes
 use Rattle.machine.specs.declared.event.Event.{Event}
 use Rattle.machine.specs.declared.event.Event.TheVariants.{Enter, Feed, Offer, Turn, CloseGroup, Apply, Commit, Free, ClearGap, Hold, Read, Release, Write, Leave, FailFence, Crash, Reopen, Fence, Promote}
-use Rattle.machine.specs.Event.{Connection, Remains, At, AsPrimary, World, get_connection, crashed, Fails, connection_of, changed_at, with_connections, with_inbound, with_outbound, on_inbound, is_closed_by, is_open, may_happen, with_call, fed_with, offered_next, taken_first, held_first, having_read, having_released, written, left, Happens, Step, Run, start_with, last_world}
+use Rattle.machine.specs.Event.{Connection, Remains, At, AsPrimary, Allowed, World, get_connection, crashed, Fails, connection_of, changed_at, with_connections, with_inbound, with_outbound, on_inbound, is_closed_by, is_open, may_happen, with_call, fed_with, offered_next, taken_first, held_first, having_read, having_released, written, left, Happens, Step, Run, start_with, last_world}
 use Rattle.machine.specs.Promise.{fed_by, fed_to}
 use Rattle.machine.proofs.ConnectionLemmas.{each-changed, get-entered, open-lt, same-changed}
 use Rattle.machine.proofs.CrashLemmas.{get-over}
@@ -89,5 +89,5 @@ fed-from w (event ∷ events) (did ∷ done) (new ∷ worlds) d run =
     grind (arith, append_assoc, fed-from new events done worlds d run.1, fed-step w event did new d run.0)
 fed-from w events done worlds d run = absurd run
 
-pub fed-run : (restarts failovers : Bool) (events : List Event) (done : List Bool) (worlds : List World) (d : ℕ) → Run (start_with restarts failovers) events done worlds → (connection_of (last_world (start_with restarts failovers) worlds) d).inbound.fed ≡ fed_to d events done
-fed-run restarts failovers events done worlds d run = fed-from (start_with restarts failovers) events done worlds d run
+pub fed-run : (allowed : Allowed) (events : List Event) (done : List Bool) (worlds : List World) (d : ℕ) → Run (start_with allowed) events done worlds → (connection_of (last_world (start_with allowed) worlds) d).inbound.fed ≡ fed_to d events done
+fed-run allowed events done worlds d run = fed-from (start_with allowed) events done worlds d run

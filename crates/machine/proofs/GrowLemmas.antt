@@ -13,7 +13,7 @@ use Rattle.machine.specs.declared.event.Event.{Event}
 use Rattle.machine.specs.declared.event.Event.TheVariants.{Enter, Feed, Offer, Turn, CloseGroup, Commit, Free, ClearGap, OpenLink, Send, Apply, AckDelivered, Hold, Read, Release, Write, Leave, FailFence, Crash, Reopen, Fence, Promote}
 use Rattle.machine.specs.declared.event.Mark.{Mark}
 use Rattle.machine.specs.declared.event.Mark.TheVariants.{Local, Remote}
-use Rattle.machine.specs.Event.{Outbound, Connection, Acknowledgement, Committer, Remains, At, AsPrimary, Wire, Work, Commits, Frees, World, crashed, promoted, may_remain, Fails, OpensPrimary, get_connection, changed_at, with_inbound, with_outbound, with_connections, on_inbound, with_call, with_committer, with_link, spans_of, from_group, fed_with, offered_next, taken_first, with_made, called, committed_first, acknowledgement_of, next_to_send, framed, counts, told, knowing, held_first, having_read, having_released, written, left, Happens, Step, Run, start_with, last_world}
+use Rattle.machine.specs.Event.{Outbound, Connection, Acknowledgement, Committer, Remains, At, AsPrimary, Wire, Work, Commits, Frees, Allowed, World, crashed, promoted, may_remain, Fails, OpensPrimary, get_connection, changed_at, with_inbound, with_outbound, with_connections, on_inbound, with_call, with_committer, with_link, spans_of, from_group, fed_with, offered_next, taken_first, with_made, called, committed_first, acknowledgement_of, next_to_send, framed, counts, told, knowing, held_first, having_read, having_released, written, left, Happens, Step, Run, start_with, last_world}
 use Rattle.machine.specs.Promise.{IsReleasedIn, SomeWorld, released_in}
 use Rattle.machine.specs.Sound.{IsChain, Sound}
 use Rattle.machine.specs.Law.{Grows}
@@ -207,10 +207,10 @@ pub grows-step : (old : World) (event : Event) (did : Bool) (new : World) → St
 grows-step old event true new step s = grows-happens old event new (step.happens refl) s
 grows-step old event false new step s = subst (Grows old) (sym (step.stands refl)) (grows-itself old)
 
-pub grows-run : (restarts failovers : Bool) (n : ℕ) (events : List Event) (done : List Bool) (worlds : List World) → Run (start_with restarts failovers) events done worlds → Grows (last_world (start_with restarts failovers) (take n worlds)) (last_world (start_with restarts failovers) worlds)
-grows-run restarts failovers n events done worlds run =
-    let middle = last_world (start_with restarts failovers) (take n worlds) in
-    kept-later (Grows middle) (λ old event did new step s g. grows-trans g (grows-step old event did new step s)) restarts failovers n events done worlds run (grows-itself middle)
+pub grows-run : (allowed : Allowed) (n : ℕ) (events : List Event) (done : List Bool) (worlds : List World) → Run (start_with allowed) events done worlds → Grows (last_world (start_with allowed) (take n worlds)) (last_world (start_with allowed) worlds)
+grows-run allowed n events done worlds run =
+    let middle = last_world (start_with allowed) (take n worlds) in
+    kept-later (Grows middle) (λ old event did new step s g. grows-trans g (grows-step old event did new step s)) allowed n events done worlds run (grows-itself middle)
 
 pub cuts-stay : (old new : List Call) (p : ℕ) → IsPrefix old new → p ≤ position_of old → keyspace_after (cut_at new p) ≡ keyspace_after (cut_at old p)
 cuts-stay old new p prefix le = ap (λ calls. keyspace_after (cut_at calls p)) (sym prefix.joined) ∙ keyspace_after-cut_at-append old prefix.rest p le

@@ -2,7 +2,7 @@
 use Rattle.std.proofs.Common.{◌≡◌, ℕ, zero, suc, Bool, true, false, List, [], ◌∷◌, ◌++◌, take, drop, All, refl, sym, subst, arith, true≢false}
 use Rattle.std.proofs.lemmas.List.Elements.{All-nil, All-cons}
 use Rattle.machine.specs.declared.event.Event.{Event}
-use Rattle.machine.specs.Event.{World, is_enabled, Happens, Step, Run, start_with, last_world}
+use Rattle.machine.specs.Event.{Allowed, World, is_enabled, Happens, Step, Run, start_with, last_world}
 use Rattle.machine.specs.Sound.{Sound}
 use Rattle.machine.proofs.OverLemmas.{over-start}
 use Rattle.machine.proofs.WorkLemmas.{committer-new}
@@ -52,8 +52,8 @@ run-drop (suc n) w events done worlds run = absurd run
 
 -- ---- what holds between any two events
 
-pub sound-start : (restarts failovers : Bool) → Sound (start_with restarts failovers)
-sound-start restarts failovers = search (arith, over-start, committer-new 0, link-new 0, All-nil)
+pub sound-start : (allowed : Allowed) → Sound (start_with allowed)
+sound-start allowed = search (arith, over-start, committer-new 0, link-new 0, All-nil)
 
 -- what the steps of sound worlds keep holds after a run
 pub kept-from : (P : World → Type 0) → ((old : World) (event : Event) (did : Bool) (new : World) → Step old event did new → Sound old → P old → P new)
@@ -69,12 +69,12 @@ sound-worlds_from w (event ∷ events) (did ∷ done) (new ∷ worlds) run s =
     All-cons Sound w (new ∷ worlds) s (sound-worlds_from new events done worlds run.1 (sound-step w event did new run.0 s))
 sound-worlds_from w events done worlds run s = absurd run
 
-pub sound-run : (restarts failovers : Bool) (events : List Event) (done : List Bool) (worlds : List World) → Run (start_with restarts failovers) events done worlds → Sound (last_world (start_with restarts failovers) worlds)
-sound-run restarts failovers events done worlds run =
-    kept-from Sound (λ old event did new step s p. sound-step old event did new step s) (start_with restarts failovers) events done worlds run (sound-start restarts failovers) (sound-start restarts failovers)
+pub sound-run : (allowed : Allowed) (events : List Event) (done : List Bool) (worlds : List World) → Run (start_with allowed) events done worlds → Sound (last_world (start_with allowed) worlds)
+sound-run allowed events done worlds run =
+    kept-from Sound (λ old event did new step s p. sound-step old event did new step s) (start_with allowed) events done worlds run (sound-start allowed) (sound-start allowed)
 
-pub sound-worlds : (restarts failovers : Bool) (events : List Event) (done : List Bool) (worlds : List World) → Run (start_with restarts failovers) events done worlds → All Sound (start_with restarts failovers ∷ worlds)
-sound-worlds restarts failovers events done worlds run = sound-worlds_from (start_with restarts failovers) events done worlds run (sound-start restarts failovers)
+pub sound-worlds : (allowed : Allowed) (events : List Event) (done : List Bool) (worlds : List World) → Run (start_with allowed) events done worlds → All Sound (start_with allowed ∷ worlds)
+sound-worlds allowed events done worlds run = sound-worlds_from (start_with allowed) events done worlds run (sound-start allowed)
 
 pub last_world-split : (n : ℕ) (w : World) (worlds : List World) → last_world (last_world w (take n worlds)) (drop n worlds) ≡ last_world w worlds
 last_world-split zero w worlds = refl
@@ -83,9 +83,9 @@ last_world-split (suc n) w (new ∷ worlds) = last_world-split n new worlds
 
 -- and between two worlds of a run
 pub kept-later : (P : World → Type 0) → ((old : World) (event : Event) (did : Bool) (new : World) → Step old event did new → Sound old → P old → P new)
-    → (restarts failovers : Bool) (n : ℕ) (events : List Event) (done : List Bool) (worlds : List World) → Run (start_with restarts failovers) events done worlds
-    → P (last_world (start_with restarts failovers) (take n worlds)) → P (last_world (start_with restarts failovers) worlds)
-kept-later P keeps restarts failovers n events done worlds run p =
-    let s = sound-run restarts failovers (take n events) (take n done) (take n worlds) (run-take n (start_with restarts failovers) events done worlds run) in
-    subst P (last_world-split n (start_with restarts failovers) worlds)
-    (kept-from P keeps _ (drop n events) (drop n done) (drop n worlds) (run-drop n (start_with restarts failovers) events done worlds run) s p)
+    → (allowed : Allowed) (n : ℕ) (events : List Event) (done : List Bool) (worlds : List World) → Run (start_with allowed) events done worlds
+    → P (last_world (start_with allowed) (take n worlds)) → P (last_world (start_with allowed) worlds)
+kept-later P keeps allowed n events done worlds run p =
+    let s = sound-run allowed (take n events) (take n done) (take n worlds) (run-take n (start_with allowed) events done worlds run) in
+    subst P (last_world-split n (start_with allowed) worlds)
+    (kept-from P keeps _ (drop n events) (drop n done) (drop n worlds) (run-drop n (start_with allowed) events done worlds run) s p)

@@ -12,7 +12,7 @@ use Rattle.machine.specs.declared.event.Node.{Node}
 use Rattle.machine.specs.declared.event.Node.TheVariants as nodes
 use Rattle.machine.specs.declared.event.Event.{Event}
 use Rattle.machine.specs.declared.event.Event.TheVariants.{Enter, Feed, Offer, Turn, CloseGroup, Apply, Commit, Free, ClearGap, Hold, Read, Release, Write, Leave, FailFence, Crash, Reopen, Fence, Promote}
-use Rattle.machine.specs.Event.{Connection, Remains, At, AsPrimary, World, get_connection, crashed, promoted, Fails, OpensPrimary, new_connection, connection_of, changed_at, with_inbound, with_outbound, with_connections, is_open, may_happen, fed_with, offered_next, taken_first, Turns, with_made, held_first, having_read, having_released, written, left, Happens, Step, Run, start_with, last_world}
+use Rattle.machine.specs.Event.{Connection, Remains, At, AsPrimary, Allowed, World, get_connection, crashed, promoted, Fails, OpensPrimary, new_connection, connection_of, changed_at, with_inbound, with_outbound, with_connections, is_open, may_happen, fed_with, offered_next, taken_first, Turns, with_made, held_first, having_read, having_released, written, left, Happens, Step, Run, start_with, last_world}
 use Rattle.machine.specs.Law.{StaysOver}
 use Rattle.machine.specs.Sound.{HasNothing, Sound}
 use Rattle.machine.proofs.ConnectionLemmas.{get-before, get-changed_other, length-changed_at}
@@ -132,13 +132,13 @@ pub stays-step : (old : World) (event : Event) (did : Bool) (new : World) (c : �
 stays-step old event true new c lt shut sound step = stays-happens old event new c (sound.over c shut).nothing lt shut (enabled-may old event (sym step.done)) (step.happens refl)
 stays-step old event false new c lt shut sound step = subst (StaysOver c old) (sym (step.stands refl)) (stays-itself c old lt)
 
-pub stays-run : (restarts failovers : Bool) (n : ℕ) (events : List Event) (done : List Bool) (worlds : List World) → Run (start_with restarts failovers) events done worlds
-    → let old = last_world (start_with restarts failovers) (take n worlds) in
-    (c : ℕ) → c < length old.primary.connections → is_open old c ≡ false → StaysOver c old (last_world (start_with restarts failovers) worlds)
-stays-run restarts failovers n events done worlds run c lt shut =
-    let old = last_world (start_with restarts failovers) (take n worlds) in
+pub stays-run : (allowed : Allowed) (n : ℕ) (events : List Event) (done : List Bool) (worlds : List World) → Run (start_with allowed) events done worlds
+    → let old = last_world (start_with allowed) (take n worlds) in
+    (c : ℕ) → c < length old.primary.connections → is_open old c ≡ false → StaysOver c old (last_world (start_with allowed) worlds)
+stays-run allowed n events done worlds run c lt shut =
+    let old = last_world (start_with allowed) (take n worlds) in
     kept-later (StaysOver c old) (λ was event did new step s g. stays-trans g (stays-step was event did new c g.entered (ap (λ (x : Connection). x.is_open) g.connection ∙ shut) s step))
-    restarts failovers n events done worlds run (stays-itself c old lt)
+    allowed n events done worlds run (stays-itself c old lt)
 
 -- ---- no more connections enter than events happen
 
@@ -183,5 +183,5 @@ count-from w [] [] [] run = omega arith
 count-from w (event ∷ events) (did ∷ done) (new ∷ worlds) run = omega (arith, count-step w event did new run.0, count-from new events done worlds run.1)
 count-from w events done worlds run = absurd run
 
-pub few-connections : (restarts failovers : Bool) (events : List Event) (done : List Bool) (worlds : List World) → Run (start_with restarts failovers) events done worlds → length (last_world (start_with restarts failovers) worlds).primary.connections ≤ length events
-few-connections restarts failovers events done worlds run = omega (arith, count-from (start_with restarts failovers) events done worlds run)
+pub few-connections : (allowed : Allowed) (events : List Event) (done : List Bool) (worlds : List World) → Run (start_with allowed) events done worlds → length (last_world (start_with allowed) worlds).primary.connections ≤ length events
+few-connections allowed events done worlds run = omega (arith, count-from (start_with allowed) events done worlds run)

@@ -17,7 +17,7 @@ use Rattle.machine.specs.declared.event.Cut.TheVariants as cut
 use Rattle.std.specs.Prelude.{Vec}
 use Rattle.std.specs.Global.{Global}
 use Rattle.model.specs.declared.record.TheConstants.{FIRST_EPOCH}
-use Rattle.machine.specs.Event.{Frame, World, At, AsPrimary, Stopped, Retired, Run, Happens, Crashes, is_enabled, Turns, Closes, Applies, start, start_with, last_world, asked_to_fail, crashed, failed, left_by, on_disk, promoted, reopened_primary, reopened_standby, with_life, with_primary, entered, changed_at, with_connections, with_committer, with_link, with_standby, with_acknowledged, with_ended, on_inbound, on_outbound, fed_with, offered_next, called, closed_group, committed_first, raised_local, handed, handed_to, ready_again, opened_link, acknowledgement_of, sent, delivered, option_items, moved_to, without_first, told, raised_remote, held_first, having_read, having_released, written, left}
+use Rattle.machine.specs.Event.{Frame, World, all_allowed, At, AsPrimary, Stopped, Retired, Run, Happens, Crashes, is_enabled, Turns, Closes, Applies, start, start_with, last_world, asked_to_fail, crashed, failed, left_by, on_disk, promoted, reopened_primary, reopened_standby, with_life, with_primary, entered, changed_at, with_connections, with_committer, with_link, with_standby, with_acknowledged, with_ended, on_inbound, on_outbound, fed_with, offered_next, called, closed_group, committed_first, raised_local, handed, handed_to, ready_again, opened_link, acknowledgement_of, sent, delivered, option_items, moved_to, without_first, told, raised_remote, held_first, having_read, having_released, written, left}
 use Rattle.machine.specs.Promise.{released_in}
 use Rattle.machine.proofs.RunLemmas.{step-does, step-stays}
 use Rattle.machine.specs.Worked.{worked_events, worked_done, FirstCaseIsARun, failover_events, failover_done, FailoverIsARun}
@@ -134,7 +134,7 @@ never X e = absurd (true≢false (sym e))
 module _ (picks : Vec ℕ Global) where
   -- a world of the second run, by the number of events before it
   abbrev second : ℕ → World
-  second n = last_world (start_with true true) (take n (worlds_from (start_with true true) (failover_events picks) failover_done))
+  second n = last_world (start_with all_allowed) (take n (worlds_from (start_with all_allowed) (failover_events picks) failover_done))
 
   turns_too : Turns (second 3) 0 (second 4)
   unfolding items_at outcome_of_words verb_of closes is_named
@@ -190,7 +190,7 @@ module _ (picks : Vec ℕ Global) where
   alone : false ≡ true → Happens (second 22) Promote (second 23)
   alone = never (Happens (second 22) Promote (second 23))
 
-  steps_too : Steps (start_with true true) (failover_events picks) failover_done
+  steps_too : Steps (start_with all_allowed) (failover_events picks) failover_done
   unfolding items_at outcome_of_words verb_of closes is_named
   steps_too = assumption (turns_too, closes_too, commits_too, unfenced, held_back, uncut, stopped_stays, alone, unlinked, fails_once, leaves_standby, opens_standby, leaves_primary, leaves_opening, opens_primary)
 
@@ -198,10 +198,10 @@ module _ (picks : Vec ℕ Global) where
   unfolding items_at outcome_of_words verb_of closes is_named
   failed_over =
       let events = failover_events picks in
-      let worlds = worlds_from (start_with true true) events failover_done in
+      let worlds = worlds_from (start_with all_allowed) events failover_done in
       record {
         worlds = worlds;
-        run = runs (start_with true true) events failover_done steps_too;
+        run = runs (start_with all_allowed) events failover_done steps_too;
         before = refl;
         calls = refl;
         epoch = refl;

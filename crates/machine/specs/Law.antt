@@ -8,19 +8,19 @@ use Rattle.model.specs.Call.{IsLegal, IsPrefix, Serves, calls_of, cut_at, items_
 use Rattle.machine.specs.declared.event.Event.{Event}
 use Rattle.machine.specs.declared.event.Event.TheVariants.{AckDelivered, Apply, Crash, Deliver, FailFence, OpenLink, Promote, RaiseRemote, Reopen, Send}
 use Rattle.machine.specs.declared.event.Node.TheVariants as node
-use Rattle.machine.specs.Event.{World, Span, Step, may_happen, next_to_send, Run, start_with, last_world, connection_of, is_open, count_open, asked, spans_of, texts_of, is_enabled, is_retired, is_running, safe_position}
+use Rattle.machine.specs.Event.{Allowed, World, Span, Step, may_happen, next_to_send, Run, start_with, last_world, connection_of, is_open, count_open, asked, spans_of, texts_of, is_enabled, is_retired, is_running, safe_position}
 use Rattle.machine.specs.Promise.{IsReleased, released_in, fed_to}
 use Rattle.machine.specs.Sound.{HasNothing, IsChain, IsFrameWithin, IsToldWithin, Sound, answers_to}
 use Rattle.machine.specs.declared.event.TheConstants.{SEATS}
 
 -- `P` holds of the world after every run, and so of each world of a run, since a prefix of a run is a run
 abbrev pub AfterEveryRun : (World → Type 0) → Type 0
-AfterEveryRun P = (restarts failovers : Bool) (events : List Event) (done : List Bool) (worlds : List World) → Run (start_with restarts failovers) events done worlds → P (last_world (start_with restarts failovers) worlds)
+AfterEveryRun P = (allowed : Allowed) (events : List Event) (done : List Bool) (worlds : List World) → Run (start_with allowed) events done worlds → P (last_world (start_with allowed) worlds)
 
 -- ---- runs
 
 abbrev pub EveryWorldIsSound : Type 0
-EveryWorldIsSound = (restarts failovers : Bool) (events : List Event) (done : List Bool) (worlds : List World) → Run (start_with restarts failovers) events done worlds → All Sound (start_with restarts failovers ∷ worlds)
+EveryWorldIsSound = (allowed : Allowed) (events : List Event) (done : List Bool) (worlds : List World) → Run (start_with allowed) events done worlds → All Sound (start_with allowed ∷ worlds)
 
 -- a prefix of a run is a run, and the rest is a run from where the prefix ends
 abbrev pub PrefixesAreRuns : Type 0
@@ -52,14 +52,14 @@ pub record Grows (old new : World) : Type 0 where
 
 abbrev pub WorldsGrow : Type 0
 WorldsGrow =
-    (restarts failovers : Bool) (n : ℕ) (events : List Event) (done : List Bool) (worlds : List World) → Run (start_with restarts failovers) events done worlds → Grows (last_world (start_with restarts failovers) (take n worlds)) (last_world (start_with restarts failovers) worlds)
+    (allowed : Allowed) (n : ℕ) (events : List Event) (done : List Bool) (worlds : List World) → Run (start_with allowed) events done worlds → Grows (last_world (start_with allowed) (take n worlds)) (last_world (start_with allowed) worlds)
 
 -- the keyspace at a position that is safe stays the same, whatever happens later; and of the same primary that at a position which its image has reached
 abbrev pub CutsStay : Type 0
 CutsStay =
-    (restarts failovers : Bool) (n : ℕ) (events : List Event) (done : List Bool) (worlds : List World) → Run (start_with restarts failovers) events done worlds
-    → let old = last_world (start_with restarts failovers) (take n worlds) in
-    let new = last_world (start_with restarts failovers) worlds in
+    (allowed : Allowed) (n : ℕ) (events : List Event) (done : List Bool) (worlds : List World) → Run (start_with allowed) events done worlds
+    → let old = last_world (start_with allowed) (take n worlds) in
+    let new = last_world (start_with allowed) worlds in
     (p : ℕ) → (p ≤ safe_position old) ⊎ ((new.primary.epoch ≡ old.primary.epoch) × (p ≤ old.primary.committer.position))
     → keyspace_after (cut_at new.primary.calls p) ≡ keyspace_after (cut_at old.primary.calls p)
 
@@ -71,8 +71,8 @@ EveryListIsLegal = AfterEveryRun (λ w. IsLegal w.primary.calls)
 -- each connection's calls take the requests of the bytes that were fed to it, in order
 abbrev pub EveryListServes : Type 0
 EveryListServes =
-    (restarts failovers : Bool) (events : List Event) (done : List Bool) (worlds : List World) → Run (start_with restarts failovers) events done worlds
-    → Serves (λ c. items_at REQUEST_LIMITS (fed_to c events done)) (last_world (start_with restarts failovers) worlds).primary.calls
+    (allowed : Allowed) (events : List Event) (done : List Bool) (worlds : List World) → Run (start_with allowed) events done worlds
+    → Serves (λ c. items_at REQUEST_LIMITS (fed_to c events done)) (last_world (start_with allowed) worlds).primary.calls
 
 -- the items of an open connection that were handed to the sequencer are those of its calls and then those that wait
 abbrev pub ItemsComeInOrder : Type 0
@@ -114,9 +114,9 @@ pub record StaysOver (c : ℕ) (old new : World) : Type 0 where
 
 abbrev pub ConnectionsStayOver : Type 0
 ConnectionsStayOver =
-    (restarts failovers : Bool) (n : ℕ) (events : List Event) (done : List Bool) (worlds : List World) → Run (start_with restarts failovers) events done worlds
-    → let old = last_world (start_with restarts failovers) (take n worlds) in
-    (c : ℕ) → c < length old.primary.connections → is_open old c ≡ false → StaysOver c old (last_world (start_with restarts failovers) worlds)
+    (allowed : Allowed) (n : ℕ) (events : List Event) (done : List Bool) (worlds : List World) → Run (start_with allowed) events done worlds
+    → let old = last_world (start_with allowed) (take n worlds) in
+    (c : ℕ) → c < length old.primary.connections → is_open old c ≡ false → StaysOver c old (last_world (start_with allowed) worlds)
 
 -- nothing of it waits
 abbrev pub NothingWaitsOver : Type 0
@@ -124,7 +124,7 @@ NothingWaitsOver = AfterEveryRun (λ w. (c : ℕ) → is_open w c ≡ false → 
 
 -- no more connections enter than events happen
 abbrev pub ConnectionsAreFew : Type 0
-ConnectionsAreFew = (restarts failovers : Bool) (events : List Event) (done : List Bool) (worlds : List World) → Run (start_with restarts failovers) events done worlds → length (last_world (start_with restarts failovers) worlds).primary.connections ≤ length events
+ConnectionsAreFew = (allowed : Allowed) (events : List Event) (done : List Bool) (worlds : List World) → Run (start_with allowed) events done worlds → length (last_world (start_with allowed) worlds).primary.connections ≤ length events
 
 -- there is a seat for each open connection
 abbrev pub OpenOnesHaveSeats : Type 0
@@ -179,8 +179,8 @@ RaisesNoRemote events done = Unit {0}
 -- unless one did, no reply is released that rests on a change
 abbrev pub NothingIsReleasedUnacknowledged : Type 0
 NothingIsReleasedUnacknowledged =
-    (restarts failovers : Bool) (events : List Event) (done : List Bool) (worlds : List World) → Run (start_with restarts failovers) events done worlds → RaisesNoRemote events done
-    → let w = last_world (start_with restarts failovers) worlds in
+    (allowed : Allowed) (events : List Event) (done : List Bool) (worlds : List World) → Run (start_with allowed) events done worlds → RaisesNoRemote events done
+    → let w = last_world (start_with allowed) worlds in
     (prefix : List Call) (call : Call) → IsReleased w.primary.calls (released_in w) prefix call → position_of (prefix ++ call ∷ []) ≡ 0
 
 -- a frame that was not sent is not delivered, and neither is an acknowledgement that was not made

@@ -6,7 +6,7 @@ use Rattle.model.specs.declared.call.Call.{Call}
 use Rattle.model.specs.Call.{IsLegal, IsPrefix, Serves, position_of, replies_to}
 use Rattle.machine.specs.declared.event.Event.{Event}
 use Rattle.machine.specs.declared.event.Event.TheVariants.{Feed}
-use Rattle.machine.specs.Event.{World, Run, start_with, last_world, connection_of}
+use Rattle.machine.specs.Event.{Allowed, World, Run, start_with, last_world, connection_of}
 
 abbrev pub fed_by : ℕ → Event → Bool → List ℕ
 fed_by c (Feed d piece) true = if nat_eq d c then piece else []
@@ -50,14 +50,14 @@ pub record Tells (w : World) (calls : List Call) (released : ℕ → List ℕ) (
   pub primary_position : primary ≡ w.primary.committer.position
   pub standby_position : standby ≡ w.standby.position
 
--- What is promised of the list of calls and the bytes released to each connection, where `done` says which of these events did their step, `restarts` whether nodes
--- may crash between two events and be opened again, and `failovers` whether fences may fail, nodes may crash inside a call, and the standby may be promoted.
-pub record IsPromised (restarts failovers : Bool) (events : List Event) (done : List Bool) (calls : List Call) (released : ℕ → List ℕ) (primary standby : ℕ) : Type 0 where
+-- What is promised of the list of calls and the bytes released to each connection, where `done` says which of these events did their step, and `allowed` what may
+-- happen to the nodes: crashes, fences of devices that fail, the fence of the primary, and the promotion of the standby.
+pub record IsPromised (allowed : Allowed) (events : List Event) (done : List Bool) (calls : List Call) (released : ℕ → List ℕ) (primary standby : ℕ) : Type 0 where
   -- the machine's run: the world after each event
   pub worlds : List World
-  pub run : Run (start_with restarts failovers) events done worlds
+  pub run : Run (start_with allowed) events done worlds
   -- the list, the bytes and the positions are those of the last of them
-  pub tells : Tells (last_world (start_with restarts failovers) worlds) calls released primary standby
+  pub tells : Tells (last_world (start_with allowed) worlds) calls released primary standby
   -- one sequential Redis answers this list
   pub legal : IsLegal calls
   -- it takes the requests of each connection in order
@@ -65,9 +65,9 @@ pub record IsPromised (restarts failovers : Bool) (events : List Event) (done : 
   -- what was released begins the replies
   pub begins : (c : ℕ) → IsPrefix (released c) (replies_to c calls)
   -- each released call was covered at one moment since it was made
-  pub covered : (prefix : List Call) (call : Call) → IsReleased calls released prefix call → SomeWorld (HasMarks prefix call) (start_with restarts failovers ∷ worlds)
+  pub covered : (prefix : List Call) (call : Call) → IsReleased calls released prefix call → SomeWorld (HasMarks prefix call) (start_with allowed ∷ worlds)
   -- no crash, reopening or failover took it from the list, since it was released
-  pub stays : (prefix : List Call) (call : Call) → SomeWorld (IsReleasedIn prefix call) (start_with restarts failovers ∷ worlds) → IsReleased calls released prefix call
+  pub stays : (prefix : List Call) (call : Call) → SomeWorld (IsReleasedIn prefix call) (start_with allowed ∷ worlds) → IsReleased calls released prefix call
   -- and it is in what both nodes hold
   pub held : (prefix : List Call) (call : Call) → IsReleased calls released prefix call → position_of (prefix ++ call ∷ []) ≤ standby
   pub behind : standby ≤ primary
@@ -76,6 +76,6 @@ pub record IsPromised (restarts failovers : Bool) (events : List Event) (done : 
 -- every run keeps the promise
 abbrev pub EveryRunIsPromised : Type 0
 EveryRunIsPromised =
-    (restarts failovers : Bool) (events : List Event) (done : List Bool) (worlds : List World) → Run (start_with restarts failovers) events done worlds
-    → let w = last_world (start_with restarts failovers) worlds in
-    IsPromised restarts failovers events done w.primary.calls (released_in w) w.primary.committer.position w.standby.position
+    (allowed : Allowed) (events : List Event) (done : List Bool) (worlds : List World) → Run (start_with allowed) events done worlds
+    → let w = last_world (start_with allowed) worlds in
+    IsPromised allowed events done w.primary.calls (released_in w) w.primary.committer.position w.standby.position

@@ -8,7 +8,7 @@ use Rattle.machine.specs.declared.event.Node.TheVariants as node
 use Rattle.machine.specs.declared.event.Cut.TheVariants as cut
 use Rattle.machine.specs.declared.event.Mark.TheVariants.{Local, Remote}
 use Rattle.model.specs.Call.{position_of}
-use Rattle.machine.specs.Event.{World, Run, start, start_with, last_world, count_open, is_open}
+use Rattle.machine.specs.Event.{World, Run, all_allowed, start, start_with, last_world, count_open, is_open}
 use Rattle.machine.specs.Promise.{released_in}
 
 abbrev pub set_request : List ℕ
@@ -79,11 +79,11 @@ failover_done =
 -- The call is gone from the list, as its change was not on the standby, and nothing was released of it. Its connection is over, and the next has the next number.
 pub record FailoverIsARun (picks : Vec ℕ Global) : Type 0 where
   pub worlds : List World
-  pub run : Run (start_with true true) (failover_events picks) failover_done worlds
-  pub before : position_of (last_world (start_with true true) (take 8 worlds)).primary.calls ≡ 1
-  pub calls : (last_world (start_with true true) worlds).primary.calls ≡ []
-  pub epoch : (last_world (start_with true true) worlds).primary.epoch ≡ 2
-  pub disk : (last_world (start_with true true) worlds).primary.disk.number ≡ 1
-  pub released : released_in (last_world (start_with true true) worlds) 0 ≡ []
-  pub over : is_open (last_world (start_with true true) worlds) 0 ≡ false
-  pub entered : is_open (last_world (start_with true true) worlds) 1 ≡ true
+  pub run : Run (start_with all_allowed) (failover_events picks) failover_done worlds
+  pub before : position_of (last_world (start_with all_allowed) (take 8 worlds)).primary.calls ≡ 1
+  pub calls : (last_world (start_with all_allowed) worlds).primary.calls ≡ []
+  pub epoch : (last_world (start_with all_allowed) worlds).primary.epoch ≡ 2
+  pub disk : (last_world (start_with all_allowed) worlds).primary.disk.number ≡ 1
+  pub released : released_in (last_world (start_with all_allowed) worlds) 0 ≡ []
+  pub over : is_open (last_world (start_with all_allowed) worlds) 0 ≡ false
+  pub entered : is_open (last_world (start_with all_allowed) worlds) 1 ≡ true

@@ -130,11 +130,19 @@ pub record Wire : Type 0 where
   pub frames : List Frame
   pub acknowledgements : List Acknowledgement
 
-pub record World : Type 0 where
-  -- nodes may crash between two events and be opened again
+-- what may happen to the nodes in a run
+pub record Allowed : Type 0 where
+  -- they may crash between two events and be opened again
   pub restarts : Bool
-  -- fences may fail, nodes may crash inside a call, and the primary may be fenced and its standby promoted
-  pub failovers : Bool
+  -- the primary may be fenced
+  pub fencing : Bool
+  -- the standby may be promoted after that
+  pub promotions : Bool
+  -- fences of their devices may fail, and they may crash inside a call
+  pub failures : Bool
+
+pub record World : Type 0 where
+  pub allowed : Allowed
   pub primary : Primary
   pub standby : Standby
   pub wire : Wire
@@ -154,10 +162,9 @@ abbrev pub new_disk : ℕ → Disk
 new_disk number = record { number = number; failing = false }
 
 -- two nodes that were formatted together, with this epoch, the primary on the first device and the standby on the second
-abbrev pub start_at : ℕ → Bool → Bool → World
-start_at epoch restarts failovers = record {
-  restarts = restarts;
-  failovers = failovers;
+abbrev pub start_at : ℕ → Allowed → World
+start_at epoch allowed = record {
+  allowed = allowed;
   primary = record {
     life = Running;
     disk = new_disk 0;
@@ -176,12 +183,18 @@ start_at epoch restarts failovers = record {
   wire = record { frames = []; acknowledgements = [] };
 }
 
-abbrev pub start_with : Bool → Bool → World
-start_with restarts failovers = start_at FIRST_EPOCH restarts failovers
+abbrev pub start_with : Allowed → World
+start_with allowed = start_at FIRST_EPOCH allowed
 
--- two nodes whose fences do not fail and that do not crash
+abbrev pub none_allowed : Allowed
+none_allowed = record { restarts = false; fencing = false; promotions = false; failures = false }
+
+abbrev pub all_allowed : Allowed
+all_allowed = record { restarts = true; fencing = true; promotions = true; failures = true }
+
+-- two nodes of which none crashes, is fenced or is promoted, and whose devices' fences do not fail
 abbrev pub start : World
-start = start_with false false
+start = start_with none_allowed
 
 -- ---- definitions on it
 
@@ -216,9 +229,9 @@ torn (Stopped remains) = remains
 torn Crashed = []
 torn Retired = []
 
--- no failover comes: no fence was asked to fail, and none has failed
+-- no fence of a device fails: none was asked to, and none has
 pub record IsSure (w : World) : Type 0 where
-  pub failovers : w.failovers ≡ false
+  pub failures : w.allowed.failures ≡ false
   pub primary_sure : w.primary.disk.failing ≡ false
   pub standby_sure : w.standby.disk.failing ≡ false
   pub primary_whole : torn w.primary.life ≡ []

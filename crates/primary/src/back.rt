@@ -114,6 +114,15 @@ impl<E: Durable> Back<E> {
         self.committer.turn(alloc, &mut self.work, link, remote)
     }
 
+    /// Takes this engine for its own, as `Committer::exchange_engine` does, and leaves its own in its place. The primary is to be restarted then.
+    pub fn exchange_engine(&mut self, engine: &mut E)
+        ensures taken { self.new.committer.engine ≡ engine.old }
+        ensures given { engine.new ≡ self.old.committer.engine }
+        ensures work { self.new.work ≡ self.old.work }
+    {
+        self.committer.exchange_engine(engine);
+    }
+
     /// The engine's device, unchanged. What waits is dropped: this primary does nothing more.
     pub fn into_device(self) -> E::Device
         ensures { E.Device.state result ≡ E.device self.committer.engine }

@@ -61,6 +61,8 @@ fn event_alone(name: &str) -> Option<Event> {
         "send" => Some(Event::Send),
         "apply" => Some(Event::Apply),
         "raise-remote" => Some(Event::RaiseRemote),
+        "fence" => Some(Event::Fence),
+        "promote" => Some(Event::Promote),
         _ => None,
     }
 }

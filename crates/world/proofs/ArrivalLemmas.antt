@@ -1,5 +1,5 @@
 -- What came to the standby, and what it acknowledged, still refine the machine's after each step.
-use Rattle.std.proofs.Common.{◌≡◌, ℕ, ◌<◌, ◌≤◌, true, false, nat_lt, List, [], ◌∷◌, ◌++◌, length, take, drop, slice_get, Option, Some, Vec, Global, refl, sym, ap, subst, ◌∙◌, arith}
+use Rattle.std.proofs.Common.{All, ◌≡◌, ℕ, ◌<◌, ◌≤◌, true, false, nat_lt, List, [], ◌∷◌, ◌++◌, length, take, drop, slice_get, Option, Some, Vec, Global, refl, sym, ap, subst, ◌∙◌, arith}
 use Rattle.std.proofs.lemmas.Option.{slice_get_within}
 use Rattle.std.proofs.lemmas.Bool.{lt-ltb, le-ltb}
 use Rattle.model.specs.declared.call.Call.{Call}
@@ -9,7 +9,9 @@ use Rattle.machine.specs.Event.{World, Frame as Sent, Acknowledgement, delivered
 use Rattle.frames.specs.declared.frame.Frame.{Frame}
 use Rattle.stream_codec.specs.Message.{Sent as Told, IsSent, sent_of_frame, sent_text}
 use Rattle.connections.specs.Going.{Goes}
-use Rattle.world.specs.Link.{IsFrameOf, IsFrameSent, AreFramesRead, AreFramesSent, AreAcksSent}
+use Rattle.std.proofs.lemmas.List.Elements.{All-head}
+use Rattle.machine.proofs.StandbyLemmas.{all-at}
+use Rattle.world.specs.Link.{IsFrameOf, IsFrameSent, IsOwn, AreFramesRead, AreFramesSent, AreAcksSent}
 use Rattle.world.specs.Standby.{Arrived, Node, ArrivalsRefine, AppliesFirst}
 use Rattle.world.proofs.FrameLemmas.{AreFramesRead-grows, AreFramesRead-push, IsFrameOf-copy, copy_of_read, frame_of_number, length-sent}
 use Rattle.world.proofs.StandbyLemmas.{Took}
@@ -27,19 +29,21 @@ pub delivers : (epoch : ℕ) (texts : List (Vec ℕ Global)) (w : World) (i : �
     → ReadsAs bytes.items (sent_of_frame frame)
     → new.delivered.items ≡ old.delivered.items ++ frame ∷ [] → new.acknowledgements.items ≡ old.acknowledgements.items
     → ArrivalsRefine epoch w.primary.calls old w.standby.waiting w.wire.acknowledgements → AreFramesSent epoch w.primary.calls texts w.wire.frames
+    → All (IsOwn epoch) w.wire.frames
     → Goes (nat_lt i (length w.wire.frames)) true (ArrivalsRefine epoch w.primary.calls new (delivered (option_items (slice_get w.wire.frames i)) w.standby).waiting w.wire.acknowledgements)
     (ArrivalsRefine epoch w.primary.calls new w.standby.waiting w.wire.acknowledgements)
-delivers epoch texts w i bytes frame old new lt found reads items acks stands are =
+delivers epoch texts w i bytes frame old new lt found reads items acks stands are owns =
     let calls = w.primary.calls in
     let of = frame_of_number epoch calls texts w.wire.frames i are lt in
     let is : IsFrameSent epoch calls bytes.items of.one = subst (λ (b : Vec ℕ Global). IsFrameSent epoch calls b.items of.one) (same_found of.bytes_stand found) of.is in
-    let own : IsFrameOf epoch calls frame of.one.span = IsFrameOf-copy epoch calls is.frame frame of.one.span is.is.has (copy_of_read is.frame frame (reads (sent_of_frame is.frame) is.may is.text)) in
+    let epoch_is : of.one.epoch ≡ epoch = All-head (IsOwn epoch) of.one [] (subst (λ (o : Option Sent). All (IsOwn epoch) (option_items o)) of.stands (all-at (IsOwn epoch) w.wire.frames i owns)) in
+    let own : IsFrameOf epoch calls frame of.one.span = IsFrameOf-copy epoch calls is.frame frame of.one.span (is.is epoch_is) (copy_of_read is.frame frame (reads (sent_of_frame is.frame) is.may is.text)) in
     record {
       done = sym (lt-ltb i (length w.wire.frames) (slice_get_within w.wire.frames i of.one of.stands));
       goes = λ did. record {
         delivered = subst (λ (frames : List Frame). AreFramesRead epoch calls frames (w.standby.waiting ++ option_items (slice_get w.wire.frames i))) (sym items)
             (subst (λ (o : Option Sent). AreFramesRead epoch calls (old.delivered.items ++ frame ∷ []) (w.standby.waiting ++ option_items o)) (sym of.stands)
-            (AreFramesRead-push epoch calls old.delivered.items w.standby.waiting frame of.one stands.delivered (record { epoch_is = is.is.epoch_is; has = own })));
+            (AreFramesRead-push epoch calls old.delivered.items w.standby.waiting frame of.one stands.delivered (record { epoch_is = epoch_is; has = own })));
         acknowledged = subst (λ (ts : List (Vec ℕ Global)). AreAcksSent ts w.wire.acknowledgements) (sym acks) stands.acknowledged;
       };
       stays = λ did. cc;

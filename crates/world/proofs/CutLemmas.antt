@@ -78,7 +78,13 @@ AreFramesRead-cut epoch calls n frames sent within are = absurd are
 pub AreFramesSent-cut : (epoch : ℕ) (calls : List Call) (n : ℕ) (texts : List (Vec ℕ Global)) (sent : List Sent) → All (IsFrameWithin epoch n) sent → AreFramesSent epoch calls texts sent → AreFramesSent epoch (cut_at calls n) texts sent
 AreFramesSent-cut epoch calls n [] [] within are = tt
 AreFramesSent-cut epoch calls n (bytes ∷ texts) (one ∷ sent) within are = (
-  record { frame = are.0.frame; text = are.0.text; may = are.0.may; is = IsFrameRead-cut epoch calls n are.0.frame one (All-head (IsFrameWithin epoch n) one sent within) are.0.is },
+  record {
+    frame = are.0.frame;
+    text = are.0.text;
+    may = are.0.may;
+    about = are.0.about;
+    is = λ own. IsFrameOf-cut epoch calls n are.0.frame one.span ((All-head (IsFrameWithin epoch n) one sent within).span own).within (are.0.is own);
+  },
   AreFramesSent-cut epoch calls n texts sent (All-tail (IsFrameWithin epoch n) one sent within) are.1,
 )
 AreFramesSent-cut epoch calls n texts sent within are = absurd are

@@ -37,12 +37,17 @@ use Rattle.group_commit.specs.declared.stage.Stage.{Stage}
 use Rattle.group_commit.specs.declared.stage.Stage.TheVariants.{Ready}
 use Rattle.world.specs.Committing.{Committing, CommittingRefines, FormattingOnly, EngineStands, Leads, StageRefines}
 use Rattle.world.specs.GroupSpan.{AreGroupsOf, AreWorkOf, positions_of_lists}
-use Rattle.world.specs.Link.{AreFramesSent, LinkRefines}
+use Rattle.world.specs.Link.{AreFramesSent, IsOwn, LinkRefines}
 use Rattle.connections.specs.Session.{ConnectionsRefine, SessionsRefine, SequencerRefines, SeatsFollow, seats_of}
 use Rattle.connections.specs.declared.connection.Connection.{Connection}
 use Rattle.world.specs.Standby.{Node, StandbyStands, ArrivalsRefine}
+use Rattle.machine.specs.Event.{new_disk}
 use Rattle.world.specs.Headline.{start}
-use Rattle.world.specs.Pair.{NodesRefine, Pair, life_if}
+use Rattle.world.specs.Condition.{has_crashed, life_as, runs}
+use Rattle.world.specs.declared.condition.Condition.TheVariants as condition
+use Rattle.world.specs.declared.condition.Condition.{Condition}
+use Rattle.std.proofs.lemmas.List.Elements.{All-nil}
+use Rattle.world.specs.Pair.{NodesRefine, Pair, allowed, primary_number}
 use Rattle.primary.specs.Recalling.{Remembers}
 use Rattle.primary.proofs.RecallLemmas.{remembers-new}
 use Rattle.world.specs.Recalling.{past_of}
@@ -138,24 +143,23 @@ pub pair-starts : (first second : Holder) (pair : Pair) → SessionsRefine pair.
     → pair.committing.waiting.items ≡ [] → pair.committing.aside ≡ [] → pair.committing.stage ≡ Ready → pair.committing.local ≡ 0 → pair.notices ≡ [] → EngineStands first [] 0 pair.device pair.contents pair.is_faulted
     → pair.contents.current.gaps.items ≡ [] → IsAheadOf pair.sequencer pair.contents → Expects pair.sequencer pair.contents [] [] → pair.link ≡ new_stream FIRST_EPOCH → pair.handed.items ≡ [] → pair.remote ≡ 0 → pair.opening.position ≡ 0 → pair.frames ≡ []
     → ((epoch : ℕ) → ArrivalsRefine epoch [] pair.arrivals [] []) → StandbyStands second pair.link.epoch [] 0 pair.standby
-    → first.role ≡ Role.Primary → second.role ≡ Role.Standby → first.epoch ≡ FIRST_EPOCH → second.epoch ≡ FIRST_EPOCH → pair.primary_runs ≡ true → pair.standby_runs ≡ true → NodesRefine first second pair start
+    → first.role ≡ Role.Primary → second.role ≡ Role.Standby → first.epoch ≡ FIRST_EPOCH → second.epoch ≡ FIRST_EPOCH → pair.primary_condition ≡ condition.Running → pair.standby_condition ≡ condition.Running → NodesRefine first second pair start
 pair-starts first second pair sessions sequencer none_ended none none_aside ready mark none_told engine no_gap ahead expects link no_group remote never_opened no_frame arrivals standby first_role second_role first_epoch second_epoch serves follows =
     record {
-      sound = sound-start true false;
+      sound = sound-start allowed;
       lives = record {
-        restarts = refl;
-        failovers = refl;
-        primary_sure = refl;
-        standby_sure = refl;
-        primary = sym (ap life_if serves);
-        standby = sym (ap life_if follows);
+        allowed_are = refl;
+        primary_disk = ap (λ (c : Condition). new_disk (primary_number c)) (sym follows);
+        standby_disk = refl;
+        primary = sym (ap life_as serves);
+        standby = sym (ap life_as follows);
         first_role = first_role;
         second_role = second_role;
         first_epoch = first_epoch;
         second_epoch = second_epoch;
       };
       parts = inl (
-        serves,
+        ap runs serves,
         record {
           sessions = sessions;
           sequencer = sequencer;
@@ -186,8 +190,9 @@ pair-starts first second pair sessions sequencer none_ended none none_aside read
                 remote_is = remote;
               });
           frames = subst (λ (texts : List (Vec ℕ Global)). AreFramesSent pair.link.epoch [] texts []) (sym no_frame) tt;
+          own = λ whole. All-nil (IsOwn pair.link.epoch);
           arrivals = arrivals pair.link.epoch;
-          standby = record { stands = λ runs. standby; down = λ down. absurd (true≢false (sym follows ∙ down)) };
+          standby = record { stands = λ runs. standby; down = λ down. absurd (true≢false (sym down ∙ ap has_crashed follows)) };
         },
       );
     }

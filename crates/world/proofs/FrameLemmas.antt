@@ -45,7 +45,7 @@ AreFramesRead-grows epoch calls more frames sent are = absurd are
 pub AreFramesSent-grows : (epoch : ℕ) (calls more : List Call) (texts : List (Vec ℕ Global)) (sent : List Sent) → AreFramesSent epoch calls texts sent → AreFramesSent epoch (calls ++ more) texts sent
 AreFramesSent-grows epoch calls more [] [] are = tt
 AreFramesSent-grows epoch calls more (bytes ∷ texts) (one ∷ sent) are =
-    (record { frame = are.0.frame; text = are.0.text; may = are.0.may; is = IsFrameRead-grows epoch calls more are.0.frame one are.0.is }, AreFramesSent-grows epoch calls more texts sent are.1)
+    (record { frame = are.0.frame; text = are.0.text; may = are.0.may; about = are.0.about; is = λ own. IsFrameOf-grows epoch calls more are.0.frame one.span (are.0.is own) }, AreFramesSent-grows epoch calls more texts sent are.1)
 AreFramesSent-grows epoch calls more texts sent are = absurd are
 
 -- ---- frames are sent

@@ -28,15 +28,14 @@ of_calls w then new e same = ap (λ (x : World). x.primary.calls) e ∙ same
 
 calls-happen : (w : World) (event : Event) (new : World) → IsSure w → may_happen w event ≡ true → Happens w event new → CallsBy w event true new.primary.calls
 calls-happen w (Turn c) new sure may h = (h.call, h.connection, h.first, h.reply, ap (λ (x : World). x.primary.calls) h.now)
-calls-happen w (FailFence n k) new sure may h = absurd (true≢false (sym may ∙ sure.failovers))
+calls-happen w (FailFence n k) new sure may h = absurd (true≢false (sym may ∙ sure.failures))
 calls-happen w (Crash node.Primary call k picks) new sure may h =
     ap (λ (x : World). x.primary.calls) (h.now ∙ ap (λ (r : Remains). crashed node.Primary r w) (remains w node.Primary call h.remain sure (between w node.Primary call sure may) h.one))
 calls-happen w (Crash node.Standby call k picks) new sure may h =
     of_calls w _ new (h.now ∙ ap (λ (r : Remains). crashed node.Standby r w) (remains w node.Standby call h.remain sure (between w node.Standby call sure may) h.one)) refl
 calls-happen w (Reopen node.Primary) new sure may h = of_calls w _ new (unfailed w node.Primary cut.Reopen new sure.primary_sure h).now refl
 calls-happen w (Reopen node.Standby) new sure may h = of_calls w _ new (unfailed w node.Standby cut.Reopen new sure.standby_sure h) refl
-calls-happen w Fence new sure may h = absurd (true≢false (sym (both w.failovers _ may).0 ∙ sure.failovers))
-calls-happen w Promote new sure may h = absurd (true≢false (sym (both w.failovers _ may).0 ∙ sure.failovers))
+calls-happen w Promote new sure may h = ap (λ (x : World). x.primary.calls) (unfailed w node.Standby cut.Promote new sure.standby_sure h).now
 calls-happen w Commit new sure may h = of_calls w _ new (unfailed w node.Primary cut.Commit new sure.primary_sure h) refl
 calls-happen w Free new sure may h = of_calls w _ new (unfailed w node.Primary cut.Free new sure.primary_sure h) refl
 calls-happen w ClearGap new sure may h = of_calls w _ new (unfailed w node.Primary cut.ClearGap new sure.primary_sure h) refl
@@ -54,6 +53,7 @@ calls-stay : (w : World) (event : Event) (calls : List Call) → calls ≡ w.pri
 calls-stay w (Turn c) calls same = same
 calls-stay w (Crash node.Primary call k picks) calls same = same
 calls-stay w (Crash node.Standby call k picks) calls same = same
+calls-stay w Promote calls same = same
 calls-stay w event calls same = same
 
 -- what was done was enabled
@@ -140,7 +140,7 @@ released-happens w (Read d mark) new sure may h = quiet w _ new h (silent-outbou
 released-happens w (Release d) new sure may h = quiet w _ new h (silent-outbound w d having_released (λ outbound. refl))
 released-happens w (Write d n) new sure may h = λ c. ap (λ (x : World). released_in x c) h ∙ written-at w d n c
 released-happens w (Leave d) new sure may h = quiet w _ new h (silent-changed d left w.primary.connections (λ connection. refl))
-released-happens w (FailFence n k) new sure may h = absurd (true≢false (sym may ∙ sure.failovers))
+released-happens w (FailFence n k) new sure may h = absurd (true≢false (sym may ∙ sure.failures))
 released-happens w (Crash node.Primary call k picks) new sure may h =
     quiet w _ new (h.now ∙ ap (λ (r : Remains). crashed node.Primary r w) (remains w node.Primary call h.remain sure (between w node.Primary call sure may) h.one))
     (λ c. ap (λ (x : Connection). x.outbound.released) (get-over w.primary.connections c))
@@ -148,8 +148,8 @@ released-happens w (Crash node.Standby call k picks) new sure may h =
     quiet w _ new (h.now ∙ ap (λ (r : Remains). crashed node.Standby r w) (remains w node.Standby call h.remain sure (between w node.Standby call sure may) h.one)) (λ c. refl)
 released-happens w (Reopen node.Primary) new sure may h = quiet w _ new (unfailed w node.Primary cut.Reopen new sure.primary_sure h).now (λ c. refl)
 released-happens w (Reopen node.Standby) new sure may h = quiet w _ new (unfailed w node.Standby cut.Reopen new sure.standby_sure h) (λ c. refl)
-released-happens w Fence new sure may h = absurd (true≢false (sym (both w.failovers _ may).0 ∙ sure.failovers))
-released-happens w Promote new sure may h = absurd (true≢false (sym (both w.failovers _ may).0 ∙ sure.failovers))
+released-happens w Promote new sure may h =
+    quiet w _ new (unfailed w node.Standby cut.Promote new sure.standby_sure h).now (λ c. ap (λ (x : Connection). x.outbound.released) (get-over w.primary.connections c))
 released-happens w event new sure may h = quiet w _ new h (λ c. refl)
 
 -- nothing is released where the event was not enabled

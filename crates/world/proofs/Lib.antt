@@ -30,8 +30,13 @@ pub mod PairLives
 pub mod PairCrash
 pub mod OpenedLemmas
 pub mod PairReopen
+pub mod PairFence
+pub mod PromotionLemmas
+pub mod PairPromote
 pub mod FormLemmas
-pub mod RunningLemmas
 pub mod GivenLemmas
 pub mod StepLemmas
+pub mod MomentLemmas
+pub mod ReachLemmas
+pub mod RunningLemmas
 pub mod LeavesLemmas

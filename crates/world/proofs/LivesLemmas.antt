@@ -5,9 +5,13 @@ use Rattle.machine.specs.declared.event.Event.{Event}
 use Rattle.machine.specs.declared.event.Event.TheVariants.{Turn, CloseGroup, Commit, Free, ClearGap, OpenLink, Deliver, Apply, AckDelivered, FailFence, Crash, Reopen, Fence, Promote}
 use Rattle.machine.specs.declared.event.Cut.TheVariants as cut
 use Rattle.machine.specs.declared.event.Node.TheVariants as node_of
-use Rattle.machine.specs.Event.{Acknowledgement, Disk, Frame, Standby, World, IsSure, Happens, Takes, Running, is_enabled, may_happen, nodes_run, told, torn, with_link, without_first}
+use Rattle.machine.specs.World as machine
+use Rattle.machine.specs.Event.{Acknowledgement, Allowed, Disk, Frame, Standby, World, IsSure, Happens, Takes, is_enabled, is_retired, is_running, may_happen, nodes_run, told, torn, with_link, without_first}
 use Rattle.machine.proofs.SureLemmas.{unfailed}
-use Rattle.world.specs.Pair.{AreLives, NodesRefine, Pair, PairRefines, life_if}
+use Rattle.world.specs.Pair.{AreLives, NodesRefine, Pair, PairRefines}
+use Rattle.world.specs.Condition.{has_crashed, has_ended, life_as, runs}
+use Rattle.world.specs.declared.condition.Condition.{Condition}
+use Rattle.world.specs.declared.condition.Condition.TheVariants.{Running, Crashed, Ended}
 
 -- ---- kinds of events
 
@@ -40,7 +44,7 @@ own-plain Fence own = own
 own-plain Promote own = own
 own-plain event own = refl
 
-own-nodes : (w : World) (event : Event) → is_own event ≡ true → w.primary.life ≡ Running → nodes_run w event ≡ true
+own-nodes : (w : World) (event : Event) → is_own event ≡ true → w.primary.life ≡ machine.Running → nodes_run w event ≡ true
 own-nodes w OpenLink own r = absurd (true≢false (sym own))
 own-nodes w (Deliver frame piece) own r = absurd (true≢false (sym own))
 own-nodes w Apply own r = absurd (true≢false (sym own))
@@ -55,8 +59,7 @@ own-nodes w event own r = rw r refl
 
 -- of the two worlds the same is said
 pub record SameLives (old new : World) : Type 0 where
-  pub restarts : new.restarts ≡ old.restarts
-  pub failovers : new.failovers ≡ old.failovers
+  pub allowed : new.allowed ≡ old.allowed
   pub primary_disk : new.primary.disk ≡ old.primary.disk
   pub standby_disk : new.standby.disk ≡ old.standby.disk
   pub primary : new.primary.life ≡ old.primary.life
@@ -67,7 +70,7 @@ of : (old then new : World) → new ≡ then → SameLives old then → SameLive
 of old then new e same = subst (SameLives old) (sym e) same
 
 told-lives : (w : World) (ack : Option Acknowledgement) → SameLives w (with_link (told w.primary.epoch w.primary.committer.position ack w.primary.link) w)
-told-lives w ack = record { restarts = refl; failovers = refl; primary_disk = refl; standby_disk = refl; primary = refl; standby = refl; epoch = refl }
+told-lives w ack = record { allowed = refl; primary_disk = refl; standby_disk = refl; primary = refl; standby = refl; epoch = refl }
 
 taken-life : (frame : Frame) (old new : Standby) (told : List Acknowledgement) → Takes frame old new told → (new.life ≡ old.life) × (new.disk ≡ old.disk)
 taken-life frame old new told takes =
@@ -84,17 +87,17 @@ taken-life frame old new told takes =
 
 -- where no fence was asked to fail
 pub plain-happens : (w : World) (event : Event) (new : World) → is_plain event ≡ true → w.primary.disk.failing ≡ false → w.standby.disk.failing ≡ false → Happens w event new → SameLives w new
-plain-happens w (Turn c) new plain first second h = of w _ new h.now (record { restarts = refl; failovers = refl; primary_disk = refl; standby_disk = refl; primary = refl; standby = refl; epoch = refl })
+plain-happens w (Turn c) new plain first second h = of w _ new h.now (record { allowed = refl; primary_disk = refl; standby_disk = refl; primary = refl; standby = refl; epoch = refl })
 plain-happens w Commit new plain first second h =
-    of w _ new (unfailed w node_of.Primary cut.Commit new first h) (record { restarts = refl; failovers = refl; primary_disk = refl; standby_disk = refl; primary = refl; standby = refl; epoch = refl })
+    of w _ new (unfailed w node_of.Primary cut.Commit new first h) (record { allowed = refl; primary_disk = refl; standby_disk = refl; primary = refl; standby = refl; epoch = refl })
 plain-happens w Free new plain first second h =
-    of w _ new (unfailed w node_of.Primary cut.Free new first h) (record { restarts = refl; failovers = refl; primary_disk = refl; standby_disk = refl; primary = refl; standby = refl; epoch = refl })
+    of w _ new (unfailed w node_of.Primary cut.Free new first h) (record { allowed = refl; primary_disk = refl; standby_disk = refl; primary = refl; standby = refl; epoch = refl })
 plain-happens w ClearGap new plain first second h =
-    of w _ new (unfailed w node_of.Primary cut.ClearGap new first h) (record { restarts = refl; failovers = refl; primary_disk = refl; standby_disk = refl; primary = refl; standby = refl; epoch = refl })
+    of w _ new (unfailed w node_of.Primary cut.ClearGap new first h) (record { allowed = refl; primary_disk = refl; standby_disk = refl; primary = refl; standby = refl; epoch = refl })
 plain-happens w Apply new plain first second h =
     let applies = unfailed w node_of.Standby cut.Apply new second h in
     let same = taken-life applies.frame (without_first w.standby) applies.standby applies.told applies.takes in
-    of w _ new applies.now (record { restarts = refl; failovers = refl; primary_disk = refl; standby_disk = same.1; primary = refl; standby = same.0; epoch = refl })
+    of w _ new applies.now (record { allowed = refl; primary_disk = refl; standby_disk = same.1; primary = refl; standby = same.0; epoch = refl })
 plain-happens w (AckDelivered a) new plain first second h = of w _ new h (told-lives w (slice_get w.wire.acknowledgements a))
 plain-happens w (FailFence node n) new plain first second h = absurd (true≢false (sym plain))
 plain-happens w (Crash node call k picks) new plain first second h = absurd (true≢false (sym plain))
@@ -103,17 +106,16 @@ plain-happens w Fence new plain first second h = absurd (true≢false (sym plain
 plain-happens w Promote new plain first second h = absurd (true≢false (sym plain))
 plain-happens w CloseGroup new plain first second h =
     elim h [
-      | inl group ↦ of w _ new group.1.now (record { restarts = refl; failovers = refl; primary_disk = refl; standby_disk = refl; primary = refl; standby = refl; epoch = refl })
-      | inr list ↦ of w _ new list.1 (record { restarts = refl; failovers = refl; primary_disk = refl; standby_disk = refl; primary = refl; standby = refl; epoch = refl })
+      | inl group ↦ of w _ new group.1.now (record { allowed = refl; primary_disk = refl; standby_disk = refl; primary = refl; standby = refl; epoch = refl })
+      | inr list ↦ of w _ new list.1 (record { allowed = refl; primary_disk = refl; standby_disk = refl; primary = refl; standby = refl; epoch = refl })
     ]
-plain-happens w event new plain first second h = of w _ new h (record { restarts = refl; failovers = refl; primary_disk = refl; standby_disk = refl; primary = refl; standby = refl; epoch = refl })
+plain-happens w event new plain first second h = of w _ new h (record { allowed = refl; primary_disk = refl; standby_disk = refl; primary = refl; standby = refl; epoch = refl })
 
-pub lives-like : {first second : Holder} {serves follows : Bool} {w w' : World} → SameLives w w' → AreLives first second serves follows w → AreLives first second serves follows w'
+pub lives-like : {first second : Holder} {serves follows : Condition} {w w' : World} → SameLives w w' → AreLives first second serves follows w → AreLives first second serves follows w'
 lives-like same lives = record {
-  restarts = same.restarts ∙ lives.restarts;
-  failovers = same.failovers ∙ lives.failovers;
-  primary_sure = ap (λ (d : Disk). d.failing) same.primary_disk ∙ lives.primary_sure;
-  standby_sure = ap (λ (d : Disk). d.failing) same.standby_disk ∙ lives.standby_sure;
+  allowed_are = same.allowed ∙ lives.allowed_are;
+  primary_disk = same.primary_disk ∙ lives.primary_disk;
+  standby_disk = same.standby_disk ∙ lives.standby_disk;
   primary = same.primary ∙ lives.primary;
   standby = same.standby ∙ lives.standby;
   first_role = lives.first_role;
@@ -122,54 +124,100 @@ lives-like same lives = record {
   second_epoch = lives.second_epoch ∙ sym same.epoch;
 }
 
--- what a node that runs, or is crashed, has of a call that failed
-torn_if : (runs : Bool) → torn (life_if runs) ≡ []
-torn_if true = refl
-torn_if false = refl
+-- what a node has of a call that failed
+torn_as : (condition : Condition) → torn (life_as condition) ≡ []
+torn_as Running = refl
+torn_as Crashed = refl
+torn_as Ended = refl
 
-pub sure-lives : {first second : Holder} {serves follows : Bool} {w : World} → AreLives first second serves follows w → IsSure w
+pub sure-lives : {first second : Holder} {serves follows : Condition} {w : World} → AreLives first second serves follows w → IsSure w
 sure-lives {first} {second} {serves} {follows} {w} lives = record {
-  failovers = lives.failovers;
-  primary_sure = lives.primary_sure;
-  standby_sure = lives.standby_sure;
-  primary_whole = ap torn lives.primary ∙ torn_if serves;
-  standby_whole = ap torn lives.standby ∙ torn_if follows;
+  failures = ap (λ (a : Allowed). a.failures) lives.allowed_are;
+  primary_sure = ap (λ (d : Disk). d.failing) lives.primary_disk;
+  standby_sure = ap (λ (d : Disk). d.failing) lives.standby_disk;
+  primary_whole = ap torn lives.primary ∙ torn_as serves;
+  standby_whole = ap torn lives.standby ∙ torn_as follows;
 }
 
 -- ---- an event whose nodes run
 
 -- the nodes that take part in the event run, and none crashes in it
-pub record Runs (first second : Holder) (serves follows : Bool) (w : World) (event : Event) : Type 0 where
+pub record Runs (first second : Holder) (serves follows : Condition) (w : World) (event : Event) : Type 0 where
   pub lives : AreLives first second serves follows w
   pub nodes : nodes_run w event ≡ true
   pub plain : is_plain event ≡ true
 
 -- what has something to do is enabled
-pub enabled-is : {first second : Holder} {serves follows : Bool} {w : World} {event : Event} → Runs first second serves follows w event → is_enabled w event ≡ may_happen w event
+pub enabled-is : {first second : Holder} {serves follows : Condition} {w : World} {event : Event} → Runs first second serves follows w event → is_enabled w event ≡ may_happen w event
 enabled-is {first} {second} {serves} {follows} {w} {event} runs = ap (λ b. b && may_happen w event) runs.nodes
 
 -- the same nodes run afterwards
-pub lives-step : {first second : Holder} {serves follows : Bool} {w w' : World} {event : Event} → Runs first second serves follows w event → Happens w event w' → AreLives first second serves follows w'
-lives-step {first} {second} {serves} {follows} {w} {w'} {event} runs happens = lives-like (plain-happens w event w' runs.plain runs.lives.primary_sure runs.lives.standby_sure happens) runs.lives
+pub lives-step : {first second : Holder} {serves follows : Condition} {w w' : World} {event : Event} → Runs first second serves follows w event → Happens w event w' → AreLives first second serves follows w'
+lives-step {first} {second} {serves} {follows} {w} {w'} {event} runs happens = lives-like (plain-happens w event w' runs.plain (ap (λ (d : Disk). d.failing) runs.lives.primary_disk) (ap (λ (d : Disk). d.failing) runs.lives.standby_disk) happens) runs.lives
 
-pub serving : {first second : Holder} {pair : Pair} {w : World} → PairRefines first second pair w → w.primary.life ≡ Running
-serving {first} {second} {pair} {w} stands = stands.lives.primary ∙ ap life_if stands.serves
+running-life : (condition : Condition) → runs condition ≡ true → life_as condition ≡ machine.Running
+running-life Running up = refl
+running-life Crashed up = absurd (true≢false (sym up))
+running-life Ended up = absurd (true≢false (sym up))
+
+pub serving : {first second : Holder} {pair : Pair} {w : World} → PairRefines first second pair w → w.primary.life ≡ machine.Running
+serving {first} {second} {pair} {w} stands = stands.lives.primary ∙ running-life pair.primary_condition stands.serves
 
 -- an event that needs the primary alone
-pub own-runs : {first second : Holder} {pair : Pair} {w : World} → PairRefines first second pair w → (event : Event) → is_own event ≡ true → Runs first second pair.primary_runs pair.standby_runs w event
+pub own-runs : {first second : Holder} {pair : Pair} {w : World} → PairRefines first second pair w → (event : Event) → is_own event ≡ true → Runs first second pair.primary_condition pair.standby_condition w event
 own-runs {first} {second} {pair} {w} stands event own = record { lives = stands.lives; nodes = own-nodes w event own (serving stands); plain = own-plain event own }
 
 pub nodes-refine : {first second : Holder} {pair : Pair} {w : World} → PairRefines first second pair w → NodesRefine first second pair w
 nodes-refine stands = record { sound = stands.sound; lives = stands.lives; parts = inl (stands.serves, stands.parts) }
 
+pub running-as : (condition : Condition) → is_running (life_as condition) ≡ runs condition
+running-as Running = refl
+running-as Crashed = refl
+running-as Ended = refl
+
+pub retired-as : (condition : Condition) → is_retired (life_as condition) ≡ has_ended condition
+retired-as Running = refl
+retired-as Crashed = refl
+retired-as Ended = refl
+
+-- a node that runs is not over
+pub not-over : (condition : Condition) → runs condition ≡ true → has_ended condition ≡ false
+not-over Running up = refl
+not-over Crashed up = refl
+not-over Ended up = absurd (true≢false (sym up))
+
+-- nor is one that is crashed
+pub crashed-not-over : (condition : Condition) → has_crashed condition ≡ true → has_ended condition ≡ false
+crashed-not-over Running down = refl
+crashed-not-over Crashed down = refl
+crashed-not-over Ended down = absurd (true≢false (sym down))
+
+-- a primary that runs is not crashed, and was not fenced
+pub not-crashed : (condition : Condition) → runs condition ≡ true → has_crashed condition ≡ true → ⊥
+not-crashed Running up down = true≢false (sym down)
+not-crashed Crashed up down = true≢false (sym up)
+not-crashed Ended up down = true≢false (sym up)
+
+not-fenced : (condition : Condition) → runs condition ≡ true → has_ended condition ≡ true → ⊥
+not-fenced Running up fenced = true≢false (sym fenced)
+not-fenced Crashed up fenced = true≢false (sym up)
+not-fenced Ended up fenced = true≢false (sym up)
+
+-- one that was fenced is not crashed
+pub fenced-not-crashed : (condition : Condition) → has_ended condition ≡ true → has_crashed condition ≡ true → ⊥
+fenced-not-crashed Running fenced down = true≢false (sym down)
+fenced-not-crashed Crashed fenced down = true≢false (sym fenced)
+fenced-not-crashed Ended fenced down = true≢false (sym down)
+
 -- a pair whose primary runs
-pub serves-as : {first second : Holder} {pair : Pair} {w : World} → pair.primary_runs ≡ true → NodesRefine first second pair w → PairRefines first second pair w
-serves-as {first} {second} {pair} {w} runs stands = record {
+pub serves-as : {first second : Holder} {pair : Pair} {w : World} → runs pair.primary_condition ≡ true → NodesRefine first second pair w → PairRefines first second pair w
+serves-as {first} {second} {pair} {w} up stands = record {
   sound = stands.sound;
   lives = stands.lives;
-  serves = runs;
+  serves = up;
   parts = elim stands.parts [
-    | inl up ↦ up.1
-    | inr down ↦ absurd (true≢false (sym runs ∙ down.0))
+    | inl whole ↦ whole.1
+    | inr (inl down) ↦ absurd (not-crashed pair.primary_condition up down.0)
+    | inr (inr fenced) ↦ absurd (not-fenced pair.primary_condition up fenced.0)
   ];
 }

@@ -51,11 +51,12 @@ use Rattle.world.proofs.QueueLemmas.{clear-disabled, clear-enabled}
 use Rattle.world.proofs.PairTurns.{Took, Waiting-same}
 use Rattle.world.proofs.FreeingLemmas.{engine-cleared, cleared-moments, primary-steps}
 use Rattle.world.proofs.PairFreeing.{fault-does, pair_with, refused-does}
+use Rattle.world.specs.declared.condition.Condition.{Condition}
 
-module _ {E : Type 0} (device : E → State) (contents : E → Contents) (is_faulted : E → Bool) (sessions : Connections) (transcript : Transcript) (sequencer : Sequencing) (link : Stream) (opening : Opening) (remote : ℕ) (frames : List (Vec ℕ Global)) (arrivals : Arrived) (standby : Node) (primary_runs standby_runs : Bool) where
+module _ {E : Type 0} (device : E → State) (contents : E → Contents) (is_faulted : E → Bool) (sessions : Connections) (transcript : Transcript) (sequencer : Sequencing) (link : Stream) (opening : Opening) (remote : ℕ) (frames : List (Vec ℕ Global)) (arrivals : Arrived) (standby : Node) (primary_condition standby_condition : Condition) where
   -- a pair with this committer, with this work waiting for it, with these notices and with these groups at the link
   abbrev cleared_with : Committer E → Waiting Work → List Freed → Waiting Group → Pair
-  cleared_with = pair_with device contents is_faulted sessions transcript sequencer link opening remote frames arrivals standby primary_runs standby_runs
+  cleared_with = pair_with device contents is_faulted sessions transcript sequencer link opening remote frames arrivals standby primary_condition standby_condition
 
   module _ (before : Committer E) (waiting : Waiting Work) (notices : List Freed) (handed : Waiting Group)
       (is : due_now contents before waiting (link_has_room handed.items) remote ≡ due.Clear) where
@@ -152,10 +153,10 @@ module _ {E : Type 0} (device : E → State) (contents : E → Contents) (is_fau
 
       cut-clear : (refusal : Refusal) → ClearsOne after waiting' (Err refusal) → Does from events.ClearGap (Err refusal) (cleared_with after waiting' notices handed)
       cut-clear refusal one = elim one.clears.causes [
-        | inl fault ↦ fault-does device contents is_faulted sessions transcript sequencer link opening remote frames arrivals standby primary_runs standby_runs events.ClearGap refl before after waiting waiting' notices handed refusal fault (λ first second w old' new leads. leads) (one.clears.fault (ap Err fault)) clear_may
+        | inl fault ↦ fault-does device contents is_faulted sessions transcript sequencer link opening remote frames arrivals standby primary_condition standby_condition events.ClearGap refl before after waiting waiting' notices handed refusal fault (λ first second w old' new leads. leads) (one.clears.fault (ap Err fault)) clear_may
             (cleared-then (Err refusal) one)
         | inr (inl limit) ↦ record { steps = tt; cut = λ first second w stands. ends first second w stands limit; calls = none-added _ _ refl }
-        | inr (inr memory) ↦ refused-does device contents is_faulted sessions transcript sequencer link opening remote frames arrivals standby primary_runs standby_runs events.ClearGap refl refl before after waiting waiting' notices notices handed handed refusal memory (one.clears.memory (ap Err memory)) clear_may
+        | inr (inr memory) ↦ refused-does device contents is_faulted sessions transcript sequencer link opening remote frames arrivals standby primary_condition standby_condition events.ClearGap refl refl before after waiting waiting' notices notices handed handed refusal memory (one.clears.memory (ap Err memory)) clear_may
       ]
         where
           new : Pair
@@ -167,7 +168,7 @@ module _ {E : Type 0} (device : E → State) (contents : E → Contents) (is_fau
               let same : new.device ≡ from.device = ap device told.1 in
               let at : (image : Image) → IsImage from.device.words image → IsAtLimit first.lines (next_primary w - w.primary.committer.position) (next_primary w - w.primary.committer.position) image =
               λ image is. record { current = from.contents.current; has_record = HasRecord-lines stands.parts.engine.contents_at.lines_are (stands.parts.engine.durable image is).has_record; reached = inr (inr told.0) } in
-              cut-for first second events.ClearGap refusal from new w (nodes-refine stands) (tells transcript) (enabled-is (own-runs stands events.ClearGap refl) ∙ clear_may first second w stands)
+              cut-for first second events.ClearGap refusal from new w (nodes-refine stands) (tells transcript) refl (enabled-is (own-runs stands events.ClearGap refl) ∙ clear_may first second w stands)
               (subst (λ (r : Refusal). EndsBy r events.ClearGap (Led first second from new w)) (sym limit) (
                 subst (λ (d : State). RestsAtLimit first w.primary.calls w.primary.committer.position (next_primary w) from.device d) (sym same)
                     (record { rests = rests-primary first second from w (nodes-refine stands); limit = at }),
@@ -199,7 +200,7 @@ module _ {E : Type 0} (device : E → State) (contents : E → Contents) (is_fau
       → due_now contents before waiting (link_has_room handed.items) remote ≡ due.Clear
       → Does (cleared_with before waiting notices handed) events.ClearGap (Err refusal) (cleared_with before waiting notices' handed)
   clear-roomless before waiting notices notices' handed refusal memory is =
-      refused-does device contents is_faulted sessions transcript sequencer link opening remote frames arrivals standby primary_runs standby_runs events.ClearGap refl refl before before waiting waiting notices notices' handed handed refusal memory refl (clear_may before waiting notices handed is)
+      refused-does device contents is_faulted sessions transcript sequencer link opening remote frames arrivals standby primary_condition standby_condition events.ClearGap refl refl before before waiting waiting notices notices' handed handed refusal memory refl (clear_may before waiting notices handed is)
 
   -- another step is due
   pub clear-idle : (before : Committer E) (waiting : Waiting Work) (notices : List Freed) (handed : Waiting Group) → (due_now contents before waiting (link_has_room handed.items) remote ≡ due.Clear → ⊥)

@@ -139,7 +139,7 @@ close-does old waiting sequencer (Err refusal) closed none memory refused =
     record {
       steps = tt;
       cut = λ first second w stands.
-          cut-same first second events.CloseGroup refusal old (with_work waiting sequencer old) w refl memory refl refl (tells old.transcript) (own-runs stands events.CloseGroup refl)
+          cut-same first second events.CloseGroup refusal old (with_work waiting sequencer old) w refl memory refl refl (tells old.transcript) refl (own-runs stands events.CloseGroup refl)
           (close-happens first second old w stands refused.0) (nodes-refine stands);
       calls = none-added _ _ refl;
     }

@@ -1,5 +1,5 @@
 -- What the events of the committer do to the pair, of what they do to its parts.
-use Rattle.std.proofs.Common.{rules, ◌≡◌, inl, Bool, true, List, ◌∷◌, ◌++◌, Ok, refl, sym, subst, ◌∙◌, true≢false, []}
+use Rattle.std.proofs.Common.{rules, ◌≡◌, inl, Bool, true, List, ◌∷◌, ◌++◌, Ok, refl, sym, ap, subst, ◌∙◌, true≢false, []}
 use Rattle.kv_types.specs.declared.refusal.Refusal.{Refusal}
 use Rattle.kv_types.specs.declared.refusal.Refusal.TheVariants.{Memory, Fault, Exhausted}
 use Rattle.pipes.specs.Waiting.{Waiting}
@@ -24,6 +24,7 @@ use Rattle.world.specs.Pair.{Pair, PartsRefine, Steps, Does}
 use Rattle.world.proofs.EngineLemmas.{moves-same}
 use Rattle.world.proofs.PairLink.{link-alone}
 use Rattle.world.proofs.PairLemmas.{Opens-standby, goes-map, goes-steps, none-added}
+use Rattle.world.specs.Condition.{has_ended, runs}
 
 -- ---- a group committed
 
@@ -35,11 +36,11 @@ ends-commit Exhausted P Q both ends = both RestsAtLimit ends
 ends-commit refusal P Q both ends = absurd ends
 
 -- the first group that waits has committed
-pub commit-steps : (first second : Holder) (w : World) (old new : Pair) → new.standby.device ≡ old.standby.device → Sound w → Runs first second new.primary_runs new.standby_runs w events.Commit
-    → new.primary_runs ≡ true → new.device.failures ≡ old.device.failures
+pub commit-steps : (first second : Holder) (w : World) (old new : Pair) → new.standby.device ≡ old.standby.device → new.standby_condition ≡ old.standby_condition → Sound w → Runs first second new.primary_condition new.standby_condition w events.Commit
+    → runs new.primary_condition ≡ true → new.device.failures ≡ old.device.failures
     → NearOnly first w.primary.calls w.primary.committer.position (next_primary w) old.device new.device → true ≡ may_happen w events.Commit
     → PartsRefine first second new (with_committer (committed_first (from_group w.primary.committer.waiting) w.primary.committer) w) → Steps first second w events.Commit true old new
-commit-steps first second w old new device' sound runs serves failures only done parts =
+commit-steps first second w old new device' same sound runs serves failures only done parts =
     let committer = committed_first (from_group w.primary.committer.waiting) w.primary.committer in
     let w' = with_committer committer w in
     let step : Step w events.Commit true w' = record { done = done ∙ sym (enabled-is runs); happens = λ did. inl refl; stands = λ did. absurd (true≢false did) } in
@@ -49,8 +50,8 @@ commit-steps first second w old new device' sound runs serves failures only done
       stands = record { sound = sound-step w events.Commit true w' step sound; lives = lives-step runs (inl refl); parts = inl (serves, parts) };
       moves = record {
         primary = record { leaves = only; failures = failures };
-        standby = moves-same second w.primary.calls w.standby.position w.standby.position old.standby.device new.standby.device device'
-            (Opens-standby second new.link.epoch w.primary.calls w.standby.position new.standby new.standby_runs parts.standby);
+        standby = λ whole. moves-same second w.primary.calls w.standby.position w.standby.position old.standby.device new.standby.device device'
+            (Opens-standby second new.link.epoch w.primary.calls w.standby.position new.standby new.standby_condition (ap has_ended same ∙ whole) parts.standby);
       };
     }
 

@@ -1,5 +1,5 @@
 -- What a crash of a node does to the pair.
-use Rattle.std.proofs.Common.{rules, le_refl, ◌≡◌, inr, ℕ, ◌≤◌, Bool, true, false, ◌&&◌, ◌||◌, List, map, Ok, Vec, Global, All, refl, sym, ap, subst, ◌∙◌, arith, true≢false, []}
+use Rattle.std.proofs.Common.{cond, rules, le_refl, ◌≡◌, inl, inr, ℕ, ◌≤◌, Bool, true, false, ◌&&◌, ◌||◌, List, map, Ok, Vec, Global, All, refl, sym, ap, subst, ◌∙◌, arith, true≢false, []}
 use Rattle.pmem.specs.Device.{State}
 use Rattle.pmem.specs.Crash.{IsImage, IsSettled, image_of}
 use Rattle.pmem.specs.Runs.{LeavesOnly}
@@ -11,45 +11,49 @@ use Rattle.model.specs.Standing.{Holder}
 use Rattle.machine.specs.declared.event.Event.TheVariants as events
 use Rattle.machine.specs.declared.event.Cut.TheVariants as cuts
 use Rattle.machine.specs.declared.event.Node.TheVariants as node
-use Rattle.machine.specs.Event.{World, At, Life, Step, crashed, is_enabled, is_running, is_stopped, left}
+use Rattle.machine.specs.Event.{Allowed, World, At, Life, new_disk, Step, crashed, is_enabled, is_running, is_stopped, left}
 use Rattle.machine.specs.Sound.{IsFrameWithin}
 use Rattle.machine.proofs.SoundEvents.{sound-step}
 use Rattle.world.specs.Committing.{Committing}
 use Rattle.connections.specs.Session.{AddsOne, HasSeat, SessionsRefine, seats_of}
 use Rattle.world.specs.Standby.{Arrived, ArrivalsRefine, Node, StandbyRefines}
-use Rattle.world.specs.Pair.{Acts, AreLives, DownRefine, EitherRefines, NodesRefine, Pair, Steps, life_if}
+use Rattle.world.specs.Pair.{Acts, AreLives, DownRefine, EitherRefines, NodesRefine, Pair, Steps}
 use Rattle.connections.specs.declared.connections.Connections.{Connections}
 use Rattle.connections.specs.declared.transcript.Transcript.{Transcript}
 use Rattle.world.proofs.CutLemmas.{AreFramesSent-cut, ArrivalsRefine-cut, IsDown-cut, StandbyStands-cut}
 use Rattle.machine.proofs.GroupLemmas.{chain-le, frames_within-weaker}
 use Rattle.world.proofs.DownLemmas.{crash-moves, down-crashed}
 use Rattle.world.proofs.EngineLemmas.{moves-same}
-use Rattle.world.proofs.LivesLemmas.{serves-as}
+use Rattle.world.proofs.LivesLemmas.{not-over, serves-as}
 use Rattle.world.proofs.PairLemmas.{none-added, primary-stands, primary-within, standby-stands}
 use Rattle.world.proofs.PairLives.{stays-acts}
 use Rattle.world.proofs.PairStandby.{arrivals-stand, follower, standby-either}
 use Rattle.world.proofs.RecallLemmas.{recalls-crashed}
 use Rattle.frames.specs.declared.frame.Frame.{Frame}
 use Rattle.world.specs.Link.{AreAcksSent, AreFramesRead}
+use Rattle.world.specs.Condition.{life_as, runs}
+use Rattle.world.specs.declared.condition.Condition.{Condition}
+use Rattle.world.specs.declared.condition.Condition.TheVariants.{Running, Crashed, Ended}
 
 -- ---- a node that is crashed already
 
-crashed_if : (runs : Bool) → (is_running (life_if runs) || is_stopped (life_if runs)) ≡ runs
-crashed_if true = refl
-crashed_if false = refl
+crashed_as : (condition : Condition) → (is_running (life_as condition) || is_stopped (life_as condition)) ≡ runs condition
+crashed_as Running = refl
+crashed_as Crashed = refl
+crashed_as Ended = refl
 
 -- to crash a node is enabled where it runs
-crash-enabled : {first second : Holder} {serves follows : Bool} {w : World} (k : ℕ) (picks : Vec ℕ Global) → AreLives first second serves follows w
-    → (is_enabled w (events.Crash node.Primary cuts.Between k picks) ≡ serves) × (is_enabled w (events.Crash node.Standby cuts.Between k picks) ≡ follows)
+crash-enabled : {first second : Holder} {serves follows : Condition} {w : World} (k : ℕ) (picks : Vec ℕ Global) → AreLives first second serves follows w
+    → (is_enabled w (events.Crash node.Primary cuts.Between k picks) ≡ runs serves) × (is_enabled w (events.Crash node.Standby cuts.Between k picks) ≡ runs follows)
 crash-enabled {first} {second} {serves} {follows} {w} k picks lives = (
-  ap (λ b. b && (is_running w.primary.life || is_stopped w.primary.life)) lives.restarts ∙ ap (λ (l : Life). is_running l || is_stopped l) lives.primary ∙ crashed_if serves,
-  ap (λ b. b && (is_running w.standby.life || is_stopped w.standby.life)) lives.restarts ∙ ap (λ (l : Life). is_running l || is_stopped l) lives.standby ∙ crashed_if follows,
+  ap (λ (a : Allowed). a.restarts && (is_running w.primary.life || is_stopped w.primary.life)) lives.allowed_are ∙ ap (λ (l : Life). is_running l || is_stopped l) lives.primary ∙ crashed_as serves,
+  ap (λ (a : Allowed). a.restarts && (is_running w.standby.life || is_stopped w.standby.life)) lives.allowed_are ∙ ap (λ (l : Life). is_running l || is_stopped l) lives.standby ∙ crashed_as follows,
 )
 
-pub primary-crashed : (old : Pair) (k : ℕ) (picks : Vec ℕ Global) → old.primary_runs ≡ false → Acts old (events.Crash node.Primary cuts.Between k picks) (Ok false) old
+pub primary-crashed : (old : Pair) (k : ℕ) (picks : Vec ℕ Global) → runs old.primary_condition ≡ false → Acts old (events.Crash node.Primary cuts.Between k picks) (Ok false) old
 primary-crashed old k picks down = stays-acts old (events.Crash node.Primary cuts.Between k picks) (λ first second w stands. (crash-enabled k picks stands.lives).0 ∙ down)
 
-pub standby-crashed : (old : Pair) (k : ℕ) (picks : Vec ℕ Global) → old.standby_runs ≡ false → Acts old (events.Crash node.Standby cuts.Between k picks) (Ok false) old
+pub standby-crashed : (old : Pair) (k : ℕ) (picks : Vec ℕ Global) → runs old.standby_condition ≡ false → Acts old (events.Crash node.Standby cuts.Between k picks) (Ok false) old
 standby-crashed old k picks down = stays-acts old (events.Crash node.Standby cuts.Between k picks) (λ first second w stands. (crash-enabled k picks stands.lives).1 ∙ down)
 
 -- ---- the device that crashed
@@ -68,17 +72,17 @@ pub record HasCrashed (lines : ℕ) (old new : State) : Type 0 where
 -- its sessions, its transcript, its committer and its engine once it crashed
 abbrev pub with_crashed_primary : Connections → Transcript → Committing → State → Contents → Bool → Pair → Pair
 with_crashed_primary sessions transcript committing device contents is_faulted pair =
-    record pair { sessions = sessions; transcript = transcript; committing = committing; device = device; contents = contents; is_faulted = is_faulted; primary_runs = false }
+    record pair { sessions = sessions; transcript = transcript; committing = committing; device = device; contents = contents; is_faulted = is_faulted; primary_condition = Crashed }
 
-StandbyRefines-cut : (holder : Holder) (epoch : ℕ) (calls : List Call) (p n : ℕ) (node : Node) (runs : Bool) → p ≤ n → StandbyRefines holder epoch calls p node runs
-    → StandbyRefines holder epoch (cut_at calls n) p node runs
-StandbyRefines-cut holder epoch calls p n node runs le refines = record {
+StandbyRefines-cut : (holder : Holder) (epoch : ℕ) (calls : List Call) (p n : ℕ) (node : Node) (condition : Condition) → p ≤ n → StandbyRefines holder epoch calls p node condition
+    → StandbyRefines holder epoch (cut_at calls n) p node condition
+StandbyRefines-cut holder epoch calls p n node condition le refines = record {
   stands = λ up. StandbyStands-cut holder epoch calls n p node le (refines.stands up);
   down = λ down. IsDown-cut holder calls n p node.device le (refines.down down);
 }
 
 pub primary-crashes : (old : Pair) (sessions : Connections) (transcript : Transcript) (committing : Committing) (device : State) (contents : Contents) (is_faulted : Bool) (k : ℕ) (picks : Vec ℕ Global) (position : ℕ)
-    → old.primary_runs ≡ true → position ≡ old.contents.current.position → HasCrashed old.contents.lines old.device device
+    → runs old.primary_condition ≡ true → position ≡ old.contents.current.position → HasCrashed old.contents.lines old.device device
     → ((w : World) → SessionsRefine old.sessions old.transcript w.primary.connections w.primary.calls → SessionsRefine sessions transcript (map left w.primary.connections) (cut_at w.primary.calls position))
     → ((c seat : ℕ) → ¬ HasSeat (seats_of sessions.connections.items) c seat) → AddsOne old.transcript.calls transcript.calls
     → Acts old (events.Crash node.Primary cuts.Between k picks) (Ok true) (with_crashed_primary sessions transcript committing device contents is_faulted old)
@@ -112,17 +116,17 @@ primary-crashes old sessions transcript committing device contents is_faulted k 
           newest = refl;
           none_told = refl;
           image = image;
-          gaps = parts.freeing.gaps;
           opened = refl;
           recalls = recalls-crashed w.standby.position p calls old.contents old.committing.waiting.items old.committing.aside old.sequencer parts.remembers;
           epoch = parts.epoch;
+          own = parts.own;
           frames = AreFramesSent-cut old.link.epoch calls p old.frames w.wire.frames
               (subst (λ e. All (IsFrameWithin e p) w.wire.frames) (sym parts.epoch) (frames_within-weaker w.primary.epoch sound.sent p w.wire.frames behind sound.wire.frames)) parts.frames;
           arrivals = ArrivalsRefine-cut old.link.epoch calls p old.arrivals w.standby.waiting w.wire.acknowledgements
               (subst (λ e. All (IsFrameWithin e p) w.standby.waiting) (sym parts.epoch) (frames_within-weaker w.primary.epoch sound.sent p w.standby.waiting behind sound.standby.frames)) parts.arrivals;
-          standby = StandbyRefines-cut second old.link.epoch calls w.standby.position p old.standby old.standby_runs (omega (arith, sound.standby.behind, behind)) parts.standby;
+          standby = StandbyRefines-cut second old.link.epoch calls w.standby.position p old.standby old.standby_condition (omega (arith, sound.standby.behind, behind)) parts.standby;
         } in
-        let refines : EitherRefines first second new w' = inr (refl, down) in
+        let refines : EitherRefines first second new w' = inr (inl (refl, down)) in
         record {
           world = w';
           step = step;
@@ -133,16 +137,16 @@ primary-crashes old sessions transcript committing device contents is_faulted k 
           };
           moves = record {
             primary = crash-moves first calls p old.device device old.contents old.is_faulted parts.engine has.moments has.failures;
-            standby = moves-same second calls w.standby.position w.standby.position old.standby.device old.standby.device refl (standby-stands first second old w stands.parts);
+            standby = λ whole. moves-same second calls w.standby.position w.standby.position old.standby.device old.standby.device refl (standby-stands first second old w stands.parts whole);
           };
         }
 
 -- ---- the standby
 
 abbrev pub with_crashed_standby : Arrived → Node → Pair → Pair
-with_crashed_standby arrivals node pair = record pair { arrivals = arrivals; standby = node; standby_runs = false }
+with_crashed_standby arrivals node pair = record pair { arrivals = arrivals; standby = node; standby_condition = Crashed }
 
-pub standby-crashes : (old : Pair) (arrivals : Arrived) (node' : Node) (k : ℕ) (picks : Vec ℕ Global) → old.standby_runs ≡ true → HasCrashed old.standby.contents.lines old.standby.device node'.device
+pub standby-crashes : (old : Pair) (arrivals : Arrived) (node' : Node) (k : ℕ) (picks : Vec ℕ Global) → runs old.standby_condition ≡ true → HasCrashed old.standby.contents.lines old.standby.device node'.device
     → arrivals.delivered.items ≡ [] → arrivals.acknowledgements ≡ old.arrivals.acknowledgements
     → Acts old (events.Crash node.Standby cuts.Between k picks) (Ok true) (with_crashed_standby arrivals node' old)
 standby-crashes old arrivals node' k picks follows has lost told =
@@ -165,18 +169,18 @@ standby-crashes old arrivals node' k picks follows has lost told =
           delivered = subst (λ (frames : List Frame). AreFramesRead old.link.epoch calls frames []) (sym lost) tt;
           acknowledged = subst (λ (acks : Vec (Vec ℕ Global) Global). AreAcksSent acks.items w.wire.acknowledgements) (sym told) (arrivals-stand stands.parts).acknowledged;
         } in
-        let down : StandbyRefines second old.link.epoch calls p node' false = record { stands = λ up. absurd (true≢false (sym up)); down = λ is. image } in
-        let refines : EitherRefines first second new w' = standby-either first second old arrivals node' false w w'.standby w.wire.acknowledgements (le_refl p) stands.parts empty down in
+        let down : StandbyRefines second old.link.epoch calls p node' Crashed = record { stands = λ up. absurd (true≢false (sym up)); down = λ is. image } in
+        let refines : EitherRefines first second new w' = standby-either first second old arrivals node' Crashed w w'.standby w.wire.acknowledgements (not-over old.standby_condition follows) (le_refl p) stands.parts empty down in
         record {
           world = w';
           step = step;
           stands = record {
             sound = sound-step w event true w' step stands.sound;
-            lives = search (rules, stands.lives);
+            lives = search (rules, stands.lives, stands.lives.primary_disk ∙ ap new_disk (ap (λ b. cond b 1 0) (not-over old.standby_condition follows)));
             parts = refines;
           };
           moves = record {
             primary = moves-same first calls w.primary.committer.position w.primary.committer.position old.device old.device refl (primary-stands first second old w stands.parts);
-            standby = crash-moves second calls p old.standby.device node'.device old.standby.contents old.standby.is_faulted stood.engine has.moments has.failures;
+            standby = λ whole. crash-moves second calls p old.standby.device node'.device old.standby.contents old.standby.is_faulted stood.engine has.moments has.failures;
           };
         }

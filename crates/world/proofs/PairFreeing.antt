@@ -52,6 +52,7 @@ use Rattle.world.proofs.PairLemmas.{Led, cut-for, cut-same, none-added, rests-st
 use Rattle.world.proofs.QueueLemmas.{free-disabled, free-enabled, reached-positions, room-link}
 use Rattle.world.proofs.PairTurns.{Took, Waiting-same, pair_of}
 use Rattle.world.proofs.FreeingLemmas.{engine-freed, freed-moments, primary-steps}
+use Rattle.world.specs.declared.condition.Condition.{Condition}
 
 -- ---- what a turn reaches
 
@@ -65,11 +66,11 @@ work_left calls room room' items works same are = subst (λ (b : Bool). AreWorkO
 
 -- ---- a turn of a committer that is ready
 
-module _ {E : Type 0} (device : E → State) (contents : E → Contents) (is_faulted : E → Bool) (sessions : Connections) (transcript : Transcript) (sequencer : Sequencing) (link : Stream) (opening : Opening) (remote : ℕ) (frames : List (Vec ℕ Global)) (arrivals : Arrived) (standby : Node) (primary_runs standby_runs : Bool) where
+module _ {E : Type 0} (device : E → State) (contents : E → Contents) (is_faulted : E → Bool) (sessions : Connections) (transcript : Transcript) (sequencer : Sequencing) (link : Stream) (opening : Opening) (remote : ℕ) (frames : List (Vec ℕ Global)) (arrivals : Arrived) (standby : Node) (primary_condition standby_condition : Condition) where
   -- a pair with this committer, with this work waiting for it, with these notices and with these groups at the link
   abbrev pub pair_with : Committer E → Waiting Work → List Freed → Waiting Group → Pair
   pair_with committer waiting notices handed =
-      pair_of device contents is_faulted sessions transcript sequencer notices link opening remote frames arrivals standby primary_runs standby_runs committer waiting handed
+      pair_of device contents is_faulted sessions transcript sequencer notices link opening remote frames arrivals standby primary_condition standby_condition committer waiting handed
 
   -- memory was refused, and the engine was not touched
   pub refused-does : (event : Event) → is_own event ≡ true → asks_memory event ≡ true → (before after : Committer E) (waiting waiting' : Waiting Work) (notices notices' : List Freed) (handed handed' : Waiting Group) (refusal : Refusal)
@@ -80,7 +81,7 @@ module _ {E : Type 0} (device : E → State) (contents : E → Contents) (is_fau
       record {
         steps = tt;
         cut = λ first second w stands.
-            cut-same first second event refusal (pair_with before waiting notices handed) (pair_with after waiting' notices' handed') w asks memory (ap device same) refl (tells transcript)
+            cut-same first second event refusal (pair_with before waiting notices handed) (pair_with after waiting' notices' handed') w asks memory (ap device same) refl (tells transcript) refl
             (own-runs stands event own) (enabled first second w stands) (nodes-refine stands);
         calls = none-added _ _ refl;
       }
@@ -110,7 +111,7 @@ module _ {E : Type 0} (device : E → State) (contents : E → Contents) (is_fau
             | inr now ↦ now
           ] in
           let leaves = LeavesOnly-weaken (OpensAtEither first w.primary.calls w.primary.committer.position (next_primary w)) (λ image at. inl at) (moments first second w stands.parts) in
-          cut-for first second event refusal old new w (nodes-refine stands) (tells transcript) (enabled-is (own-runs stands event own) ∙ enabled first second w stands)
+          cut-for first second event refusal old new w (nodes-refine stands) (tells transcript) refl (enabled-is (own-runs stands event own) ∙ enabled first second w stands)
           (subst (λ (r : Refusal). EndsBy r event (Led first second old new w)) (sym fault)
           (breaks first second w old new (record { leaves = leaves; failures = failed }, rests-standby first second old w (nodes-refine stands))))
 

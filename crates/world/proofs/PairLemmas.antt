@@ -20,7 +20,7 @@ use Rattle.connections.specs.Going.{Goes}
 use Rattle.world.specs.Cause.{Stretch, EndsBy, asks_memory}
 use Rattle.world.specs.Committing.{Rests, Opens, next_primary, next_standby}
 use Rattle.connections.specs.Session.{IsListOf, SessionsRefine, SequencerRefines, SeatsFollow, KeepsSeats, AddsOne, StandsStill, TakesTurn, TellsTheSame, seats_of}
-use Rattle.world.specs.Pair.{Pair, EitherRefines, NodesRefine, PartsRefine, PairRefines, IsCut, MovesBoth, Steps, Does}
+use Rattle.world.specs.Pair.{HasStandby, Pair, EitherRefines, NodesRefine, PartsRefine, PairRefines, IsCut, MovesBoth, Steps, Does}
 use Rattle.world.specs.Standby.{Node, StandbyRefines}
 use Rattle.world.proofs.LivesLemmas.{Runs, enabled-is, is_own, lives-step, nodes-refine, own-runs}
 use Rattle.primary.specs.Standing.{StandsOver}
@@ -43,6 +43,9 @@ use Rattle.world.proofs.LinkLemmas.{LinkRefines-grows}
 use Rattle.world.proofs.StandbyLemmas.{StandbyStands-grows}
 use Rattle.world.proofs.DownLemmas.{IsDown-grows, Opens-down}
 use Rattle.world.proofs.ArrivalLemmas.{ArrivalsRefine-grows}
+use Rattle.world.specs.Condition.{has_ended, runs}
+use Rattle.world.specs.declared.condition.Condition.{Condition}
+use Rattle.world.specs.declared.condition.Condition.TheVariants.{Running, Crashed, Ended}
 
 -- ---- what stands
 
@@ -57,30 +60,35 @@ back-stands {first} {second} {pair} {w} parts =
     let consistent = engine.contents_at.consistent in
     record { leads = parts.leads; consistent = consistent; laid = laid-engine pair.device pair.contents consistent engine.lawful engine.durable; durable = engine.durable }
 
-pub Opens-standby : (holder : Holder) (epoch : ℕ) (calls : List Call) (position : ℕ) (node : Node) (runs : Bool) → StandbyRefines holder epoch calls position node runs → Opens holder calls position node.device
-Opens-standby holder epoch calls position node true refines = Opens-engine _ _ _ _ _ _ (refines.stands refl).engine
-Opens-standby holder epoch calls position node false refines = Opens-down holder calls position node.device (refines.down refl)
+pub Opens-standby : (holder : Holder) (epoch : ℕ) (calls : List Call) (position : ℕ) (node : Node) (condition : Condition) → has_ended condition ≡ false → StandbyRefines holder epoch calls position node condition
+    → Opens holder calls position node.device
+Opens-standby holder epoch calls position node Running whole refines = Opens-engine _ _ _ _ _ _ (refines.stands refl).engine
+Opens-standby holder epoch calls position node Crashed whole refines = Opens-down holder calls position node.device (refines.down refl)
+Opens-standby holder epoch calls position node Ended whole refines = absurd (true≢false whole)
 
 -- the standby, whether the primary runs or not
-pub standby-refines : {first second : Holder} {pair : Pair} {w : World} → EitherRefines first second pair w → StandbyRefines second pair.link.epoch w.primary.calls w.standby.position pair.standby pair.standby_runs
+pub standby-refines : {first second : Holder} {pair : Pair} {w : World} → EitherRefines first second pair w → StandbyRefines second pair.link.epoch w.primary.calls w.standby.position pair.standby pair.standby_condition
 standby-refines parts = elim parts [
   | inl up ↦ up.1.standby
-  | inr down ↦ down.1.standby
+  | inr (inl down) ↦ down.1.standby
+  | inr (inr fenced) ↦ fenced.1.standby
 ]
 
-pub standby-stands : (first second : Holder) (pair : Pair) (w : World) → EitherRefines first second pair w → Opens second w.primary.calls w.standby.position pair.standby.device
-standby-stands first second pair w parts = Opens-standby second pair.link.epoch w.primary.calls w.standby.position pair.standby pair.standby_runs (standby-refines parts)
+pub standby-stands : (first second : Holder) (pair : Pair) (w : World) → EitherRefines first second pair w → HasStandby pair → Opens second w.primary.calls w.standby.position pair.standby.device
+standby-stands first second pair w parts whole = Opens-standby second pair.link.epoch w.primary.calls w.standby.position pair.standby pair.standby_condition whole (standby-refines parts)
 
 pub primary-stands : (first second : Holder) (pair : Pair) (w : World) → EitherRefines first second pair w → Opens first w.primary.calls w.primary.committer.position pair.device
 primary-stands first second pair w parts = elim parts [
   | inl up ↦ Opens-engine _ _ _ _ _ _ up.1.engine
-  | inr down ↦ Opens-down first w.primary.calls w.primary.committer.position pair.device down.1.image
+  | inr (inl down) ↦ Opens-down first w.primary.calls w.primary.committer.position pair.device down.1.image
+  | inr (inr fenced) ↦ fenced.1.opens
 ]
 
 pub sessions-stand : {first second : Holder} {pair : Pair} {w : World} → EitherRefines first second pair w → SessionsRefine pair.sessions pair.transcript w.primary.connections w.primary.calls
 sessions-stand parts = elim parts [
   | inl up ↦ up.1.sessions
-  | inr down ↦ down.1.sessions
+  | inr (inl down) ↦ down.1.sessions
+  | inr (inr fenced) ↦ fenced.1.sessions
 ]
 
 -- ---- steps
@@ -90,12 +98,12 @@ pub untouched : (first second : Holder) (old new : Pair) (w w' : World) → new.
 untouched first second old new w w' device device' parts =
     record {
       primary = moves-rest first w.primary.calls w.primary.committer.position w'.primary.committer.position old.device new.device device (primary-stands first second old w parts);
-      standby = moves-rest second w.primary.calls w.standby.position w'.standby.position old.standby.device new.standby.device device' (standby-stands first second old w parts);
+      standby = λ whole. moves-rest second w.primary.calls w.standby.position w'.standby.position old.standby.device new.standby.device device' (standby-stands first second old w parts whole);
     }
 
 -- an event that touches no device
 pub goes-either : (first second : Holder) (w w' : World) (event : Event) (did : Bool) (old new : Pair) → new.device ≡ old.device → new.standby.device ≡ old.standby.device → NodesRefine first second old w
-    → Runs first second new.primary_runs new.standby_runs w event → Happens w event w'
+    → Runs first second new.primary_condition new.standby_condition w event → Happens w event w'
     → Goes (may_happen w event) did (EitherRefines first second new w') (EitherRefines first second new w) → Steps first second w event did old new
 goes-either first second w w' event true old new device device' before runs happens goes =
     let step : Step w event true w' = record { done = goes.done ∙ sym (enabled-is runs); happens = λ did. happens; stands = λ did. absurd (true≢false did) } in
@@ -115,7 +123,7 @@ goes-either first second w w' event false old new device device' before runs hap
 
 -- of one whose primary runs
 pub goes-steps : (first second : Holder) (w w' : World) (event : Event) (did : Bool) (old new : Pair) → new.device ≡ old.device → new.standby.device ≡ old.standby.device → NodesRefine first second old w
-    → Runs first second new.primary_runs new.standby_runs w event → new.primary_runs ≡ true → Happens w event w'
+    → Runs first second new.primary_condition new.standby_condition w event → runs new.primary_condition ≡ true → Happens w event w'
     → Goes (may_happen w event) did (PartsRefine first second new w') (PartsRefine first second new w) → Steps first second w event did old new
 goes-steps first second w w' event did old new device device' before runs serves happens goes =
     goes-either first second w w' event did old new device device' before runs happens (goes-map goes (λ moved. inl (serves, moved)) (λ stayed. inl (serves, stayed)))
@@ -125,19 +133,19 @@ goes-steps first second w w' event did old new device device' before runs serves
 pub rests-primary : (first second : Holder) (old : Pair) (w : World) → NodesRefine first second old w → Rests first w.primary.calls w.primary.committer.position old.device old.device
 rests-primary first second old w stands = rests-same first w.primary.calls w.primary.committer.position old.device old.device refl (primary-stands first second old w stands.parts)
 
-pub rests-standby : (first second : Holder) (old : Pair) (w : World) → NodesRefine first second old w → Rests second w.primary.calls w.standby.position old.standby.device old.standby.device
-rests-standby first second old w stands =
-    rests-same second w.primary.calls w.standby.position old.standby.device old.standby.device refl (standby-stands first second old w stands.parts)
+pub rests-standby : (first second : Holder) (old : Pair) (w : World) → NodesRefine first second old w → HasStandby old → Rests second w.primary.calls w.standby.position old.standby.device old.standby.device
+rests-standby first second old w stands whole =
+    rests-same second w.primary.calls w.standby.position old.standby.device old.standby.device refl (standby-stands first second old w stands.parts whole)
 
 -- what an event that was cut did to both devices
 abbrev pub Led : Holder → Holder → Pair → Pair → World → Stretch → Stretch → Type 0
 Led first second old new w first_last second_last =
     first_last first w.primary.calls w.primary.committer.position (next_primary w) old.device new.device
-    × second_last second w.primary.calls w.standby.position (next_standby w) old.standby.device new.standby.device
+    × (HasStandby old → second_last second w.primary.calls w.standby.position (next_standby w) old.standby.device new.standby.device)
 
 pub cut-for : (first second : Holder) (event : Event) (refusal : Refusal) (old new : Pair) (w : World) → NodesRefine first second old w → TellsTheSame old.transcript new.transcript
-    → is_enabled w event ≡ true → EndsBy refusal event (Led first second old new w) → IsCut first second event refusal old new w
-cut-for first second event refusal old new w stands same enabled cause =
+    → has_ended new.standby_condition ≡ has_ended old.standby_condition → is_enabled w event ≡ true → EndsBy refusal event (Led first second old new w) → IsCut first second event refusal old new w
+cut-for first second event refusal old new w stands same nodes enabled cause =
     let told = (sessions-stand stands.parts).told in
     record {
       enabled = enabled;
@@ -150,20 +158,21 @@ cut-for first second event refusal old new w stands same enabled cause =
         length-map old.transcript.released.items (λ (bytes : Vec ℕ Global). bytes.items),
         length-map new.transcript.released.items (λ (bytes : Vec ℕ Global). bytes.items),
       );
+      standby = nodes;
       cause = cause;
     }
 
 -- memory was refused, and neither device was touched
 pub cut-same : (first second : Holder) (event : Event) (refusal : Refusal) (old new : Pair) (w : World) → asks_memory event ≡ true → refusal ≡ Memory → new.device ≡ old.device
-    → new.standby.device ≡ old.standby.device → TellsTheSame old.transcript new.transcript → Runs first second old.primary_runs old.standby_runs w event → may_happen w event ≡ true → NodesRefine first second old w
+    → new.standby.device ≡ old.standby.device → TellsTheSame old.transcript new.transcript → has_ended new.standby_condition ≡ has_ended old.standby_condition → Runs first second old.primary_condition old.standby_condition w event → may_happen w event ≡ true → NodesRefine first second old w
     → IsCut first second event refusal old new w
-cut-same first second event refusal old new w asks memory device device' same runs enabled stands =
-    cut-for first second event refusal old new w stands same (enabled-is runs ∙ enabled)
+cut-same first second event refusal old new w asks memory device device' same nodes runs enabled stands =
+    cut-for first second event refusal old new w stands same nodes (enabled-is runs ∙ enabled)
     (subst (λ (r : Refusal). EndsBy r event (Led first second old new w)) (sym memory) (
       asks,
       (
         subst (Rests first w.primary.calls w.primary.committer.position old.device) (sym device) (rests-primary first second old w stands),
-        subst (Rests second w.primary.calls w.standby.position old.standby.device) (sym device') (rests-standby first second old w stands),
+        λ whole. subst (Rests second w.primary.calls w.standby.position old.standby.device) (sym device') (rests-standby first second old w stands whole),
       ),
     ))
 
@@ -262,7 +271,7 @@ sessions-do event enabled change is asks old sessions transcript (Err refusal) g
     record {
       steps = tt;
       cut = λ first second w stands.
-          cut-same first second event refusal old (with_sessions sessions transcript old) w asks memory refl refl same (own-runs stands event is.own)
+          cut-same first second event refusal old (with_sessions sessions transcript old) w asks memory refl refl same refl (own-runs stands event is.own)
           (is.may w ∙ may w.primary.connections w.primary.calls stands.parts.sessions) (nodes-refine stands);
       calls = none-added _ _ calls;
     }
@@ -300,9 +309,9 @@ primary-within w s = omega (arith, s.committer.closed, chain-le _ _ _ s.committe
 pub standby-within : (w : World) → Sound w → w.standby.position ≤ position_of w.primary.calls
 standby-within w s = omega (arith, s.standby.behind, chain-le _ _ _ s.link.waiting, primary-within w s)
 
-StandbyRefines-grows : (holder : Holder) (epoch : ℕ) (calls more : List Call) (p : ℕ) (node : Node) (runs : Bool) → p ≤ position_of calls
-    → StandbyRefines holder epoch calls p node runs → StandbyRefines holder epoch (calls ++ more) p node runs
-StandbyRefines-grows holder epoch calls more p node runs le refines = record {
+StandbyRefines-grows : (holder : Holder) (epoch : ℕ) (calls more : List Call) (p : ℕ) (node : Node) (condition : Condition) → p ≤ position_of calls
+    → StandbyRefines holder epoch calls p node condition → StandbyRefines holder epoch (calls ++ more) p node condition
+StandbyRefines-grows holder epoch calls more p node condition le refines = record {
   stands = λ up. StandbyStands-grows holder epoch calls more p node le (refines.stands up);
   down = λ down. IsDown-grows holder calls more p node.device le (refines.down down);
 }
@@ -327,8 +336,9 @@ called-parts first second old sessions transcript sequencer w c call stands sess
       epoch = parts.epoch;
       link = LinkRefines-grows w.primary.calls (call ∷ []) old.link old.handed old.remote w.primary.link parts.link;
       frames = AreFramesSent-grows old.link.epoch w.primary.calls (call ∷ []) old.frames w.wire.frames parts.frames;
+      own = parts.own;
       arrivals = ArrivalsRefine-grows old.link.epoch w.primary.calls (call ∷ []) old.arrivals w.standby.waiting w.wire.acknowledgements parts.arrivals;
-      standby = StandbyRefines-grows second old.link.epoch w.primary.calls (call ∷ []) w.standby.position old.standby old.standby_runs (standby-within w stands.sound) parts.standby;
+      standby = StandbyRefines-grows second old.link.epoch w.primary.calls (call ∷ []) w.standby.position old.standby old.standby_condition (standby-within w stands.sound) parts.standby;
     }
 
 turn-steps : (first second : Holder) (old : Pair) (sessions : Connections) (transcript : Transcript) (sequencer : Sequencing) (w : World) (c : ℕ) (did : Bool) → PairRefines first second old w
@@ -416,7 +426,7 @@ enter-does old sessions transcript sequencer (Err refusal) go follows sequencer_
     record {
       steps = tt;
       cut = λ first second w stands.
-          cut-same first second events.Enter refusal old (with_turn sessions transcript sequencer old) w refl memory refl refl same (own-runs stands events.Enter refl)
+          cut-same first second events.Enter refusal old (with_turn sessions transcript sequencer old) w refl memory refl refl same refl (own-runs stands events.Enter refl)
           (enabled w.primary.connections w.primary.calls stands.parts.sessions) (nodes-refine stands);
       calls = none-added _ _ calls;
     }

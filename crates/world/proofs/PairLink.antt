@@ -20,12 +20,13 @@ use Rattle.stream_codec.specs.Message.{Acknowledged, IsWithinLimits, sent_of_ack
 use Rattle.machine.specs.declared.event.TheConstants.{KEPT_GROUPS}
 use Rattle.machine.specs.declared.event.Event.TheVariants as events
 use Rattle.machine.specs.Event.{World, Primary, Link as MachineLink, counts as machine_counts, Frame as Sent, Span, Acknowledgement, may_happen, next_to_send, framed, sent, sent_next, option_items, knowing, raised_remote, told, with_link, with_sent}
-use Rattle.std.proofs.lemmas.List.Elements.{All-head}
+use Rattle.std.proofs.lemmas.List.Elements.{All-append, All-cons, All-head, All-nil}
 use Rattle.machine.specs.Sound.{IsToldWithin}
 use Rattle.machine.proofs.GroupLemmas.{chain-le}
 use Rattle.machine.proofs.StandbyLemmas.{all-at}
 use Rattle.world.proofs.LivesLemmas.{nodes-refine, own-runs}
-use Rattle.world.specs.Link.{IsFrameOf, AreFramesOf, IsFrameSent, IsAckSent, AreFramesSent, LinkRefines}
+use Rattle.world.specs.Condition.{has_ended}
+use Rattle.world.specs.Link.{IsFrameOf, AreFramesOf, IsFrameSent, IsOwn, IsAckSent, AreFramesSent, LinkRefines}
 use Rattle.world.specs.Recalling.{OpeningLeads}
 use Rattle.world.specs.Standby.{StandbyRefines, ArrivalsRefine, told_by}
 use Rattle.world.specs.Pair.{Does, FreeingRefines, Pair, PairRefines, PartsRefine, Steps}
@@ -49,22 +50,24 @@ with_frames waiting link remote frames pair = record pair { handed = waiting; li
 
 pub link-parts : (first second : Holder) (old : Pair) (waiting : Waiting Group) (link : Stream) (remote : ℕ) (frames : List (Vec ℕ Global)) (w : World) (machine : MachineLink) (passed : List Sent)
     → PartsRefine first second old w → link.epoch ≡ old.link.epoch → LinkRefines w.primary.calls link waiting remote machine → AreFramesSent old.link.epoch w.primary.calls frames passed
+    → (has_ended old.standby_condition ≡ false → All (IsOwn old.link.epoch) passed)
     → PartsRefine first second (with_frames waiting link remote frames old) (record w { primary = record w.primary { link = machine }; wire = record w.wire { frames = passed } })
-link-parts first second old waiting link remote frames w machine passed parts same link_stands frames_passed =
+link-parts first second old waiting link remote frames w machine passed parts same link_stands frames_passed own =
     search (
       rules,
       freeing-linked {link = machine} parts.freeing,
       same ∙ parts.epoch,
       subst (λ e. AreFramesSent e w.primary.calls frames passed) (sym same) frames_passed,
+      λ (whole : has_ended old.standby_condition ≡ false). subst (λ e. All (IsOwn e) passed) (sym same) (own whole),
       subst (λ e. ArrivalsRefine e w.primary.calls old.arrivals w.standby.waiting w.wire.acknowledgements) (sym same) parts.arrivals,
-      subst (λ e. StandbyRefines second e w.primary.calls w.standby.position old.standby old.standby_runs) (sym same) parts.standby,
+      subst (λ e. StandbyRefines second e w.primary.calls w.standby.position old.standby old.standby_condition) (sym same) parts.standby,
     )
 
 -- no frame passed
 pub link-alone : (first second : Holder) (old : Pair) (waiting : Waiting Group) (link : Stream) (remote : ℕ) (w : World) (machine : MachineLink) → PartsRefine first second old w
     → link.epoch ≡ old.link.epoch → LinkRefines w.primary.calls link waiting remote machine → PartsRefine first second (with_frames waiting link remote old.frames old) (with_link machine w)
 link-alone first second old waiting link remote w machine parts same link_stands =
-    link-parts first second old waiting link remote old.frames w machine w.wire.frames parts same link_stands parts.frames
+    link-parts first second old waiting link remote old.frames w machine w.wire.frames parts same link_stands parts.frames parts.own
 
 -- ---- sending
 
@@ -87,7 +90,7 @@ one_span epoch calls frame (span ∷ other ∷ spans) are = absurd are.1
 passes : (epoch : ℕ) (calls : List Call) (frame : Frame) (bytes : Vec ℕ Global) (span : Span) → IsFrameOf epoch calls frame span → bytes.items ≡ sent_text (sent_of_frame frame) → IsWithinLimits (sent_of_frame frame)
     → IsFrameSent epoch calls bytes.items (record { epoch = epoch; span = span })
 passes epoch calls frame bytes span is text within =
-    record { frame = frame; text = text; may = may_be_sent epoch calls frame span is within; is = record { epoch_is = refl; has = is } }
+    record { frame = frame; text = text; may = may_be_sent epoch calls frame span is within; about = record { epoch_is = is.epoch_is; before = is.before; after = is.after }; is = λ own. is }
 
 -- the frame that comes before all groups is sent
 pub delta-does : (old : Pair) (link : Stream) (frame : Frame) (bytes : Vec ℕ Global) (frames : List (Vec ℕ Global)) → Some frame ≡ old.link.delta → link ≡ record old.link { delta = None }
@@ -110,7 +113,8 @@ delta-does old link frame bytes frames given taken text within more =
           subst (λ (fs : List (Vec ℕ Global)). PartsRefine first second (with_frames old.handed link old.remote fs old) w') (sym more)
           (subst (λ (s : Stream). PartsRefine first second (with_frames old.handed s old.remote (old.frames ++ bytes ∷ []) old) w') (sym taken)
           (link-parts first second old old.handed (record old.link { delta = None }) old.remote (old.frames ++ bytes ∷ []) w after passed parts refl now
-          (AreFramesSent-push epoch calls old.frames w.wire.frames bytes (record { epoch = epoch; span = span }) parts.frames (passes epoch calls frame bytes span one.2 text within)))) in
+          (AreFramesSent-push epoch calls old.frames w.wire.frames bytes (record { epoch = epoch; span = span }) parts.frames (passes epoch calls frame bytes span one.2 text within))
+          (λ whole. All-append (IsOwn epoch) w.wire.frames _ (parts.own whole) (All-cons (IsOwn epoch) (record { epoch = epoch; span = span }) [] refl (All-nil (IsOwn epoch)))))) in
           let happens : w' ≡ sent w =
           ap₂ (λ (e : ℕ) (spans : List Span). with_sent (framed e (take 1 (spans ++ (machine.again ++ machine.waiting)))) (with_link (sent_next spans machine) w)) parts.epoch (sym one.1) in
           goes-steps first second w w' events.Send true old (with_frames old.handed link old.remote frames old) refl refl (nodes-refine stands) (own-runs stands events.Send refl) stands.serves happens
@@ -151,7 +155,8 @@ send-does old waiting link index frame bytes frames answers there text within mo
           let w' = record w { primary = record w.primary { link = sent_next machine.delta machine }; wire = record w.wire { frames = w.wire.frames ++ framed epoch (next_to_send machine) } } in
           let moved : PartsRefine first second (with_frames waiting link old.remote frames old) w' =
           subst (λ (fs : List (Vec ℕ Global)). PartsRefine first second (with_frames waiting link old.remote fs old) w') (sym more)
-          (link-parts first second old waiting link old.remote (old.frames ++ bytes ∷ []) w (sent_next machine.delta machine) (w.wire.frames ++ framed epoch (next_to_send machine)) parts at.epoch_is at.link passed) in
+          (link-parts first second old waiting link old.remote (old.frames ++ bytes ∷ []) w (sent_next machine.delta machine) (w.wire.frames ++ framed epoch (next_to_send machine)) parts at.epoch_is at.link passed
+          (λ whole. subst (λ (spans : List Span). All (IsOwn epoch) (w.wire.frames ++ framed epoch spans)) (sym at.next) (All-append (IsOwn epoch) w.wire.frames _ (parts.own whole) (All-cons (IsOwn epoch) (record { epoch = epoch; span = at.span }) [] refl (All-nil (IsOwn epoch)))))) in
           goes-steps first second w w' events.Send true old (with_frames waiting link old.remote frames old) refl refl (nodes-refine stands) (own-runs stands events.Send refl) stands.serves
           (ap (λ e. with_sent (framed e (next_to_send machine)) (with_link (sent_next machine.delta machine) w)) parts.epoch)
           (record { done = sym at.may; goes = λ did. moved; stays = λ did. absurd (true≢false did) });
@@ -181,7 +186,7 @@ send-cut old waiting link frames result refusal is memory enabled =
     (record {
       steps = tt;
       cut = λ first second w stands.
-          cut-same first second events.Send refusal old (with_frames waiting link old.remote frames old) w refl memory refl refl (tells old.transcript) (own-runs stands events.Send refl) (enabled w stands.sound.legal stands.parts.link) (nodes-refine stands);
+          cut-same first second events.Send refusal old (with_frames waiting link old.remote frames old) w refl memory refl refl (tells old.transcript) refl (own-runs stands events.Send refl) (enabled w stands.sound.legal stands.parts.link) (nodes-refine stands);
       calls = none-added _ _ refl;
     })
 
@@ -345,7 +350,7 @@ ack-cut old n bytes result refusal is within found memory =
           let of = ack_of_number old.arrivals.acknowledgements.items w.wire.acknowledgements n told within in
           let one : IsAckSent bytes.items of.one = subst (λ (b : Vec ℕ Global). IsAckSent b.items of.one) (same_found of.bytes_stand found) of.is in
           let few : n < length w.wire.acknowledgements = omega (arith, within, length-acks old.arrivals.acknowledgements.items w.wire.acknowledgements told) in
-          cut-same first second (events.AckDelivered n) refusal old old w refl (memory of.one one) refl refl (tells old.transcript) (own-runs stands (events.AckDelivered n) refl) (lt-ltb n (length w.wire.acknowledgements) few) (nodes-refine stands);
+          cut-same first second (events.AckDelivered n) refusal old old w refl (memory of.one one) refl refl (tells old.transcript) refl (own-runs stands (events.AckDelivered n) refl) (lt-ltb n (length w.wire.acknowledgements) few) (nodes-refine stands);
       calls = none-added _ _ refl;
     })
 

@@ -8,28 +8,26 @@ use Rattle.machine.specs.declared.event.Cut.{Cut}
 use Rattle.machine.specs.declared.event.Cut.TheVariants as cut
 use Rattle.machine.specs.declared.event.Node.{Node}
 use Rattle.machine.specs.declared.event.Node.TheVariants as node_of
-use Rattle.machine.specs.Event.{World, is_between, is_enabled, is_retired, is_running, may_cut, may_happen, nodes_run}
-use Rattle.world.specs.Pair.{Acts, AreLives, Does, NodesRefine, Pair, life_if, takes_part}
-use Rattle.world.proofs.LivesLemmas.{serves-as}
+use Rattle.machine.specs.Event.{Allowed, World, is_between, is_enabled, is_retired, is_running, may_cut, may_happen, nodes_run}
+use Rattle.world.specs.Pair.{Acts, AreLives, Does, NodesRefine, Pair, takes_part}
+use Rattle.world.proofs.LivesLemmas.{retired-as, running-as, serves-as}
 use Rattle.world.proofs.PairLemmas.{none-added, untouched}
-
-running_if : (runs : Bool) → is_running (life_if runs) ≡ runs
-running_if true = refl
-running_if false = refl
+use Rattle.world.specs.Condition.{has_ended, runs}
+use Rattle.world.specs.declared.condition.Condition.{Condition}
 
 -- the nodes of an event run just where they are said to
-nodes-take : {first second : Holder} {serves follows : Bool} {w : World} → AreLives first second serves follows w → (event : Event) → nodes_run w event ≡ takes_part serves follows event
+nodes-take : {first second : Holder} {serves follows : Condition} {w : World} → AreLives first second serves follows w → (event : Event) → nodes_run w event ≡ takes_part (runs serves) (runs follows) event
 nodes-take {first} {second} {serves} {follows} {w} lives OpenLink =
-    ap (λ b. b && is_running w.standby.life) (ap is_running lives.primary ∙ running_if serves) ∙ ap (λ b. serves && b) (ap is_running lives.standby ∙ running_if follows)
-nodes-take {first} {second} {serves} {follows} {w} lives (Deliver frame piece) = ap is_running lives.standby ∙ running_if follows
-nodes-take {first} {second} {serves} {follows} {w} lives Apply = ap is_running lives.standby ∙ running_if follows
-nodes-take {first} {second} {serves} {follows} {w} lives (FailFence node_of.Primary n) = ap is_running lives.primary ∙ running_if serves
-nodes-take {first} {second} {serves} {follows} {w} lives (FailFence node_of.Standby n) = ap is_running lives.standby ∙ running_if follows
+    ap (λ b. b && is_running w.standby.life) (ap is_running lives.primary ∙ running-as serves) ∙ ap (λ b. runs serves && b) (ap is_running lives.standby ∙ running-as follows)
+nodes-take {first} {second} {serves} {follows} {w} lives (Deliver frame piece) = ap is_running lives.standby ∙ running-as follows
+nodes-take {first} {second} {serves} {follows} {w} lives Apply = ap is_running lives.standby ∙ running-as follows
+nodes-take {first} {second} {serves} {follows} {w} lives (FailFence node_of.Primary n) = ap is_running lives.primary ∙ running-as serves
+nodes-take {first} {second} {serves} {follows} {w} lives (FailFence node_of.Standby n) = ap is_running lives.standby ∙ running-as follows
 nodes-take lives (Crash node call k picks) = refl
 nodes-take lives (Reopen node) = refl
 nodes-take lives Fence = refl
-nodes-take {first} {second} {serves} {follows} {w} lives Promote = ap is_running lives.standby ∙ running_if follows
-nodes-take {first} {second} {serves} {follows} {w} lives event = ap is_running lives.primary ∙ running_if serves
+nodes-take {first} {second} {serves} {follows} {w} lives Promote = ap is_running lives.standby ∙ running-as follows
+nodes-take {first} {second} {serves} {follows} {w} lives event = ap is_running lives.primary ∙ running-as serves
 
 -- an event that is not enabled
 pub stays-acts : (old : Pair) (event : Event) → ((first second : Holder) (w : World) → NodesRefine first second old w → is_enabled w event ≡ false) → Acts old event (Ok false) old
@@ -46,7 +44,7 @@ stays-acts old event never =
     }
 
 -- its nodes do not run
-pub idle-acts : (old : Pair) (event : Event) → takes_part old.primary_runs old.standby_runs event ≡ false → Acts old event (Ok false) old
+pub idle-acts : (old : Pair) (event : Event) → takes_part (runs old.primary_condition) (runs old.standby_condition) event ≡ false → Acts old event (Ok false) old
 idle-acts old event idle = stays-acts old event (λ first second w stands. ap (λ b. b && may_happen w event) (nodes-take stands.lives event ∙ idle))
 
 -- ---- events that do not come
@@ -55,17 +53,14 @@ not-both : (a b : Bool) → b ≡ false → (a && b) ≡ false
 not-both true b e = e
 not-both false b e = refl
 
-no-failover : (w : World) (event : Event) (may : Bool) → may_happen w event ≡ (w.failovers && may) → w.failovers ≡ false → is_enabled w event ≡ false
-no-failover w event may is off = not-both (nodes_run w event) (may_happen w event) (is ∙ ap (λ b. b && may) off)
-
 pub fail-fence-acts : (old : Pair) (n : Node) (k : ℕ) → Acts old (FailFence n k) (Ok false) old
-fail-fence-acts old n k = stays-acts old (FailFence n k) (λ first second w stands. not-both (nodes_run w (FailFence n k)) w.failovers stands.lives.failovers)
+fail-fence-acts old n k = stays-acts old (FailFence n k) (λ first second w stands. not-both (nodes_run w (FailFence n k)) w.allowed.failures (ap (λ (a : Allowed). a.failures) stands.lives.allowed_are))
 
-pub fence-acts : (old : Pair) → Acts old Fence (Ok false) old
-fence-acts old = stays-acts old Fence (λ first second w stands. no-failover w Fence (not (is_retired w.primary.life)) refl stands.lives.failovers)
-
-pub promote-acts : (old : Pair) → Acts old Promote (Ok false) old
-promote-acts old = stays-acts old Promote (λ first second w stands. no-failover w Promote (is_retired w.primary.life) refl stands.lives.failovers)
+-- a primary that was not fenced is not succeeded
+pub promote-acts : (old : Pair) → has_ended old.primary_condition ≡ false → Acts old Promote (Ok false) old
+promote-acts old unfenced =
+    stays-acts old Promote (λ first second w stands.
+    not-both (nodes_run w Promote) (w.allowed.promotions && is_retired w.primary.life) (not-both w.allowed.promotions (is_retired w.primary.life) (ap is_retired stands.lives.primary ∙ retired-as old.primary_condition ∙ unfenced)))
 
 -- a crash that does not come inside a call comes between two
 pub between : (call : Cut) → is_between call ≡ true → call ≡ cut.Between
@@ -76,22 +71,22 @@ between call is = absurd (true≢false (sym is))
 pub cut-acts : (old : Pair) (n : Node) (call : Cut) (k : ℕ) (picks : Vec ℕ Global) → is_between call ≡ false → Acts old (Crash n call k picks) (Ok false) old
 cut-acts old n call k picks inside =
     stays-acts old (Crash n call k picks) (λ first second w stands.
-    not-both w.restarts ((is_between call || w.failovers) && may_cut w n call)
-    (ap (λ b. (b || w.failovers) && may_cut w n call) inside ∙ ap (λ b. b && may_cut w n call) stands.lives.failovers))
+    not-both w.allowed.restarts ((is_between call || w.allowed.failures) && may_cut w n call)
+    (ap (λ b. (b || w.allowed.failures) && may_cut w n call) inside ∙ ap (λ (a : Allowed). a.failures && may_cut w n call) stands.lives.allowed_are))
 
 -- ---- the primary runs
 
 -- the primary runs
-pub does-acts : (old : Pair) (event : Event) (result : Result Bool Refusal) (new : Pair) → old.primary_runs ≡ true → Does old event result new → Acts old event result new
+pub does-acts : (old : Pair) (event : Event) (result : Result Bool Refusal) (new : Pair) → runs old.primary_condition ≡ true → Does old event result new → Acts old event result new
 does-acts old event (Ok did) new runs does = record { steps = λ first second w stands. does.steps first second w (serves-as runs stands); cut = tt; calls = does.calls }
 does-acts old event (Err refusal) new runs does = record { steps = tt; cut = λ first second w stands. does.cut first second w (serves-as runs stands); calls = does.calls }
 
 -- it does where the primary takes part alone
-pub own-acts : {old new : Pair} {event event' : Event} {result : Result Bool Refusal} {took : Bool} → event ≡ event' → took ≡ takes_part old.primary_runs old.standby_runs event → took ≡ true
-    → (takes_part old.primary_runs old.standby_runs event' ≡ true → old.primary_runs ≡ true) → Does old event' result new → Acts old event result new
+pub own-acts : {old new : Pair} {event event' : Event} {result : Result Bool Refusal} {took : Bool} → event ≡ event' → took ≡ takes_part (runs old.primary_condition) (runs old.standby_condition) event → took ≡ true
+    → (takes_part (runs old.primary_condition) (runs old.standby_condition) event' ≡ true → runs old.primary_condition ≡ true) → Does old event' result new → Acts old event result new
 own-acts {old} {new} {event} {event'} {result} {took} is takes took_part own does =
-    let runs = own (ap (takes_part old.primary_runs old.standby_runs) (sym is) ∙ sym takes ∙ took_part) in
+    let runs = own (ap (takes_part (runs old.primary_condition) (runs old.standby_condition)) (sym is) ∙ sym takes ∙ took_part) in
     subst (λ (e : Event). Acts old e result new) (sym is) (does-acts old event' result new runs does)
 
-pub idle-step : {old : Pair} {event : Event} {took : Bool} → took ≡ takes_part old.primary_runs old.standby_runs event → took ≡ false → Acts old event (Ok false) old
+pub idle-step : {old : Pair} {event : Event} {took : Bool} → took ≡ takes_part (runs old.primary_condition) (runs old.standby_condition) event → took ≡ false → Acts old event (Ok false) old
 idle-step {old} {event} {took} takes idle = idle-acts old event (sym takes ∙ idle)

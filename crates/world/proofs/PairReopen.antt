@@ -1,5 +1,6 @@
 -- What the reopening of a node that crashed does to the pair.
-use Rattle.std.proofs.Common.{rules, le_refl, ◌≡◌, inl, inr, ℕ, Bool, true, false, ◌&&◌, List, length, Result, Ok, Err, refl, sym, ap, subst, ◌∙◌, arith, true≢false, []}
+use mathlib.Core.Path.{fun_ext}
+use Rattle.std.proofs.Common.{All, cond, rules, le_refl, ◌≡◌, inl, inr, ℕ, Bool, true, false, ◌&&◌, List, length, Result, Ok, Err, refl, sym, ap, subst, ◌∙◌, arith, true≢false, []}
 use Rattle.kv_types.specs.declared.refusal.Refusal.{Refusal}
 use Rattle.kv_types.specs.declared.refusal.Refusal.TheVariants.{Fault, Memory}
 use Rattle.pmem.specs.Device.{State}
@@ -26,12 +27,12 @@ use Rattle.wbl_engine.specs.Reopening.{RefusesReopening}
 use Rattle.machine.specs.declared.event.Event.{Event}
 use Rattle.machine.specs.declared.event.Event.TheVariants as events
 use Rattle.machine.specs.declared.event.Node.TheVariants as node
-use Rattle.machine.specs.Event.{Committer as MachineCommitter, World, Step, is_crashed, is_enabled, new_link, reopened_primary, reopened_standby, with_primary, with_standby}
+use Rattle.machine.specs.Event.{Allowed, Committer as MachineCommitter, World, Step, is_crashed, is_enabled, new_disk, new_link, reopened_primary, reopened_standby, with_primary, with_standby}
 use Rattle.machine.proofs.SoundEvents.{sound-step}
 use Rattle.world.specs.Cause.{EndsBy, Stretch}
 use Rattle.world.specs.Committing.{Committing, CommittingRefines, IsDown, next_primary, next_standby}
 use Rattle.world.specs.GroupSpan.{AreGroupsOf}
-use Rattle.world.specs.Link.{AreFramesSent, LinkRefines}
+use Rattle.world.specs.Link.{AreFramesSent, IsOwn, LinkRefines}
 use Rattle.primary.specs.Recalling.{AreKeyspaces, DeltaLeads, RecallsEach, Remembers}
 use Rattle.primary.proofs.KeptImages.{delta-leads, keeps-opened, recalls-of}
 use Rattle.primary.proofs.OpenedLemmas.{leads_to}
@@ -39,7 +40,7 @@ use Rattle.world.specs.Recalling.{OpeningLeads, past_of}
 use Rattle.primary.specs.Resuming.{IsOver}
 use Rattle.connections.specs.Session.{SequencerRefines}
 use Rattle.world.specs.Standby.{ArrivalsRefine, Node, StandbyRefines, StandbyStands}
-use Rattle.world.specs.Pair.{Acts, AreLives, DownRefine, EitherRefines, IsCut, NodesRefine, Pair, PartsRefine, Steps, life_if}
+use Rattle.world.specs.Pair.{Acts, AreLives, DownRefine, EitherRefines, IsCut, NodesRefine, Pair, PartsRefine, Steps}
 use Rattle.world.proofs.DownLemmas.{restart-refused}
 use Rattle.world.proofs.EngineLemmas.{moves-same}
 use Rattle.world.proofs.FormLemmas.{committing-nothing, leads-nothing}
@@ -48,40 +49,41 @@ use Rattle.world.proofs.OpenedLemmas.{IsNotOpened, IsOpened, opened-breaks, open
 use Rattle.world.proofs.OpeningLemmas.{have_their_lines, in_order}
 use Rattle.world.proofs.PairLives.{stays-acts}
 use Rattle.world.proofs.PairStandby.{arrivals-stand, link-epoch, standby-either}
+use Rattle.world.proofs.LivesLemmas.{crashed-not-over, fenced-not-crashed, not-crashed}
+use Rattle.world.specs.Condition.{has_crashed, life_as}
+use Rattle.world.specs.declared.condition.Condition.{Condition}
+use Rattle.world.specs.declared.condition.Condition.TheVariants.{Running, Crashed, Ended}
 
 -- ---- a node that runs
 
-opens_if : (runs : Bool) → runs ≡ false → is_crashed (life_if runs) ≡ true
-opens_if true is = absurd (true≢false is)
-opens_if false is = refl
+crashed_as : (condition : Condition) → is_crashed (life_as condition) ≡ has_crashed condition
+crashed_as Running = refl
+crashed_as Crashed = refl
+crashed_as Ended = refl
 
-runs_if : (runs : Bool) → runs ≡ true → is_crashed (life_if runs) ≡ false
-runs_if true is = refl
-runs_if false is = absurd (true≢false (sym is))
+primary-opens : {first second : Holder} {serves follows : Condition} {w : World} → AreLives first second serves follows w → is_enabled w (events.Reopen node.Primary) ≡ has_crashed serves
+primary-opens {first} {second} {serves} {follows} {w} lives = ap (λ (a : Allowed). a.restarts && is_crashed w.primary.life) lives.allowed_are ∙ ap is_crashed lives.primary ∙ crashed_as serves
 
-primary-opens : {first second : Holder} {serves follows : Bool} {w : World} → AreLives first second serves follows w → is_enabled w (events.Reopen node.Primary) ≡ is_crashed (life_if serves)
-primary-opens {first} {second} {serves} {follows} {w} lives = ap (λ b. b && is_crashed w.primary.life) lives.restarts ∙ ap is_crashed lives.primary
+standby-opens : {first second : Holder} {serves follows : Condition} {w : World} → AreLives first second serves follows w → is_enabled w (events.Reopen node.Standby) ≡ has_crashed follows
+standby-opens {first} {second} {serves} {follows} {w} lives = ap (λ (a : Allowed). a.restarts && is_crashed w.standby.life) lives.allowed_are ∙ ap is_crashed lives.standby ∙ crashed_as follows
 
-standby-opens : {first second : Holder} {serves follows : Bool} {w : World} → AreLives first second serves follows w → is_enabled w (events.Reopen node.Standby) ≡ is_crashed (life_if follows)
-standby-opens {first} {second} {serves} {follows} {w} lives = ap (λ b. b && is_crashed w.standby.life) lives.restarts ∙ ap is_crashed lives.standby
+pub primary-runs-on : (old : Pair) → has_crashed old.primary_condition ≡ false → Acts old (events.Reopen node.Primary) (Ok false) old
+primary-runs-on old whole = stays-acts old (events.Reopen node.Primary) (λ first second w stands. primary-opens stands.lives ∙ whole)
 
-pub primary-runs-on : (old : Pair) → old.primary_runs ≡ true → Acts old (events.Reopen node.Primary) (Ok false) old
-primary-runs-on old runs = stays-acts old (events.Reopen node.Primary) (λ first second w stands. primary-opens stands.lives ∙ runs_if old.primary_runs runs)
-
-pub standby-runs-on : (old : Pair) → old.standby_runs ≡ true → Acts old (events.Reopen node.Standby) (Ok false) old
-standby-runs-on old runs = stays-acts old (events.Reopen node.Standby) (λ first second w stands. standby-opens stands.lives ∙ runs_if old.standby_runs runs)
+pub standby-runs-on : (old : Pair) → has_crashed old.standby_condition ≡ false → Acts old (events.Reopen node.Standby) (Ok false) old
+standby-runs-on old whole = stays-acts old (events.Reopen node.Standby) (λ first second w stands. standby-opens stands.lives ∙ whole)
 
 -- ---- the standby
 
-abbrev pub with_standby_node : Node → Bool → Pair → Pair
-with_standby_node node runs pair = record pair { standby = node; standby_runs = runs }
+abbrev pub with_standby_node : Node → Condition → Pair → Pair
+with_standby_node node condition pair = record pair { standby = node; standby_condition = condition }
 
-pub standby-reopens : (old : Pair) (node' : Node) → old.standby_runs ≡ false → IsOpened role.Standby old.standby.device node'.device node'.contents node'.is_faulted
-    → Follows node'.contents node'.table node'.room node'.ended → node'.epoch ≡ node'.contents.current.epoch → Acts old (events.Reopen node.Standby) (Ok true) (with_standby_node node' true old)
+pub standby-reopens : (old : Pair) (node' : Node) → has_crashed old.standby_condition ≡ true → IsOpened role.Standby old.standby.device node'.device node'.contents node'.is_faulted
+    → Follows node'.contents node'.table node'.room node'.ended → node'.epoch ≡ node'.contents.current.epoch → Acts old (events.Reopen node.Standby) (Ok true) (with_standby_node node' Running old)
 standby-reopens old node' fallen opened follows own = record { steps = steps; cut = tt; calls = none-added _ _ refl }
   where
     new : Pair
-    new = with_standby_node node' true old
+    new = with_standby_node node' Running old
 
     steps : (first second : Holder) (w : World) → NodesRefine first second old w → Steps first second w (events.Reopen node.Standby) true old new
     steps first second w stands =
@@ -105,19 +107,19 @@ standby-reopens old node' fallen opened follows own = record { steps = steps; cu
         } in
         let w' = with_standby (reopened_standby w.standby) w in
         let step : Step w event true w' =
-        record { done = sym (standby-opens lives ∙ opens_if old.standby_runs fallen); happens = λ did. inl refl; stands = λ did. absurd (true≢false did) } in
-        let refined : StandbyRefines second old.link.epoch calls p node' true = record { stands = λ up. stood; down = λ is. absurd (true≢false is) } in
+        record { done = sym (standby-opens lives ∙ fallen); happens = λ did. inl refl; stands = λ did. absurd (true≢false did) } in
+        let refined : StandbyRefines second old.link.epoch calls p node' Running = record { stands = λ up. stood; down = λ is. absurd (true≢false (sym is)) } in
         record {
           world = w';
           step = step;
           stands = record {
             sound = sound-step w event true w' step stands.sound;
-            lives = search (rules, lives);
-            parts = standby-either first second old old.arrivals node' true w w'.standby w.wire.acknowledgements (le_refl p) stands.parts (arrivals-stand stands.parts) refined;
+            lives = search (rules, lives, lives.primary_disk ∙ ap new_disk (ap (λ b. cond b 1 0) (crashed-not-over old.standby_condition fallen)));
+            parts = standby-either first second old old.arrivals node' Running w w'.standby w.wire.acknowledgements (crashed-not-over old.standby_condition fallen) (le_refl p) stands.parts (arrivals-stand stands.parts) refined;
           };
           moves = record {
             primary = moves-same first calls w.primary.committer.position w.primary.committer.position old.device old.device refl (primary-stands first second old w stands.parts);
-            standby = opened-moves second calls p old.standby.device node'.device down opened.moments opened.failures;
+            standby = λ whole. opened-moves second calls p old.standby.device node'.device down opened.moments opened.failures;
           };
         }
 
@@ -125,13 +127,13 @@ standby-reopens old node' fallen opened follows own = record { steps = steps; cu
 opened-ends : (event : Event) (refusal : Refusal) (P : Stretch → Stretch → Type 0) → refusal ≡ Fault → EndsBy Fault event P → EndsBy refusal event P
 opened-ends event refusal P is ends = subst (λ (r : Refusal). EndsBy r event P) (sym is) ends
 
-pub standby-reopening-cut : (old : Pair) (node' : Node) (result : Result Bool Refusal) (refusal : Refusal) → result ≡ Err refusal → old.standby_runs ≡ false → IsNotOpened role.Standby old.standby.device node'.device refusal
-    → Acts old (events.Reopen node.Standby) result (with_standby_node node' old.standby_runs old)
+pub standby-reopening-cut : (old : Pair) (node' : Node) (result : Result Bool Refusal) (refusal : Refusal) → result ≡ Err refusal → has_crashed old.standby_condition ≡ true → IsNotOpened role.Standby old.standby.device node'.device refusal
+    → Acts old (events.Reopen node.Standby) result (with_standby_node node' old.standby_condition old)
 standby-reopening-cut old node' result refusal is fallen refused =
     subst (λ (r : Result Bool Refusal). Acts old event r new) (sym is) (record { steps = tt; cut = cut; calls = none-added _ _ refl })
   where
     new : Pair
-    new = with_standby_node node' old.standby_runs old
+    new = with_standby_node node' old.standby_condition old
 
     event : Event
     event = events.Reopen node.Standby
@@ -145,28 +147,28 @@ standby-reopening-cut old node' result refusal is fallen refused =
         let down = (standby-refines stands.parts).down fallen in
         let here = rests-primary first second old w stands in
         let memory : refusal ≡ Memory → node'.device.failures ≡ device.failures → EndsBy refusal event (Led first second old new w) =
-        λ is same. subst (λ (r : Refusal). EndsBy r event (Led first second old new w)) (sym is) (refl, (here, opened-rests second calls p device node'.device down refused.moments same)) in
+        λ is same. subst (λ (r : Refusal). EndsBy r event (Led first second old new w)) (sym is) (refl, (here, λ whole. opened-rests second calls p device node'.device down refused.moments same)) in
         let ends : EndsBy refusal event (Led first second old new w) =
         elim refused.refused [
-          | inl fault ↦ opened-ends event refusal (Led first second old new w) fault (here, opened-breaks second calls p next device node'.device down refused.moments (refused.fault fault))
+          | inl fault ↦ opened-ends event refusal (Led first second old new w) fault (here, λ whole. opened-breaks second calls p next device node'.device down refused.moments (refused.fault fault))
           | inr (inl is) ↦ memory is (refused.failures (λ fault. memory_no_fault (sym is ∙ fault)))
           | inr (inr why) ↦
               let mine = subst (λ r. RefusesReopening device.lines (image_of device.words) r refusal) (sym stands.lives.second_role) why.0 in
               elim (restart-refused second calls p device refusal down mine) [
                 | inl is ↦ memory is (ap (λ (d : State). d.failures) why.1)
                 | inr full ↦ subst (λ (r : Refusal). EndsBy r event (Led first second old new w)) (sym full.0)
-                    (here, opened-limit second calls p next device node'.device full.1.0 down refused.moments why.1 full.1.1 full.1.2)
+                    (here, λ whole. opened-limit second calls p next device node'.device full.1.0 down refused.moments why.1 full.1.1 full.1.2)
               ]
         ] in
-        cut-for first second event refusal old new w stands (tells old.transcript) (standby-opens stands.lives ∙ opens_if old.standby_runs fallen) ends
+        cut-for first second event refusal old new w stands (tells old.transcript) refl (standby-opens stands.lives ∙ fallen) ends
       where
         memory_no_fault : Memory ≡ Fault → ⊥
         memory_no_fault is = cc
 
 -- ---- the primary
 
-abbrev pub with_primary_node : Sequencing → Committing → List Freed → State → Contents → Bool → Waiting Group → Stream → Opening → ℕ → Bool → Pair → Pair
-with_primary_node sequencer committing notices device contents is_faulted handed link opening remote runs pair =
+abbrev pub with_primary_node : Sequencing → Committing → List Freed → State → Contents → Bool → Waiting Group → Stream → Opening → ℕ → Condition → Pair → Pair
+with_primary_node sequencer committing notices device contents is_faulted handed link opening remote condition pair =
     record pair {
       sequencer = sequencer;
       committing = committing;
@@ -178,7 +180,7 @@ with_primary_node sequencer committing notices device contents is_faulted handed
       link = link;
       opening = opening;
       remote = remote;
-      primary_runs = runs;
+      primary_condition = condition;
     }
 
 -- what a primary begins with once it is opened again
@@ -196,18 +198,19 @@ pub record Begins (contents : Contents) (sequencer : Sequencing) (committing : C
   pub image : Image
   pub shows : Shows contents image
 
-pub primary-reopens : (old : Pair) (sequencer : Sequencing) (committing : Committing) (notices : List Freed) (device : State) (contents : Contents) (is_faulted : Bool) (handed : Waiting Group) (link : Stream) (opening : Opening) → old.primary_runs ≡ false
+pub primary-reopens : (old : Pair) (sequencer : Sequencing) (committing : Committing) (notices : List Freed) (device : State) (contents : Contents) (is_faulted : Bool) (handed : Waiting Group) (link : Stream) (opening : Opening) → has_crashed old.primary_condition ≡ true
     → IsOpened role.Primary old.device device contents is_faulted → Begins contents sequencer committing notices handed link opening
-    → Acts old (events.Reopen node.Primary) (Ok true) (with_primary_node sequencer committing notices device contents is_faulted handed link opening 0 true old)
+    → Acts old (events.Reopen node.Primary) (Ok true) (with_primary_node sequencer committing notices device contents is_faulted handed link opening 0 Running old)
 primary-reopens old sequencer committing notices device contents is_faulted handed link opening fallen opened begins = record { steps = steps; cut = tt; calls = none-added _ _ refl }
   where
     new : Pair
-    new = with_primary_node sequencer committing notices device contents is_faulted handed link opening 0 true old
+    new = with_primary_node sequencer committing notices device contents is_faulted handed link opening 0 Running old
 
     fallen-parts : {first second : Holder} {w : World} → EitherRefines first second old w → DownRefine first second old w
     fallen-parts parts = elim parts [
-      | inl up ↦ absurd (true≢false (sym up.0 ∙ fallen))
-      | inr down ↦ down.1
+      | inl up ↦ absurd (not-crashed old.primary_condition up.0 fallen)
+      | inr (inl down) ↦ down.1
+      | inr (inr fenced) ↦ absurd (fenced-not-crashed old.primary_condition fenced.0 fallen)
     ]
 
     steps : (first second : Holder) (w : World) → NodesRefine first second old w → Steps first second w (events.Reopen node.Primary) true old new
@@ -271,7 +274,7 @@ primary-reopens old sequencer committing notices device contents is_faulted hand
         let gaps = length contents.current.gaps.items in
         let w' = with_primary (reopened_primary ended gaps w.primary) w in
         let step : Step w event true w' =
-        record { done = sym (primary-opens lives ∙ opens_if old.primary_runs fallen); happens = λ did. inl (record { ended = ended; gaps = gaps; some = opened-gaps first calls p old.device device contents is_faulted lost.image mine; few = engine.lawful.current.few; now = refl }); stands = λ did. absurd (true≢false did) } in
+        record { done = sym (primary-opens lives ∙ fallen); happens = λ did. inl (record { ended = ended; gaps = gaps; some = opened-gaps first calls p old.device device contents is_faulted lost.image mine; few = engine.lawful.current.few; now = refl }); stands = λ did. absurd (true≢false did) } in
         let parts : PartsRefine first second new w' =
         record {
           sessions = lost.sessions;
@@ -292,8 +295,9 @@ primary-reopens old sequencer committing notices device contents is_faulted hand
           epoch = own;
           link = linked;
           frames = subst (λ e. AreFramesSent e calls old.frames w.wire.frames) same lost.frames;
+          own = λ whole. subst (λ e. All (IsOwn e) w.wire.frames) same (lost.own whole);
           arrivals = subst (λ e. ArrivalsRefine e calls old.arrivals w.standby.waiting w.wire.acknowledgements) same lost.arrivals;
-          standby = subst (λ e. StandbyRefines second e calls w.standby.position old.standby old.standby_runs) same lost.standby;
+          standby = subst (λ e. StandbyRefines second e calls w.standby.position old.standby old.standby_condition) same lost.standby;
         } in
         let refines : EitherRefines first second new w' = inl (refl, parts) in
         record {
@@ -306,26 +310,27 @@ primary-reopens old sequencer committing notices device contents is_faulted hand
           };
           moves = record {
             primary = opened-moves first calls p old.device device lost.image opened.moments opened.failures;
-            standby = moves-same second calls w.standby.position w.standby.position old.standby.device old.standby.device refl (standby-stands first second old w stands.parts);
+            standby = λ whole. moves-same second calls w.standby.position w.standby.position old.standby.device old.standby.device refl (standby-stands first second old w stands.parts whole);
           };
         }
 
 pub primary-reopening-cut : (old : Pair) (sequencer : Sequencing) (committing : Committing) (device : State) (contents : Contents) (is_faulted : Bool) (result : Result Bool Refusal) (refusal : Refusal) → result ≡ Err refusal
-    → old.primary_runs ≡ false → IsNotOpened role.Primary old.device device refusal
-    → Acts old (events.Reopen node.Primary) result (with_primary_node sequencer committing old.notices device contents is_faulted old.handed old.link old.opening old.remote old.primary_runs old)
+    → has_crashed old.primary_condition ≡ true → IsNotOpened role.Primary old.device device refusal
+    → Acts old (events.Reopen node.Primary) result (with_primary_node sequencer committing old.notices device contents is_faulted old.handed old.link old.opening old.remote old.primary_condition old)
 primary-reopening-cut old sequencer committing device' contents is_faulted result refusal is fallen refused =
     subst (λ (r : Result Bool Refusal). Acts old event r new) (sym is) (record { steps = tt; cut = cut; calls = none-added _ _ refl })
   where
     new : Pair
-    new = with_primary_node sequencer committing old.notices device' contents is_faulted old.handed old.link old.opening old.remote old.primary_runs old
+    new = with_primary_node sequencer committing old.notices device' contents is_faulted old.handed old.link old.opening old.remote old.primary_condition old
 
     event : Event
     event = events.Reopen node.Primary
 
     image : {first second : Holder} {w : World} → EitherRefines first second old w → IsDown first w.primary.calls w.primary.committer.position old.device
     image parts = elim parts [
-      | inl up ↦ absurd (true≢false (sym up.0 ∙ fallen))
-      | inr down ↦ down.1.image
+      | inl up ↦ absurd (not-crashed old.primary_condition up.0 fallen)
+      | inr (inl down) ↦ down.1.image
+      | inr (inr fenced) ↦ absurd (fenced-not-crashed old.primary_condition fenced.0 fallen)
     ]
 
     cut : (first second : Holder) (w : World) → NodesRefine first second old w → IsCut first second event refusal old new w
@@ -350,7 +355,7 @@ primary-reopening-cut old sequencer committing device' contents is_faulted resul
                     (opened-limit first calls p next device device' full.1.0 down refused.moments why.1 full.1.1 full.1.2, there)
               ]
         ] in
-        cut-for first second event refusal old new w stands (tells old.transcript) (primary-opens stands.lives ∙ opens_if old.primary_runs fallen) ends
+        cut-for first second event refusal old new w stands (tells old.transcript) refl (primary-opens stands.lives ∙ fallen) ends
       where
         memory_no_fault : Memory ≡ Fault → ⊥
         memory_no_fault is = cc

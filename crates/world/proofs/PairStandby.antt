@@ -1,5 +1,5 @@
 -- What the events of the standby do to the pair, of what they do to its parts.
-use Rattle.std.proofs.Common.{rules, ◌≡◌, ◌&&◌, inl, inr, ℕ, Bool, true, false, List, ◌∷◌, ◌++◌, length, slice_get, cond, Option, Some, None, Result, Ok, Err, IfOk, IfErr, OnErr, Vec, Global, ◌<◌, ◌≤◌, refl, sym, ap, subst, ◌∙◌, arith, le_refl, true≢false, ap₂, []}
+use Rattle.std.proofs.Common.{rules, ◌≡◌, ◌&&◌, inl, inr, ℕ, Bool, true, false, List, ◌∷◌, ◌++◌, length, slice_get, cond, Option, Some, None, Result, Ok, Err, IfOk, IfErr, OnErr, All, Vec, Global, ◌<◌, ◌≤◌, refl, sym, ap, subst, ◌∙◌, arith, le_refl, true≢false, ap₂, []}
 use Rattle.std.proofs.lemmas.Bool.{cases_lt, le-ltb, lt-ltb}
 use Rattle.kv_types.specs.declared.refusal.Refusal.{Refusal}
 use Rattle.kv_types.specs.declared.refusal.Refusal.TheVariants.{Memory, Fault, Exhausted}
@@ -21,20 +21,22 @@ use Rattle.machine.specs.Event.{Happens, World, Standby as MachineStandby, Ackno
 use Rattle.machine.specs.Sound.{Sound}
 use Rattle.machine.proofs.GrowLemmas.{grows-step}
 use Rattle.machine.proofs.SoundEvents.{sound-step}
-use Rattle.world.proofs.LivesLemmas.{Runs, enabled-is, is_plain, lives-step, nodes-refine, serving}
+use Rattle.world.proofs.LivesLemmas.{Runs, enabled-is, is_plain, lives-step, nodes-refine, not-crashed, not-over, running-as, serving}
 use Rattle.connections.specs.Going.{Goes}
 use Rattle.world.specs.Cause.{Stretch, Breaks, RestsAtFrameLimit, EndsBy, Resting}
 use Rattle.world.specs.Committing.{NearOnly, Moves, next_standby}
-use Rattle.world.specs.Link.{IsFrameOf, AreFramesOf, LinkRefines, AreFramesSent}
+use Rattle.world.specs.Link.{IsFrameOf, IsOwn, AreFramesOf, LinkRefines, AreFramesSent}
 use Rattle.world.specs.Recalling.{OpeningLeads, past_of}
 use Rattle.world.specs.Standby.{Arrived, Node, StandbyStands, StandbyRefines, ArrivalsRefine, AppliesFirst, told_by}
-use Rattle.world.specs.Pair.{Pair, EitherRefines, NodesRefine, PartsRefine, PairRefines, Steps, Acts, Does, life_if}
+use Rattle.world.specs.Pair.{Pair, EitherRefines, NodesRefine, PartsRefine, PairRefines, Steps, Acts, Does}
 use Rattle.world.proofs.EngineLemmas.{moves-same}
 use Rattle.world.proofs.FrameLemmas.{length-sent}
 use Rattle.world.proofs.PairLemmas.{Led, cut-for, cut-same, goes-either, goes-map, goes-steps, none-added, primary-stands, rests-primary, standby-refines, tells, untouched}
 use Rattle.world.proofs.PairLink.{link-alone}
 use Rattle.world.proofs.OpeningLemmas.{opening-on}
 use Rattle.primary.proofs.RecallLemmas.{recalls-still, remembers-on}
+use Rattle.world.specs.Condition.{has_ended, runs}
+use Rattle.world.specs.declared.condition.Condition.{Condition}
 
 -- ---- the standby
 
@@ -44,72 +46,90 @@ with_arrivals arrivals pair = record pair { arrivals = arrivals }
 abbrev pub with_opened : Arrived → Stream → Opening → Pair → Pair
 with_opened arrivals link opening pair = record pair { arrivals = arrivals; link = link; opening = opening }
 
-abbrev pub with_standby_as : Arrived → Node → Bool → Pair → Pair
-with_standby_as arrivals node runs pair = record pair { arrivals = arrivals; standby = node; standby_runs = runs }
+abbrev pub with_standby_as : Arrived → Node → Condition → Pair → Pair
+with_standby_as arrivals node condition pair = record pair { arrivals = arrivals; standby = node; standby_condition = condition }
 
 -- the standby, and what it told, are others, and it is no further back
-standby-parts : (first second : Holder) (old : Pair) (arrivals : Arrived) (node : Node) (runs : Bool) (w : World) (machine : MachineStandby) (told : List Acknowledgement) → w.standby.position ≤ machine.position
-    → PartsRefine first second old w → ArrivalsRefine old.link.epoch w.primary.calls arrivals machine.waiting told → StandbyRefines second old.link.epoch w.primary.calls machine.position node runs
-    → PartsRefine first second (with_standby_as arrivals node runs old) (record w { standby = machine; wire = record w.wire { acknowledgements = told } })
-standby-parts first second old arrivals node runs w machine told later parts arrivals_stand node_stands =
+standby-parts : (first second : Holder) (old : Pair) (arrivals : Arrived) (node : Node) (condition : Condition) (w : World) (machine : MachineStandby) (told : List Acknowledgement) → has_ended old.standby_condition ≡ false → w.standby.position ≤ machine.position
+    → PartsRefine first second old w → ArrivalsRefine old.link.epoch w.primary.calls arrivals machine.waiting told → StandbyRefines second old.link.epoch w.primary.calls machine.position node condition
+    → PartsRefine first second (with_standby_as arrivals node condition old) (record w { standby = machine; wire = record w.wire { acknowledgements = told } })
+standby-parts first second old arrivals node condition w machine told whole later parts arrivals_stand node_stands =
     search (
       rules,
+      λ (still : has_ended condition ≡ false). parts.own whole,
       remembers-on w.standby.position machine.position w.primary.committer.position (past_of w.primary.calls) old.contents old.committing.waiting.items old.committing.aside old.sequencer old.sequencer later refl refl parts.remembers,
       opening-on w.standby.position machine.position w.primary.opened w.primary.calls old.opening later parts.opening,
     )
 
 -- whether the primary runs or not
-pub standby-either : (first second : Holder) (old : Pair) (arrivals : Arrived) (node : Node) (runs : Bool) (w : World) (machine : MachineStandby) (told : List Acknowledgement) → w.standby.position ≤ machine.position
-    → EitherRefines first second old w → ArrivalsRefine old.link.epoch w.primary.calls arrivals machine.waiting told → StandbyRefines second old.link.epoch w.primary.calls machine.position node runs
-    → EitherRefines first second (with_standby_as arrivals node runs old) (record w { standby = machine; wire = record w.wire { acknowledgements = told } })
-standby-either first second old arrivals node runs w machine told later parts arrivals_stand node_stands = elim parts [
-  | inl up ↦ inl (up.0, standby-parts first second old arrivals node runs w machine told later up.1 arrivals_stand node_stands)
-  | inr down ↦
+pub standby-either : (first second : Holder) (old : Pair) (arrivals : Arrived) (node : Node) (condition : Condition) (w : World) (machine : MachineStandby) (told : List Acknowledgement) → has_ended old.standby_condition ≡ false → w.standby.position ≤ machine.position
+    → EitherRefines first second old w → ArrivalsRefine old.link.epoch w.primary.calls arrivals machine.waiting told → StandbyRefines second old.link.epoch w.primary.calls machine.position node condition
+    → EitherRefines first second (with_standby_as arrivals node condition old) (record w { standby = machine; wire = record w.wire { acknowledgements = told } })
+standby-either first second old arrivals node condition w machine told whole later parts arrivals_stand node_stands = elim parts [
+  | inl up ↦ inl (up.0, standby-parts first second old arrivals node condition w machine told whole later up.1 arrivals_stand node_stands)
+  | inr (inl down) ↦
       let lost = down.1 in
-      inr (down.0, search (rules, recalls-still w.standby.position machine.position w.primary.committer.position (past_of w.primary.calls) lost.image.contents later lost.recalls))
+      inr (inl (down.0, search (rules, λ (still : has_ended condition ≡ false). lost.own whole, recalls-still w.standby.position machine.position w.primary.committer.position (past_of w.primary.calls) lost.image.contents later lost.recalls)))
+  | inr (inr fenced) ↦
+      let left = fenced.1 in
+      inr (inr (fenced.0, record { sessions = left.sessions; opens = left.opens; epoch = left.epoch; frames = left.frames; own = λ still. left.own whole; arrivals = arrivals_stand; standby = node_stands }))
 ]
 
-frames-stand : {first second : Holder} {pair : Pair} {w : World} → EitherRefines first second pair w → AreFramesSent pair.link.epoch w.primary.calls pair.frames w.wire.frames
+pub frames-stand : {first second : Holder} {pair : Pair} {w : World} → EitherRefines first second pair w → AreFramesSent pair.link.epoch w.primary.calls pair.frames w.wire.frames
 frames-stand parts = elim parts [
   | inl up ↦ up.1.frames
-  | inr down ↦ down.1.frames
+  | inr (inl down) ↦ down.1.frames
+  | inr (inr fenced) ↦ fenced.1.frames
+]
+
+pub own-frames : {first second : Holder} {pair : Pair} {w : World} → EitherRefines first second pair w → has_ended pair.standby_condition ≡ false → All (IsOwn pair.link.epoch) w.wire.frames
+own-frames parts = elim parts [
+  | inl up ↦ up.1.own
+  | inr (inl down) ↦ down.1.own
+  | inr (inr fenced) ↦ fenced.1.own
 ]
 
 pub arrivals-stand : {first second : Holder} {pair : Pair} {w : World} → EitherRefines first second pair w
     → ArrivalsRefine pair.link.epoch w.primary.calls pair.arrivals w.standby.waiting w.wire.acknowledgements
 arrivals-stand parts = elim parts [
   | inl up ↦ up.1.arrivals
-  | inr down ↦ down.1.arrivals
+  | inr (inl down) ↦ down.1.arrivals
+  | inr (inr fenced) ↦ fenced.1.arrivals
 ]
 
+-- all that is on the wire is of the pair's epoch
+owns : {first second : Holder} {pair : Pair} {w : World} → runs pair.standby_condition ≡ true → EitherRefines first second pair w → All (IsOwn pair.link.epoch) w.wire.frames
+owns {first} {second} {pair} {w} follows parts = own-frames parts (not-over pair.standby_condition follows)
+
 -- a standby that runs
-pub follower : {first second : Holder} {pair : Pair} {w : World} → pair.standby_runs ≡ true → EitherRefines first second pair w
+pub follower : {first second : Holder} {pair : Pair} {w : World} → runs pair.standby_condition ≡ true → EitherRefines first second pair w
     → StandbyStands second pair.link.epoch w.primary.calls w.standby.position pair.standby
 follower follows parts = (standby-refines parts).stands follows
 
 pub link-epoch : {first second : Holder} {pair : Pair} {w : World} → EitherRefines first second pair w → pair.link.epoch ≡ w.primary.epoch
 link-epoch parts = elim parts [
   | inl up ↦ up.1.epoch
-  | inr down ↦ down.1.epoch
+  | inr (inl down) ↦ down.1.epoch
+  | inr (inr fenced) ↦ fenced.1.epoch
 ]
 
 -- the epoch of the standby's node is the machine's
-own-epoch : (first second : Holder) (old : Pair) (w : World) → old.standby_runs ≡ true → NodesRefine first second old w → old.standby.epoch ≡ w.standby.epoch
+own-epoch : (first second : Holder) (old : Pair) (w : World) → runs old.standby_condition ≡ true → NodesRefine first second old w → old.standby.epoch ≡ w.standby.epoch
 own-epoch first second old w follows stands = (follower follows stands.parts).epoch_is ∙ link-epoch stands.parts ∙ sym stands.sound.standby.epoch_is
 
 -- ---- which events may come
 
 -- an event of a standby that runs
-standby-runs : {first second : Holder} {pair : Pair} {w : World} → pair.standby_runs ≡ true → NodesRefine first second pair w → (event : Event) → (is_running w.standby.life ≡ true → nodes_run w event ≡ true) → is_plain event ≡ true
-    → Runs first second pair.primary_runs pair.standby_runs w event
+standby-runs : {first second : Holder} {pair : Pair} {w : World} → runs pair.standby_condition ≡ true → NodesRefine first second pair w → (event : Event) → (is_running w.standby.life ≡ true → nodes_run w event ≡ true) → is_plain event ≡ true
+    → Runs first second pair.primary_condition pair.standby_condition w event
 standby-runs {first} {second} {pair} {w} follows stands event nodes plain = record {
   lives = stands.lives;
-  nodes = nodes (ap is_running stands.lives.standby ∙ ap (λ b. is_running (life_if b)) follows);
+  nodes = nodes (ap is_running stands.lives.standby ∙ running-as pair.standby_condition ∙ follows);
   plain = plain;
 }
 
 -- an event of both
-both-run : {first second : Holder} {pair : Pair} {w : World} → pair.standby_runs ≡ true → PairRefines first second pair w → Runs first second pair.primary_runs pair.standby_runs w events.OpenLink
+both-run : {first second : Holder} {pair : Pair} {w : World} → runs pair.standby_condition ≡ true → PairRefines first second pair w → Runs first second pair.primary_condition pair.standby_condition w events.OpenLink
 both-run {first} {second} {pair} {w} follows stands =
     standby-runs follows (nodes-refine stands) events.OpenLink (λ runs. ap (λ b. b && is_running w.standby.life) (ap is_running (serving stands)) ∙ runs) refl
 
@@ -166,16 +186,16 @@ delta-frames epoch low opened calls opening delta leads is = elim (cases_lt low 
 ]
 
 -- the position that the standby tells is its own
-own-position : {first second : Holder} {w : World} (old : Pair) (ack : Ack) → old.standby_runs ≡ true → ack ≡ record { epoch = old.standby.epoch; position = old.standby.contents.current.position }
+own-position : {first second : Holder} {w : World} (old : Pair) (ack : Ack) → runs old.standby_condition ≡ true → ack ≡ record { epoch = old.standby.epoch; position = old.standby.contents.current.position }
     → PairRefines first second old w → ack.position ≡ w.standby.position
 own-position old ack follows is stands = ap (λ (a : Ack). a.position) is ∙ (stands.parts.standby.stands follows).engine.contents_at.at
 
 -- and no higher one is known
-known-within : {first second : Holder} {w : World} (old : Pair) (ack : Ack) → old.standby_runs ≡ true → ack ≡ record { epoch = old.standby.epoch; position = old.standby.contents.current.position }
+known-within : {first second : Holder} {w : World} (old : Pair) (ack : Ack) → runs old.standby_condition ≡ true → ack ≡ record { epoch = old.standby.epoch; position = old.standby.contents.current.position }
     → PairRefines first second old w → old.link.known ≤ ack.position
 known-within old ack follows is stands = omega (arith, own-position old ack follows is stands, stands.parts.link.known, stands.sound.standby.known)
 
-pub open-does : (old : Pair) (arrivals : Arrived) (link : Stream) (opening : Opening) (ack : Ack) → old.standby_runs ≡ true
+pub open-does : (old : Pair) (arrivals : Arrived) (link : Stream) (opening : Opening) (ack : Ack) → runs old.standby_condition ≡ true
     → ack ≡ record { epoch = old.standby.epoch; position = old.standby.contents.current.position } → Acknowledges ack old.arrivals arrivals → Reopens old.link old.opening ack.position link
     → opening ≡ old.opening → Does old events.OpenLink (Ok true) (with_opened arrivals link opening old)
 open-does old arrivals link opening ack follows is acknowledges reopens same =
@@ -188,7 +208,7 @@ open-does old arrivals link opening ack follows is acknowledges reopens same =
           let own : told_by ack ≡ acknowledgement_of w.standby = ap₂ (λ e p. record { epoch = e; position = p }) epoch position in
           let told = acknowledges old.link.epoch w parts.arrivals own in
           let w' = with_acknowledged (acknowledgement_of w.standby ∷ []) w in
-          let heard : PartsRefine first second (with_arrivals arrivals old) w' = standby-parts first second old arrivals old.standby old.standby_runs w w.standby (w.wire.acknowledgements ++ acknowledgement_of w.standby ∷ []) (le_refl w.standby.position) parts told parts.standby in
+          let heard : PartsRefine first second (with_arrivals arrivals old) w' = standby-parts first second old arrivals old.standby old.standby_condition w w.standby (w.wire.acknowledgements ++ acknowledgement_of w.standby ∷ []) (not-over old.standby_condition follows) (le_refl w.standby.position) parts told parts.standby in
           let reopened = reopens-due old.link old.opening ack.position link (known-within old ack follows is stands) reopens in
           let delta : Option Frame = reopened.0 in
           let machine = opened_link (due_delta w.standby.position w.primary.opened) w.primary.link in
@@ -212,24 +232,24 @@ open-does old arrivals link opening ack follows is acknowledges reopens same =
     })
 
 -- memory was refused
-open-lacks : (old : Pair) (arrivals : Arrived) (link : Stream) (opening : Opening) (result : Result Bool Refusal) (refusal : Refusal) → old.standby_runs ≡ true → result ≡ Err refusal
+open-lacks : (old : Pair) (arrivals : Arrived) (link : Stream) (opening : Opening) (result : Result Bool Refusal) (refusal : Refusal) → runs old.standby_condition ≡ true → result ≡ Err refusal
     → ((first second : Holder) (w : World) → PairRefines first second old w → refusal ≡ Memory) → Does old events.OpenLink result (with_opened arrivals link opening old)
 open-lacks old arrivals link opening result refusal follows is memory =
     subst (λ (r : Result Bool Refusal). Does old events.OpenLink r (with_opened arrivals link opening old)) (sym is)
     (record {
       steps = tt;
       cut = λ first second w stands.
-          cut-same first second events.OpenLink refusal old (with_opened arrivals link opening old) w refl (memory first second w stands) refl refl (tells old.transcript) (both-run follows stands) refl (nodes-refine stands);
+          cut-same first second events.OpenLink refusal old (with_opened arrivals link opening old) w refl (memory first second w stands) refl refl (tells old.transcript) refl (both-run follows stands) refl (nodes-refine stands);
       calls = none-added _ _ refl;
     })
 
 -- for the acknowledgement
-pub open-cut : (old : Pair) (arrivals : Arrived) (link : Stream) (opening : Opening) (result : Result Bool Refusal) (refusal : Refusal) → old.standby_runs ≡ true → result ≡ Err refusal → refusal ≡ Memory
+pub open-cut : (old : Pair) (arrivals : Arrived) (link : Stream) (opening : Opening) (result : Result Bool Refusal) (refusal : Refusal) → runs old.standby_condition ≡ true → result ≡ Err refusal → refusal ≡ Memory
     → Does old events.OpenLink result (with_opened arrivals link opening old)
 open-cut old arrivals link opening result refusal follows is memory = open-lacks old arrivals link opening result refusal follows is (λ first second w stands. memory)
 
 -- For the delta. It is never refused as forgotten: what is told of the opening is there as long as the standby may be behind.
-pub open-refused : (old : Pair) (arrivals : Arrived) (link : Stream) (opening : Opening) (ack : Ack) (result : Result Bool Refusal) (refusal : Refusal) → old.standby_runs ≡ true
+pub open-refused : (old : Pair) (arrivals : Arrived) (link : Stream) (opening : Opening) (ack : Ack) (result : Result Bool Refusal) (refusal : Refusal) → runs old.standby_condition ≡ true
     → ack ≡ record { epoch = old.standby.epoch; position = old.standby.contents.current.position } → result ≡ Err refusal → (old.opening.position ≤ ack.position → ⊥)
     → (old.link.known < old.opening.position → refusal ≡ Memory) → Does old events.OpenLink result (with_opened arrivals link opening old)
 open-refused old arrivals link opening ack result refusal follows is refused behind cause =
@@ -239,9 +259,9 @@ open-refused old arrivals link opening ack result refusal follows is refused beh
       | inr passed ↦ absurd (behind (omega (arith, passed, known-within old ack follows is stands)))
     ])
 
-pub deliver-acts : (old : Pair) (arrivals : Arrived) (texts : List (Vec ℕ Global)) (frame piece : ℕ) (result : Result Bool Refusal) → old.standby_runs ≡ true → texts ≡ old.frames
+pub deliver-acts : (old : Pair) (arrivals : Arrived) (texts : List (Vec ℕ Global)) (frame piece : ℕ) (result : Result Bool Refusal) → runs old.standby_condition ≡ true → texts ≡ old.frames
     → IfOk result (λ did. (epoch : ℕ) (w : World) → ArrivalsRefine epoch w.primary.calls old.arrivals w.standby.waiting w.wire.acknowledgements
-    → AreFramesSent epoch w.primary.calls texts w.wire.frames
+    → AreFramesSent epoch w.primary.calls texts w.wire.frames → All (IsOwn epoch) w.wire.frames
     → Goes (may_happen w (events.Deliver frame piece)) did
     (ArrivalsRefine epoch w.primary.calls arrivals (delivered (option_items (slice_get w.wire.frames frame)) w.standby).waiting w.wire.acknowledgements)
     (ArrivalsRefine epoch w.primary.calls arrivals w.standby.waiting w.wire.acknowledgements))
@@ -256,9 +276,9 @@ deliver-acts old arrivals texts frame piece (Ok did) follows same go memory some
           let came = delivered (option_items (slice_get w.wire.frames frame)) w.standby in
           goes-either first second w (with_standby came w) (events.Deliver frame piece) did old (with_arrivals arrivals old) refl refl stands
           (standby-runs follows stands (events.Deliver frame piece) (λ runs. runs) refl) refl
-          (goes-map (go epoch w (arrivals-stand parts) (subst (λ (all : List (Vec ℕ Global)). AreFramesSent epoch calls all w.wire.frames) (sym same) (frames-stand parts)))
-          (λ moved. standby-either first second old arrivals old.standby old.standby_runs w came w.wire.acknowledgements (le_refl w.standby.position) parts moved (standby-refines parts))
-          (λ stayed. standby-either first second old arrivals old.standby old.standby_runs w w.standby w.wire.acknowledgements (le_refl w.standby.position) parts stayed (standby-refines parts)));
+          (goes-map (go epoch w (arrivals-stand parts) (subst (λ (all : List (Vec ℕ Global)). AreFramesSent epoch calls all w.wire.frames) (sym same) (frames-stand parts)) (owns follows parts))
+          (λ moved. standby-either first second old arrivals old.standby old.standby_condition w came w.wire.acknowledgements (not-over old.standby_condition follows) (le_refl w.standby.position) parts moved (standby-refines parts))
+          (λ stayed. standby-either first second old arrivals old.standby old.standby_condition w w.standby w.wire.acknowledgements (not-over old.standby_condition follows) (le_refl w.standby.position) parts stayed (standby-refines parts)));
       cut = tt;
       calls = none-added _ _ refl;
     }
@@ -269,7 +289,7 @@ deliver-acts old arrivals texts frame piece (Err refusal) follows same go memory
           let sent = frames-stand stands.parts in
           let is : frame < length w.wire.frames = omega (arith, some, ap length same, length-sent old.link.epoch w.primary.calls old.frames w.wire.frames sent) in
           let refused : refusal ≡ Memory = memory old.link.epoch w (subst (λ (all : List (Vec ℕ Global)). AreFramesSent old.link.epoch w.primary.calls all w.wire.frames) (sym same) sent) in
-          cut-same first second (events.Deliver frame piece) refusal old (with_arrivals arrivals old) w refl refused refl refl (tells old.transcript)
+          cut-same first second (events.Deliver frame piece) refusal old (with_arrivals arrivals old) w refl refused refl refl (tells old.transcript) refl
           (standby-runs follows stands (events.Deliver frame piece) (λ runs. runs) refl) (lt-ltb frame (length w.wire.frames) is) stands;
       calls = none-added _ _ refl;
     }
@@ -277,13 +297,13 @@ deliver-acts old arrivals texts frame piece (Err refusal) follows same go memory
 abbrev pub with_node : Arrived → Node → Pair → Pair
 with_node arrivals node pair = record pair { arrivals = arrivals; standby = node }
 
-node-either : (first second : Holder) (old : Pair) (arrivals : Arrived) (node : Node) (w : World) (machine : MachineStandby) (told : List Acknowledgement) → old.standby_runs ≡ true → EitherRefines first second old w
+node-either : (first second : Holder) (old : Pair) (arrivals : Arrived) (node : Node) (w : World) (machine : MachineStandby) (told : List Acknowledgement) → runs old.standby_condition ≡ true → EitherRefines first second old w
     → w.standby.position ≤ machine.position → ArrivalsRefine old.link.epoch w.primary.calls arrivals machine.waiting told → StandbyStands second old.link.epoch w.primary.calls machine.position node
     → EitherRefines first second (with_node arrivals node old) (record w { standby = machine; wire = record w.wire { acknowledgements = told } })
 node-either first second old arrivals node w machine told follows parts later arrivals_stand node_stands =
-    standby-either first second old arrivals node old.standby_runs w machine told later parts arrivals_stand (record { stands = λ runs. node_stands; down = λ down. absurd (true≢false (sym follows ∙ down)) })
+    standby-either first second old arrivals node old.standby_condition w machine told (not-over old.standby_condition follows) later parts arrivals_stand (record { stands = λ up. node_stands; down = λ down. absurd (not-crashed old.standby_condition follows down) })
 
-apply-steps : (first second : Holder) (old : Pair) (arrivals : Arrived) (node : Node) (w : World) (did : Bool) → old.standby_runs ≡ true → NodesRefine first second old w
+apply-steps : (first second : Holder) (old : Pair) (arrivals : Arrived) (node : Node) (w : World) (did : Bool) → runs old.standby_condition ≡ true → NodesRefine first second old w
     → AppliesFirst second old.link.epoch w did arrivals old.standby node → Steps first second w events.Apply did old (with_node arrivals node old)
 apply-steps first second old arrivals node w true follows stands applies =
     let moved = applies.goes refl in
@@ -304,7 +324,7 @@ apply-steps first second old arrivals node w true follows stands applies =
       };
       moves = record {
         primary = moves-same first w.primary.calls w.primary.committer.position w.primary.committer.position old.device old.device refl (primary-stands first second old w stands.parts);
-        standby = subst (λ (x : World). Moves second w.primary.calls w.standby.position x.standby.position old.standby.device node.device) applied.now moved.4;
+        standby = λ whole. subst (λ (x : World). Moves second w.primary.calls w.standby.position x.standby.position old.standby.device node.device) applied.now moved.4;
       };
     }
 apply-steps first second old arrivals node w false follows stands applies =
@@ -326,7 +346,7 @@ ends-apply Fault P Q both ends = both Breaks ends
 ends-apply Exhausted P Q both ends = both RestsAtFrameLimit ends
 ends-apply refusal P Q both ends = absurd ends
 
-pub apply-acts : (old : Pair) (arrivals : Arrived) (node : Node) (result : Result Bool Refusal) → old.standby_runs ≡ true
+pub apply-acts : (old : Pair) (arrivals : Arrived) (node : Node) (result : Result Bool Refusal) → runs old.standby_condition ≡ true
     → IfOk result (λ did. (holder : Holder) (w : World) → Sound w → old.standby.epoch ≡ w.standby.epoch → ArrivalsRefine old.standby.epoch w.primary.calls old.arrivals w.standby.waiting w.wire.acknowledgements
     → StandbyStands holder old.standby.epoch w.primary.calls w.standby.position old.standby
     → AppliesFirst holder old.standby.epoch w did arrivals old.standby node)
@@ -369,8 +389,8 @@ apply-acts old arrivals node result follows applies only cuts = go result applie
           cut = λ first second w stands.
               let new = with_node arrivals node old in
               let cut = cuts second w stands.sound (own-epoch first second old w follows stands) (arrive first second w stands) (stand first second w stands) in
-              cut-for first second events.Apply refusal old new w stands (tells old.transcript) (enabled-is (standby-runs follows stands events.Apply (λ runs. runs) refl) ∙ cut.0)
+              cut-for first second events.Apply refusal old new w stands (tells old.transcript) refl (enabled-is (standby-runs follows stands events.Apply (λ runs. runs) refl) ∙ cut.0)
               (ends-apply refusal (λ _ last. last second w.primary.calls w.standby.position (next_standby w) old.standby.device node.device) (Led first second old new w)
-              (λ last broken. (rests-primary first second old w stands, broken)) cut.1);
+              (λ last broken. (rests-primary first second old w stands, λ whole. broken)) cut.1);
           calls = none-added _ _ refl;
         }

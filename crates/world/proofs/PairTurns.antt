@@ -45,6 +45,7 @@ use Rattle.world.proofs.LivesLemmas.{enabled-is, nodes-refine, own-runs}
 use Rattle.world.proofs.PairLemmas.{Led, cut-for, cut-same, none-added, rests-standby, stays-does, tells}
 use Rattle.world.proofs.PairCommitting.{commit-steps, ends-commit, hand-does, raise-does, same_closed}
 use Rattle.world.proofs.QueueLemmas.{commit-disabled, commit-enabled}
+use Rattle.world.specs.declared.condition.Condition.{Condition}
 
 -- a turn that took its step was not refused
 abbrev pub went : Result Done Refusal → Result Bool Refusal
@@ -123,7 +124,7 @@ module _ {E : Type 0} (device : E → State) (contents : E → Contents) (is_fau
         → Took step (link_has_room handed.items) remote before works handed result after works' handed'
     took-step step is took = subst (λ (step : Due). Took step (link_has_room handed.items) remote before works handed result after works' handed') is (took-due took)
 
-module _ {E : Type 0} (device : E → State) (contents : E → Contents) (is_faulted : E → Bool) (sessions : Connections) (transcript : Transcript) (sequencer : Sequencing) (notices : List Freed) (link : Stream) (opening : Opening) (remote : ℕ) (frames : List (Vec ℕ Global)) (arrivals : Arrived) (standby : Node) (primary_runs standby_runs : Bool) where
+module _ {E : Type 0} (device : E → State) (contents : E → Contents) (is_faulted : E → Bool) (sessions : Connections) (transcript : Transcript) (sequencer : Sequencing) (notices : List Freed) (link : Stream) (opening : Opening) (remote : ℕ) (frames : List (Vec ℕ Global)) (arrivals : Arrived) (standby : Node) (primary_condition standby_condition : Condition) where
   -- a pair with this committer, with this work waiting for it, and with these groups at the link
   abbrev pub pair_of : Committer E → Waiting Work → Waiting Group → Pair
   pair_of committer work waiting = record {
@@ -142,8 +143,8 @@ module _ {E : Type 0} (device : E → State) (contents : E → Contents) (is_fau
     frames = frames;
     arrivals = arrivals;
     standby = standby;
-    primary_runs = primary_runs;
-    standby_runs = standby_runs;
+    primary_condition = primary_condition;
+    standby_condition = standby_condition;
   }
 
   -- the step that is due
@@ -205,6 +206,7 @@ module _ {E : Type 0} (device : E → State) (contents : E → Contents) (is_fau
             epoch = parts.epoch;
             link = parts.link;
             frames = parts.frames;
+            own = parts.own;
             arrivals = parts.arrivals;
             standby = parts.standby;
           }
@@ -217,7 +219,7 @@ module _ {E : Type 0} (device : E → State) (contents : E → Contents) (is_fau
           let fits = λ (sound : is_faulted before.engine ≡ false) (would : Exhausts (contents before.engine) took.group). committed_not_refused (commits.exhausts sound would) in
           let stand = commit-goes first w old.committing took.lists took.group new.committing old.device new.device old.contents new.contents old.is_faulted new.is_faulted
           takes commits.in_hand commits.local fits commits.moved commits.durable commits.sound.0 parts.committing parts.engine in
-          commit-steps first second w old new refl stands.sound (own-runs stands events.Commit refl) stands.serves commits.sound.1
+          commit-steps first second w old new refl refl stands.sound (own-runs stands events.Commit refl) stands.serves commits.sound.1
           (commit-moments first w old.committing took.lists took.group new.committing old.device new.device old.contents old.is_faulted takes fits commits.moments parts.committing parts.engine)
           (sym (may-commit before works handed is first second w parts))
           (parts-after first second w (committed_first (from_group w.primary.committer.waiting) w.primary.committer) parts takes stand (same_closed (from_group w.primary.committer.waiting) w)
@@ -234,7 +236,7 @@ module _ {E : Type 0} (device : E → State) (contents : E → Contents) (is_fau
             let parts = stands.parts in
             let commits = took.commits in
             let takes = takes-first before after works works' handed (Err refusal) took first second w parts in
-            cut-for first second events.Commit refusal old new w (nodes-refine stands) (tells transcript)
+            cut-for first second events.Commit refusal old new w (nodes-refine stands) (tells transcript) refl
             (enabled-is (own-runs stands events.Commit refl) ∙ may-commit before works handed is first second w parts)
             (ends-commit refusal (λ last _. last first w.primary.calls w.primary.committer.position (next_primary w) old.device new.device) (Led first second old new w)
             (λ last broken. (broken, rests-standby first second old w (nodes-refine stands)))
@@ -252,7 +254,7 @@ module _ {E : Type 0} (device : E → State) (contents : E → Contents) (is_fau
       (record {
         steps = tt;
         cut = λ first second w stands.
-            cut-same first second events.Commit Memory (pair_of before works handed) (pair_of after works' handed) w refl refl (ap device lacks.engine) refl (tells transcript) (own-runs stands events.Commit refl)
+            cut-same first second events.Commit Memory (pair_of before works handed) (pair_of after works' handed) w refl refl (ap device lacks.engine) refl (tells transcript) refl (own-runs stands events.Commit refl)
             (may-commit before works handed is first second w stands.parts) (nodes-refine stands);
         calls = none-added _ _ refl;
       })

@@ -1,6 +1,6 @@
--- A run from event to event, and what is reported of it at its end.
+-- What is reported of a run at its end.
 use Rattle.std.specs.Global.{Global}
-use Rattle.std.proofs.Common.{Vec, ◌≡◌, ℕ, ◌≤◌, Bool, List, [], ◌∷◌, ◌++◌, length, take, slice_index_or, Option, Some, None, Err, refl, sym, ap, ap₂, subst, ◌∙◌, arith, le_refl, inl, inr, true, false, ◌&&◌}
+use Rattle.std.proofs.Common.{Vec, ◌≡◌, ◌⊎◌, ℕ, ◌≤◌, nat_eq, if◌then◌else◌, Bool, List, [], ◌∷◌, ◌++◌, length, take, slice_index_or, Option, Some, None, Ok, Err, refl, sym, ap, ap₂, subst, ◌∙◌, arith, le_refl, inl, inr, true, false, true≢false, ◌&&◌}
 use Rattle.pmem.specs.Device.{State}
 use Rattle.pmem.specs.Runs.{LeavesOnly}
 use Rattle.kv_types.specs.declared.refusal.Refusal.{Refusal}
@@ -9,221 +9,48 @@ use Rattle.pmem.proofs.Leaving.{LeavesOnly-then, LeavesOnly-weaken}
 use Rattle.model.specs.declared.call.Call.{Call}
 use Rattle.model.specs.declared.record.Role.{Role}
 use Rattle.model.specs.declared.record.Role.TheVariants.{Primary, Standby}
-use Rattle.model.specs.Call.{position_of}
+use Rattle.model.specs.Call.{cut_at}
 use Rattle.model.specs.Image.{Image}
 use Rattle.model.specs.Standing.{Holder, new_holder}
 use Rattle.machine.specs.declared.event.Event.{Event}
 use Rattle.machine.specs.declared.event.Event.TheVariants.{Commit, Free, ClearGap, Apply, OpenLink, Promote, Reopen, Send}
-use Rattle.machine.specs.declared.event.Node.TheVariants as node_of
-use Rattle.machine.specs.Event.{Run, World, IsSure, Work, Commits, Frees, Committer, committed_first, from_group, last_world, spans_of}
-use Rattle.machine.specs.Law.{Grows}
+use Rattle.machine.specs.declared.event.Node.{Node}
+use Rattle.machine.specs.declared.event.Node.TheVariants as node
+use Rattle.machine.specs.declared.event.Cut.TheVariants as cut
+use Rattle.machine.specs.Event.{Disk, Life, Run, Step, World, IsSure, is_retired, last_world, position_at}
 use Rattle.machine.specs.Promise.{IsPromised, IsReleased, Tells, released_in}
-use Rattle.machine.specs.Sound.{IsChain, Sound}
-use Rattle.machine.proofs.GrowLemmas.{grows-step, released-stays}
-use Rattle.machine.proofs.StandbyLemmas.{next-within}
-use Rattle.machine.proofs.SureLemmas.{sure-step}
-use Rattle.machine.proofs.WorkLemmas.{spans_of-from_group}
+use Rattle.machine.proofs.GrowLemmas.{released-stays}
+use Rattle.machine.proofs.SureLemmas.{KeepsNodes, retired-still, sure-step, unfailed}
 use Rattle.machine.proofs.CoverLemmas.{covered-run}
-use Rattle.machine.proofs.PromiseLemmas.{released-held}
 use Rattle.machine.proofs.EveryRun.{promised-told}
 use Rattle.machine.proofs.RunLemmas.{run-push, last_world-push, sound-start}
-use Rattle.machine.proofs.SoundEvents.{sound-step}
-use Rattle.world.specs.Cause.{Stretch, UnformedBy, Breaks, RestsAtFrameLimit, RestsAtLimit, RestsBeforeReopening, EndsBy, Resting}
-use Rattle.world.specs.Committing.{FormattingOnly, FromOnly, Moves, NearOnly, OpensAt, OpensAtEither, Rests, next_primary, next_standby}
+use Rattle.world.specs.Cause.{Stretch, UnformedBy, Breaks, Promoting, RestsAtFrameLimit, RestsAtLimit, RestsBeforeReopening, EndsBy, Resting}
+use Rattle.world.specs.Committing.{FormattingOnly, Moves, NearOnly, Opens, OpensAsEither, OpensAt, OpensAtEither, Rests, next_primary, next_standby, promoted_holder}
 use Rattle.world.specs.declared.trace.EarlyEnd.{EarlyEnd}
 use Rattle.world.specs.declared.trace.EarlyEnd.TheVariants.{AtFormatting, AtEvent}
-use Rattle.world.specs.Headline.{AnyWorld, Enables, start, primary_position, standby_position, AreMoments, IsKept, KeepsItsWord, PlaysOn, AreMoves, OpensFrom, OpensIn, Reaches, StandsAfter, IsCutAfter, Plays, HasSent, primary_holder, standby_holder}
-use Rattle.world.specs.Pair.{Pair, NodesRefine, HasWorld, IsCut, Steps}
-use Rattle.world.specs.Step.{AcksBy, FramesBy, touches_primary, touches_standby}
+use Rattle.world.specs.Headline.{AnyWorld, Enables, start, primary_position, standby_position, AreMoments, EndsAs, IsKept, KeepsItsWord, MovesBy, MovesOn, Opening, Passes, PlaysOn, AreMoves, OpensFrom, OpensFromEither, OpensIn, Reaches, StandsAfter, StandsIn, IsCutAfter, Plays, HasSent, each, holder_at, node_on, opens_always, opens_in_the_end, primary_holder, standby_holder, touches_on}
+use Rattle.world.specs.Pair.{HasStandby, Pair, NodesRefine, allowed, HasRoom, HasWorld, IsCut, IsPromotionCut, Steps, Succeeds, first_device, second_device}
+use Rattle.world.specs.Step.{AcksBy, FramesBy, IsStep, touches_primary, touches_standby}
 use Rattle.connections.specs.Session.{released_of}
 use Rattle.world.proofs.EngineLemmas.{rests-same}
-use Rattle.world.proofs.PairLemmas.{primary-stands, sessions-stand, standby-stands}
-use Rattle.world.proofs.StepLemmas.{acks-sent, frames-sent}
+use Rattle.world.proofs.PairLemmas.{primary-stands, rests-primary, rests-standby, sessions-stand}
+use Rattle.world.proofs.StepLemmas.{acks-sent, cut-for-room, frames-sent}
 use Rattle.connections.proofs.SessionLemmas.{released-told}
-
--- ---- whose images they are
-
-abbrev holder_of : ℕ → Role → ℕ → Holder
-holder_of lines role epoch = record { lines = lines; role = role; epoch = epoch }
-
--- the holders of a pair are those of each world that it refines
-primary-holds : {first second : Holder} {pair : Pair} {w : World} → NodesRefine first second pair w → first ≡ primary_holder first.lines w
-primary-holds {first} {second} {pair} {w} stands =
-    ap₂ (holder_of first.lines) stands.lives.first_role stands.lives.first_epoch
-
-standby-holds : {first second : Holder} {pair : Pair} {w : World} → NodesRefine first second pair w → second ≡ standby_holder second.lines w
-standby-holds {first} {second} {pair} {w} stands =
-    ap₂ (holder_of second.lines) stands.lives.second_role (stands.lives.second_epoch ∙ sym stands.sound.standby.epoch_is)
-
--- ---- from event to event
-
--- one more event
-moves-push : (touches : Event → Bool) (position : World → ℕ) (holder : World → Holder) (w : World) (events : List Event) (done : List Bool) (worlds : List World) (event : Event) (did : Bool) (w' : World) (old new new' : State)
-    → AreMoves touches position holder w events done worlds old new
-    → Moves (holder (last_world w worlds)) (last_world w worlds).primary.calls (position (last_world w worlds)) (position w') new new' → ((touches event && did) ≡ false → new' ≡ new)
-    → AreMoves touches position holder w (events ++ event ∷ []) (done ++ did ∷ []) (worlds ++ w' ∷ []) old new'
-moves-push touches position holder w [] [] [] event did w' old new new' are moves untouched =
-    (new', subst (λ (d : State). Moves (holder w) w.primary.calls (position w) (position w') d new') (sym are) moves, λ idle. untouched idle ∙ sym are, refl)
-moves-push touches position holder w (first ∷ events) (first_did ∷ done) (next ∷ worlds) event did w' old new new' are moves untouched =
-    (are.0, are.1, are.2, moves-push touches position holder next events done worlds event did w' are.0 new new' are.3 moves untouched)
-moves-push touches position holder w events done worlds event did w' old new new' are moves untouched = absurd are
-
-pub reaches-world : (first second : Holder) (began : Pair) (events : List Event) (done : List Bool) (pair : Pair) → StandsAfter first second began events done pair → HasWorld pair
-reaches-world first second began events done pair after = record { first = first; second = second; world = last_world start after.reaches.worlds; stands = after.stands }
-
-pub reaches-start : (first second : Holder) (done : List Bool) (pair : Pair) → done ≡ [] → NodesRefine first second pair start → StandsAfter first second pair [] done pair
-reaches-start first second done pair none stands =
-    record {
-      reaches = record {
-        worlds = [];
-        run = subst (λ (d : List Bool). Run start [] d []) (sym none) tt;
-        primary_moves = subst (λ (d : List Bool). AreMoves touches_primary primary_position (primary_holder first.lines) start [] d [] pair.device pair.device) (sym none) refl;
-        standby_moves = subst (λ (d : List Bool). AreMoves touches_standby standby_position (standby_holder second.lines) start [] d [] pair.standby.device pair.standby.device) (sym none) refl;
-      };
-      stands = stands;
-    }
-
-pub reaches-next : (first second : Holder) (began : Pair) (events : List Event) (done done' : List Bool) (pair pair' : Pair) (event : Event) (did : Bool) → done' ≡ done ++ did ∷ []
-    → ((first second : Holder) (w : World) → NodesRefine first second pair w → Steps first second w event did pair pair')
-    → ((touches_primary event && did) ≡ false → pair'.device ≡ pair.device) → ((touches_standby event && did) ≡ false → pair'.standby.device ≡ pair.standby.device)
-    → StandsAfter first second began events done pair → StandsAfter first second began (events ++ event ∷ []) done' pair'
-reaches-next first second began events done done' pair pair' event did more steps primary_stays standby_stays after =
-    let reaches = after.reaches in
-    let w = last_world start reaches.worlds in
-    let next = steps first second w after.stands in
-    record {
-      reaches = record {
-        worlds = reaches.worlds ++ next.world ∷ [];
-        run = subst (λ (d : List Bool). Run start (events ++ event ∷ []) d (reaches.worlds ++ next.world ∷ [])) (sym more)
-            (run-push start events done reaches.worlds event did next.world reaches.run next.step);
-        primary_moves = subst (λ (d : List Bool). AreMoves touches_primary primary_position (primary_holder first.lines) start (events ++ event ∷ []) d (reaches.worlds ++ next.world ∷ []) began.device pair'.device) (sym more)
-            (moves-push touches_primary primary_position (primary_holder first.lines) start events done reaches.worlds event did next.world began.device pair.device pair'.device reaches.primary_moves
-            (subst (λ (h : Holder). Moves h w.primary.calls (primary_position w) (primary_position next.world) pair.device pair'.device) (primary-holds after.stands) next.moves.primary) primary_stays);
-        standby_moves = subst (λ (d : List Bool). AreMoves touches_standby standby_position (standby_holder second.lines) start (events ++ event ∷ []) d (reaches.worlds ++ next.world ∷ []) began.standby.device pair'.standby.device) (sym more)
-            (moves-push touches_standby standby_position (standby_holder second.lines) start events done reaches.worlds event did next.world began.standby.device pair.standby.device pair'.standby.device reaches.standby_moves
-            (subst (λ (h : Holder). Moves h w.primary.calls (standby_position w) (standby_position next.world) pair.standby.device pair'.standby.device) (standby-holds after.stands) next.moves.standby) standby_stays);
-      };
-      stands = subst (NodesRefine first second pair') (sym (last_world-push start reaches.worlds next.world)) next.stands;
-    }
-
--- an event that was cut sent nothing
-frames-cut : (event : Event) (refusal : Refusal) (old new : List (Vec ℕ Global)) → FramesBy event (Err refusal) old new → new ≡ old
-frames-cut Send refusal old new same = same
-frames-cut event refusal old new same = same
-
-acks-cut : (event : Event) (refusal : Refusal) (old new : List (Vec ℕ Global)) → AcksBy event (Err refusal) old new → new ≡ old
-acks-cut OpenLink refusal old new same = same
-acks-cut Apply refusal old new same = same
-acks-cut event refusal old new same = same
-
-pub reaches-cut : (first second : Holder) (began : Pair) (events : List Event) (event : Event) (refusal : Refusal) (done : List Bool) (pair pair' : Pair)
-    → ((first second : Holder) (w : World) → NodesRefine first second pair w → IsCut first second event refusal pair pair' w)
-    → FramesBy event (Err refusal) pair.frames pair'.frames
-    → AcksBy event (Err refusal) pair.arrivals.acknowledgements.items pair'.arrivals.acknowledgements.items
-    → StandsAfter first second began events done pair → IsCutAfter first second began events event refusal done pair'
-reaches-cut first second began events event refusal done pair pair' cuts frames acks after =
-    record { before = pair; reaches = after.reaches; stands = after.stands; frames = frames-cut event refusal _ _ frames; acknowledgements = acks-cut event refusal _ _ acks; cut = cuts first second (last_world start after.reaches.worlds) after.stands }
-
--- ---- the position of a node
-
--- within an epoch it never falls, what was released is within it, and the next position is no lower
-record IsOfNode (position next : World → ℕ) : Type 0 where
-  rises : (old new : World) → Grows old new → new.primary.epoch ≡ old.primary.epoch → position old ≤ position new
-  holds : (w : World) → Sound w → (prefix : List Call) (call : Call) → IsReleased w.primary.calls (released_in w) prefix call → position_of (prefix ++ call ∷ []) ≤ position w
-  onward : (w : World) → Sound w → position w ≤ next w
-
-next_of_groups : (from to : ℕ) (works : List Work) (committer : Committer) → IsChain from (spans_of works) to → committer.position ≡ from → from ≤ (committed_first works committer).position
-next_of_groups from to [] committer chain same = omega (arith, same)
-next_of_groups from to (Commits group ∷ works) committer chain same = omega (arith, chain.1)
-next_of_groups from to (Frees position ∷ works) committer chain same = omega (arith, same)
-
-of_primary : IsOfNode primary_position next_primary
-of_primary =
-    record {
-      rises = λ old new grows same. (grows.within same).1;
-      holds = λ w s prefix call released. (released-held w s prefix call released).0;
-      onward = λ w s.
-          let committer = w.primary.committer in
-          next_of_groups committer.position committer.closed (from_group committer.waiting) committer
-          (subst (λ groups. IsChain committer.position groups committer.closed) (sym (spans_of-from_group committer.waiting)) s.committer.waiting) refl;
-    }
-
-of_standby : IsOfNode standby_position next_standby
-of_standby =
-    record {
-      rises = λ old new grows same. grows.safe;
-      holds = λ w s prefix call released. (released-held w s prefix call released).1;
-      onward = λ w s. (next-within w.primary.epoch s.sent w.standby w.standby.waiting s.standby.epoch_is s.standby.behind s.standby.frames).0;
-    }
-
--- ---- the moments of a run
-
--- no crash of a last stretch leaves an image below the position
-abbrev IsLast : Stretch → Type 0
-IsLast last = (holder : Holder) (calls : List Call) (p q : ℕ) (old new : State) → p ≤ q → last holder calls p q old new → FromOnly holder calls p old new
-
-resting-from : IsLast Resting
-resting-from holder calls p q old new le rests = LeavesOnly-weaken (λ image. (n : ℕ) × (p ≤ n) × OpensAt holder calls n image) (λ image stands. (p, le_refl p, stands)) rests.leaves
-
-near-from : (holder : Holder) (calls : List Call) (p q : ℕ) (old new : State) → p ≤ q → NearOnly holder calls p q old new → FromOnly holder calls p old new
-near-from holder calls p q old new le near = LeavesOnly-weaken (λ image. (n : ℕ) × (p ≤ n) × OpensAt holder calls n image) either near
-  where
-    either : (image : Image) → OpensAtEither holder calls p q image → (n : ℕ) × (p ≤ n) × OpensAt holder calls n image
-    either image (inl here) = (p, le_refl p, here)
-    either image (inr next) = (q, le, next)
-
-OpensFrom-lower : (holder : Holder) (calls : List Call) (p q : ℕ) (image : Image) → p ≤ q → OpensFrom holder calls q image → OpensFrom holder calls p image
-OpensFrom-lower holder calls p q image le opens = (opens.0, omega (arith, le, opens.1), opens.2)
-
-OpensIn-lower : (holder : World → Holder) (p q : ℕ) (w : World) (worlds : List World) (image : Image) → p ≤ q → OpensIn holder q w worlds image → OpensIn holder p w worlds image
-OpensIn-lower holder p q w [] image le opens = OpensFrom-lower (holder w) w.primary.calls p q image le opens
-OpensIn-lower holder p q w (w' ∷ worlds) image le (inl here) = inl (OpensFrom-lower (holder w) w.primary.calls p q image le here)
-OpensIn-lower holder p q w (w' ∷ worlds) image le (inr later) = inr (OpensIn-lower holder p q w' worlds image le later)
-
-in-lower : (holder : World → Holder) (p q : ℕ) (w : World) (worlds : List World) (old new : State) → p ≤ q → LeavesOnly old new (OpensIn holder q w worlds) → LeavesOnly old new (OpensIn holder p w worlds)
-in-lower holder p q w worlds old new le only = LeavesOnly-weaken (OpensIn holder p w worlds) (λ image opens. OpensIn-lower holder p q w worlds image le opens) only
-
--- the moments from a world on, and that no crash leaves an image below where the node stands in it
-record MomentsFrom (touches : Event → Bool) (last : Stretch) (position next : World → ℕ) (holder : World → Holder) (w : World) (events : List Event) (done : List Bool) (worlds : List World) (old new : State) : Type 0 where
-  from : LeavesOnly old new (OpensIn holder (position w) w worlds)
-  moments : AreMoments touches last position next holder w events done worlds old new
-
-moments-from : (touches : Event → Bool) (last : Stretch) (position next : World → ℕ) (holder : World → Holder) → IsOfNode position next → IsLast last
-    → (w : World) (events : List Event) (done : List Bool) (worlds : List World) (old reached new : State) → Run w events done worlds → Sound w → IsSure w
-    → AreMoves touches position holder w events done worlds old reached
-    → last (holder (last_world w worlds)) (last_world w worlds).primary.calls (position (last_world w worlds)) (next (last_world w worlds)) reached new → MomentsFrom touches last position next holder w events done worlds old new
-moments-from touches last position next holder node from w [] [] [] old reached new run sound sure are ends =
-    let all : last (holder w) w.primary.calls (position w) (next w) old new = subst (λ (d : State). last (holder w) w.primary.calls (position w) (next w) d new) (sym are) ends in
-    let onward : LeavesOnly old new (OpensIn holder (position w) w []) = from (holder w) w.primary.calls (position w) (next w) old new (node.onward w sound) all in
-    record { from = onward; moments = (λ prefix call released. in-lower holder _ (position w) w [] old new (node.holds w sound prefix call released) onward, all) }
-moments-from touches last position next holder node from w (event ∷ events) (did ∷ done) (w' ∷ worlds) old reached new run sound sure are ends =
-    let sound' = sound-step w event did w' run.0 sound in
-    let sure' = sure-step w event did w' run.0 sure in
-    let rises = node.rises w w' (grows-step w event did w' run.0 sound) sure'.1 in
-    let rest = moments-from touches last position next holder node from w' events done worlds are.0 reached new run.1 sound' sure'.0 are.3 ends in
-    let onward : LeavesOnly old new (OpensIn holder (position w) w (w' ∷ worlds)) =
-    LeavesOnly-then
-    (LeavesOnly-weaken (OpensIn holder (position w) w (w' ∷ worlds)) (λ image opens. inl opens)
-    (near-from (holder w) w.primary.calls (position w) (position w') old are.0 rises are.1.leaves))
-    (LeavesOnly-weaken (OpensIn holder (position w) w (w' ∷ worlds)) (λ image opens. inr (OpensIn-lower holder (position w) (position w') w' worlds image rises opens)) rest.from) in
-    record {
-      from = onward;
-      moments = (are.0, λ prefix call released. in-lower holder _ (position w) w (w' ∷ worlds) old new (node.holds w sound prefix call released) onward, are.1, are.2, rest.moments);
-    }
-moments-from touches last position next holder node from w events done worlds old reached new run sound sure are ends = absurd run
-
--- no failover comes in a run of the pair
-sure-start : IsSure start
-sure-start = record { failovers = refl; primary_sure = refl; standby_sure = refl; primary_whole = refl; standby_whole = refl }
+use Rattle.world.specs.Condition.{has_ended, life_as}
+use Rattle.world.specs.declared.condition.Condition.{Condition}
+use Rattle.world.specs.declared.condition.Condition.TheVariants as condition
+use Rattle.world.proofs.LivesLemmas.{sure-lives}
+use Rattle.world.proofs.MomentLemmas.{IsFinal, moments-from}
+use Rattle.world.proofs.ReachLemmas.{place, placed, primary-holds, standby-holds}
 
 -- ---- what is told at the end
 
 -- the promise of what tells the last world, by these very worlds
 promised-by : (events : List Event) (done : List Bool) (worlds : List World) (calls : List Call) (released : ℕ → List ℕ) (primary standby : ℕ) → Run start events done worlds
-    → Tells (last_world start worlds) calls released primary standby → (promised : IsPromised true false events done calls released primary standby) × (promised.worlds ≡ worlds)
+    → Tells (last_world start worlds) calls released primary standby → (promised : IsPromised allowed events done calls released primary standby) × (promised.worlds ≡ worlds)
 promised-by events done worlds calls released primary standby run tells =
     let w = last_world start worlds in
-    let promised = promised-told true false events done worlds calls released primary standby run tells in (
+    let promised = promised-told allowed events done worlds calls released primary standby run tells in (
       record {
         worlds = worlds;
         run = run;
@@ -234,9 +61,9 @@ promised-by events done worlds calls released primary standby run tells =
         covered = λ prefix call out.
             let in_last : IsReleased w.primary.calls (released_in w) prefix call =
             record { rest = out.rest; stands = sym tells.list ∙ out.stands; written = omega (arith, out.written, ap length (tells.bytes call.connection)) } in
-            covered-run true false events done worlds run prefix call in_last;
+            covered-run allowed events done worlds run prefix call in_last;
         stays = λ prefix call some.
-            let in_last = released-stays start events done worlds prefix call run (sound-start true false) some in
+            let in_last = released-stays start events done worlds prefix call run (sound-start allowed) some in
             record { rest = in_last.rest; stands = tells.list ∙ in_last.stands; written = omega (arith, in_last.written, ap length (tells.bytes call.connection)) };
         held = promised.held;
         behind = promised.behind;
@@ -249,57 +76,148 @@ promised-by events done worlds calls released primary standby run tells =
 messages-sent : {first second : Holder} {pair : Pair} {w : World} → NodesRefine first second pair w → HasSent w pair.frames pair.arrivals.acknowledgements.items
 messages-sent {first} {second} {pair} {w} stands = record { frames_are = frames-sent first second pair w stands.parts; acknowledgements_are = acks-sent first second pair w stands.parts }
 
-kept : (Last : World → Type 0) (first_last second_last : Stretch) (first second : Holder) (began : Pair) (events : List Event) (done : List Bool) (calls : List Call) (released : List (List ℕ))
+-- the run went on to the end of these stretches, one of each device
+kept : (Last : World → Type 0) (final : Node → Opening) (first_last second_last : Stretch) (first_lines second_lines : ℕ) (began : Pair) (events : List Event) (done : List Bool) (calls : List Call) (released : List (List ℕ))
     (frames acknowledgements : List (Vec ℕ Global)) (primary standby primary' standby' : State)
-    → IsLast first_last → IsLast second_last
-    → (reaches : Reaches first second began events done primary standby)
+    → IsFinal final (each first_last second_last)
+    → (reaches : Reaches first_lines second_lines began events done primary standby)
     → Tells (last_world start reaches.worlds) calls (λ c. slice_index_or released c []) (primary_position (last_world start reaches.worlds)) (standby_position (last_world start reaches.worlds))
     → Last (last_world start reaches.worlds)
     → HasSent (last_world start reaches.worlds) frames acknowledgements
-    → first_last (primary_holder first.lines (last_world start reaches.worlds)) (last_world start reaches.worlds).primary.calls
-    (primary_position (last_world start reaches.worlds)) (next_primary (last_world start reaches.worlds)) primary primary'
-    → second_last (standby_holder second.lines (last_world start reaches.worlds)) (last_world start reaches.worlds).primary.calls
-    (standby_position (last_world start reaches.worlds)) (next_standby (last_world start reaches.worlds)) standby standby'
-    → IsKept Last first_last second_last first.lines second.lines events done calls released frames acknowledgements began.device began.standby.device primary' standby'
-kept Last first_last second_last first second began events done calls released frames acknowledgements primary standby primary' standby' first_from second_from reaches tells last messages primary_ends standby_ends =
+    → EndsAs (each first_last second_last) first_lines (last_world start reaches.worlds) (node_on 0 (last_world start reaches.worlds)) primary primary'
+    → EndsAs (each first_last second_last) second_lines (last_world start reaches.worlds) (node_on 1 (last_world start reaches.worlds)) standby standby'
+    → IsKept Last final first_last second_last first_lines second_lines events done calls released frames acknowledgements (first_device began) (second_device began) primary' standby'
+kept Last final first_last second_last first_lines second_lines began events done calls released frames acknowledgements primary standby primary' standby' is reaches tells last messages primary_ends standby_ends =
     let w = last_world start reaches.worlds in
     let promised = promised-by events done reaches.worlds calls (λ c. slice_index_or released c []) (primary_position w) (standby_position w) reaches.run tells in
-    let primary_moments = moments-from touches_primary first_last primary_position next_primary (primary_holder first.lines) of_primary first_from start events done reaches.worlds began.device primary primary' reaches.run (sound-start true false) sure-start
-    reaches.primary_moves primary_ends in
-    let standby_moments = moments-from touches_standby second_last standby_position next_standby (standby_holder second.lines) of_standby second_from start events done reaches.worlds began.standby.device standby standby' reaches.run (sound-start true false) sure-start
-    reaches.standby_moves standby_ends in
+    let lasts = each first_last second_last in
+    let primary_moments = moments-from final lasts is 0 first_lines start events done reaches.worlds (first_device began) primary primary' reaches.run (sound-start allowed) reaches.primary_moves primary_ends in
+    let standby_moments = moments-from final lasts is 1 second_lines start events done reaches.worlds (second_device began) standby standby' reaches.run (sound-start allowed) reaches.standby_moves standby_ends in
     record {
       primary_at = primary_position w;
       standby_at = standby_position w;
       promised = promised.0;
       last = subst (λ (worlds : List World). Last (last_world start worlds)) (sym promised.1) last;
       messages = subst (λ (worlds : List World). HasSent (last_world start worlds) frames acknowledgements) (sym promised.1) messages;
-      primary_moments = subst (λ (worlds : List World). AreMoments touches_primary first_last primary_position next_primary (primary_holder first.lines) start events done worlds began.device primary') (sym promised.1) primary_moments.moments;
-      standby_moments = subst (λ (worlds : List World). AreMoments touches_standby second_last standby_position next_standby (standby_holder second.lines) start events done worlds began.standby.device standby') (sym promised.1) standby_moments.moments;
+      primary_moments = subst (λ (worlds : List World). AreMoments final lasts 0 first_lines start events done worlds (first_device began) primary') (sym promised.1) primary_moments.moments;
+      standby_moments = subst (λ (worlds : List World). AreMoments final lasts 1 second_lines start events done worlds (second_device began) standby') (sym promised.1) standby_moments.moments;
     }
 
-played-whole : (first second : Holder) (began : Pair) (events : List Event) (done : List Bool) (pair : Pair) (released : List (List ℕ)) → released ≡ released_of pair.transcript
-    → StandsAfter first second began events done pair
-    → IsKept AnyWorld Resting Resting first.lines second.lines events done pair.transcript.calls.items released pair.frames pair.arrivals.acknowledgements.items began.device began.standby.device pair.device pair.standby.device
-played-whole first second began events done pair released same after =
+-- ---- what comes last
+
+-- no crash of a last stretch leaves an image below the position
+abbrev IsLast : Stretch → Type 0
+IsLast last = (holder : Holder) (calls : List Call) (p q : ℕ) (old new : State) → p ≤ q → last holder calls p q old new → LeavesOnly old new (OpensFrom holder calls p)
+
+resting-from : IsLast Resting
+resting-from holder calls p q old new le rests = LeavesOnly-weaken (OpensFrom holder calls p) (λ image stands. (p, le_refl p, stands)) rests.leaves
+
+near-from : (holder : Holder) (calls : List Call) (p q : ℕ) (old new : State) → p ≤ q → NearOnly holder calls p q old new → LeavesOnly old new (OpensFrom holder calls p)
+near-from holder calls p q old new le near = LeavesOnly-weaken (OpensFrom holder calls p) either near
+  where
+    either : (image : Image) → OpensAtEither holder calls p q image → OpensFrom holder calls p image
+    either image (inl here) = (p, le_refl p, here)
+    either image (inr next) = (q, le, next)
+
+from-lower : (holder : Holder) (calls : List Call) (p q : ℕ) (image : Image) → p ≤ q → OpensFrom holder calls q image → OpensFrom holder calls p image
+from-lower holder calls p q image le opens = (opens.0, omega (arith, le, opens.1), opens.2)
+
+final-always : (first_last second_last : Stretch) → IsLast first_last → IsLast second_last → IsFinal opens_always (each first_last second_last)
+final-always first_last second_last first_from second_from = record { includes = includes; lower = lower; ends = ends }
+  where
+    includes : (n : Node) (holder : Holder) (calls : List Call) (p : ℕ) (image : Image) → OpensFrom holder calls p image → opens_always n holder calls p image
+    includes node.Primary holder calls p image opens = opens
+    includes node.Standby holder calls p image opens = opens
+
+    lower : (n : Node) (holder : Holder) (calls : List Call) (p q : ℕ) (image : Image) → p ≤ q → opens_always n holder calls q image → opens_always n holder calls p image
+    lower node.Primary holder calls p q image le opens = from-lower holder calls p q image le opens
+    lower node.Standby holder calls p q image le opens = from-lower holder calls p q image le opens
+
+    ends : (n : Node) (holder : Holder) (calls : List Call) (p q : ℕ) (old new : State) → p ≤ q → each first_last second_last n holder calls p q old new → LeavesOnly old new (opens_always n holder calls p)
+    ends node.Primary holder calls p q old new le last = first_from holder calls p q old new le last
+    ends node.Standby holder calls p q old new le last = second_from holder calls p q old new le last
+
+-- what a promotion leaves in the end
+promoting-from : (refusal : Refusal) (holder : Holder) (calls : List Call) (p q : ℕ) (old new : State) → Promoting refusal holder calls p q old new → LeavesOnly old new (OpensFromEither holder calls p)
+promoting-from refusal holder calls p q old new ends = LeavesOnly-weaken (OpensFromEither holder calls p) either (leaves refusal ends)
+  where
+    either : (image : Image) → OpensAsEither holder calls p image → OpensFromEither holder calls p image
+    either image (inl here) = inl (p, le_refl p, here)
+    either image (inr next) = inr (p, le_refl p, next)
+
+    leaves : (refusal : Refusal) → Promoting refusal holder calls p q old new → LeavesOnly old new (OpensAsEither holder calls p)
+    leaves Memory ends = ends.leaves
+    leaves Fault ends = ends.leaves
+    leaves Exhausted ends = ends.rests.leaves
+    leaves refusal ends = absurd ends
+
+final-promoting : (refusal : Refusal) → IsFinal opens_in_the_end (each Resting (Promoting refusal))
+final-promoting refusal = record { includes = includes; lower = lower; ends = ends }
+  where
+    includes : (n : Node) (holder : Holder) (calls : List Call) (p : ℕ) (image : Image) → OpensFrom holder calls p image → opens_in_the_end n holder calls p image
+    includes node.Primary holder calls p image opens = opens
+    includes node.Standby holder calls p image opens = inl opens
+
+    lower : (n : Node) (holder : Holder) (calls : List Call) (p q : ℕ) (image : Image) → p ≤ q → opens_in_the_end n holder calls q image → opens_in_the_end n holder calls p image
+    lower node.Primary holder calls p q image le opens = from-lower holder calls p q image le opens
+    lower node.Standby holder calls p q image le (inl opens) = inl (from-lower holder calls p q image le opens)
+    lower node.Standby holder calls p q image le (inr opens) = inr (from-lower (promoted_holder holder) calls p q image le opens)
+
+    ends : (n : Node) (holder : Holder) (calls : List Call) (p q : ℕ) (old new : State) → p ≤ q → each Resting (Promoting refusal) n holder calls p q old new → LeavesOnly old new (opens_in_the_end n holder calls p)
+    ends node.Primary holder calls p q old new le last = resting-from holder calls p q old new le last
+    ends node.Standby holder calls p q old new le last = promoting-from refusal holder calls p q old new last
+
+-- ---- a run to the end of the events
+
+-- what is true of the primary's stretch and of the standby's is true of those of both devices
+module _ (first_lines second_lines : ℕ) (pair pair' : Pair) (w : World) (stands : StandsIn first_lines second_lines pair w) (first_last second_last : Stretch)
+    (primary_last : first_last stands.serving w.primary.calls w.primary.committer.position (next_primary w) pair.device pair'.device)
+    (standby_last : HasStandby pair → second_last stands.following w.primary.calls w.standby.position (next_standby w) pair.standby.device pair'.standby.device)
+    (former_still : has_ended pair.standby_condition ≡ true → pair'.standby.device ≡ pair.standby.device) where
+  ends-first : (b : Bool) → has_ended pair.standby_condition ≡ b → stands.serving.lines ≡ (if b then second_lines else first_lines)
+      → EndsAs (each first_last second_last) first_lines w (place 0 b) (if b then pair.standby.device else pair.device) (if b then pair'.standby.device else pair'.device)
+  ends-first true is lines = former_still is
+  ends-first false is lines =
+      subst (λ (h : Holder). first_last h w.primary.calls w.primary.committer.position (next_primary w) pair.device pair'.device) (primary-holds stands.stands ∙ ap (λ n. primary_holder n w) lines) primary_last
+
+  ends-second : (b : Bool) → has_ended pair.standby_condition ≡ b → stands.serving.lines ≡ (if b then second_lines else first_lines)
+      → EndsAs (each first_last second_last) second_lines w (place 1 b) (if b then pair.device else pair.standby.device) (if b then pair'.device else pair'.standby.device)
+  ends-second true is lines =
+      subst (λ (h : Holder). first_last h w.primary.calls w.primary.committer.position (next_primary w) pair.device pair'.device) (primary-holds stands.stands ∙ ap (λ n. primary_holder n w) lines) primary_last
+  ends-second false is lines =
+      subst (λ (h : Holder). second_last h w.primary.calls w.standby.position (next_standby w) pair.standby.device pair'.standby.device) (standby-holds stands.stands ∙ ap (λ n. standby_holder n w) (stands.following_lines is)) (standby_last is)
+
+  -- by the numbers of the devices
+  ends-by-number : has_ended pair'.standby_condition ≡ has_ended pair.standby_condition
+      → EndsAs (each first_last second_last) first_lines w (node_on 0 w) (first_device pair) (first_device pair') × EndsAs (each first_last second_last) second_lines w (node_on 1 w) (second_device pair) (second_device pair')
+  ends-by-number same =
+      let over = has_ended pair.standby_condition in (
+        subst (λ (b : Bool). EndsAs (each first_last second_last) first_lines w (node_on 0 w) (first_device pair) (if b then pair'.standby.device else pair'.device)) (sym same)
+            (subst (λ (o : Option Node). EndsAs (each first_last second_last) first_lines w o (first_device pair) (if over then pair'.standby.device else pair'.device)) (sym (placed stands.stands 0)) (ends-first over refl stands.serving_lines)),
+        subst (λ (b : Bool). EndsAs (each first_last second_last) second_lines w (node_on 1 w) (second_device pair) (if b then pair'.device else pair'.standby.device)) (sym same)
+            (subst (λ (o : Option Node). EndsAs (each first_last second_last) second_lines w o (second_device pair) (if over then pair'.device else pair'.standby.device)) (sym (placed stands.stands 1)) (ends-second over refl stands.serving_lines)),
+      )
+
+played-whole : (first_lines second_lines : ℕ) (began : Pair) (events : List Event) (done : List Bool) (pair : Pair) (released : List (List ℕ)) → released ≡ released_of pair.transcript
+    → StandsAfter first_lines second_lines began events done pair
+    → IsKept AnyWorld opens_always Resting Resting first_lines second_lines events done pair.transcript.calls.items released pair.frames pair.arrivals.acknowledgements.items (first_device began) (second_device began) (first_device pair) (second_device pair)
+played-whole first_lines second_lines began events done pair released same after =
     let w = last_world start after.reaches.worlds in
-    let parts = after.stands.parts in
+    let stands = after.stands.stands in
+    let parts = stands.parts in
     let sessions = sessions-stand parts in
     let told = sessions.told in
-    kept AnyWorld Resting Resting first second began events done pair.transcript.calls.items released pair.frames pair.arrivals.acknowledgements.items pair.device pair.standby.device pair.device pair.standby.device
-    resting-from resting-from after.reaches
+    let ends = ends-by-number first_lines second_lines pair pair w after.stands Resting Resting (rests-primary after.stands.serving after.stands.following pair w stands)
+    (rests-standby after.stands.serving after.stands.following pair w stands) (λ ended. refl) refl in
+    kept AnyWorld opens_always Resting Resting first_lines second_lines began events done pair.transcript.calls.items released pair.frames pair.arrivals.acknowledgements.items (first_device pair) (second_device pair) (first_device pair) (second_device pair)
+    (final-always Resting Resting resting-from resting-from) after.reaches
     (record {
       list = told.calls_are;
       bytes = λ c. ap (λ (all : List (List ℕ)). slice_index_or all c []) same ∙ released-told w.primary.calls pair.transcript w.primary.connections told c;
       primary_position = refl;
       standby_position = refl;
     })
-    tt
-    (messages-sent after.stands)
-    (subst (λ (h : Holder). Rests h w.primary.calls w.primary.committer.position pair.device pair.device) (primary-holds after.stands)
-    (rests-same first w.primary.calls w.primary.committer.position pair.device pair.device refl (primary-stands first second pair w parts)))
-    (subst (λ (h : Holder). Rests h w.primary.calls w.standby.position pair.standby.device pair.standby.device) (standby-holds after.stands)
-    (rests-same second w.primary.calls w.standby.position pair.standby.device pair.standby.device refl (standby-stands first second pair w parts)))
+    tt (messages-sent stands) ends.0 ends.1
 
 -- ---- a run that ended in an event
 
@@ -325,52 +243,85 @@ ends-as Fault ClearGap P Q so ends = so Breaks Resting breaks-from resting-from 
 ends-as Exhausted Commit P Q so ends = so RestsAtLimit Resting limit-from resting-from ends
 ends-as Exhausted ClearGap P Q so ends = so RestsAtLimit Resting limit-from resting-from ends
 ends-as Exhausted Apply P Q so ends = so Resting RestsAtFrameLimit resting-from frame-limit-from ends
-ends-as Fault (Reopen node_of.Primary) P Q so ends = so Breaks Resting breaks-from resting-from ends
-ends-as Fault (Reopen node_of.Standby) P Q so ends = so Resting Breaks resting-from breaks-from ends
-ends-as Exhausted (Reopen node_of.Primary) P Q so ends = so RestsBeforeReopening Resting reopening-from resting-from ends
-ends-as Exhausted (Reopen node_of.Standby) P Q so ends = so Resting RestsBeforeReopening resting-from reopening-from ends
+ends-as Fault (Reopen node.Primary) P Q so ends = so Breaks Resting breaks-from resting-from ends
+ends-as Fault (Reopen node.Standby) P Q so ends = so Resting Breaks resting-from breaks-from ends
+ends-as Exhausted (Reopen node.Primary) P Q so ends = so RestsBeforeReopening Resting reopening-from resting-from ends
+ends-as Exhausted (Reopen node.Standby) P Q so ends = so Resting RestsBeforeReopening resting-from reopening-from ends
 ends-as Fault Promote P Q so ends = so Resting Breaks resting-from breaks-from ends
 ends-as Exhausted Promote P Q so ends = so Resting RestsBeforeReopening resting-from reopening-from ends
 ends-as refusal event P Q so ends = absurd ends
 
-played-cut : (first second : Holder) (began : Pair) (events : List Event) (event : Event) (refusal : Refusal) (done : List Bool) (pair : Pair) (released : List (List ℕ))
-    → released ≡ released_of pair.transcript → IsCutAfter first second began events event refusal done pair
+played-cut : (first_lines second_lines : ℕ) (began : Pair) (events : List Event) (event : Event) (refusal : Refusal) (done : List Bool) (pair : Pair) (released : List (List ℕ))
+    → released ≡ released_of pair.transcript → IsCutAfter first_lines second_lines began events event refusal done pair
     → EndsBy refusal event (λ first_last second_last.
-    IsKept (Enables event) first_last second_last first.lines second.lines events done pair.transcript.calls.items released pair.frames pair.arrivals.acknowledgements.items began.device began.standby.device pair.device pair.standby.device)
-played-cut first second began events event refusal done pair released same after =
+    IsKept (Enables event) opens_always first_last second_last first_lines second_lines events done pair.transcript.calls.items released pair.frames pair.arrivals.acknowledgements.items (first_device began) (second_device began) (first_device pair) (second_device pair))
+    ⊎ ((event ≡ Promote)
+    × IsKept (Enables Promote) opens_in_the_end Resting (Promoting refusal) first_lines second_lines events done pair.transcript.calls.items released pair.frames pair.arrivals.acknowledgements.items (first_device began) (second_device began) (first_device pair) (second_device pair))
+played-cut first_lines second_lines began events event refusal done pair released same after =
     let w = last_world start after.reaches.worlds in
     let before = after.before in
-    let cut = after.cut in
-    ends-as refusal event _ _
-    (λ first_last second_last first_from second_from led.
-    kept (Enables event) first_last second_last first second began events done pair.transcript.calls.items released pair.frames pair.arrivals.acknowledgements.items before.device before.standby.device pair.device pair.standby.device
-    first_from second_from after.reaches
-    (record {
-      list = cut.calls;
-      bytes = λ c. ap (λ (all : List (List ℕ)). slice_index_or all c []) same ∙ cut.released c;
-      primary_position = refl;
-      standby_position = refl;
-    })
-    cut.enabled
-    (subst (λ (texts : List (Vec ℕ Global)). HasSent w texts pair.arrivals.acknowledgements.items) (sym after.frames)
-    (subst (λ (texts : List (Vec ℕ Global)). HasSent w before.frames texts) (sym after.acknowledgements) (messages-sent after.stands)))
-    (subst (λ (h : Holder). first_last h w.primary.calls w.primary.committer.position (next_primary w) before.device pair.device) (primary-holds after.stands) led.0)
-    (subst (λ (h : Holder). second_last h w.primary.calls w.standby.position (next_standby w) before.standby.device pair.standby.device) (standby-holds after.stands) led.1))
-    cut.cause
+    let sent : HasSent w pair.frames pair.arrivals.acknowledgements.items =
+    subst (λ (texts : List (Vec ℕ Global)). HasSent w texts pair.arrivals.acknowledgements.items) (sym after.frames)
+    (subst (λ (texts : List (Vec ℕ Global)). HasSent w before.frames texts) (sym after.acknowledgements) (messages-sent after.stands.stands)) in
+    elim after.cut [
+      | inl acted ↦
+          let cut = acted.0 in
+          inl (ends-as refusal event _ _
+          (λ first_last second_last first_from second_from led.
+          let ends = ends-by-number first_lines second_lines before pair w after.stands first_last second_last led.0 led.1 acted.1 cut.standby in
+          kept (Enables event) opens_always first_last second_last first_lines second_lines began events done pair.transcript.calls.items released pair.frames pair.arrivals.acknowledgements.items (first_device before) (second_device before) (first_device pair) (second_device pair)
+          (final-always first_last second_last first_from second_from) after.reaches
+          (record {
+            list = cut.calls;
+            bytes = λ c. ap (λ (all : List (List ℕ)). slice_index_or all c []) same ∙ cut.released c;
+            primary_position = refl;
+            standby_position = refl;
+          })
+          cut.enabled sent ends.0 ends.1)
+          cut.cause)
+      | inr promoted ↦
+          let cut = promoted.1 in
+          let whole = promoted.2 in
+          let stands = after.stands in
+          let lines = stands.serving_lines ∙ ap (λ b. if b then second_lines else first_lines) whole in
+          let here : first_device before ≡ before.device = ap (λ b. if b then before.standby.device else before.device) whole in
+          let opens : Opens stands.serving w.primary.calls w.primary.committer.position (first_device before) =
+          subst (Opens stands.serving w.primary.calls w.primary.committer.position) (sym here) (primary-stands stands.serving stands.following before w stands.stands.parts) in
+          let first_rests : Rests (primary_holder first_lines w) w.primary.calls w.primary.committer.position (first_device before) (first_device pair) =
+          subst (λ (h : Holder). Rests h w.primary.calls w.primary.committer.position (first_device before) (first_device pair)) (primary-holds stands.stands ∙ ap (λ n. primary_holder n w) lines)
+          (rests-same stands.serving w.primary.calls w.primary.committer.position (first_device before) (first_device pair) cut.first_stays opens) in
+          let second_ends : Promoting refusal (standby_holder second_lines w) w.primary.calls w.standby.position (next_standby w) (second_device before) (second_device pair) =
+          subst (λ (h : Holder). Promoting refusal h w.primary.calls w.standby.position (next_standby w) (second_device before) (second_device pair)) (standby-holds stands.stands ∙ ap (λ n. standby_holder n w) (stands.following_lines whole)) cut.cause in
+          let lasts = each Resting (Promoting refusal) in
+          inr (
+            promoted.0,
+            kept (Enables Promote) opens_in_the_end Resting (Promoting refusal) first_lines second_lines began events done pair.transcript.calls.items released pair.frames pair.arrivals.acknowledgements.items (first_device before) (second_device before) (first_device pair) (second_device pair)
+                (final-promoting refusal) after.reaches
+                (record {
+                  list = cut.calls;
+                  bytes = λ c. ap (λ (all : List (List ℕ)). slice_index_or all c []) same ∙ cut.released c;
+                  primary_position = refl;
+                  standby_position = refl;
+                })
+                cut.enabled sent
+                (subst (λ (o : Option Node). EndsAs lasts first_lines w o (first_device before) (first_device pair)) (sym (placed stands.stands 0 ∙ ap (place 0) whole)) first_rests)
+                (subst (λ (o : Option Node). EndsAs lasts second_lines w o (second_device before) (second_device pair)) (sym (placed stands.stands 1 ∙ ap (place 1) whole)) second_ends),
+          )
+    ]
 
 pub plays-on : (first second : Holder) (began : Pair) (events : List Event) (ended : Option EarlyEnd) (done : List Bool) (pair : Pair) (calls : List Call) (released : List (List ℕ))
     (frames acknowledgements : List (Vec ℕ Global)) (primary standby : State)
     → calls ≡ pair.transcript.calls.items → released ≡ released_of pair.transcript → frames ≡ pair.frames → acknowledgements ≡ pair.arrivals.acknowledgements.items
-    → primary ≡ pair.device → standby ≡ pair.standby.device
-    → Plays first second began events ended done pair → PlaysOn first second events ended done calls released frames acknowledgements began.device began.standby.device primary standby
+    → primary ≡ first_device pair → standby ≡ second_device pair
+    → Plays first second began events ended done pair → PlaysOn first second events ended done calls released frames acknowledgements (first_device began) (second_device began) primary standby
 plays-on first second began events ended done pair calls released frames acknowledgements primary standby calls_same same frames_same acks_same primary_same standby_same plays =
     simp (calls_same, frames_same, acks_same, primary_same, standby_same) (go ended plays)
   where
     go : (ended : Option EarlyEnd) → Plays first second began events ended done pair
-        → PlaysOn first second events ended done pair.transcript.calls.items released pair.frames pair.arrivals.acknowledgements.items began.device began.standby.device pair.device pair.standby.device
-    go None plays = played-whole first second began events done pair released same plays
+        → PlaysOn first second events ended done pair.transcript.calls.items released pair.frames pair.arrivals.acknowledgements.items (first_device began) (second_device began) (first_device pair) (second_device pair)
+    go None plays = played-whole first.lines second.lines began events done pair released same plays
     go (Some (AtFormatting refusal)) plays = absurd plays
-    go (Some (AtEvent index refusal)) plays = (plays.0, plays.1, played-cut first second began (take index events) plays.0 refusal done pair released same plays.2)
+    go (Some (AtEvent index refusal)) plays = (plays.0, plays.1, played-cut first.lines second.lines began (take index events) plays.0 refusal done pair released same plays.2)
 
 -- ---- after the formatting
 
@@ -383,10 +334,14 @@ keeps-played events (Some (AtFormatting refusal)) done calls released frames ack
 keeps-played events (Some (AtEvent index refusal)) done calls released frames acknowledgements primary standby formatted formatted' primary' standby' formatting formatting' plays = (
   plays.0,
   plays.1,
-  ends-as refusal plays.0 _ _
-      (λ first_last second_last first_from second_from played.
-      record { primary_formatted = formatted; standby_formatted = formatted'; primary_formatting = formatting; standby_formatting = formatting'; kept = played })
-      plays.2,
+  elim plays.2 [
+    | inl ends ↦ inl (ends-as refusal plays.0 _ _
+        (λ first_last second_last first_from second_from played.
+        record { primary_formatted = formatted; standby_formatted = formatted'; primary_formatting = formatting; standby_formatting = formatting'; kept = played })
+        ends)
+    | inr promoted ↦
+        inr (promoted.0, record { primary_formatted = formatted; standby_formatted = formatted'; primary_formatting = formatting; standby_formatting = formatting'; kept = promoted.1 })
+  ],
 )
 
 -- a run that ended before the first event

@@ -4,35 +4,41 @@ use Rattle.std.specs.Vec.{vec_capacity}
 use Rattle.kv_types.specs.declared.refusal.Refusal.{Refusal}
 use Rattle.model.specs.Standing.{Holder}
 use Rattle.machine.specs.declared.event.Event.{Event}
-use Rattle.machine.specs.declared.event.Event.TheVariants.{Apply, Crash, OpenLink, Reopen, Send, Turn}
+use Rattle.machine.specs.declared.event.Event.TheVariants.{Apply, Crash, OpenLink, Promote, Reopen, Send, Turn}
 use Rattle.machine.specs.declared.event.Node.TheVariants as node
 use Rattle.machine.specs.Event.{World}
+use Rattle.std.proofs.lemmas.List.{append-nil}
+use Rattle.machine.specs.Promise.{released_in}
 use Rattle.machine.proofs.PromiseLemmas.{released-held}
+use Rattle.world.specs.Committing.{promoted_holder}
 use Rattle.connections.specs.Session.{AddsOne, released_of}
 use Rattle.connections.specs.declared.transcript.Transcript.{Transcript}
 use Rattle.connections.proofs.SessionLemmas.{released-told}
 use Rattle.world.specs.Headline.{start}
 use Rattle.world.specs.Link.{AreAcksSent, AreFramesSent}
-use Rattle.world.specs.Pair.{Acts, Does, EitherRefines, HasRoom, HasWorld, IsCut, NodesRefine, Pair, PairRefines, Steps, takes_part}
+use Rattle.world.specs.Pair.{Acts, Does, EitherRefines, HasRoom, HasWorld, IsCut, NodesRefine, Pair, PairRefines, Promotes, Steps, Succeeds, takes_part}
 use Rattle.world.specs.Effect.{Effect}
-use Rattle.world.specs.Step.{AcksBy, CallsBy, FramesBy, Happened, IsRoomier, IsStep, LacksRoom, Leaves, Shows, Turns, WasCut, released_by}
+use Rattle.world.specs.Step.{Acted, AcksBy, CallsBy, FramesBy, Happened, IsRoomier, IsStep, LacksRoom, Leaves, Shows, Succeeded, Turns, WasCut, WasPromoted, released_by}
 use Rattle.world.proofs.GivenLemmas.{calls-step, released-step}
 use Rattle.world.proofs.LivesLemmas.{nodes-refine, serves-as, sure-lives}
 use Rattle.world.proofs.PairLemmas.{primary-stands, roomier-stands, sessions-stand, standby-stands}
 use Rattle.world.proofs.PairLives.{idle-step, own-acts}
+use Rattle.world.specs.Condition.{runs}
 
 -- ---- what can be seen
 
 pub frames-sent : (first second : Holder) (pair : Pair) (w : World) → EitherRefines first second pair w → AreFramesSent w.primary.epoch w.primary.calls pair.frames w.wire.frames
 frames-sent first second pair w parts = elim parts [
   | inl up ↦ subst (λ epoch. AreFramesSent epoch w.primary.calls pair.frames w.wire.frames) up.1.epoch up.1.frames
-  | inr down ↦ subst (λ epoch. AreFramesSent epoch w.primary.calls pair.frames w.wire.frames) down.1.epoch down.1.frames
+  | inr (inl down) ↦ subst (λ epoch. AreFramesSent epoch w.primary.calls pair.frames w.wire.frames) down.1.epoch down.1.frames
+  | inr (inr fenced) ↦ subst (λ epoch. AreFramesSent epoch w.primary.calls pair.frames w.wire.frames) fenced.1.epoch fenced.1.frames
 ]
 
 pub acks-sent : (first second : Holder) (pair : Pair) (w : World) → EitherRefines first second pair w → AreAcksSent pair.arrivals.acknowledgements.items w.wire.acknowledgements
 acks-sent first second pair w parts = elim parts [
   | inl up ↦ up.1.arrivals.acknowledged
-  | inr down ↦ down.1.arrivals.acknowledged
+  | inr (inl down) ↦ down.1.arrivals.acknowledged
+  | inr (inr fenced) ↦ fenced.1.arrivals.acknowledged
 ]
 
 pub shows : (first second : Holder) (pair : Pair) (w : World) → NodesRefine first second pair w → Shows first second w pair
@@ -62,19 +68,60 @@ happened first second w event did old new stands steps =
       released = λ c. after.released c ∙ released-step w event did steps.world (sure-lives stands.lives) steps.step c ∙ ap (λ bytes. bytes ++ released_by w event did c) (sym (before.released c));
     }
 
-pub is-step : (old : Pair) (event : Event) (result : Result Bool Refusal) (new : Pair) → Acts old event result new → Leaves event result old new → IsStep old event result new
-is-step old event (Ok did) new acts leaves = record {
+acted : (old : Pair) (event : Event) (result : Result Bool Refusal) (new : Pair) → Acts old event result new → Leaves event result old new → Acted old event result new
+acted old event (Ok did) new acts leaves = record {
   happened = λ first second w stands. happened first second w event did old new stands (acts.steps first second w stands);
   refused = tt;
   leaves = leaves;
   room = λ room. acts.calls;
 }
-is-step old event (Err refusal) new acts leaves = record {
+acted old event (Err refusal) new acts leaves = record {
   happened = tt;
   refused = inl (λ first second w stands. record { cut = acts.cut first second w stands; before = shows first second old w stands });
   leaves = leaves;
   room = λ room. acts.calls;
 }
+
+pub is-step : (old : Pair) (event : Event) (result : Result Bool Refusal) (new : Pair) → Acts old event result new → Leaves event result old new → IsStep old event result new
+is-step old event result new acts leaves = inl (acted old event result new acts leaves)
+
+-- ---- a promotion
+
+-- what a promotion did can be told
+pub promoted-is : {old new : Pair} {event : Event} {result : Result Bool Refusal} → event ≡ Promote → Promotes old result new → new.frames ≡ old.frames
+    → new.arrivals.acknowledgements.items ≡ old.arrivals.acknowledgements.items → IsStep old event result new
+promoted-is {old} {new} {event} {result} is promotes frames acks = inr (go result promotes)
+  where
+    succeeded : (first second : Holder) (w : World) → NodesRefine first second old w → Succeeds second w old new → Succeeded first second w old new
+    succeeded first second w stands succeeds =
+        let before = shows first second old w stands in
+        let after = shows (promoted_holder second) succeeds.former new succeeds.world succeeds.stands in
+        let sure = sure-lives stands.lives in
+        record {
+          succeeds = succeeds;
+          before = before;
+          after = after;
+          called = subst (CallsBy w Promote true) (sym after.calls) (calls-step w Promote true succeeds.world sure succeeds.step);
+          released = λ c. after.released c ∙ released-step w Promote true succeeds.world sure succeeds.step c ∙ append-nil (released_in w c) ∙ sym (before.released c);
+        }
+
+    go : (result : Result Bool Refusal) → Promotes old result new → WasPromoted old event result new
+    go (Ok did) promotes = record {
+      event_is = is;
+      succeeded = (promotes.succeeds.0, λ first second w stands. succeeded first second w stands (promotes.succeeds.1 first second w stands));
+      refused = tt;
+      frames = frames;
+      acknowledgements = acks;
+      room = λ room. promotes.calls;
+    }
+    go (Err refusal) promotes = record {
+      event_is = is;
+      succeeded = tt;
+      refused = λ first second w stands. (promotes.cut first second w stands, shows first second old w stands);
+      frames = frames;
+      acknowledgements = acks;
+      room = λ room. promotes.calls;
+    }
 
 frames-still : (event : Event) (frames : List (Vec ℕ Global)) → FramesBy event (Ok false) frames frames
 frames-still Send frames = refl
@@ -98,13 +145,13 @@ leaves-still event pair =
     record { primary = λ idle. refl; standby = λ idle. refl; frames = frames-still event pair.frames; acknowledgements = acks-still event pair.arrivals.acknowledgements.items; effect = effect-still event pair }
 
 -- its nodes do not run
-pub idle-is : {old : Pair} {event : Event} {took : Bool} → took ≡ takes_part old.primary_runs old.standby_runs event → took ≡ false → IsStep old event (Ok false) old
+pub idle-is : {old : Pair} {event : Event} {took : Bool} → took ≡ takes_part (runs old.primary_condition) (runs old.standby_condition) event → took ≡ false → IsStep old event (Ok false) old
 idle-is {old} {event} {took} takes idle =
     is-step old event (Ok false) old (idle-step takes idle) (leaves-still event old)
 
 -- the primary takes part alone
-pub own-is : {old new : Pair} {event event' : Event} {result : Result Bool Refusal} {took : Bool} → event ≡ event' → took ≡ takes_part old.primary_runs old.standby_runs event → took ≡ true
-    → (takes_part old.primary_runs old.standby_runs event' ≡ true → old.primary_runs ≡ true) → Does old event' result new → Leaves event' result old new → IsStep old event result new
+pub own-is : {old new : Pair} {event event' : Event} {result : Result Bool Refusal} {took : Bool} → event ≡ event' → took ≡ takes_part (runs old.primary_condition) (runs old.standby_condition) event → took ≡ true
+    → (takes_part (runs old.primary_condition) (runs old.standby_condition) event' ≡ true → runs old.primary_condition ≡ true) → Does old event' result new → Leaves event' result old new → IsStep old event result new
 own-is {old} {new} {event} {event'} {result} {took} is takes took_part own does leaves =
     is-step old event result new (own-acts is takes took_part own does) (subst (λ (e : Event). Leaves e result old new) (sym is) leaves)
 
@@ -132,18 +179,18 @@ adds-roomy old transcript new roomier room adds = record {
   room = adds.room ∙ roomier.enough (omega (arith, room, old.calls.ok.0));
 }
 
-turn-step : (old : Pair) (c : ℕ) (result : Result Bool Refusal) (new : Pair) → old.primary_runs ≡ true → Turns old c result new → Leaves (Turn c) result old new → IsStep old (Turn c) result new
-turn-step old c (Ok did) new runs turns leaves = record {
+turn-step : (old : Pair) (c : ℕ) (result : Result Bool Refusal) (new : Pair) → runs old.primary_condition ≡ true → Turns old c result new → Leaves (Turn c) result old new → IsStep old (Turn c) result new
+turn-step old c (Ok did) new runs turns leaves = inl (record {
   happened = λ first second w stands.
       happened first second w (Turn c) did old new stands
       (steps-from first second w (Turn c) did old turns.roomy new (turns.does.steps first second w (roomy-refines first second old turns.roomy w turns.is_roomier (serves-as runs stands))));
   refused = tt;
   leaves = leaves;
   room = λ room. adds-roomy old.transcript turns.roomy new turns.is_roomier room.room turns.does.calls;
-}
+})
 turn-step old c (Err refusal) new runs turns leaves =
     let same = turns.refused.2 in
-    record {
+    inl (record {
       happened = tt;
       refused = inr (record {
         connection = c;
@@ -160,12 +207,12 @@ turn-step old c (Err refusal) new runs turns leaves =
       });
       leaves = leaves;
       room = λ room. absurd (omega (arith, room.room, turns.refused.1, old.transcript.calls.ok.0));
-    }
+    })
 
-pub turn-is : {old new : Pair} {event : Event} {c : ℕ} {result : Result Bool Refusal} {took : Bool} → event ≡ Turn c → took ≡ takes_part old.primary_runs old.standby_runs event → took ≡ true
+pub turn-is : {old new : Pair} {event : Event} {c : ℕ} {result : Result Bool Refusal} {took : Bool} → event ≡ Turn c → took ≡ takes_part (runs old.primary_condition) (runs old.standby_condition) event → took ≡ true
     → Turns old c result new → Leaves (Turn c) result old new → IsStep old event result new
 turn-is {old} {new} {event} {c} {result} {took} is takes took_part turns leaves =
-    let runs = ap (takes_part old.primary_runs old.standby_runs) (sym is) ∙ sym takes ∙ took_part in
+    let runs = ap (takes_part (runs old.primary_condition) (runs old.standby_condition)) (sym is) ∙ sym takes ∙ took_part in
     subst (λ (e : Event). IsStep old e result new) (sym is) (turn-step old c result new runs turns leaves)
 
 -- ---- a run
@@ -179,9 +226,14 @@ cut-for-room old event refusal new room (inr lacks) first second w stands = absu
 
 -- and a pair to which an event happened stands for a world again
 pub goes-on : {old new : Pair} {event : Event} {did : Bool} → HasWorld old → IsStep old event (Ok did) new → HasWorld new
-goes-on has is =
-    let steps = (is.happened has.first has.second has.world has.stands).steps in
-    record { first = has.first; second = has.second; world = steps.world; stands = steps.stands }
+goes-on has is = elim is [
+  | inl acted ↦
+      let steps = (acted.happened has.first has.second has.world has.stands).steps in
+      record { first = has.first; second = has.second; world = steps.world; stands = steps.stands }
+  | inr promoted ↦
+      let next = (promoted.succeeded.1 has.first has.second has.world has.stands).succeeds in
+      record { first = promoted_holder has.second; second = next.former; world = next.world; stands = next.stands }
+]
 
 -- as a new one does
 pub has-start : (first second : Holder) (pair : Pair) → NodesRefine first second pair start → HasWorld pair

@@ -14,7 +14,9 @@ use Rattle.machine.specs.declared.event.Node.{Node}
 use Rattle.machine.specs.declared.event.Node.TheVariants as node
 use Rattle.machine.specs.Row.{EachPosition, Limit, OneStamp, Reopening, row}
 use Rattle.wbl_engine.specs.Reopening.{ExhaustsReopening}
-use Rattle.world.specs.Committing.{Rests, NearOnly}
+use Rattle.pmem.specs.Runs.{LeavesOnly}
+use Rattle.wbl_engine.specs.Promoting.{ExhaustsPromotion}
+use Rattle.world.specs.Committing.{OpensAsEither, Rests, NearOnly}
 
 -- a relation between two states of a holder's device, given the list of calls, a position in it, and the position that the node goes to next
 abbrev pub Stretch : Type 1
@@ -103,3 +105,30 @@ EndsBy Memory event Leads = (asks_memory event ≡ true) × Leads Resting Restin
 EndsBy Fault event Leads = Fails (row event).may_fail (row event).touches Leads
 EndsBy Exhausted event Leads = ReachesLimit (row event).limit (row event).touches Leads
 EndsBy refusal event Leads = ⊥
+
+-- ---- in a promotion
+
+-- Each crash between these two states leaves an image that opens at this position of the list, as the standby's or as that of the primary which it becomes, and no
+-- fence failed.
+pub record RestsAsEither (holder : Holder) (calls : List Call) (position : ℕ) (old new : State) : Type 0 where
+  pub leaves : LeavesOnly old new (OpensAsEither holder calls position)
+  pub failures : new.failures ≡ old.failures
+
+-- the same, and a fence failed
+pub record BreaksAsEither (holder : Holder) (calls : List Call) (position : ℕ) (old new : State) : Type 0 where
+  pub leaves : LeavesOnly old new (OpensAsEither holder calls position)
+  pub failures : old.failures < new.failures
+
+-- The same, and no fence failed: the promotion would take a counter of the image's record to the limit; or the image was promoted, and the opening of it would.
+pub record LimitsPromotion (holder : Holder) (calls : List Call) (position : ℕ) (old new : State) : Type 0 where
+  pub rests : RestsAsEither holder calls position old new
+  pub current : Record
+  pub has_record : (image : Image) → IsImage new.words image → HasRecord holder.lines current image
+  pub limit : ExhaustsPromotion current ⊎ ExhaustsReopening current
+
+-- A promotion ended the run for this cause, with this effect on the standby's device.
+abbrev pub Promoting : Refusal → Stretch
+Promoting Memory holder calls position next = RestsAsEither holder calls position
+Promoting Fault holder calls position next = BreaksAsEither holder calls position
+Promoting Exhausted holder calls position next = LimitsPromotion holder calls position
+Promoting refusal holder calls position next = λ old new. ⊥

@@ -1,5 +1,5 @@
 -- How the committer and its engine refine the machine's.
-use Rattle.std.specs.Prelude.{◌≡◌, ◌⊎◌, ℕ, ◌≤◌, Bool, true, false, nat_lt, List, length}
+use Rattle.std.specs.Prelude.{◌≡◌, ◌⊎◌, ℕ, ◌+◌, ◌≤◌, Bool, true, false, nat_lt, List, length}
 use Rattle.pmem.specs.Device.{State}
 use Rattle.pmem.specs.Crash.{IsImage, IsSettled, image_of}
 use Rattle.pmem.specs.Runs.{LeavesOnly}
@@ -12,6 +12,7 @@ use Rattle.model.specs.declared.work.Work.{Work}
 use Rattle.model.specs.Group.{Contents, IsConsistent}
 use Rattle.model.specs.Standing.{Holder, StandsAt}
 use Rattle.model.specs.declared.record.Role.{Role}
+use Rattle.model.specs.declared.record.Role.TheVariants as Role
 use Rattle.wbl_engine.specs.Contents.{IsDurable, Keeps}
 use Rattle.wbl_engine.specs.Formatting.{IsFormatting}
 use Rattle.wbl_engine.specs.Lawful.{AreLawful, IsUndamaged}
@@ -89,6 +90,14 @@ pub record Moves (holder : Holder) (calls : List Call) (from to : ℕ) (old new 
 pub record Rests (holder : Holder) (calls : List Call) (position : ℕ) (old new : State) : Type 0 where
   pub leaves : LeavesOnly old new (OpensAt holder calls position)
   pub failures : new.failures ≡ old.failures
+
+-- whose image it is once a standby with this one was promoted
+abbrev pub promoted_holder : Holder → Holder
+promoted_holder holder = record holder { role = Role.Primary; epoch = holder.epoch + 1 }
+
+-- the image opens at this position of the list, as that of this standby, or of the primary of the next epoch
+abbrev pub OpensAsEither : Holder → List Call → ℕ → Image → Type 0
+OpensAsEither holder calls position image = OpensAt holder calls position image ⊎ OpensAt (promoted_holder holder) calls position image
 
 -- each crash between these two states of a device leaves what is there while it is formatted for this role
 abbrev pub FormattingOnly : Role → State → State → Type 0

@@ -1,28 +1,33 @@
 -- The word that a run keeps: the promise, between any two events, and what a crash leaves of both images at any moment of the run.
-use Rattle.std.specs.Prelude.{◌≡◌, ◌⊎◌, ℕ, ◌≤◌, ◌&&◌, Bool, true, false, List, [], ◌∷◌, ◌++◌, take, slice_get, slice_index_or, Option, Some, None, Vec}
+use Rattle.std.specs.Prelude.{◌≡◌, ◌⊎◌, ℕ, ◌≤◌, ◌&&◌, nat_eq, if◌then◌else◌, Bool, true, false, List, [], ◌∷◌, ◌++◌, take, slice_get, slice_index_or, Option, Some, None, Vec}
 use Rattle.std.specs.Global.{Global}
 use Rattle.pmem.specs.Device.{State}
 use Rattle.pmem.specs.Runs.{LeavesOnly}
 use Rattle.kv_types.specs.declared.refusal.Refusal.{Refusal}
 use Rattle.model.specs.declared.call.Call.{Call}
 use Rattle.model.specs.declared.record.Role.TheVariants.{Primary, Standby}
-use Rattle.model.specs.Call.{position_of}
+use Rattle.model.specs.Call.{cut_at, position_of}
 use Rattle.model.specs.Image.{Image}
 use Rattle.model.specs.Standing.{Holder}
 use Rattle.machine.specs.declared.event.Event.{Event}
-use Rattle.machine.specs.Event.{Run, World, is_enabled, start_with, last_world}
+use Rattle.machine.specs.declared.event.Event.TheVariants.{Promote}
+use Rattle.machine.specs.declared.event.Node.{Node}
+use Rattle.machine.specs.declared.event.Node.TheVariants as node
+use Rattle.machine.specs.Event.{Run, World, is_enabled, start_with, last_world, position_at}
+use Rattle.machine.specs.Row.{touches}
 use Rattle.machine.specs.Promise.{IsPromised, IsReleased, released_in}
-use Rattle.world.specs.Committing.{Moves, OpensAt, FormattingOnly, next_primary, next_standby}
-use Rattle.world.specs.Cause.{Stretch, Resting, UnformedBy, EndsBy}
+use Rattle.world.specs.Committing.{OpensAt, FormattingOnly, next_primary, next_standby, promoted_holder}
+use Rattle.world.specs.Cause.{Stretch, Promoting, Resting, UnformedBy, EndsBy}
+use Rattle.world.specs.Condition.{has_ended}
 use Rattle.world.specs.Link.{AreAcksSent, AreFramesSent}
-use Rattle.world.specs.Pair.{Pair, NodesRefine, IsCut}
-use Rattle.world.specs.Step.{touches_primary, touches_standby}
+use Rattle.world.specs.Pair.{HasStandby, Pair, NodesRefine, IsCut, IsPromotionCut, allowed, first_device, second_device}
 use Rattle.world.specs.declared.trace.EarlyEnd.{EarlyEnd}
 use Rattle.world.specs.declared.trace.EarlyEnd.TheVariants.{AtFormatting, AtEvent}
 
--- Two nodes that were formatted together and may crash between two events. No fence is asked to fail, no call is cut, and no failover comes.
+-- Two nodes that were formatted together, may crash between two events, and of which the primary may be fenced and the standby promoted after that. No fence of a device is
+-- asked to fail, and no call is cut.
 abbrev pub start : World
-start = start_with true false
+start = start_with allowed
 
 -- the position of a node in a world
 abbrev pub primary_position : World → ℕ
@@ -38,31 +43,96 @@ primary_holder lines w = record { lines = lines; role = Primary; epoch = w.prima
 abbrev pub standby_holder : ℕ → World → Holder
 standby_holder lines w = record { lines = lines; role = Standby; epoch = w.standby.epoch }
 
+-- ---- whose device it is
+
+-- the node whose device has this number; none once the primary was succeeded that had it
+abbrev pub node_on : ℕ → World → Option Node
+node_on number w =
+    if nat_eq w.primary.disk.number number then Some node.Primary else (if nat_eq w.standby.disk.number number then Some node.Standby else None)
+
+-- whose image that node keeps in a world, on a device of this many lines, and where it goes next
+abbrev pub holder_at : ℕ → World → Node → Holder
+holder_at lines w node.Primary = primary_holder lines w
+holder_at lines w node.Standby = standby_holder lines w
+
+abbrev pub next_at : World → Node → ℕ
+next_at w node.Primary = next_primary w
+next_at w node.Standby = next_standby w
+
+-- what is said of the node, if there is one
+abbrev pub OfNode : Option Node → (Node → Type 0) → Type 0
+OfNode None P = Unit {0}
+OfNode (Some n) P = P n
+
+-- there is one, and this is said of it
+abbrev pub OfSomeNode : Option Node → (Node → Type 0) → Type 0
+OfSomeNode None P = ⊥
+OfSomeNode (Some n) P = P n
+
+-- the event does something to the device of that node
+abbrev pub touches_on : Option Node → Event → Bool
+touches_on None event = false
+touches_on (Some n) event = touches n event
+
+-- ---- what a crash leaves
+
+-- what an image is, for a holder, at this position of the list or at a later one
+abbrev pub Opening : Type 1
+Opening = Holder → List Call → ℕ → Image → Type 0
+
 -- the image opens at this position of the list or at a later one
-abbrev pub OpensFrom : Holder → List Call → ℕ → Image → Type 0
+abbrev pub OpensFrom : Opening
 OpensFrom holder calls position image = (p : ℕ) × (position ≤ p) × OpensAt holder calls p image
 
--- the image opens in one of these worlds, as its holder's, at this position of its list or at a later one
-abbrev pub OpensIn : (World → Holder) → ℕ → World → List World → Image → Type 0
-OpensIn holder position w [] image = OpensFrom (holder w) w.primary.calls position image
-OpensIn holder position w (w' ∷ worlds) image = OpensFrom (holder w) w.primary.calls position image ⊎ OpensIn holder position w' worlds image
+-- the same, or as that of the primary which this standby becomes
+abbrev pub OpensFromEither : Opening
+OpensFromEither holder calls position image = OpensFrom holder calls position image ⊎ OpensFrom (promoted_holder holder) calls position image
+
+-- the image opens in one of these worlds, as that of the node whose device it is, at this position of its list or at a later one; in the last of them as is said of it
+abbrev pub OpensIn : (Node → Opening) → ℕ → ℕ → ℕ → World → List World → Image → Type 0
+OpensIn final number lines position w [] image = OfSomeNode (node_on number w) (λ n. final n (holder_at lines w n) w.primary.calls position image)
+OpensIn final number lines position w (w' ∷ worlds) image =
+    OfSomeNode (node_on number w) (λ n. OpensFrom (holder_at lines w n) w.primary.calls position image) ⊎ OpensIn final number lines position w' worlds image
 
 -- Each crash between these two states of a device leaves an image that opens in this world or a later one, and in which no call is missing that was released in
--- this world.
-abbrev pub KeepsReleased : (World → Holder) → World → List World → State → State → Type 0
-KeepsReleased holder w worlds old new =
-    (prefix : List Call) (call : Call) → IsReleased w.primary.calls (released_in w) prefix call → LeavesOnly old new (OpensIn holder (position_of (prefix ++ call ∷ [])) w worlds)
+-- this world. (So while the device is that of a node.)
+abbrev pub KeepsReleased : (Node → Opening) → ℕ → ℕ → World → List World → State → State → Type 0
+KeepsReleased final number lines w worlds old new =
+    OfNode (node_on number w) (λ n. (prefix : List Call) (call : Call) → IsReleased w.primary.calls (released_in w) prefix call
+    → LeavesOnly old new (OpensIn final number lines (position_of (prefix ++ call ∷ [])) w worlds))
 
--- The moments of a device, cut by the events of a run from this world on, at states that the device passed in this order. A crash during an event leaves an image
--- that opens, over the list of the world before it, where the node stood before it or where it stood after it. An event that does not touch the device, or was not
--- enabled, leaves it as it was, with all that it has gone through. What comes after the last event is a stretch of its own. And from each cut on, up to the end,
--- each crash keeps what was released by then.
-abbrev pub AreMoments : (Event → Bool) → Stretch → (World → ℕ) → (World → ℕ) → (World → Holder) → World → List Event → List Bool → List World → State → State → Type 0
-AreMoments touches last position next holder w [] [] [] old new = KeepsReleased holder w [] old new × last (holder w) w.primary.calls (position w) (next w) old new
-AreMoments touches last position next holder w (event ∷ events) (did ∷ done) (w' ∷ worlds) old new =
-    (between : State) × KeepsReleased holder w (w' ∷ worlds) old new × Moves (holder w) w.primary.calls (position w) (position w') old between
-    × ((touches event && did) ≡ false → between ≡ old) × AreMoments touches last position next holder w' events done worlds between new
-AreMoments touches last position next holder w events done worlds old new = ⊥
+-- Each crash between these two states leaves an image that opens, over the list of the first world, where the node stands in that world, or where the node stands in the second one
+-- whose device it is then; and no fence failed.
+pub record MovesOn (lines : ℕ) (w w' : World) (before : Node) (after : Option Node) (old new : State) : Type 0 where
+  pub leaves : LeavesOnly old new (λ image. OpensAt (holder_at lines w before) w.primary.calls (position_at w before) image
+      ⊎ OfSomeNode after (λ n. OpensAt (holder_at lines w' n) w.primary.calls (position_at w' n) image))
+  pub failures : new.failures ≡ old.failures
+
+-- what an event does to a device; one that is no node's stays as it is, with all that it has gone through
+abbrev pub MovesBy : ℕ → World → World → Option Node → Option Node → State → State → Type 0
+MovesBy lines w w' None after old new = new ≡ old
+MovesBy lines w w' (Some before) after old new = MovesOn lines w w' before after old new
+
+-- what comes after the last event
+abbrev pub EndsAs : (Node → Stretch) → ℕ → World → Option Node → State → State → Type 0
+EndsAs last lines w None old new = new ≡ old
+EndsAs last lines w (Some n) old new = last n (holder_at lines w n) w.primary.calls (position_at w n) (next_at w n) old new
+
+-- The moments of the device with this number and this many lines, cut by the events of a run from this world on, at states that the device passed in this order. A crash during an
+-- event leaves an image that opens, over the list of the world before it, where its node stood before the event or where it stands after it: the standby's, where
+-- that is promoted, as a primary's. An event that does not touch the device, or was not enabled, leaves it as it was, with all that it has gone through. What comes after
+-- the last event is a stretch of its own. And from each cut on, up to the end, each crash keeps what was released by then.
+abbrev pub AreMoments : (Node → Opening) → (Node → Stretch) → ℕ → ℕ → World → List Event → List Bool → List World → State → State → Type 0
+AreMoments final last number lines w [] [] [] old new = KeepsReleased final number lines w [] old new × EndsAs last lines w (node_on number w) old new
+AreMoments final last number lines w (event ∷ events) (did ∷ done) (w' ∷ worlds) old new =
+    (between : State) × KeepsReleased final number lines w (w' ∷ worlds) old new × MovesBy lines w w' (node_on number w) (node_on number w') old between
+    × ((touches_on (node_on number w) event && did) ≡ false → between ≡ old) × AreMoments final last number lines w' events done worlds between new
+AreMoments final last number lines w events done worlds old new = ⊥
+
+-- what is said of each node
+abbrev pub each : {X : Type 1} → X → X → Node → X
+each first second node.Primary = first
+each first second node.Standby = second
 
 -- nothing is required of the last world of a run
 abbrev pub AnyWorld : World → Type 0
@@ -77,27 +147,28 @@ pub record HasSent (w : World) (frames acknowledgements : List (Vec ℕ Global))
   pub frames_are : AreFramesSent w.primary.epoch w.primary.calls frames w.wire.frames
   pub acknowledgements_are : AreAcksSent acknowledgements w.wire.acknowledgements
 
--- All or some of these events did their step, and moved the two devices on from where they were formatted. The list of calls and the released bytes, by
+-- All or some of these events did their step, and moved the two devices on from where they were formatted: the first, number 0, was given as the primary's, the second, number 1,
+-- as the standby's. The list of calls and the released bytes, by
 -- connection, are as promised, and the messages are those of the last world. `Last` holds of it.
-pub record IsKept (Last : World → Type 0) (first_last second_last : Stretch) (first_lines second_lines : ℕ) (events : List Event) (done : List Bool) (calls : List Call) (released : List (List ℕ)) (frames acknowledgements : List (Vec ℕ Global)) (primary standby primary' standby' : State) : Type 0 where
+pub record IsKept (Last : World → Type 0) (final : Node → Opening) (first_last second_last : Stretch) (first_lines second_lines : ℕ) (events : List Event) (done : List Bool) (calls : List Call) (released : List (List ℕ)) (frames acknowledgements : List (Vec ℕ Global)) (primary standby primary' standby' : State) : Type 0 where
   -- the positions of the two nodes at the end
   pub primary_at : ℕ
   pub standby_at : ℕ
-  pub promised : IsPromised true false events done calls (λ c. slice_index_or released c []) primary_at standby_at
+  pub promised : IsPromised allowed events done calls (λ c. slice_index_or released c []) primary_at standby_at
   pub last : Last (last_world start promised.worlds)
   pub messages : HasSent (last_world start promised.worlds) frames acknowledgements
   -- the moments of either device, cut by the same events
-  pub primary_moments : AreMoments touches_primary first_last primary_position next_primary (primary_holder first_lines) start events done promised.worlds primary primary'
-  pub standby_moments : AreMoments touches_standby second_last standby_position next_standby (standby_holder second_lines) start events done promised.worlds standby standby'
+  pub primary_moments : AreMoments final (each first_last second_last) 0 first_lines start events done promised.worlds primary primary'
+  pub standby_moments : AreMoments final (each first_last second_last) 1 second_lines start events done promised.worlds standby standby'
 
 -- The first device was formatted as primary and the second as standby, and then the events happened.
-pub record IsPlayed (Last : World → Type 0) (first_last second_last : Stretch) (events : List Event) (done : List Bool) (calls : List Call) (released : List (List ℕ)) (frames acknowledgements : List (Vec ℕ Global)) (primary standby primary' standby' : State) : Type 0 where
+pub record IsPlayed (Last : World → Type 0) (final : Node → Opening) (first_last second_last : Stretch) (events : List Event) (done : List Bool) (calls : List Call) (released : List (List ℕ)) (frames acknowledgements : List (Vec ℕ Global)) (primary standby primary' standby' : State) : Type 0 where
   pub primary_formatted : State
   pub standby_formatted : State
   -- a crash leaves an image from before, the new one, or one without the magic
   pub primary_formatting : FormattingOnly Primary primary primary_formatted
   pub standby_formatting : FormattingOnly Standby standby standby_formatted
-  pub kept : IsKept Last first_last second_last primary.lines standby.lines events done calls released frames acknowledgements primary_formatted standby_formatted primary' standby'
+  pub kept : IsKept Last final first_last second_last primary.lines standby.lines events done calls released frames acknowledgements primary_formatted standby_formatted primary' standby'
 
 -- Nothing was called: all that was done to the devices was done by their formatting, which ended for this cause.
 pub record IsUnplayed (refusal : Refusal) (done : List Bool) (calls : List Call) (released : List (List ℕ)) (frames acknowledgements : List (Vec ℕ Global)) (primary standby primary' standby' : State) : Type 0 where
@@ -110,56 +181,82 @@ pub record IsUnplayed (refusal : Refusal) (done : List Bool) (calls : List Call)
   pub standby_formatting : FormattingOnly Standby standby standby'
   pub cause : UnformedBy refusal primary standby primary' standby'
 
+-- in a run that ended in a promotion the standby's image may be promoted
+abbrev pub opens_in_the_end : Node → Opening
+opens_in_the_end = each OpensFrom OpensFromEither
+
+abbrev pub opens_always : Node → Opening
+opens_always = each OpensFrom OpensFrom
+
 -- A run that led these two devices from their old states to their new ones went to the end of the events; or it ended before the first one; or it ended in
 -- the middle of one, which was enabled, for a cause that such an event may have.
 abbrev pub KeepsItsWord : List Event → Option EarlyEnd → List Bool → List Call → List (List ℕ) → List (Vec ℕ Global) → List (Vec ℕ Global) → State → State → State → State → Type 0
-KeepsItsWord events None done calls released frames acknowledgements primary standby primary' standby' = IsPlayed AnyWorld Resting Resting events done calls released frames acknowledgements primary standby primary' standby'
+KeepsItsWord events None done calls released frames acknowledgements primary standby primary' standby' = IsPlayed AnyWorld opens_always Resting Resting events done calls released frames acknowledgements primary standby primary' standby'
 KeepsItsWord events (Some (AtFormatting refusal)) done calls released frames acknowledgements primary standby primary' standby' = IsUnplayed refusal done calls released frames acknowledgements primary standby primary' standby'
 KeepsItsWord events (Some (AtEvent index refusal)) done calls released frames acknowledgements primary standby primary' standby' =
     (event : Event) × (slice_get events index ≡ Some event)
-    × EndsBy refusal event (λ first_last second_last. IsPlayed (Enables event) first_last second_last (take index events) done calls released frames acknowledgements primary standby primary' standby')
+    × (EndsBy refusal event (λ first_last second_last. IsPlayed (Enables event) opens_always first_last second_last (take index events) done calls released frames acknowledgements primary standby primary' standby')
+    ⊎ ((event ≡ Promote) × IsPlayed (Enables Promote) opens_in_the_end Resting (Promoting refusal) (take index events) done calls released frames acknowledgements primary standby primary' standby'))
 
 -- ---- how it is played
 
 -- the same, of a run over a pair of new nodes
 abbrev pub PlaysOn : Holder → Holder → List Event → Option EarlyEnd → List Bool → List Call → List (List ℕ) → List (Vec ℕ Global) → List (Vec ℕ Global) → State → State → State → State → Type 0
-PlaysOn first second events None done calls released frames acknowledgements primary standby primary' standby' = IsKept AnyWorld Resting Resting first.lines second.lines events done calls released frames acknowledgements primary standby primary' standby'
+PlaysOn first second events None done calls released frames acknowledgements primary standby primary' standby' = IsKept AnyWorld opens_always Resting Resting first.lines second.lines events done calls released frames acknowledgements primary standby primary' standby'
 PlaysOn first second events (Some (AtFormatting refusal)) done calls released frames acknowledgements primary standby primary' standby' = ⊥
 PlaysOn first second events (Some (AtEvent index refusal)) done calls released frames acknowledgements primary standby primary' standby' =
     (event : Event) × (slice_get events index ≡ Some event)
-    × EndsBy refusal event (λ first_last second_last. IsKept (Enables event) first_last second_last first.lines second.lines (take index events) done calls released frames acknowledgements primary standby primary' standby')
+    × (EndsBy refusal event (λ first_last second_last. IsKept (Enables event) opens_always first_last second_last first.lines second.lines (take index events) done calls released frames acknowledgements primary standby primary' standby')
+    ⊎ ((event ≡ Promote) × IsKept (Enables Promote) opens_in_the_end Resting (Promoting refusal) first.lines second.lines (take index events) done calls released frames acknowledgements primary standby primary' standby'))
 
--- The events of a run from this world on, each over the list of calls before it, moved a device of these holders on, but for those that do not touch it.
-abbrev pub AreMoves : (Event → Bool) → (World → ℕ) → (World → Holder) → World → List Event → List Bool → List World → State → State → Type 0
-AreMoves touches position holder w [] [] [] old new = old ≡ new
-AreMoves touches position holder w (event ∷ events) (did ∷ done) (w' ∷ worlds) old new =
-    (next : State) × Moves (holder w) w.primary.calls (position w) (position w') old next × ((touches event && did) ≡ false → next ≡ old)
-    × AreMoves touches position holder w' events done worlds next new
-AreMoves touches position holder w events done worlds old new = ⊥
+-- whose device it is after an event: the same node's, in the same epoch; or there was a promotion, and it is no node's any more, or that of the primary which the standby became
+abbrev pub Passes : World → World → Option Node → Option Node → Type 0
+Passes w w' None after = after ≡ None
+Passes w w' (Some node.Primary) after = ((after ≡ Some node.Primary) × (w'.primary.epoch ≡ w.primary.epoch)) ⊎ (after ≡ None)
+Passes w w' (Some node.Standby) after =
+    ((after ≡ Some node.Standby) × (w'.primary.epoch ≡ w.primary.epoch)) ⊎ ((after ≡ Some node.Primary) × (w'.primary.committer.position ≡ w.standby.position) × (w'.primary.calls ≡ cut_at w.primary.calls w.standby.position))
 
--- the machine's run over these events moved both devices to these states from where they were in the pair `began`
-pub record Reaches (first second : Holder) (began : Pair) (events : List Event) (done : List Bool) (primary standby : State) : Type 0 where
+-- The events of a run from this world on, each over the list of calls before it, moved the device with this number on, but for those that do not touch it.
+abbrev pub AreMoves : ℕ → ℕ → World → List Event → List Bool → List World → State → State → Type 0
+AreMoves number lines w [] [] [] old new = old ≡ new
+AreMoves number lines w (event ∷ events) (did ∷ done) (w' ∷ worlds) old new =
+    (next : State) × Passes w w' (node_on number w) (node_on number w') × MovesBy lines w w' (node_on number w) (node_on number w') old next
+    × ((touches_on (node_on number w) event && did) ≡ false → next ≡ old) × AreMoves number lines w' events done worlds next new
+AreMoves number lines w events done worlds old new = ⊥
+
+-- the machine's run over these events moved both devices, of so many lines, to these states from where they were in the pair `began`
+pub record Reaches (first_lines second_lines : ℕ) (began : Pair) (events : List Event) (done : List Bool) (primary standby : State) : Type 0 where
   pub worlds : List World
   pub run : Run start events done worlds
-  pub primary_moves : AreMoves touches_primary primary_position (primary_holder first.lines) start events done worlds began.device primary
-  pub standby_moves : AreMoves touches_standby standby_position (standby_holder second.lines) start events done worlds began.standby.device standby
+  pub primary_moves : AreMoves 0 first_lines start events done worlds (first_device began) primary
+  pub standby_moves : AreMoves 1 second_lines start events done worlds (second_device began) standby
+
+-- the pair refines this world, with holders of so many lines, by the numbers of their devices
+pub record StandsIn (first_lines second_lines : ℕ) (pair : Pair) (w : World) : Type 0 where
+  pub serving : Holder
+  pub following : Holder
+  pub stands : NodesRefine serving following pair w
+  pub serving_lines : serving.lines ≡ (if has_ended pair.standby_condition then second_lines else first_lines)
+  pub following_lines : HasStandby pair → following.lines ≡ second_lines
 
 -- and the pair refines the last world
-pub record StandsAfter (first second : Holder) (began : Pair) (events : List Event) (done : List Bool) (pair : Pair) : Type 0 where
-  pub reaches : Reaches first second began events done pair.device pair.standby.device
-  pub stands : NodesRefine first second pair (last_world start reaches.worlds)
+pub record StandsAfter (first_lines second_lines : ℕ) (began : Pair) (events : List Event) (done : List Bool) (pair : Pair) : Type 0 where
+  pub reaches : Reaches first_lines second_lines began events done (first_device pair) (second_device pair)
+  pub stands : StandsIn first_lines second_lines pair (last_world start reaches.worlds)
 
 -- or it was cut in the event after them
-pub record IsCutAfter (first second : Holder) (began : Pair) (events : List Event) (event : Event) (refusal : Refusal) (done : List Bool) (pair : Pair) : Type 0 where
+pub record IsCutAfter (first_lines second_lines : ℕ) (began : Pair) (events : List Event) (event : Event) (refusal : Refusal) (done : List Bool) (pair : Pair) : Type 0 where
   pub before : Pair
-  pub reaches : Reaches first second began events done before.device before.standby.device
-  pub stands : NodesRefine first second before (last_world start reaches.worlds)
+  pub reaches : Reaches first_lines second_lines began events done (first_device before) (second_device before)
+  pub stands : StandsIn first_lines second_lines before (last_world start reaches.worlds)
   pub frames : pair.frames ≡ before.frames
   pub acknowledgements : pair.arrivals.acknowledgements.items ≡ before.arrivals.acknowledgements.items
-  pub cut : IsCut first second event refusal before pair (last_world start reaches.worlds)
+  pub cut : (IsCut stands.serving stands.following event refusal before pair (last_world start reaches.worlds)
+      × (has_ended before.standby_condition ≡ true → pair.standby.device ≡ before.standby.device))
+      ⊎ ((event ≡ Promote) × IsPromotionCut stands.following refusal before pair (last_world start reaches.worlds) × HasStandby before)
 
 abbrev pub Plays : Holder → Holder → Pair → List Event → Option EarlyEnd → List Bool → Pair → Type 0
-Plays first second began events None done pair = StandsAfter first second began events done pair
+Plays first second began events None done pair = StandsAfter first.lines second.lines began events done pair
 Plays first second began events (Some (AtFormatting refusal)) done pair = ⊥
 Plays first second began events (Some (AtEvent index refusal)) done pair =
-    (event : Event) × (slice_get events index ≡ Some event) × IsCutAfter first second began (take index events) event refusal done pair
+    (event : Event) × (slice_get events index ≡ Some event) × IsCutAfter first.lines second.lines began (take index events) event refusal done pair

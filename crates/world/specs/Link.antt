@@ -45,12 +45,24 @@ AreFramesRead epoch calls [] [] = Unit {0}
 AreFramesRead epoch calls (frame ∷ frames) (sent ∷ others) = IsFrameRead epoch calls frame sent × AreFramesRead epoch calls frames others
 AreFramesRead epoch calls _ _ = ⊥
 
--- these are the bytes of the frame that was sent, which is within the limits of what may be sent
+-- the frame has the epoch and the positions of the one that was sent
+pub record IsAbout (frame : Frame) (sent : Sent) : Type 0 where
+  pub epoch_is : frame.epoch ≡ sent.epoch
+  pub before : frame.before ≡ sent.span.before
+  pub after : frame.after ≡ sent.span.after
+
+-- These are the bytes of the frame that was sent, which is within the limits of what may be sent. One of this epoch tells changes of the list; what one of an earlier epoch
+-- told may be of it no more.
 pub record IsFrameSent (epoch : ℕ) (calls : List Call) (bytes : List ℕ) (sent : Sent) : Type 0 where
   pub frame : Frame
   pub text : bytes ≡ sent_text (sent_of_frame frame)
   pub may : IsSent (sent_of_frame frame)
-  pub is : IsFrameRead epoch calls frame sent
+  pub about : IsAbout frame sent
+  pub is : sent.epoch ≡ epoch → IsFrameOf epoch calls frame sent.span
+
+-- the frame that was sent is of this epoch
+abbrev pub IsOwn : ℕ → Sent → Type 0
+IsOwn epoch sent = sent.epoch ≡ epoch
 
 abbrev pub AreFramesSent : ℕ → List Call → List (Vec ℕ Global) → List Sent → Type 0
 AreFramesSent epoch calls [] [] = Unit {0}

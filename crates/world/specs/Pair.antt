@@ -1,5 +1,5 @@
--- How a pair of nodes with its connections refines the machine's, while its primary runs and while it is crashed.
-use Rattle.std.specs.Prelude.{◌≡◌, ◌⊎◌, ◌&&◌, ℕ, ◌<◌, Bool, true, false, if◌then◌else◌, List, [], length, slice_index_or, Vec, vec_capacity, Result, IfOk, IfErr}
+-- How a pair of nodes with its connections refines the machine's, while its primary runs, while it is crashed, and once it was fenced.
+use Rattle.std.specs.Prelude.{◌≡◌, ◌⊎◌, ◌&&◌, ℕ, ◌<◌, Bool, true, false, if◌then◌else◌, List, [], length, slice_index_or, All, Vec, vec_capacity, Result, IfOk, IfErr}
 use Rattle.std.specs.Global.{Global}
 use Rattle.pmem.specs.Device.{State}
 use Rattle.kv_types.specs.declared.refusal.Refusal.{Refusal}
@@ -14,13 +14,17 @@ use Rattle.redis_core.specs.Sequencing.{Sequencing}
 use Rattle.standby_stream.specs.Stream.{Stream}
 use Rattle.standby_stream.specs.declared.opening.Opening.{Opening}
 use Rattle.machine.specs.declared.event.Event.{Event}
-use Rattle.machine.specs.Event.{Crashed, Life, Primary, Running, World, Step, is_enabled, new_committer, new_link}
+use Rattle.machine.specs.Event.{Allowed, Primary, World, Step, is_enabled, new_committer, new_disk, new_link}
 use Rattle.machine.specs.Row.{are_running, row}
 use Rattle.machine.specs.Promise.{released_in}
 use Rattle.machine.specs.Sound.{Sound}
-use Rattle.world.specs.Cause.{EndsBy}
-use Rattle.world.specs.Committing.{Committing, EngineStands, IsDown, Leads, Moves, CommittingRefines, next_primary, next_standby}
-use Rattle.world.specs.Link.{AreFramesSent, LinkRefines}
+use Rattle.pmem.specs.Runs.{LeavesOnly}
+use Rattle.machine.specs.declared.event.Event.TheVariants.{Promote}
+use Rattle.world.specs.Cause.{EndsBy, Promoting}
+use Rattle.world.specs.Committing.{Committing, EngineStands, IsDown, Leads, Moves, Opens, OpensAsEither, CommittingRefines, next_primary, next_standby, promoted_holder}
+use Rattle.world.specs.Condition.{has_crashed, has_ended, life_as, runs}
+use Rattle.world.specs.declared.condition.Condition.{Condition}
+use Rattle.world.specs.Link.{IsOwn, AreFramesSent, LinkRefines}
 use Rattle.primary.specs.Recalling.{RecallsEach, Remembers}
 use Rattle.world.specs.Recalling.{OpeningLeads, past_of}
 use Rattle.connections.specs.Session.{SessionsRefine, SequencerRefines, SeatsFollow, HasSeat, AddsOne, released_of, seats_of}
@@ -53,9 +57,14 @@ pub record Pair : Type 0 where
   pub frames : List (Vec ℕ Global)
   pub arrivals : Arrived
   pub standby : Node
-  -- whether each node runs; otherwise it is crashed, and nothing is said of what it held beside its image
-  pub primary_runs : Bool
-  pub standby_runs : Bool
+  -- the primary runs, or is crashed, or was fenced
+  pub primary_condition : Condition
+  -- The standby runs, or is crashed, or was promoted: the primary goes on from its image then, and it has the device of the former primary.
+  pub standby_condition : Condition
+
+-- the standby was not promoted
+abbrev pub HasStandby : Pair → Type 0
+HasStandby pair = has_ended pair.standby_condition ≡ false
 
 -- What has ended, what was freed and the record's gaps are as many as the machine's.
 pub record FreeingRefines (s : Sequencing) (notices : List Freed) (contents : Contents) (machine : Primary) : Type 0 where
@@ -78,8 +87,10 @@ pub record PartsRefine (first second : Holder) (pair : Pair) (w : World) : Type 
   pub epoch : pair.link.epoch ≡ w.primary.epoch
   pub link : LinkRefines w.primary.calls pair.link pair.handed pair.remote w.primary.link
   pub frames : AreFramesSent pair.link.epoch w.primary.calls pair.frames w.wire.frames
+  -- while there is a standby, nothing of an earlier epoch is on the way to it
+  pub own : HasStandby pair → All (IsOwn pair.link.epoch) w.wire.frames
   pub arrivals : ArrivalsRefine pair.link.epoch w.primary.calls pair.arrivals w.standby.waiting w.wire.acknowledgements
-  pub standby : StandbyRefines second pair.link.epoch w.primary.calls w.standby.position pair.standby pair.standby_runs
+  pub standby : StandbyRefines second pair.link.epoch w.primary.calls w.standby.position pair.standby pair.standby_condition
 
 -- The parts of one whose primary is crashed: of the primary there is its image.
 pub record DownRefine (first second : Holder) (pair : Pair) (w : World) : Type 0 where
@@ -92,28 +103,44 @@ pub record DownRefine (first second : Holder) (pair : Pair) (w : World) : Type 0
   pub newest : w.primary.newest ≡ w.primary.committer.position
   pub none_told : w.primary.notices ≡ 0
   pub image : IsDown first w.primary.calls w.primary.committer.position pair.device
-  pub gaps : length image.contents.current.gaps.items ≡ w.primary.gaps
   pub opened : w.primary.opened ≡ w.primary.committer.position
   pub recalls : RecallsEach w.standby.position w.primary.committer.position (past_of w.primary.calls) image.contents
   pub epoch : pair.link.epoch ≡ w.primary.epoch
   pub frames : AreFramesSent pair.link.epoch w.primary.calls pair.frames w.wire.frames
+  -- while there is a standby, nothing of an earlier epoch is on the way to it
+  pub own : HasStandby pair → All (IsOwn pair.link.epoch) w.wire.frames
   pub arrivals : ArrivalsRefine pair.link.epoch w.primary.calls pair.arrivals w.standby.waiting w.wire.acknowledgements
-  pub standby : StandbyRefines second pair.link.epoch w.primary.calls w.standby.position pair.standby pair.standby_runs
+  pub standby : StandbyRefines second pair.link.epoch w.primary.calls w.standby.position pair.standby pair.standby_condition
+
+-- The parts of one whose primary was fenced: of the primary there is its device, on which each crash leaves an image that opens where the primary stood. The list
+-- of calls stays what it was, with all that was released.
+pub record FencedRefine (first second : Holder) (pair : Pair) (w : World) : Type 0 where
+  pub sessions : SessionsRefine pair.sessions pair.transcript w.primary.connections w.primary.calls
+  pub opens : Opens first w.primary.calls w.primary.committer.position pair.device
+  pub epoch : pair.link.epoch ≡ w.primary.epoch
+  pub frames : AreFramesSent pair.link.epoch w.primary.calls pair.frames w.wire.frames
+  -- while there is a standby, nothing of an earlier epoch is on the way to it
+  pub own : HasStandby pair → All (IsOwn pair.link.epoch) w.wire.frames
+  pub arrivals : ArrivalsRefine pair.link.epoch w.primary.calls pair.arrivals w.standby.waiting w.wire.acknowledgements
+  pub standby : StandbyRefines second pair.link.epoch w.primary.calls w.standby.position pair.standby pair.standby_condition
 
 -- ---- lives
 
-abbrev pub life_if : Bool → Life
-life_if runs = if runs then Running else Crashed
+-- what happens to the nodes of a pair: they crash between two events and are opened again, the primary is fenced, and the standby is promoted after that
+abbrev pub allowed : Allowed
+allowed = record { restarts = true; fencing = true; promotions = true; failures = false }
 
--- Each node runs or is crashed, as it is said of it; a crash may come between two events, but no failover, and no fence was asked to fail; and the images are those of
--- a primary and a standby of the pair's epoch.
-pub record AreLives (first second : Holder) (primary_runs standby_runs : Bool) (w : World) : Type 0 where
-  pub restarts : w.restarts ≡ true
-  pub failovers : w.failovers ≡ false
-  pub primary_sure : w.primary.disk.failing ≡ false
-  pub standby_sure : w.standby.disk.failing ≡ false
-  pub primary : w.primary.life ≡ life_if primary_runs
-  pub standby : w.standby.life ≡ life_if standby_runs
+-- the number of the primary's device, where the standby is in this condition
+abbrev pub primary_number : Condition → ℕ
+primary_number condition = if has_ended condition then 1 else 0
+
+-- Each node is in the condition that is said of it; no fence of a device was asked to fail; and the images are those of a primary and a standby of the pair's epoch.
+pub record AreLives (first second : Holder) (primary_condition standby_condition : Condition) (w : World) : Type 0 where
+  pub allowed_are : w.allowed ≡ allowed
+  pub primary_disk : w.primary.disk ≡ new_disk (primary_number standby_condition)
+  pub standby_disk : w.standby.disk ≡ new_disk 1
+  pub primary : w.primary.life ≡ life_as primary_condition
+  pub standby : w.standby.life ≡ life_as standby_condition
   pub first_role : first.role ≡ Role.Primary
   pub second_role : second.role ≡ Role.Standby
   pub first_epoch : first.epoch ≡ w.primary.epoch
@@ -124,18 +151,21 @@ pub record AreLives (first second : Holder) (primary_runs standby_runs : Bool) (
 -- its primary runs, and it refines a world that a run may reach
 pub record PairRefines (first second : Holder) (pair : Pair) (w : World) : Type 0 where
   pub sound : Sound w
-  pub lives : AreLives first second pair.primary_runs pair.standby_runs w
-  pub serves : pair.primary_runs ≡ true
+  pub lives : AreLives first second pair.primary_condition pair.standby_condition w
+  pub serves : runs pair.primary_condition ≡ true
   pub parts : PartsRefine first second pair w
 
--- its parts refine the machine's, whether its primary runs or not
+-- its parts refine the machine's, whether its primary runs, is crashed or was fenced
 abbrev pub EitherRefines : Holder → Holder → Pair → World → Type 0
-EitherRefines first second pair w = ((pair.primary_runs ≡ true) × PartsRefine first second pair w) ⊎ ((pair.primary_runs ≡ false) × DownRefine first second pair w)
+EitherRefines first second pair w =
+    ((runs pair.primary_condition ≡ true) × PartsRefine first second pair w)
+    ⊎ ((has_crashed pair.primary_condition ≡ true) × DownRefine first second pair w)
+    ⊎ ((has_ended pair.primary_condition ≡ true) × FencedRefine first second pair w)
 
--- it refines such a world, whether its primary runs or not
+-- it refines such a world, whatever the condition of its primary
 pub record NodesRefine (first second : Holder) (pair : Pair) (w : World) : Type 0 where
   pub sound : Sound w
-  pub lives : AreLives first second pair.primary_runs pair.standby_runs w
+  pub lives : AreLives first second pair.primary_condition pair.standby_condition w
   pub parts : EitherRefines first second pair w
 
 -- there is a world that it refines
@@ -155,14 +185,17 @@ pub record IsCut (first second : Holder) (event : Event) (refusal : Refusal) (ol
   pub calls : new.transcript.calls.items ≡ w.primary.calls
   pub released : (c : ℕ) → slice_index_or (released_of new.transcript) c [] ≡ released_in w c
   pub count : length new.transcript.released.items ≡ length w.primary.connections
+  -- no standby was promoted
+  pub standby : has_ended new.standby_condition ≡ has_ended old.standby_condition
   pub cause : EndsBy refusal event (λ first_last second_last.
       first_last first w.primary.calls w.primary.committer.position (next_primary w) old.device new.device
-      × second_last second w.primary.calls w.standby.position (next_standby w) old.standby.device new.standby.device)
+      × (HasStandby old → second_last second w.primary.calls w.standby.position (next_standby w) old.standby.device new.standby.device))
 
--- the step from one pair to the other moved each device, over the list of calls before it, from where its node stands in one world to where it stands in the other
+-- The step from one pair to the other moved each device, over the list of calls before it, from where its node stands in one world to where it stands in the other. (Of a
+-- standby that was promoted before nothing is said.)
 pub record MovesBoth (first second : Holder) (old new : Pair) (w w' : World) : Type 0 where
   pub primary : Moves first w.primary.calls w.primary.committer.position w'.primary.committer.position old.device new.device
-  pub standby : Moves second w.primary.calls w.standby.position w'.standby.position old.standby.device new.standby.device
+  pub standby : HasStandby old → Moves second w.primary.calls w.standby.position w'.standby.position old.standby.device new.standby.device
 
 -- the machine's step, the world that the pair refines after it, and what the step did to the devices
 pub record Steps (first second : Holder) (w : World) (event : Event) (did : Bool) (old new : Pair) : Type 0 where
@@ -184,6 +217,45 @@ Does = DoesTo PairRefines
 -- to any
 abbrev pub Acts : Pair → Event → Result Bool Refusal → Pair → Type 0
 Acts = DoesTo NodesRefine
+
+-- ---- a promotion
+
+-- the device that was given as the primary's, and the one that was given as the standby's
+abbrev pub first_device : Pair → State
+first_device pair = if has_ended pair.standby_condition then pair.standby.device else pair.device
+
+abbrev pub second_device : Pair → State
+second_device pair = if has_ended pair.standby_condition then pair.device else pair.standby.device
+
+-- The standby was promoted: the machine's step, and the pair refines the world after it, whose primary has the device of the standby. A crash meanwhile leaves on that an
+-- image of either; the device of the former primary is as it was.
+pub record Succeeds (second : Holder) (w : World) (old new : Pair) : Type 0 where
+  pub world : World
+  pub step : Step w Promote true world
+  -- (what is said of the holder of the former primary's device is that of no node)
+  pub former : Holder
+  pub began : HasStandby old
+  pub ended : has_ended new.standby_condition ≡ true
+  pub stands : NodesRefine (promoted_holder second) former new world
+  pub first_stays : first_device new ≡ first_device old
+  pub leaves : LeavesOnly (second_device old) (second_device new) (OpensAsEither second w.primary.calls w.standby.position)
+  pub failures : (second_device new).failures ≡ (second_device old).failures
+
+-- A promotion that was enabled was cut for this cause: the list of calls and the released bytes are those of the world before it, and the device of the former primary is as
+-- it was.
+pub record IsPromotionCut (second : Holder) (refusal : Refusal) (old new : Pair) (w : World) : Type 0 where
+  pub enabled : is_enabled w Promote ≡ true
+  pub calls : new.transcript.calls.items ≡ w.primary.calls
+  pub released : (c : ℕ) → slice_index_or (released_of new.transcript) c [] ≡ released_in w c
+  pub count : length new.transcript.released.items ≡ length w.primary.connections
+  pub first_stays : first_device new ≡ first_device old
+  pub cause : Promoting refusal second w.primary.calls w.standby.position (next_standby w) (second_device old) (second_device new)
+
+-- what a promotion did to a pair
+pub record Promotes (old : Pair) (result : Result Bool Refusal) (new : Pair) : Type 0 where
+  pub succeeds : IfOk result (λ did. (did ≡ true) × ((first second : Holder) (w : World) → NodesRefine first second old w → Succeeds second w old new))
+  pub cut : IfErr result (λ refusal. (first second : Holder) (w : World) → NodesRefine first second old w → IsPromotionCut second refusal old new w)
+  pub calls : AddsOne old.transcript.calls new.transcript.calls
 
 -- the nodes that take part in the event run, where the primary and the standby do so or not; to crash, or to be opened again, none needs to run
 abbrev pub takes_part : Bool → Bool → Event → Bool

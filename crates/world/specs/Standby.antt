@@ -16,6 +16,8 @@ use Rattle.frames.specs.declared.ack.Ack.{Ack}
 use Rattle.frames.specs.declared.frame.Frame.{Frame}
 use Rattle.standby.specs.Following.{Follows}
 use Rattle.world.specs.Committing.{EngineStands, IsDown, Moves}
+use Rattle.world.specs.Condition.{has_crashed, runs}
+use Rattle.world.specs.declared.condition.Condition.{Condition}
 use Rattle.world.specs.Link.{AreFramesRead, AreAcksSent}
 use Rattle.world.specs.declared.arrivals.Arrivals.{Arrivals}
 
@@ -43,10 +45,10 @@ pub record StandbyStands (holder : Holder) (epoch : ℕ) (calls : List Call) (po
   pub epoch_is : node.epoch ≡ epoch
   pub epoch_held : epoch ≡ holder.epoch
 
--- the same of one that runs, and of one that is crashed what its image is
-pub record StandbyRefines (holder : Holder) (epoch : ℕ) (calls : List Call) (position : ℕ) (node : Node) (runs : Bool) : Type 0 where
-  pub stands : runs ≡ true → StandbyStands holder epoch calls position node
-  pub down : runs ≡ false → IsDown holder calls position node.device
+-- the same of one that runs, and of one that is crashed what its image is; of one that was promoted nothing
+pub record StandbyRefines (holder : Holder) (epoch : ℕ) (calls : List Call) (position : ℕ) (node : Node) (condition : Condition) : Type 0 where
+  pub stands : runs condition ≡ true → StandbyStands holder epoch calls position node
+  pub down : has_crashed condition ≡ true → IsDown holder calls position node.device
 
 -- what an acknowledgement tells
 abbrev pub told_by : Ack → Acknowledgement

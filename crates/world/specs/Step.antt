@@ -7,18 +7,18 @@ use Rattle.model.specs.declared.call.Call.{Call}
 use Rattle.model.specs.Call.{MayReply, cut_at, position_of, state_after}
 use Rattle.model.specs.Standing.{Holder}
 use Rattle.machine.specs.declared.event.Event.{Event}
-use Rattle.machine.specs.declared.event.Event.TheVariants.{Apply, ClearGap, Commit, Crash, Free, OpenLink, Reopen, Send, Turn, Write}
+use Rattle.machine.specs.declared.event.Event.TheVariants.{Apply, ClearGap, Commit, Crash, Free, OpenLink, Promote, Reopen, Send, Turn, Write}
 use Rattle.machine.specs.declared.event.Node.TheVariants as node
 use Rattle.machine.specs.Event.{Connection, World, connection_of}
 use Rattle.machine.specs.Promise.{IsReleased, released_in}
 use Rattle.machine.specs.Row.{touches}
 use Rattle.connections.specs.Session.{AddsOne, TranscriptRefines, released_of}
 use Rattle.connections.specs.declared.transcript.Transcript.{Transcript}
-use Rattle.world.specs.Committing.{Opens}
+use Rattle.world.specs.Committing.{Opens, promoted_holder}
 pub use Rattle.world.specs.Effect.{AddsMessage}
 use Rattle.world.specs.Effect.{Effect}
 use Rattle.world.specs.Link.{AreAcksSent, AreFramesSent}
-use Rattle.world.specs.Pair.{Does, HasRoom, IsCut, NodesRefine, Pair, Steps}
+use Rattle.world.specs.Pair.{Does, HasRoom, HasStandby, IsCut, IsPromotionCut, NodesRefine, Pair, Steps, Succeeds}
 
 -- ---- what an event leaves as it was
 
@@ -69,17 +69,19 @@ pub record Shows (first second : Holder) (w : World) (pair : Pair) : Type 0 wher
   pub frames : AreFramesSent w.primary.epoch w.primary.calls pair.frames w.wire.frames
   pub acknowledgements : AreAcksSent pair.arrivals.acknowledgements.items w.wire.acknowledgements
   pub primary : Opens first w.primary.calls w.primary.committer.position pair.device
-  pub standby : Opens second w.primary.calls w.standby.position pair.standby.device
+  pub standby : HasStandby pair → Opens second w.primary.calls w.standby.position pair.standby.device
   pub held : (prefix : List Call) (call : Call) → IsReleased w.primary.calls (released_in w) prefix call
       → (position_of (prefix ++ call ∷ []) ≤ w.primary.committer.position) × (position_of (prefix ++ call ∷ []) ≤ w.standby.position)
 
 -- ---- what an event gave
 
--- the list of calls after an event: a turn adds the call of the connection's first waiting item, and a crash of the primary drops the calls that its image does not hold
+-- The list of calls after an event: a turn adds the call of the connection's first waiting item, a crash of the primary drops the calls that its image does not hold,
+-- and a promotion those that the standby's does not.
 abbrev pub CallsBy : World → Event → Bool → List Call → Type 0
 CallsBy w (Turn c) true new =
     (call : Call) × (call.connection ≡ c) × (take 1 (connection_of w c).inbound.waiting ≡ call.item ∷ []) × MayReply (state_after w.primary.calls) call × (new ≡ w.primary.calls ++ call ∷ [])
 CallsBy w (Crash node.Primary call k picks) true new = new ≡ cut_at w.primary.calls w.primary.committer.position
+CallsBy w Promote true new = new ≡ cut_at w.primary.calls w.standby.position
 CallsBy w event did new = new ≡ w.primary.calls
 
 -- the bytes that an event releases to connection c: only a write does, the first of those that its gate let out
@@ -114,12 +116,34 @@ pub record WasCut (first second : Holder) (w : World) (event : Event) (refusal :
   pub cut : IsCut first second event refusal old new w
   pub before : Shows first second w old
 
--- What an event did to a pair, of all worlds that it stood for: a step, or it was cut, or a turn lacked room. Where there was room for a call, none is asked for.
-pub record IsStep (old : Pair) (event : Event) (result : Result Bool Refusal) (new : Pair) : Type 0 where
+-- What an event that is no promotion did to a pair, of all worlds that it stood for: a step, or it was cut, or a turn lacked room. Where there was room for a call, none is
+-- asked for.
+pub record Acted (old : Pair) (event : Event) (result : Result Bool Refusal) (new : Pair) : Type 0 where
   pub happened : IfOk result (λ did. (first second : Holder) (w : World) → NodesRefine first second old w → Happened first second w event did old new)
   pub refused : IfErr result (λ refusal. ((first second : Holder) (w : World) → NodesRefine first second old w → WasCut first second w event refusal old new) ⊎ LacksRoom event refusal old new)
   pub leaves : Leaves event result old new
   pub room : HasRoom old → AddsOne old.transcript.calls new.transcript.calls
+
+-- A standby was promoted, of a pair that stood for this world: what was seen of the pair before it and after it. The list is cut where the standby stood, and nothing was released.
+pub record Succeeded (first second : Holder) (w : World) (old new : Pair) : Type 0 where
+  pub succeeds : Succeeds second w old new
+  pub before : Shows first second w old
+  pub after : Shows (promoted_holder second) succeeds.former succeeds.world new
+  pub called : CallsBy w Promote true new.transcript.calls.items
+  pub released : (c : ℕ) → released_to new c ≡ released_to old c
+
+-- what a promotion did to a pair, of all worlds that it stood for, where it was begun: a step, or it was cut; and no message was made
+pub record WasPromoted (old : Pair) (event : Event) (result : Result Bool Refusal) (new : Pair) : Type 0 where
+  pub event_is : event ≡ Promote
+  pub succeeded : IfOk result (λ did. (did ≡ true) × ((first second : Holder) (w : World) → NodesRefine first second old w → Succeeded first second w old new))
+  pub refused : IfErr result (λ refusal. (first second : Holder) (w : World) → NodesRefine first second old w → IsPromotionCut second refusal old new w × Shows first second w old)
+  pub frames : new.frames ≡ old.frames
+  pub acknowledgements : new.arrivals.acknowledgements.items ≡ old.arrivals.acknowledgements.items
+  pub room : HasRoom old → AddsOne old.transcript.calls new.transcript.calls
+
+-- what an event did to a pair
+abbrev pub IsStep : Pair → Event → Result Bool Refusal → Pair → Type 0
+IsStep old event result new = Acted old event result new ⊎ WasPromoted old event result new
 
 -- ---- a turn
 

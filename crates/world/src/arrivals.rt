@@ -1,5 +1,5 @@
 //! What came to the standby, and what it acknowledged.
-ghost use Rattle.std.specs.Prelude.{◌≡◌, ◌⊎◌, ◌↔◌, ℕ, ◌<◌, true, false, [], ◌∷◌, ◌++◌, length, slice_get, IsTrue, IfOk, IfErr, Ok, OnOk, OnErr, Vec};
+ghost use Rattle.std.specs.Prelude.{◌≡◌, ◌⊎◌, ◌↔◌, ℕ, ◌<◌, true, false, [], ◌∷◌, ◌++◌, length, slice_get, All, IsTrue, IfOk, IfErr, Ok, OnOk, OnErr, Vec};
 ghost use Rattle.std.specs.Global.{Global};
 ghost use Rattle.machine.specs.declared.event.Event.TheVariants.{Deliver, Apply};
 ghost use Rattle.model.specs.Standing.{Holder};
@@ -11,7 +11,7 @@ ghost use Rattle.connections.specs.Going.{Goes};
 ghost use Rattle.world.specs.Cause.{EndsBy};
 ghost use Rattle.world.specs.Committing.{NearOnly, next_standby};
 ghost use Rattle.world.specs.Effect.{AnswersFirst, OnDid};
-ghost use Rattle.world.specs.Link.{AreFramesSent};
+ghost use Rattle.world.specs.Link.{AreFramesSent, IsOwn};
 ghost use Rattle.world.specs.Step.{AcksBy, AddsMessage};
 ghost use Rattle.world.specs.Standby.{StandbyStands, ArrivalsRefine, AppliesFirst, arrived_with, node_at, told_by};
 ghost use Rattle.world.specs.declared.arrivals.Arrivals.{Arrivals};
@@ -59,7 +59,7 @@ impl Arrivals {
         piece: u64,
     ) -> Result<bool, Refusal>
         ensures goes { IfOk result (λ did. (epoch : ℕ) (w : World) (acknowledgements : Vec (Vec ℕ Global) Global) → ArrivalsRefine epoch w.primary.calls (arrived_with self.old acknowledgements) w.standby.waiting w.wire.acknowledgements
-            → AreFramesSent epoch w.primary.calls frames.now w.wire.frames
+            → AreFramesSent epoch w.primary.calls frames.now w.wire.frames → All (IsOwn epoch) w.wire.frames
             → Goes (may_happen w (Deliver frame piece)) did
             (ArrivalsRefine epoch w.primary.calls (arrived_with self.new acknowledgements) (delivered (option_items (slice_get w.wire.frames frame)) w.standby).waiting w.wire.acknowledgements)
             (ArrivalsRefine epoch w.primary.calls (arrived_with self.new acknowledgements) w.standby.waiting w.wire.acknowledgements)) }

@@ -90,7 +90,7 @@ impl<E: Restarting, K: Keyspace + Drop> Pair<E, K> {
         ensures does { (history : History) → Acts (⟦<Pair<E, K> as Stepper>⟧.parts self.old history) (events.Reopen nodes.Primary) result (⟦<Pair<E, K> as Stepper>⟧.parts self.new history) }
         ensures leaves { (history : History) → Leaves (events.Reopen nodes.Primary) result (⟦<Pair<E, K> as Stepper>⟧.parts self.old history) (⟦<Pair<E, K> as Stepper>⟧.parts self.new history) }
     {
-        if self.primary_condition.is_running() {
+        if !self.primary_condition.has_crashed() {
             return Ok(false);
         }
         let opening = self.primary.restart(self.alloc, self.hash_builder)?;
@@ -109,7 +109,7 @@ impl<E: Restarting, K: Keyspace + Drop> Pair<E, K> {
         ensures does { (history : History) → Acts (⟦<Pair<E, K> as Stepper>⟧.parts self.old history) (events.Reopen nodes.Standby) result (⟦<Pair<E, K> as Stepper>⟧.parts self.new history) }
         ensures leaves { (history : History) → Leaves (events.Reopen nodes.Standby) result (⟦<Pair<E, K> as Stepper>⟧.parts self.old history) (⟦<Pair<E, K> as Stepper>⟧.parts self.new history) }
     {
-        if self.standby_condition.is_running() {
+        if !self.standby_condition.has_crashed() {
             return Ok(false);
         }
         self.standby.restart(self.alloc)?;

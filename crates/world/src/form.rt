@@ -11,7 +11,7 @@ ghost use Rattle.standby_stream.specs.Stream.{new_stream};
 ghost use Rattle.world.specs.Standby.{ArrivalsRefine, arrived_with};
 ghost use Rattle.world.specs.declared.history.History.{History};
 ghost use Rattle.world.specs.Headline.{start};
-ghost use Rattle.world.specs.Pair.{NodesRefine};
+ghost use Rattle.world.specs.Pair.{NodesRefine, first_device, second_device};
 ghost use Rattle.connections.specs.Session.{SessionsRefine, SequencerRefines};
 ghost use Rattle.extent_heap.specs.Room.{fresh_room, is_free_line, is_free_entry};
 ghost use Rattle.model.specs.Image.{entries_of_lines, first_extent_line};
@@ -155,18 +155,18 @@ impl<P: Crashing, K: Keyspace + Drop> Pair<WblEngine<P>, K> {
         ensures room { IfOk result (λ opened. calls ≤ vec_capacity opened.1.transcript.calls) }
         ensures cause { IfErr result (λ refused. UnformedBy refused.0 (P.state primary) (P.state standby) (P.state refused.1) (P.state refused.2)) }
         ensures moments { MatchResult result
-            (λ opened. FormattingOnly Role.Primary (P.state primary) (⟦<Pair<WblEngine<P>, K> as Stepper>⟧.parts opened.0 opened.1).device
-            × FormattingOnly Role.Standby (P.state standby) (⟦<Pair<WblEngine<P>, K> as Stepper>⟧.parts opened.0 opened.1).standby.device)
+            (λ opened. FormattingOnly Role.Primary (P.state primary) (first_device (⟦<Pair<WblEngine<P>, K> as Stepper>⟧.parts opened.0 opened.1))
+            × FormattingOnly Role.Standby (P.state standby) (second_device (⟦<Pair<WblEngine<P>, K> as Stepper>⟧.parts opened.0 opened.1)))
             (λ refused. FormattingOnly Role.Primary (P.state primary) (P.state refused.1) × FormattingOnly Role.Standby (P.state standby) (P.state refused.2)) }
     {
         let keyspaces = (K::empty(alloc), K::empty(alloc));
         form(alloc, primary, standby, keyspaces, calls, hash_builder)
     }
 
-    /// Ends the pair, and hands out its two devices, the primary's first, as they are.
+    /// Ends the pair, and hands out its two devices, as they are: first the one that was given as the primary's, whatever has become of the nodes.
     pub fn into_devices(self) -> (P, P)
-        ensures primary { (history : History) → P.state result.0 ≡ (⟦<Pair<WblEngine<P>, K> as Stepper>⟧.parts self history).device }
-        ensures standby { (history : History) → P.state result.1 ≡ (⟦<Pair<WblEngine<P>, K> as Stepper>⟧.parts self history).standby.device }
+        ensures primary { (history : History) → P.state result.0 ≡ first_device (⟦<Pair<WblEngine<P>, K> as Stepper>⟧.parts self history) }
+        ensures standby { (history : History) → P.state result.1 ≡ second_device (⟦<Pair<WblEngine<P>, K> as Stepper>⟧.parts self history) }
     {
         let Pair {
             alloc: _,
@@ -180,9 +180,15 @@ impl<P: Crashing, K: Keyspace + Drop> Pair<WblEngine<P>, K> {
             standby,
             hash_builder: _,
             primary_condition: _,
-            standby_condition: _,
+            standby_condition,
         } = self;
-        (primary.back.into_device(), standby.into_device())
+        let (serving, following) = (primary.back.into_device(), standby.into_device());
+        // the engines were exchanged where the standby was promoted
+        if standby_condition.has_ended() {
+            (following, serving)
+        } else {
+            (serving, following)
+        }
     }
 }
 
@@ -204,8 +210,8 @@ fn form<P: Crashing, K: Keyspace + Drop>(
     ensures room { IfOk result (λ opened. calls ≤ vec_capacity opened.1.transcript.calls) }
     ensures cause { IfErr result (λ refused. UnformedBy refused.0 (P.state primary) (P.state standby) (P.state refused.1) (P.state refused.2)) }
     ensures moments { MatchResult result
-        (λ opened. FormattingOnly Role.Primary (P.state primary) (⟦<Pair<WblEngine<P>, K> as Stepper>⟧.parts opened.0 opened.1).device
-        × FormattingOnly Role.Standby (P.state standby) (⟦<Pair<WblEngine<P>, K> as Stepper>⟧.parts opened.0 opened.1).standby.device)
+        (λ opened. FormattingOnly Role.Primary (P.state primary) (first_device (⟦<Pair<WblEngine<P>, K> as Stepper>⟧.parts opened.0 opened.1))
+        × FormattingOnly Role.Standby (P.state standby) (second_device (⟦<Pair<WblEngine<P>, K> as Stepper>⟧.parts opened.0 opened.1)))
         (λ refused. FormattingOnly Role.Primary (P.state primary) (P.state refused.1) × FormattingOnly Role.Standby (P.state standby) (P.state refused.2)) }
 {
     let (serving, following) = keyspaces;

@@ -5,10 +5,12 @@ mod arrivals;
 mod committing;
 mod condition;
 mod crashing;
+mod fencing;
 mod form;
 mod history;
 mod pair;
 mod playing;
+mod promoting;
 mod trace;
 mod wire;
 

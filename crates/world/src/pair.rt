@@ -92,8 +92,8 @@ impl<E: Restarting, K: Keyspace + Drop> Stepper for Pair<E, K> {
       frames = h.frames.items;
       arrivals = arrived_with p.arrivals h.acknowledgements;
       standby = node_at (E.device p.standby.engine) (E.contents p.standby.engine) (E.is_faulted p.standby.engine) (K.table p.standby.keyspace) p.standby.heap p.standby.ended.items;
-      primary_runs = runs p.primary_condition;
-      standby_runs = runs p.standby_condition;
+      primary_condition = p.primary_condition;
+      standby_condition = p.standby_condition;
     } };
 
     fn step(&mut self, history: &mut History, event: &Event) -> Result<bool, Refusal> {
@@ -125,10 +125,10 @@ impl<E: Restarting, K: Keyspace + Drop> Stepper for Pair<E, K> {
             Event::Leave(c) => self.leave(*c),
             Event::Crash(node, cut, _, picks) => self.crash(history, *node, *cut, picks),
             Event::Reopen(node) => self.reopen(*node),
-            // these three do not come yet
+            // this does not come yet
             Event::FailFence(_, _) => Ok(false),
-            Event::Fence => Ok(false),
-            Event::Promote => Ok(false),
+            Event::Fence => Ok(self.fence()),
+            Event::Promote => self.promote(history),
         }
     }
 }

@@ -4,7 +4,7 @@ ghost use Rattle.connections.specs.Session.{released_of};
 ghost use Rattle.model.specs.Standing.{Holder};
 ghost use Rattle.world.specs.declared.trace.EarlyEnd.TheVariants.{AtFormatting};
 ghost use Rattle.world.specs.Headline.{KeepsItsWord, PlaysOn, Plays, start};
-ghost use Rattle.world.specs.Pair.{NodesRefine};
+ghost use Rattle.world.specs.Pair.{NodesRefine, first_device, second_device};
 
 use crate::history::History;
 use crate::pair::{Pair, Stepper};
@@ -26,7 +26,8 @@ use wbl_engine::WblEngine;
 /// This is the promise of the whole server, for any devices and any list of events: one sequential Redis answers the list of calls, which takes each
 /// connection's requests in order; the bytes released to each connection begin its replies; each released call was covered, and is in what both
 /// images hold; a crash during an event leaves either image where its node stood in the list before the event or after it, with each call that was
-/// released by then; and the frames and acknowledgements are just those that were sent and made.
+/// released by then; and the frames and acknowledgements are just those that were sent and made. A fenced primary may be succeeded by its standby, which keeps of the list
+/// and of all replies what was released; of the device of the former nothing is said from then on but that it stays as it is.
 ///
 /// Watched keys are hashed with `hash_builder`. Nothing of this depends on it.
 pub fn run<P: Crashing>(
@@ -128,7 +129,7 @@ fn play_on<P: Crashing, K: Keyspace + Drop>(
     requires stands { (first : Holder) × (second : Holder) × NodesRefine first second (⟦<Pair<WblEngine<P>, K> as Stepper>⟧.parts pair history) start }
     ensures { (first second : Holder) → NodesRefine first second (⟦<Pair<WblEngine<P>, K> as Stepper>⟧.parts pair history) start
         → PlaysOn first second events.now result.ended result.done.items result.history.transcript.calls.items (released_of result.history.transcript) result.history.frames.items result.history.acknowledgements.items
-        (⟦<Pair<WblEngine<P>, K> as Stepper>⟧.parts pair history).device (⟦<Pair<WblEngine<P>, K> as Stepper>⟧.parts pair history).standby.device
+        (first_device (⟦<Pair<WblEngine<P>, K> as Stepper>⟧.parts pair history)) (second_device (⟦<Pair<WblEngine<P>, K> as Stepper>⟧.parts pair history))
         (P.state result.primary) (P.state result.standby) }
 {
     let mut pair = pair;

@@ -6,10 +6,10 @@ pub returns-clause-stays : goal.returns-clause-stays
 returns-clause-stays c = stays-run
 
 pub returns-clause-nothing : goal.returns-clause-nothing
-returns-clause-nothing c = λ restarts failovers events done worlds run d shut. ((sound-run restarts failovers events done worlds run).over d shut).nothing
+returns-clause-nothing c = λ allowed events done worlds run d shut. ((sound-run allowed events done worlds run).over d shut).nothing
 
 pub returns-clause-seats : goal.returns-clause-seats
-returns-clause-seats c = λ restarts failovers events done worlds run. (sound-run restarts failovers events done worlds run).connections.seats
+returns-clause-seats c = λ allowed events done worlds run. (sound-run allowed events done worlds run).connections.seats
 
 pub returns-clause-few : goal.returns-clause-few
 returns-clause-few c = few-connections

@@ -3,4 +3,4 @@ use Rattle.machine.proofs.EveryRun.{in_order}
 use Rattle.machine.proofs.laws.positions_are_in_order.Goals as goal
 
 pub returns : goal.returns
-returns c = λ restarts failovers events done worlds run. in_order _ (sound-run restarts failovers events done worlds run)
+returns c = λ allowed events done worlds run. in_order _ (sound-run allowed events done worlds run)

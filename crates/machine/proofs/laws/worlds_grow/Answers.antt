@@ -8,6 +8,6 @@ pub returns-clause-grows : goal.returns-clause-grows
 returns-clause-grows c = grows-run
 
 pub returns-clause-cuts : goal.returns-clause-cuts
-returns-clause-cuts c = λ restarts failovers n events done worlds run p low.
-    let old = last_world (start_with restarts failovers) (take n worlds) in
-    keyspace-stays old (last_world (start_with restarts failovers) worlds) p (sound-run restarts failovers (take n events) (take n done) (take n worlds) (run-take n (start_with restarts failovers) events done worlds run)) (grows-run restarts failovers n events done worlds run) low
+returns-clause-cuts c = λ allowed n events done worlds run p low.
+    let old = last_world (start_with allowed) (take n worlds) in
+    keyspace-stays old (last_world (start_with allowed) worlds) p (sound-run allowed (take n events) (take n done) (take n worlds) (run-take n (start_with allowed) events done worlds run)) (grows-run allowed n events done worlds run) low

@@ -6,8 +6,7 @@ use Rattle.model.specs.Standing.{Holder}
 use Rattle.world.specs.Headline.{start, StandsAfter, IsCutAfter}
 use Rattle.world.specs.Pair.{HasRoom, Pair, NodesRefine}
 use Rattle.world.proofs.PairLemmas.{sessions-stand}
-use Rattle.world.proofs.RunningLemmas.{reaches-start, reaches-world, reaches-next, reaches-cut}
-use Rattle.world.proofs.StepLemmas.{cut-for-room}
+use Rattle.world.proofs.ReachLemmas.{adds-one, reaches-start, reaches-world, reaches-next, reaches-cut}
 use Rattle.world.proofs.playing.play.Goals as goal
 
 -- at the start there is no call
@@ -26,7 +25,7 @@ loop-event-init g c = record {
 pub step-requires : goal.step-requires
 step-requires g c =
     let start = c.requires.stands in
-    record { world = reaches-world start.0 start.1 _ _ _ _ (c.loop-event.invariant.reaches start.0 start.1 start.2) }
+    record { world = reaches-world start.0.lines start.1.lines _ _ _ _ (c.loop-event.invariant.reaches start.0 start.1 start.2) }
 
 pub returns-in-Err : goal.returns-in-Err
 returns-in-Err g c = λ first second stands.
@@ -35,31 +34,29 @@ returns-in-Err g c = λ first second stands.
     slice_get-get_or c.args.events.now c.loop-event.event-index c.event-item.result c.loop-event-test.true ∙ ap Some (sym c.event-item.is) in (
       c.event-item.result,
       ap (slice_get c.args.events.now) same ∙ there,
-      subst (λ n. IsCutAfter first second (g.S.Stepper.parts c.args.stepper.now c.args.history.now) (take n c.args.events.now) c.event-item.result c.in-Err.refusal c.loop-event.done.items (g.S.Stepper.parts c.step.new.self c.step.new.history)) (sym same)
-          (reaches-cut first second _ _ _ _ _ _ _
-          (cut-for-room _ _ _ _ (record { room = omega (arith, c.loop-event.invariant.few, c.loop-event.invariant.room_calls, c.loop-event-test.true) }) c.in-Err.ensures.refused)
-          c.in-Err.ensures.leaves.frames c.in-Err.ensures.leaves.acknowledgements
+      subst (λ n. IsCutAfter first.lines second.lines (g.S.Stepper.parts c.args.stepper.now c.args.history.now) (take n c.args.events.now) c.event-item.result c.in-Err.refusal c.loop-event.done.items (g.S.Stepper.parts c.step.new.self c.step.new.history)) (sym same)
+          (reaches-cut first.lines second.lines _ _ _ _ _ _ _
+          (record { room = omega (arith, c.loop-event.invariant.few, c.loop-event.invariant.room_calls, c.loop-event-test.true) }) c.in-Err.ensures
           (c.loop-event.invariant.reaches first second stands)),
     )
 
 pub loop-event-preserved : goal.loop-event-preserved
 loop-event-preserved g c =
     let room : HasRoom (g.S.Stepper.parts c.loop-event.stepper c.loop-event.history) = record { room = omega (arith, c.loop-event.invariant.few, c.loop-event.invariant.room_calls, c.loop-event-test.true) } in
-    let adds = c.in-Ok.ensures.room room in
+    let adds = adds-one c.in-Ok.ensures room in
     record {
       count = omega (arith, c.push_reserved.ensures.len, c.loop-event.invariant.count);
       room = omega (arith, c.push_reserved.ensures.capacity, c.loop-event.invariant.room);
       few = omega (arith, adds.one, c.loop-event.invariant.few);
       room_calls = omega (arith, adds.room, c.loop-event.invariant.room_calls);
       reaches = λ first second stands.
-          subst (λ (passed : List Event). StandsAfter first second (g.S.Stepper.parts c.args.stepper.now c.args.history.now) passed c.push_reserved.new.self.items (g.S.Stepper.parts c.step.new.self c.step.new.history))
+          subst (λ (passed : List Event). StandsAfter first.lines second.lines (g.S.Stepper.parts c.args.stepper.now c.args.history.now) passed c.push_reserved.new.self.items (g.S.Stepper.parts c.step.new.self c.step.new.history))
           (ap (λ event. take c.loop-event.event-index c.args.events.now ++ event ∷ []) c.event-item.is ∙ sym (take_more c.args.events.now c.loop-event.event-index c.event-item.result c.loop-event-test.true))
-          (reaches-next first second (g.S.Stepper.parts c.args.stepper.now c.args.history.now) (take c.loop-event.event-index c.args.events.now) c.loop-event.done.items c.push_reserved.new.self.items (g.S.Stepper.parts c.loop-event.stepper c.loop-event.history) (g.S.Stepper.parts c.step.new.self c.step.new.history)
-          c.event-item.result c.in-Ok.did c.push_reserved.ensures.items (λ first second w stands. (c.in-Ok.ensures.happened first second w stands).steps)
-          c.in-Ok.ensures.leaves.primary c.in-Ok.ensures.leaves.standby (c.loop-event.invariant.reaches first second stands));
+          (reaches-next first.lines second.lines (g.S.Stepper.parts c.args.stepper.now c.args.history.now) (take c.loop-event.event-index c.args.events.now) c.loop-event.done.items c.push_reserved.new.self.items (g.S.Stepper.parts c.loop-event.stepper c.loop-event.history) (g.S.Stepper.parts c.step.new.self c.step.new.history)
+          c.event-item.result c.in-Ok.did c.push_reserved.ensures.items c.in-Ok.ensures (c.loop-event.invariant.reaches first second stands));
     }
 
 pub returns : goal.returns
 returns g c = λ first second stands.
-    subst (λ (passed : List Event). StandsAfter first second (g.S.Stepper.parts c.args.stepper.now c.args.history.now) passed c.loop-event.done.items (g.S.Stepper.parts c.loop-event.stepper c.loop-event.history))
+    subst (λ (passed : List Event). StandsAfter first.lines second.lines (g.S.Stepper.parts c.args.stepper.now c.args.history.now) passed c.loop-event.done.items (g.S.Stepper.parts c.loop-event.stepper c.loop-event.history))
     (take_all c.loop-event.event-index c.args.events.now c.loop-event-test.false) (c.loop-event.invariant.reaches first second stands)

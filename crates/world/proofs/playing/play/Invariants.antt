@@ -12,5 +12,5 @@ invariant-loop-event g l = record {
   few : length (g.S.Stepper.parts l.stepper l.history).transcript.calls.items ≤ l.event-index;
   room_calls : length l.events ≤ vec_capacity (g.S.Stepper.parts l.stepper l.history).transcript.calls;
   reaches : (first second : Holder) → NodesRefine first second (g.S.Stepper.parts l.initial.stepper l.initial.history) start
-      → StandsAfter first second (g.S.Stepper.parts l.initial.stepper l.initial.history) (take l.event-index l.events) l.done.items (g.S.Stepper.parts l.stepper l.history);
+      → StandsAfter first.lines second.lines (g.S.Stepper.parts l.initial.stepper l.initial.history) (take l.event-index l.events) l.done.items (g.S.Stepper.parts l.stepper l.history);
 }

@@ -13,7 +13,7 @@ use Rattle.world.proofs.ArrivalLemmas.{delivers, delivers_none, frame_may}
 use Rattle.world.proofs.arrivals.Arrivals.deliver.Goals as goal
 
 pub returns-in_default-clause-goes : goal.returns-in_default-clause-goes
-returns-in_default-clause-goes c = λ epoch w acknowledgements stands are. delivers_none epoch c.args.frames.now w c.args.frame (arrived_with c.args.self.now acknowledgements) c.in_default.ensures.lookup.3 stands are
+returns-in_default-clause-goes c = λ epoch w acknowledgements stands are own. delivers_none epoch c.args.frames.now w c.args.frame (arrived_with c.args.self.now acknowledgements) c.in_default.ensures.lookup.3 stands are
 
 pub returns-in_err-frame-clause-cause : goal.returns-in_err-frame-clause-cause
 returns-in_err-frame-clause-cause c =
@@ -37,11 +37,11 @@ returns-in_default-2-clause-cause c = λ epoch w are.
     absurd (ack_is_no_frame c.in_default-2.field-0 of.0 (ap sent_of (sym c.in_default-2.is) ∙ c.in_ok-frame.ensures.read (sent_of_frame of.0) of.1 (c.as_slice.ensures.value ∙ of.2)))
 
 pub returns-clause-goes : goal.returns-clause-goes
-returns-clause-goes c = λ epoch w acknowledgements stands are.
+returns-clause-goes c = λ epoch w acknowledgements stands are own.
     let frames = c.args.frames.now in
     let bytes = c.in-Some.bytes.now in
     let within = ltb-true c.args.frame (length frames) (sym c.in-Some.ensures.lookup.0) in
     let found = found-there frames frames c.args.frame bytes refl c.in-Some.ensures.lookup.0 c.in-Some.ensures.lookup.1 in
     delivers epoch frames w c.args.frame bytes c.in-Group.frame (arrived_with c.args.self.now acknowledgements) _ within found
     (λ sent may text. ap sent_of (sym c.in-Group.is) ∙ c.in_ok-frame.ensures.read sent may (c.as_slice.ensures.value ∙ text))
-    c.in_ok-push_back.ensures.items refl stands are
+    c.in_ok-push_back.ensures.items refl stands are own

@@ -9,8 +9,8 @@ use Rattle.world.proofs.OpenedLemmas.{IsNotOpened}
 use Rattle.world.proofs.PairReopen.{primary-reopening-cut, primary-reopens, primary-runs-on}
 use Rattle.world.proofs.pair.Pair.reopen_primary.Goals as goal
 
-pub returns-then-is_running-clause-does : goal.returns-then-is_running-clause-does
-returns-then-is_running-clause-does g c = λ history. primary-runs-on _ (sym c.is_running.ensures ∙ c.if-is_running.true)
+pub returns-then-not-has_crashed-clause-does : goal.returns-then-not-has_crashed-clause-does
+returns-then-not-has_crashed-clause-does g c = λ history. primary-runs-on _ (sym c.has_crashed.ensures ∙ c.if-not-has_crashed.true)
 
 pub returns-in_err-opening-clause-does : goal.returns-in_err-opening-clause-does
 returns-in_err-opening-clause-does g c = λ history.
@@ -23,7 +23,7 @@ returns-in_err-opening-clause-does g c = λ history.
     let refused : IsNotOpened Primary device (E.device committer.engine) c.in_err-opening.field-0.0 =
     record { refused = told.refused; fault = λ is. told.fault (ap Err is); failures = λ other. told.failures (λ same. other cc); moments = told.moments } in
     primary-reopening-cut _ c.restart.new.self.front.sequencer (record { waiting = back.work; aside = committer.aside.items; stage = committer.stage; local = committer.local }) (E.device committer.engine) (E.contents committer.engine)
-    (E.is_faulted committer.engine) c.from_residual.result exit.0 exit.1 (sym c.is_running.ensures ∙ c.if-is_running.false) (subst (IsNotOpened Primary device (E.device committer.engine)) (sym exit.2) refused)
+    (E.is_faulted committer.engine) c.from_residual.result exit.0 exit.1 (sym c.has_crashed.ensures ∙ c.if-not-has_crashed.false) (subst (IsNotOpened Primary device (E.device committer.engine)) (sym exit.2) refused)
 
 -- the image is the reopened one then
 pub returns-in_err-handed-clause-does : goal.returns-in_err-handed-clause-does
@@ -38,7 +38,7 @@ returns-in_err-handed-clause-does g c = λ history.
     let refused : IsNotOpened Primary device (E.device committer.engine) exit.0 =
     record { refused = inr (inl memory); fault = λ is. absurd (let no = sym memory ∙ is in cc); failures = λ other. told.failures (λ fault. cc); moments = told.moments } in
     primary-reopening-cut _ c.restart.new.self.front.sequencer (record { waiting = back.work; aside = committer.aside.items; stage = committer.stage; local = committer.local }) (E.device committer.engine) (E.contents committer.engine)
-    (E.is_faulted committer.engine) c.from_residual-in_err-handed.result exit.0 exit.1 (sym c.is_running.ensures ∙ c.if-is_running.false) refused
+    (E.is_faulted committer.engine) c.from_residual-in_err-handed.result exit.0 exit.1 (sym c.has_crashed.ensures ∙ c.if-not-has_crashed.false) refused
 
 pub returns-clause-does : goal.returns-clause-does
 returns-clause-does g c = λ history.
@@ -46,7 +46,7 @@ returns-clause-does g c = λ history.
     let committer = c.restart.new.self.back.committer in
     let told = c.in_ok-opening.ensures in
     let made = c.in_ok-handed.ensures in
-    primary-reopens _ _ _ _ (E.device committer.engine) (E.contents committer.engine) (E.is_faulted committer.engine) _ _ _ (sym c.is_running.ensures ∙ c.if-is_running.false)
+    primary-reopens _ _ _ _ (E.device committer.engine) (E.contents committer.engine) (E.is_faulted committer.engine) _ _ _ (sym c.has_crashed.ensures ∙ c.if-not-has_crashed.false)
     (record { reopens = told.reopens; durable = told.durable; sound = told.sound; failures = told.failures (λ fault. cc); moments = told.moments })
     (record {
       over = told.sequencer;

@@ -6,8 +6,8 @@ use Rattle.world.proofs.OpenedLemmas.{IsNotOpened}
 use Rattle.world.proofs.PairReopen.{standby-reopening-cut, standby-reopens, standby-runs-on}
 use Rattle.world.proofs.pair.Pair.reopen_standby.Goals as goal
 
-pub returns-then-is_running-clause-does : goal.returns-then-is_running-clause-does
-returns-then-is_running-clause-does g c = λ history. standby-runs-on _ (sym c.is_running.ensures ∙ c.if-is_running.true)
+pub returns-then-not-has_crashed-clause-does : goal.returns-then-not-has_crashed-clause-does
+returns-then-not-has_crashed-clause-does g c = λ history. standby-runs-on _ (sym c.has_crashed.ensures ∙ c.if-not-has_crashed.true)
 
 pub returns-in_err-restart-clause-does : goal.returns-in_err-restart-clause-does
 returns-in_err-restart-clause-does g c = λ history.
@@ -34,7 +34,7 @@ returns-in_err-restart-clause-does g c = λ history.
       failures = λ other. told.failures (λ same. other cc);
       moments = told.moments;
     } in
-    standby-reopening-cut _ node' c.from_residual.result exit.0 exit.1 (sym c.is_running.ensures ∙ c.if-is_running.false) (subst (IsNotOpened Standby (E.device c.args.self.now.standby.engine) node'.device) (sym exit.2) refused)
+    standby-reopening-cut _ node' c.from_residual.result exit.0 exit.1 (sym c.has_crashed.ensures ∙ c.if-not-has_crashed.false) (subst (IsNotOpened Standby (E.device c.args.self.now.standby.engine) node'.device) (sym exit.2) refused)
 
 pub returns-clause-does : goal.returns-clause-does
 returns-clause-does g c = λ history.
@@ -51,7 +51,7 @@ returns-clause-does g c = λ history.
       ended = standby.ended.items;
       epoch = (E.contents standby.engine).current.epoch;
     })
-    (sym c.is_running.ensures ∙ c.if-is_running.false) (record { reopens = told.reopens; durable = told.durable; sound = told.sound; failures = told.failures (λ fault. cc); moments = told.moments }) told.follows refl
+    (sym c.has_crashed.ensures ∙ c.if-not-has_crashed.false) (record { reopens = told.reopens; durable = told.durable; sound = told.sound; failures = told.failures (λ fault. cc); moments = told.moments }) told.follows refl
 
 pub returns-clause-leaves : goal.returns-clause-leaves
 returns-clause-leaves g c = λ history. record { primary = λ idle. refl; standby = λ idle. cc; frames = refl; acknowledgements = refl; effect = c.in_ok-restart.ensures.reopens }

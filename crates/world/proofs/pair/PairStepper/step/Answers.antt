@@ -1,7 +1,7 @@
 use Rattle.std.proofs.lemmas.Bool.{and_parts}
 use Rattle.world.specs.Condition.{runs}
 use Rattle.machine.specs.declared.event.Event.TheVariants as events
-use Rattle.world.proofs.PairLives.{fail-fence-acts, fence-acts, promote-acts}
+use Rattle.world.proofs.PairLives.{fail-fence-acts}
 use Rattle.world.proofs.StepLemmas.{acts-is, idle-is, leaves-still, own-is, turn-is}
 use Rattle.world.proofs.pair.PairStepper.step.Goals as goal
 
@@ -84,7 +84,7 @@ pub returns-in-FailFence : goal.returns-in-FailFence
 returns-in-FailFence g c = acts-is c.in-FailFence.is (fail-fence-acts _ c.in-FailFence.field-0 c.in-FailFence.field-1) (leaves-still (events.FailFence c.in-FailFence.field-0 c.in-FailFence.field-1) _)
 
 pub returns-in-Fence : goal.returns-in-Fence
-returns-in-Fence g c = acts-is c.in-Fence.is (fence-acts _) (leaves-still events.Fence _)
+returns-in-Fence g c = acts-is c.in-Fence.is (c.fence.ensures.does c.args.history.now) (c.fence.ensures.leaves c.args.history.now)
 
 pub returns-in-Promote : goal.returns-in-Promote
-returns-in-Promote g c = acts-is c.in-Promote.is (promote-acts _) (leaves-still events.Promote _)
+returns-in-Promote g c = rw c.in-Promote.is c.promote.ensures

@@ -1,0 +1,305 @@
+-- What the promotion of the standby does to the pair.
+use Rattle.std.proofs.Common.{◌≡◌, ◌≢◌, ◌⊎◌, inl, inr, ℕ, ◌+◌, ◌<◌, ◌≤◌, Bool, true, false, ◌&&◌, if◌then◌else◌, List, [], ◌∷◌, map, length, slice_index_or, Result, Ok, Err, All, Vec, Global, refl, sym, ap, ap₂, subst, ◌∙◌, arith, true≢false}
+use Rattle.std.proofs.lemmas.List.{length-map}
+use Rattle.std.proofs.lemmas.List.Elements.{All-head, All-tail}
+use Rattle.kv_types.specs.declared.refusal.Refusal.{Refusal}
+use Rattle.pmem.specs.Device.{State}
+use Rattle.pmem.specs.Runs.{LeavesOnly}
+use Rattle.pmem.proofs.Leaving.{LeavesOnly-weaken}
+use Rattle.pipes.specs.Waiting.{Waiting}
+use Rattle.model.specs.declared.call.Call.{Call}
+use Rattle.model.specs.declared.group.Group.{Group}
+use Rattle.model.specs.declared.record.Role.TheVariants as role
+use Rattle.model.specs.Call.{cut_at, position_of}
+use Rattle.model.specs.Group.{Contents}
+use Rattle.model.specs.Image.{Image}
+use Rattle.model.specs.Standing.{Holder}
+use Rattle.model.proofs.CallsLemmas.{position_of-cut_at}
+use Rattle.redis_core.specs.Sequencing.{Sequencing}
+use Rattle.standby_stream.specs.declared.opening.Opening.{Opening}
+use Rattle.standby_stream.specs.Stream.{Stream}
+use Rattle.wbl_engine.specs.declared.freeing.Freed.{Freed}
+use Rattle.wbl_engine.specs.Promoting.{ExhaustsPromotion}
+use Rattle.frames.specs.declared.frame.Frame.{Frame}
+use Rattle.machine.specs.declared.event.Cut.TheVariants as cut
+use Rattle.machine.specs.declared.event.Event.TheVariants.{Promote, Reopen}
+use Rattle.machine.specs.declared.event.Node.TheVariants as node
+use Rattle.machine.specs.Event.{Allowed, Frame as Sent, World, Step, is_enabled, is_retired, is_running, left, promoted}
+use Rattle.machine.specs.Sound.{IsFrameWithin}
+use Rattle.machine.proofs.SoundEvents.{sound-promoted}
+use Rattle.machine.proofs.SureLemmas.{unfailed}
+use Rattle.machine.specs.Promise.{released_in}
+use Rattle.connections.proofs.SessionLemmas.{length-released, released-told}
+use Rattle.connections.specs.Session.{AddsOne, HasSeat, SessionsRefine, released_of, seats_of}
+use Rattle.connections.specs.declared.connections.Connections.{Connections}
+use Rattle.connections.specs.declared.transcript.Transcript.{Transcript}
+use Rattle.world.specs.Cause.{Promoting}
+use Rattle.world.specs.Committing.{Committing, OpensAsEither, OpensAt, next_standby, promoted_holder}
+use Rattle.world.specs.Condition.{has_ended, runs}
+use Rattle.world.specs.declared.condition.Condition.{Condition}
+use Rattle.world.specs.declared.condition.Condition.TheVariants.{Running, Crashed, Ended}
+use Rattle.world.specs.Link.{AreAcksSent, AreFramesRead, AreFramesSent}
+use Rattle.world.specs.Pair.{Acts, AreLives, DownRefine, EitherRefines, HasStandby, IsPromotionCut, NodesRefine, Pair, Promotes, Succeeds, first_device, second_device}
+use Rattle.world.specs.Standby.{Arrived, Node}
+use Rattle.world.proofs.CutLemmas.{IsDown-cut}
+use Rattle.world.proofs.LivesLemmas.{not-over, retired-as, running-as, sure-lives}
+use Rattle.world.proofs.OpenedLemmas.{IsNotOpened, IsOpened, opened-stands}
+use Rattle.world.proofs.PairLemmas.{none-added, sessions-stand, standby-within}
+use Rattle.world.proofs.PairReopen.{Begins, primary-reopens, with_primary_node}
+use Rattle.world.proofs.PairStandby.{arrivals-stand, follower, frames-stand, link-epoch}
+use Rattle.world.proofs.PromotionLemmas.{OpensAt-uncut, PromotesUnder, WasNotPromoted, WasPromoted, down-promoted, not-opened-ends, not-promoted-ends, opened-leaves, same-failures}
+
+-- ---- the wire
+
+-- what an earlier primary sent tells nothing of this list
+frames-earlier : (epoch later n : ℕ) (calls calls' : List Call) (texts : List (Vec ℕ Global)) (sent : List Sent) → epoch < later → All (IsFrameWithin epoch n) sent → AreFramesSent epoch calls texts sent → AreFramesSent later calls' texts sent
+frames-earlier epoch later n calls calls' [] [] less within are = tt
+frames-earlier epoch later n calls calls' (bytes ∷ texts) (one ∷ sent) less within are = (
+  record {
+    frame = are.0.frame;
+    text = are.0.text;
+    may = are.0.may;
+    about = are.0.about;
+    is = λ own. absurd (omega (arith, own, less, (All-head (IsFrameWithin epoch n) one sent within).epoch_is));
+  },
+  frames-earlier epoch later n calls calls' texts sent less (All-tail (IsFrameWithin epoch n) one sent within) are.1,
+)
+frames-earlier epoch later n calls calls' texts sent less within are = absurd are
+
+-- ---- the pair
+
+-- it is enabled where the primary was fenced and the standby runs
+promote-enabled : {first second : Holder} {serves follows : Condition} {w : World} → AreLives first second serves follows w → has_ended serves ≡ true → runs follows ≡ true → is_enabled w Promote ≡ true
+promote-enabled {first} {second} {serves} {follows} {w} lives fenced follows_up =
+    ap₂ (λ a b. a && b) (ap is_running lives.standby ∙ running-as follows ∙ follows_up)
+    (ap₂ (λ (a : Allowed) (b : Bool). a.promotions && b) lives.allowed_are (ap is_retired lives.primary ∙ retired-as serves ∙ fenced))
+
+-- the standby's place once the engines were exchanged, with the sessions, the transcript and the arrivals that are left
+abbrev left_with : Connections → Transcript → State → Stream → Arrived → Node → Pair → Pair
+left_with sessions transcript device link arrivals node pair =
+    record pair { sessions = sessions; transcript = transcript; device = device; link = link; arrivals = arrivals; standby = node; primary_condition = Crashed; standby_condition = Ended }
+
+-- the holder of the former primary's device, of which nothing is said
+abbrev former_holder : Holder → Holder
+former_holder second = record { lines = second.lines; role = role.Standby; epoch = second.epoch + 1 }
+
+-- the list of calls and the released bytes are those of the world
+record ToldAs (transcript : Transcript) (w : World) : Type 0 where
+  calls : transcript.calls.items ≡ w.primary.calls
+  released : (c : ℕ) → slice_index_or (released_of transcript) c [] ≡ released_in w c
+  count : length transcript.released.items ≡ length w.primary.connections
+
+told-as : {first second : Holder} {pair : Pair} {w : World} → EitherRefines first second pair w → ToldAs pair.transcript w
+told-as {first} {second} {pair} {w} parts =
+    let told = (sessions-stand parts).told in
+    record {
+      calls = told.calls_are;
+      released = λ c. released-told w.primary.calls pair.transcript w.primary.connections told c;
+      count = omega (
+        arith,
+        length-released w.primary.calls pair.transcript w.primary.connections told,
+        length-map pair.transcript.released.items (λ (bytes : Vec ℕ Global). bytes.items),
+      );
+    }
+
+module _ (old : Pair) (fenced : has_ended old.primary_condition ≡ true) (follows : runs old.standby_condition ≡ true) where
+  began : HasStandby old
+  began = not-over old.standby_condition follows
+
+  -- the devices of a pair whose standby was not promoted
+  devices-are : (pair : Pair) → HasStandby pair → (first_device pair ≡ pair.device) × (second_device pair ≡ pair.standby.device)
+  devices-are pair whole = (ap (λ b. if b then pair.standby.device else pair.device) whole, ap (λ b. if b then pair.device else pair.standby.device) whole)
+
+  -- the token of the fence names the epoch of the standby
+  pub names-epoch : (first second : Holder) (w : World) → NodesRefine first second old w → (epoch : ℕ) → epoch ≡ old.link.epoch → epoch ≡ old.standby.contents.current.epoch
+  names-epoch first second w stands epoch is = is ∙ link-epoch stands.parts ∙ sym stands.lives.second_epoch ∙ sym (follower follows stands.parts).engine.contents_at.epoch_is
+
+  -- ---- it was refused
+
+  abbrev pub with_node_in : Node → Pair
+  with_node_in node' = record old { standby = node' }
+
+  pub promotion-refused : (node' : Node) (result : Result Bool Refusal) (refusal : Refusal) → result ≡ Err refusal
+      → ((first second : Holder) (w : World) → NodesRefine first second old w → WasNotPromoted old.standby.device node'.device old.standby.contents old.standby.is_faulted refusal)
+      → Promotes old result (with_node_in node')
+  promotion-refused node' result refusal is was =
+      subst (λ (r : Result Bool Refusal). Promotes old r new) (sym is) (record { succeeds = tt; cut = cut; calls = none-added _ _ refl })
+    where
+      new : Pair
+      new = with_node_in node'
+
+      cut : (first second : Holder) (w : World) → NodesRefine first second old w → IsPromotionCut second refusal old new w
+      cut first second w stands =
+          let stood = follower follows stands.parts in
+          let told = told-as stands.parts in
+          let p = w.standby.position in
+          let next = next_standby w in
+          let ends = not-promoted-ends second w.primary.calls p next old.standby.device node'.device old.standby.contents old.standby.is_faulted refusal stood.engine (was first second w stands) in
+          record {
+            enabled = promote-enabled stands.lives fenced follows;
+            calls = told.calls;
+            released = told.released;
+            count = told.count;
+            first_stays = (devices-are new began).0 ∙ sym (devices-are old began).0;
+            cause = subst (λ (d : State). Promoting refusal second w.primary.calls p next d (second_device new)) (sym (devices-are old began).1)
+                (subst (λ (d : State). Promoting refusal second w.primary.calls p next old.standby.device d) (sym (devices-are new began).1) ends);
+          }
+
+  -- ---- the image was promoted
+
+  module _ (epoch : ℕ) (token : epoch ≡ old.link.epoch) (between crashed : State) (after : Contents)
+      (under : PromotesUnder epoch old.standby.device between crashed old.standby.contents after old.standby.is_faulted) where
+    was : (first second : Holder) (w : World) → NodesRefine first second old w → WasPromoted old.standby.device between crashed old.standby.contents after × (¬ ExhaustsPromotion old.standby.contents.current)
+    was first second w stands =
+        let names = names-epoch first second w stands epoch token in
+        let sound = (follower follows stands.parts).engine.sound in (
+          record {
+            moved = under.moved;
+            durable = under.durable;
+            lawful = under.lawful;
+            sized = under.sized;
+            promoting = under.promoting names sound;
+            promoting_failures = under.promoting_failures;
+            settled = under.settled;
+            image = under.image;
+            lines_are = under.lines_are;
+            failures = under.failures;
+            moments = under.moments;
+          },
+          under.fits names sound,
+        )
+
+    -- and not opened: the primary has its engine, and the standby's place that of the former primary
+    pub opening-refused : (new : Pair) (result : Result Bool Refusal) (refusal : Refusal) → result ≡ Err refusal → new.transcript ≡ old.transcript → has_ended new.standby_condition ≡ true → new.standby.device ≡ old.device
+        → IsNotOpened role.Primary crashed new.device refusal → Promotes old result new
+    opening-refused new result refusal is same ended former refused =
+        subst (λ (r : Result Bool Refusal). Promotes old r new) (sym is) (record { succeeds = tt; cut = cut; calls = none-added _ _ (ap (λ (t : Transcript). t.calls) same) })
+      where
+        cut : (first second : Holder) (w : World) → NodesRefine first second old w → IsPromotionCut second refusal old new w
+        cut first second w stands =
+            let stood = follower follows stands.parts in
+            let told : ToldAs new.transcript w = subst (λ (t : Transcript). ToldAs t w) (sym same) (told-as stands.parts) in
+            let p = w.standby.position in
+            let next = next_standby w in
+            let made = was first second w stands in
+            let ends = not-opened-ends second w.primary.calls p old.standby.device between crashed old.standby.contents after old.standby.is_faulted stood.engine made.1 made.0 new.device refusal next refused in
+            record {
+              enabled = promote-enabled stands.lives fenced follows;
+              calls = told.calls;
+              released = told.released;
+              count = told.count;
+              first_stays = ap (λ b. if b then new.standby.device else new.device) ended ∙ former ∙ sym (devices-are old began).0;
+              cause = subst (λ (d : State). Promoting refusal second w.primary.calls p next d (second_device new)) (sym (devices-are old began).1)
+                  (subst (λ (d : State). Promoting refusal second w.primary.calls p next old.standby.device d) (sym (ap (λ b. if b then new.device else new.standby.device) ended)) ends);
+            }
+
+    -- ---- it was opened
+
+    module _ (sessions : Connections) (transcript : Transcript) (position : ℕ) (at : position ≡ after.current.position) (arrivals : Arrived) (node' : Node) (link : Stream)
+        (ends : (w : World) → SessionsRefine old.sessions old.transcript w.primary.connections w.primary.calls → SessionsRefine sessions transcript (map left w.primary.connections) (cut_at w.primary.calls position))
+        (unseated : (c seat : ℕ) → ¬ HasSeat (seats_of sessions.connections.items) c seat) (lost : arrivals.delivered.items ≡ []) (told : arrivals.acknowledgements ≡ old.arrivals.acknowledgements)
+        (sequencer : Sequencing) (committing : Committing) (notices : List Freed) (device : State) (contents : Contents) (is_faulted : Bool) (handed : Waiting Group) (opening : Opening)
+        (opened : IsOpened role.Primary crashed device contents is_faulted) (begins : Begins contents sequencer committing notices handed link opening) where
+      -- the pair as it is before its image is opened, as that of a primary that crashed
+      abbrev pub fallen : Pair
+      fallen = left_with sessions transcript crashed link arrivals node' old
+
+      fallen-stands : (first second : Holder) (w : World) → NodesRefine first second old w → NodesRefine (promoted_holder second) (former_holder second) fallen (promoted w)
+      fallen-stands first second w stands =
+          let calls = w.primary.calls in
+          let p = w.standby.position in
+          let lives = stands.lives in
+          let sound = stands.sound in
+          let stood = follower follows stands.parts in
+          let made = was first second w stands in
+          let image = down-promoted second calls p old.standby.device between crashed old.standby.contents after old.standby.is_faulted stood.engine made.1 made.0 in
+          let here : position ≡ p = at ∙ image.contents_at.at in
+          let epoch : second.epoch + 1 ≡ w.standby.epoch + 1 = ap (λ n. n + 1) (lives.second_epoch ∙ sym sound.standby.epoch_is) in
+          let engine = opened-stands (promoted_holder second) calls p crashed device contents is_faulted image opened in
+          let ours : link.epoch ≡ w.standby.epoch + 1 = ap (λ (s : Stream). s.epoch) begins.link_is ∙ engine.contents_at.epoch_is ∙ epoch in
+          let less : old.link.epoch < link.epoch = omega (arith, ours, link-epoch stands.parts, sound.standby.epoch_is) in
+          let within : p ≤ position_of calls = standby-within w sound in
+          let down : DownRefine (promoted_holder second) (former_holder second) fallen (promoted w) =
+          record {
+            sessions = subst (λ n. SessionsRefine sessions transcript (map left w.primary.connections) (cut_at calls n)) here (ends w (sessions-stand stands.parts));
+            unseated = unseated;
+            committer = refl;
+            link = refl;
+            ends = omega (arith, position_of-cut_at calls p, within);
+            newest = refl;
+            none_told = refl;
+            image = IsDown-cut (promoted_holder second) calls p p crashed (omega arith) image;
+            opened = refl;
+            recalls = λ q from below. absurd (omega (arith, from, below));
+            epoch = ours;
+            frames = frames-earlier old.link.epoch link.epoch sound.sent calls (cut_at calls p) old.frames w.wire.frames less
+                (subst (λ e. All (IsFrameWithin e sound.sent) w.wire.frames) (sym (link-epoch stands.parts)) sound.wire.frames) (frames-stand stands.parts);
+            own = λ whole. absurd (true≢false whole);
+            arrivals = record {
+              delivered = subst (λ (frames : List Frame). AreFramesRead link.epoch (cut_at calls p) frames []) (sym lost) tt;
+              acknowledged = subst (λ (acks : Vec (Vec ℕ Global) Global). AreAcksSent acks.items w.wire.acknowledgements) (sym told) (arrivals-stand stands.parts).acknowledged;
+            };
+            standby = record { stands = λ up. absurd (true≢false (sym up)); down = λ is. absurd (true≢false (sym is)) };
+          } in
+          let refines : EitherRefines (promoted_holder second) (former_holder second) fallen (promoted w) = inr (inl (refl, down)) in
+          record {
+            sound = sound-promoted w sound;
+            lives = record {
+              allowed_are = lives.allowed_are;
+              primary_disk = lives.standby_disk;
+              standby_disk = lives.standby_disk;
+              primary = refl;
+              standby = refl;
+              first_role = refl;
+              second_role = refl;
+              first_epoch = epoch;
+              second_epoch = epoch;
+            };
+            parts = refines;
+          }
+
+      pub promotion-done : node'.device ≡ old.device → AddsOne old.transcript.calls transcript.calls → Promotes old (Ok true) (with_primary_node sequencer committing notices device contents is_faulted handed link opening 0 Running fallen)
+      promotion-done former added =
+          record { succeeds = (refl, succeeds); cut = tt; calls = added }
+        where
+          new : Pair
+          new = with_primary_node sequencer committing notices device contents is_faulted handed link opening 0 Running fallen
+
+          acts : Acts fallen (Reopen node.Primary) (Ok true) new
+          acts = primary-reopens fallen sequencer committing notices device contents is_faulted handed link opening refl opened begins
+
+          succeeds : (first second : Holder) (w : World) → NodesRefine first second old w → Succeeds second w old new
+          succeeds first second w stands =
+              let p = w.standby.position in
+              let calls = w.primary.calls in
+              let stood = follower follows stands.parts in
+              let made = was first second w stands in
+              let mid = fallen-stands first second w stands in
+              let reopens = acts.steps (promoted_holder second) (former_holder second) (promoted w) mid in
+              let w' = reopens.world in
+              let opens = unfailed (promoted w) node.Primary cut.Reopen w' (sure-lives mid.lives).primary_sure (reopens.step.happens refl) in
+              let step : Step w Promote true w' = record {
+                done = sym (promote-enabled stands.lives fenced follows);
+                happens = λ did. inl (record { ended = opens.ended; gaps = opens.gaps; some = omega arith; few = opens.few; now = opens.now });
+                stands = λ did. absurd (true≢false did);
+              } in
+              let last : LeavesOnly crashed device (OpensAt (promoted_holder second) calls p) =
+              LeavesOnly-weaken (OpensAt (promoted_holder second) calls p) (λ image either. elim either [ inl is ↦ uncut second w image is | inr is ↦ uncut second w image (subst (λ n. OpensAt (promoted_holder second) (cut_at calls p) n image) (ap (λ (x : World). x.primary.committer.position) opens.now) is) ])
+              reopens.moves.primary.leaves in
+              let leaves = opened-leaves second calls p old.standby.device between crashed old.standby.contents after old.standby.is_faulted stood.engine made.1 made.0 device last in
+              let same = same-failures second calls p old.standby.device between crashed old.standby.contents after old.standby.is_faulted stood.engine made.1 made.0 in
+              record {
+                world = w';
+                step = step;
+                former = former_holder second;
+                began = began;
+                ended = refl;
+                stands = reopens.stands;
+                first_stays = former ∙ sym (devices-are old began).0;
+                leaves = subst (λ (d : State). LeavesOnly d device (OpensAsEither second calls p)) (sym (devices-are old began).1) leaves;
+                failures = reopens.moves.primary.failures ∙ same ∙ ap (λ (d : State). d.failures) (sym (devices-are old began).1);
+              }
+            where
+              uncut : (second : Holder) (w : World) (image : Image) → OpensAt (promoted_holder second) (cut_at w.primary.calls w.standby.position) w.standby.position image
+                  → OpensAt (promoted_holder second) w.primary.calls w.standby.position image
+              uncut second w image is = OpensAt-uncut (promoted_holder second) w.primary.calls w.standby.position w.standby.position image (omega arith) is

@@ -1,0 +1,181 @@
+-- The image of a standby that is promoted: what the calls that do so leave of it.
+use Rattle.std.proofs.Common.{◌≡◌, ◌≢◌, ◌⊎◌, inl, inr, ℕ, ◌+◌, ◌<◌, ◌≤◌, Bool, true, false, ◌&&◌, if◌then◌else◌, List, [], ◌∷◌, map, refl, sym, ap, subst, ◌∙◌, arith, true≢false}
+use Rattle.kv_types.specs.declared.refusal.Refusal.{Refusal}
+use Rattle.kv_types.specs.declared.refusal.Refusal.TheVariants.{Exhausted, Fault, Memory}
+use Rattle.pmem.specs.Device.{State}
+use Rattle.pmem.specs.Crash.{IsImage, IsSettled, image_of}
+use Rattle.pmem.specs.Runs.{LeavesOnly}
+use Rattle.pmem.proofs.Leaving.{LeavesOnly-then, LeavesOnly-weaken, none_leaves}
+use Rattle.model.specs.declared.call.Call.{Call}
+use Rattle.model.specs.declared.record.Role.TheVariants as role
+use Rattle.model.specs.Call.{cut_at}
+use Rattle.model.specs.Group.{Contents}
+use Rattle.model.specs.Image.{HasRecord, Holds, Image}
+use Rattle.model.specs.Standing.{Holder}
+use Rattle.model.proofs.RecordLemmas.{HasRecord-lines}
+use Rattle.group_commit.proofs.GroupsLemmas.{Same-is}
+use Rattle.wbl_engine.specs.Contents.{IsDurable, Same}
+use Rattle.wbl_engine.specs.Lawful.{AreLawful}
+use Rattle.wbl_engine.specs.Promoting.{ExhaustsPromotion, promoted as promoted_contents}
+use Rattle.wbl_engine.proofs.PromotingLemmas.{consistent_promoted, lawful_promoted}
+use Rattle.failover.specs.Promoting.{IsBeforeOrPromoted}
+use Rattle.machine.specs.Event.{promoted}
+use Rattle.world.specs.Cause.{Promoting}
+use Rattle.world.specs.Committing.{AreContentsAt, EngineStands, IsDown, OpensAsEither, OpensAt, promoted_holder}
+use Rattle.world.proofs.CutLemmas.{keyspace_after-cut_at-cut}
+use Rattle.world.proofs.DownLemmas.{restart-moments, restart-refused, settled-image}
+use Rattle.world.proofs.EngineLemmas.{Opens-engine, keeps-opens}
+use Rattle.world.proofs.OpenedLemmas.{IsNotOpened}
+
+-- ---- the image
+
+-- the engine's image was promoted, and its device crashed: what these calls say
+pub record WasPromoted (old between new : State) (contents after : Contents) : Type 0 where
+  pub moved : Same (promoted_contents contents) after
+  pub durable : IsDurable between after
+  pub lawful : AreLawful contents → AreLawful after
+  pub sized : after.lines ≡ between.lines
+  pub promoting : LeavesOnly old between (IsBeforeOrPromoted contents)
+  pub promoting_failures : between.failures ≡ old.failures
+  pub settled : IsSettled new.words
+  pub image : IsImage between.words (image_of new.words)
+  pub lines_are : new.lines ≡ between.lines
+  pub failures : new.failures ≡ between.failures
+  pub moments : LeavesOnly between new (IsImage between.words)
+
+-- the same, where the fence was that of this epoch
+pub record PromotesUnder (epoch : ℕ) (old between new : State) (contents after : Contents) (is_faulted : Bool) : Type 0 where
+  pub moved : Same (promoted_contents contents) after
+  pub durable : IsDurable between after
+  pub lawful : AreLawful contents → AreLawful after
+  pub sized : after.lines ≡ between.lines
+  pub promoting : epoch ≡ contents.current.epoch → is_faulted ≡ false → LeavesOnly old between (IsBeforeOrPromoted contents)
+  pub promoting_failures : between.failures ≡ old.failures
+  pub fits : epoch ≡ contents.current.epoch → is_faulted ≡ false → ¬ ExhaustsPromotion contents.current
+  pub settled : IsSettled new.words
+  pub image : IsImage between.words (image_of new.words)
+  pub lines_are : new.lines ≡ between.lines
+  pub failures : new.failures ≡ between.failures
+  pub moments : LeavesOnly between new (IsImage between.words)
+
+-- contents of a standby at a position, promoted
+pub contents-promoted : (holder : Holder) (calls : List Call) (p : ℕ) (contents after : Contents) → AreContentsAt holder calls p contents → Same (promoted_contents contents) after → AreContentsAt (promoted_holder holder) calls p after
+contents-promoted holder calls p contents after are moved =
+    subst (AreContentsAt (promoted_holder holder) calls p) (sym (Same-is (promoted_contents contents) after moved))
+    (record {
+      at = are.at;
+      role_is = refl;
+      epoch_is = ap (λ n. n + 1) are.epoch_is;
+      lines_are = are.lines_are;
+      consistent = consistent_promoted contents are.consistent;
+      map = are.map;
+    })
+
+-- each image meanwhile opens as the standby's or as the primary's
+either-opens : (holder : Holder) (calls : List Call) (p : ℕ) (device : State) (contents : Contents) (is_faulted : Bool) → EngineStands holder calls p device contents is_faulted
+    → (¬ ExhaustsPromotion contents.current) → (image : Image) → IsBeforeOrPromoted contents image → OpensAsEither holder calls p image
+either-opens holder calls p device contents is_faulted stands fits image (inl before) = inl (keeps-opens holder calls p contents image stands.contents_at stands.lawful before)
+either-opens holder calls p device contents is_faulted stands fits image (inr after) =
+    inr (keeps-opens (promoted_holder holder) calls p (promoted_contents contents) image
+    (contents-promoted holder calls p contents (promoted_contents contents) stands.contents_at (record { current = refl; lines = refl; versions = λ i. refl; is_free = λ i. refl }))
+    (lawful_promoted contents stands.lawful fits) after)
+
+module _ (holder : Holder) (calls : List Call) (p : ℕ) (old between new : State) (contents after : Contents) (is_faulted : Bool) (stands : EngineStands holder calls p old contents is_faulted)
+    (fits : ¬ ExhaustsPromotion contents.current) (was : WasPromoted old between new contents after) where
+  -- the image is down, as a primary's
+  abbrev pub down-promoted : IsDown (promoted_holder holder) calls p new
+  down-promoted = record {
+    contents = after;
+    contents_at = contents-promoted holder calls p contents after stands.contents_at was.moved;
+    lawful = was.lawful stands.lawful;
+    keeps = was.durable (image_of new.words) was.image;
+    settled = was.settled;
+    sized = was.sized ∙ sym was.lines_are;
+  }
+
+  -- what a crash leaves up to then
+  pub promoted-leaves : LeavesOnly old new (OpensAsEither holder calls p)
+  promoted-leaves =
+      LeavesOnly-then
+      (LeavesOnly-weaken (OpensAsEither holder calls p) (either-opens holder calls p old contents is_faulted stands fits) was.promoting)
+      (LeavesOnly-weaken (OpensAsEither holder calls p)
+      (λ image is. inr (keeps-opens (promoted_holder holder) calls p after image (contents-promoted holder calls p contents after stands.contents_at was.moved) (was.lawful stands.lawful) (was.durable image is)))
+      was.moments)
+
+  -- and what it leaves once the image was opened, or was not
+  pub opened-leaves : (last : State) → LeavesOnly new last (OpensAt (promoted_holder holder) calls p) → LeavesOnly old last (OpensAsEither holder calls p)
+  opened-leaves last only = LeavesOnly-then promoted-leaves (LeavesOnly-weaken (OpensAsEither holder calls p) (λ image is. inr is) only)
+
+  pub same-failures : new.failures ≡ old.failures
+  same-failures = was.failures ∙ was.promoting_failures
+
+  -- the opening was refused
+  pub not-opened-ends : (last : State) (refusal : Refusal) (next : ℕ) → IsNotOpened role.Primary new last refusal → Promoting refusal holder calls p next old last
+  not-opened-ends last refusal next refused =
+      let down = down-promoted in
+      let leaves = opened-leaves last (restart-moments (promoted_holder holder) calls p new last down refused.moments) in
+      let memory : refusal ≡ Memory → last.failures ≡ new.failures → Promoting refusal holder calls p next old last =
+      λ is same. subst (λ (r : Refusal). Promoting r holder calls p next old last) (sym is) (record { leaves = leaves; failures = same ∙ same-failures }) in
+      elim refused.refused [
+        | inl fault ↦ subst (λ (r : Refusal). Promoting r holder calls p next old last) (sym fault) (record { leaves = leaves; failures = omega (arith, same-failures, refused.fault fault) })
+        | inr (inl is) ↦ memory is (refused.failures (λ fault. memory_no_fault (sym is ∙ fault)))
+        | inr (inr why) ↦ elim (restart-refused (promoted_holder holder) calls p new refusal down why.0) [
+          | inl is ↦ memory is (ap (λ (d : State). d.failures) why.1)
+          | inr full ↦
+              let record_is = full.1 in
+              subst (λ (r : Refusal). Promoting r holder calls p next old last) (sym full.0)
+              (record {
+                rests = record { leaves = leaves; failures = ap (λ (d : State). d.failures) why.1 ∙ same-failures };
+                current = record_is.0;
+                has_record = λ image is.
+                    subst (HasRecord holder.lines record_is.0) (sym (settled-image new.words image down.settled (subst (λ (d : State). IsImage d.words image) why.1 is))) record_is.1;
+                limit = inr record_is.2;
+              })
+        ]
+      ]
+    where
+      memory_no_fault : Memory ≡ Fault → ⊥
+      memory_no_fault is = cc
+
+-- the promotion itself was refused
+pub record WasNotPromoted (old new : State) (contents : Contents) (is_faulted : Bool) (refusal : Refusal) : Type 0 where
+  pub causes : (refusal ≡ Fault) ⊎ (refusal ≡ Exhausted)
+  pub fault : refusal ≡ Fault → (is_faulted ≡ true) ⊎ (old.failures < new.failures)
+  pub exhausted : refusal ≡ Exhausted → ExhaustsPromotion contents.current × (new ≡ old)
+  pub fits : refusal ≡ Fault → ¬ ExhaustsPromotion contents.current
+  pub moments : LeavesOnly old new (IsBeforeOrPromoted contents)
+
+pub not-promoted-ends : (holder : Holder) (calls : List Call) (p next : ℕ) (old new : State) (contents : Contents) (is_faulted : Bool) (refusal : Refusal) → EngineStands holder calls p old contents is_faulted
+    → WasNotPromoted old new contents is_faulted refusal → Promoting refusal holder calls p next old new
+not-promoted-ends holder calls p next old new contents is_faulted refusal stands was = elim was.causes [
+  | inl fault ↦
+      let failed : old.failures < new.failures = elim (was.fault fault) [
+        | inl faulted ↦ absurd (true≢false (sym faulted ∙ stands.sound))
+        | inr now ↦ now
+      ] in
+      subst (λ (r : Refusal). Promoting r holder calls p next old new) (sym fault)
+      (record { leaves = LeavesOnly-weaken (OpensAsEither holder calls p) (either-opens holder calls p old contents is_faulted stands (was.fits fault)) was.moments; failures = failed })
+  | inr exhausted ↦
+      let why = was.exhausted exhausted in
+      subst (λ (r : Refusal). Promoting r holder calls p next old new) (sym exhausted)
+      (subst (λ (d : State). Promoting Exhausted holder calls p next old d) (sym why.1)
+      (record {
+        rests = record { leaves = none_leaves old (OpensAsEither holder calls p) (λ image is. inl (Opens-engine holder calls p old contents is_faulted stands image is)); failures = refl };
+        current = contents.current;
+        has_record = λ image is. HasRecord-lines stands.contents_at.lines_are (stands.durable image is).has_record;
+        limit = inl why.0;
+      }))
+]
+
+-- what opens over a list that was cut above it opens over the whole
+pub OpensAt-uncut : (holder : Holder) (calls : List Call) (n p : ℕ) (image : Image) → p ≤ n → OpensAt holder (cut_at calls n) p image → OpensAt holder calls p image
+OpensAt-uncut holder calls n p image le opens = record {
+  stands = record {
+    current = opens.stands.current;
+    position = opens.stands.position;
+    role = opens.stands.role;
+    epoch = opens.stands.epoch;
+    holds = subst (λ s. Holds holder.lines opens.stands.current s image) (keyspace_after-cut_at-cut calls n p le) opens.stands.holds;
+  };
+  undamaged = opens.undamaged;
+}
