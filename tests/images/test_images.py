@@ -15,8 +15,9 @@ import tempfile
 import plain_image
 from common import CAUSE, NEWS, Cases, program, run_program, without_cause
 from damaged_images import BASE, ENTRIES_ALONE, ENTRIES_TOGETHER, RECORDS, SLOT, STRANGE, SUPERBLOCKS
-from plain_image import PRIMARY, STANDBY, Words, Writer
+from plain_image import PRIMARY, STANDBY, Words
 from plain_keyspace import DropKey, Put
+from plain_writer import Writer
 
 PROGRAMS = ["server"]
 
