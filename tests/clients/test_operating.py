@@ -1,19 +1,16 @@
 """The procedures of docs/operating.md, and the first one of README.md: the blocks of the pages as they stand, under writers, and what clients find
 afterwards."""
 
-import contextlib
 import pathlib
-import re
 import shutil
-import subprocess
 import time
-import typing
 
 import common
 import pages
-from load import WRITERS, Load
+from load import Load
+from operated import FIRST, PAGE, README, SECOND, Operated, Page
 from page_shell import PageShell, blocks_below
-from pair import PATIENCE, Client, Ended, PairCases, wait_until
+from pair import Client, PairCases, wait_until
 from plain_replies import NULL_BULK, OK, bulk, integer
 from spelling import spell
 
@@ -21,76 +18,6 @@ PROGRAMS = ["server", "client"]
 IS_SLOW = True
 QUICK = ["Procedures.test_the_process_of_the_primary", "Procedures.test_a_lost_primary",
          "Sizes.test_the_table", "FirstScreen.test_the_blocks_as_they_stand"]
-
-PAGE, README = common.ROOT / "docs" / "operating.md", common.ROOT / "README.md"
-# What each writer is answered, on the average, before a procedure and after it.
-ANSWERS = 10
-FIRST, SECOND = 7001, 7002
-PROMOTED = re.compile(r"\S+ is a primary's now, at position [1-9]\d*, with \d+ keys")
-
-
-class Door(typing.NamedTuple):
-    number: int
-
-
-class Page:
-    """Where clients come, as a load has it."""
-
-    def __init__(self, shell, port):
-        self.door = Door(shell.port(port))
-
-
-class Operated(PairCases):
-    """Tests over the pair of the page."""
-
-    def setUp(self):
-        super().setUp()
-        self.shell = self.new_shell()
-        self.do("A pair")
-
-    def new_shell(self):
-        shell = PageShell(self.image_folder())
-        self.addCleanup(shell.close)
-        return shell
-
-    def do(self, *headings):
-        """Runs all blocks below these headings of the page. Returns what they print."""
-        printed = ""
-        for heading in headings:
-            found = blocks_below(PAGE, heading)
-            self.assertTrue(found, heading)
-            for lines in found:
-                printed += self.shell.run(*lines)
-        self.assert_without_errors()
-        return printed
-
-    def assert_without_errors(self):
-        """Nothing was told on standard error, but by the shell of what was ended, and what a promoted image holds."""
-        told = self.shell.errors.read_text().splitlines()
-        self.assertEqual([line for line in told if line not in ("Terminated", "Killed") and not PROMOTED.fullmatch(line)], [])
-
-    def log(self, name):
-        """What a node told on standard error so far, in the file that the page names for it."""
-        path = self.shell.folder / f"{name}.log"
-        return path.read_bytes() if path.exists() else b""
-
-    def client(self, port=FIRST):
-        client = Client(self.shell.port(port))
-        self.addCleanup(client.close)
-        return client
-
-    def started(self, load):
-        load.start()
-        load.wait_for(ANSWERS * WRITERS)
-
-    def ended(self, load, port, told):
-        """The writers end, all that they were answered is there at this port, and they go on."""
-        load.end()
-        load.pair = Page(self.shell, port)
-        load.check(told)
-        self.started(load)
-        load.end()
-        load.check(f"{told}, and after more writes")
 
 
 class Procedures(Operated):
@@ -315,130 +242,3 @@ class Sizes(Operated):
         self.assertEqual([client.ask("GET", kept[0]), client.ask("DEL", *kept[:100])], [bulk(b"2"), integer(100)])
         self.assertEqual(client.ask("SET", "again", "1"), OK)
         self.assert_without_errors()
-
-
-class Supervised(common.Cases):
-    """The unit file."""
-
-    def test_the_unit(self):
-        lines = blocks_below(PAGE, "Supervision")[0]
-        name = lines[0].removeprefix("# ")
-        self.assertEqual(name, "wbl-primary@.service")
-        if not shutil.which("systemd-analyze"):
-            print(f"{self.id()}: skipped, since there is no systemd-analyze", flush=True)
-            return
-        shell = PageShell()
-        self.addCleanup(shell.close)
-        path = shell.write("wbl-primary@a.service", [line.replace("/usr/local/bin/", f"{shell.folder}/bin/") for line in lines])
-        ran = subprocess.run(["systemd-analyze", "verify", "--man=no", path], capture_output=True, text=True, timeout=PATIENCE, check=False)
-        # (what it says of the unit alone: of a machine without systemd it may say more)
-        self.assertEqual([line for line in ran.stderr.splitlines() if path.name in line], [])
-
-
-class Proxied(Operated):
-    """HAProxy and twemproxy as the page has them. Skipped with a word where they are not there and cannot be had."""
-
-    def have(self, name):
-        if not shutil.which(name):
-            print(f"{self.id()}: skipped, since there is no {name}", flush=True)
-            return False
-        return True
-
-    def setUp(self):
-        super().setUp()
-        (self.configuration,) = blocks_below(PAGE, "HAProxy")
-
-    def proxy(self, shell, port):
-        """HAProxy in front of the pair of this shell, once it passes a write on."""
-        path = shell.write("haproxy.cfg", self.configuration)
-        shell.launch(shutil.which("haproxy"), "-db", "-f", str(path))
-        self.wait_to_serve(shell, port)
-
-    def wait_to_serve(self, shell, port):
-        def serves():
-            with contextlib.suppress(OSError, Ended), Client(shell.port(port), PATIENCE / 4) as client:
-                return client.ask("SET", "health", "1") == OK
-
-        wait_until(serves, f"an answer at {port} of the page")
-
-    def check_behind(self, load, told):
-        """What the writers were answered is there, behind a proxy that on a busy machine may think for a while that its node is down."""
-        def is_checked():
-            self.wait_to_serve(self.shell, 7000)
-            with contextlib.suppress(OSError, Ended):
-                load.check(told)
-                return True
-
-        wait_until(is_checked, f"all keys, {told}")
-
-    def test_haproxy(self):
-        """A fail over behind it changes nothing for clients, and an old primary that comes back serves nobody."""
-        if not self.have("haproxy"):
-            return
-        self.proxy(self.shell, 7000)
-        load = Load(Page(self.shell, 7000))
-        self.started(load)
-        self.shell.run("kill -9 $primary; wait $primary; cp a.img old.img")
-        load.end()
-        self.do("A lost primary")
-        self.check_behind(load, "behind HAProxy")
-        start = next(line for line in blocks_below(PAGE, "The process of the primary")[0] if " primary " in line)
-        self.shell.run(start.replace("a.img", "old.img").replace("7102", "7105").replace("a.log", "old.log"))
-        wait_until(lambda: b"listening on" in self.log("old"), "the old primary")
-        self.started(load)
-        # (checks of it come meanwhile, which it does not answer)
-        for _ in range(3):
-            with Client(self.shell.port(FIRST), 1) as client, self.assertRaises(TimeoutError):
-                client.ask("SET", "health", "1")
-        load.end()
-        self.check_behind(load, "with an old primary")
-        self.cut_off_while_a_standby_is_away()
-
-    def cut_off_while_a_standby_is_away(self):
-        """Clients of a primary that lost its standby are turned away, and served again once that is back."""
-        def is_turned_away():
-            with Client(self.shell.port(7000)) as client:
-                try:
-                    client.ask("PING")
-                except (ConnectionError, Ended):
-                    return True
-
-        self.shell.run("kill -9 $standby; wait $standby")
-        wait_until(is_turned_away, "a node that counts as down")
-        self.shell.run(next(line for line in blocks_below(PAGE, "A lost primary")[0] if " standby " in line and " & " in line))
-        self.wait_to_serve(self.shell, 7000)
-
-    def test_twemproxy(self):
-        """Over two pairs: what passes, what is cut, and what ends the connection."""
-        if not self.have("haproxy") or not self.have("nutcracker"):
-            return
-        other = self.new_shell()
-        other.run(*blocks_below(PAGE, "A pair")[0])
-        self.proxy(self.shell, 7000)
-        self.proxy(other, 7000)
-        (lines,) = blocks_below(PAGE, "twemproxy")
-        self.shell.ports[7010] = other.ports[7000]
-        path = self.shell.write("nutcracker.yml", lines)
-        self.addCleanup(self.shell.ports.pop, 7010)
-        self.shell.launch(shutil.which("nutcracker"), "-c", str(path), "-s", str(self.shell.port(7201)))
-        self.wait_to_serve(self.shell, 7200)
-        client = self.client(7200)
-        keys = [f"k{at}" for at in range(100)]
-        with self.case("spread"):
-            self.assertEqual([client.ask("SET", key, key) for key in keys], 100 * [OK])
-            counts = [Client(shell.port(FIRST)).ask("EXISTS", *keys) for shell in (self.shell, other)]
-            self.assertEqual(sum(int(it[1:]) for it in counts), 100)
-            self.assertNotIn(integer(0), counts)
-        with self.case("cut"):
-            self.assertEqual(client.ask("MGET", *keys), b"*100\r\n" + b"".join(bulk(key.encode()) for key in keys))
-            self.assertEqual([client.ask("DEL", *keys), client.ask("MSET", "a", "1", "b", "2"), client.ask("MGET", "a", "b")], [integer(100), OK, b"*2\r\n" + bulk(b"1") + bulk(b"2")])
-        with self.case("of its own"):
-            self.assertEqual(client.ask("PING"), b"+PONG\r\n")
-        for words in (["MULTI"], ["EXEC"], ["WATCH", "a"], ["DBSIZE"], ["FLUSHDB"], ["MSETNX", "a", "1"], ["ECHO", "a"], ["QUIT"]):
-            with self.case("ends the connection", words=words), Client(self.shell.port(7200)) as asked:
-                with self.assertRaises((Ended, ConnectionError)):
-                    asked.ask(*words)
-        with self.case("a value that is too large"), Client(self.shell.port(7200)) as asked:
-            with contextlib.suppress(Ended, ConnectionError):
-                self.assertRegex(asked.ask("SET", "large", 65_537 * "v"), rb"\A-")
-            self.wait_to_serve(self.shell, 7200)

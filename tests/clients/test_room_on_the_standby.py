@@ -12,10 +12,11 @@ import noted_calls
 import plain_image
 from noted_calls import Noting, mixed
 from pair import PATIENCE, PairCases, wait_until
-from plain_image import MORE_LINES, STANDBY, Words, Writer
+from plain_image import MORE_LINES, STANDBY, Words
 from plain_keyspace import Put
 from plain_replies import OK
 from plain_wire import Acknowledgement, Group, text
+from plain_writer import Writer
 from spelling import spell
 from standby_node import ACK_BYTES, Node, StandingBy, cut_short, take
 from test_images import FAILED, LINES, refusal

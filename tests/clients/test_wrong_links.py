@@ -8,10 +8,11 @@ import threading
 
 from damaged_frames import SET_A
 from pair import HOST, LINES, PATIENCE, Client, PairCases, Port, ServingCases, wait_until
-from plain_image import STANDBY, Writer
+from plain_image import STANDBY
 from plain_keyspace import Put
 from plain_replies import OK
 from plain_wire import Acknowledgement, Group, number, text
+from plain_writer import Writer
 from spelling import spell
 from standby_node import ACK_BYTES, Node, StandingBy
 from test_images import LINES as IMAGE_LINES

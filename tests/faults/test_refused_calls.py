@@ -10,9 +10,10 @@ from common import run_program
 from damaged_frames import SET_A
 from faulty_pair import BROKEN
 from pair import Client, Ended, PairCases, wait_until
-from plain_image import STANDBY, Writer
+from plain_image import STANDBY
 from plain_replies import OK, bulk
 from plain_wire import Acknowledgement, text
+from plain_writer import Writer
 from refused_calls import FOR_EVER, FaultyCases
 from standby_node import CANNOT_LISTEN, Node, StandingBy
 from test_images import FAILED, LINES

@@ -8,11 +8,12 @@ import common
 import plain_image
 from common import Cases, drawn, run_program, tell
 from faulty_pair import BROKEN, FAULT as STARVED, NO_MEMORY
-from plain_image import STANDBY, Words, Writer
+from plain_image import STANDBY, Words
 from plain_keyspace import Put
 from plain_machine import DEFAULT_LINES, Machine
 from plain_replies import NULL_BULK, OK, array, bulk, elements, integer
 from plain_starved import REFUSED, Starved, answers, replies_in
+from plain_writer import Writer
 from refused_calls import FOR_EVER, FaultyCases
 from simulation import NODES, Runs, Schedule, Trace, told_positions
 from spelling import read, spell

@@ -2,6 +2,7 @@
 (docs/image.md, "Reading an arbitrary image"): of each its name, the refusal, and the words that are others than those of BASE."""
 
 import plain_image
+import plain_writer
 from plain_image import DIRECTORY_LINE, MAGIC, PRIMARY, RECORD_LINES, STANDBY, WORDS_OF_LINE, extents_begin
 from plain_keyspace import Put
 
@@ -15,7 +16,7 @@ FIELD_OF = {name: number for number, name in enumerate(["number", "position", "c
 
 def base_writer():
     """Entries 0 to 4 hold a of 1, ended by stamp 4, b, f of h, a of 3, and c of stamp 4102, behind the gap 5 to 4100."""
-    writer = plain_image.Writer(LINES, PRIMARY)
+    writer = plain_writer.Writer(LINES, PRIMARY)
     writer.commit([[Put((b"a",), b"1")], [Put((b"b",), b"2")]])
     writer.commit([[Put((b"h", b"f"), b"1")], [Put((b"a",), b"3")]])
     writer.reopen()

@@ -1,7 +1,8 @@
 """Images that are drawn by seed, with gaps, ended and half-made entries and hashes, and ways to damage them: bits, words and lines that are others
 (docs/image.md)."""
 
-from plain_image import DIRECTORY_LINE, PRIMARY, STANDBY, WORDS_OF_LINE, Writer, extents_begin, reopened
+from plain_image import DIRECTORY_LINE, PRIMARY, STANDBY, WORDS_OF_LINE, extents_begin, reopened
+from plain_writer import Writer
 from standby_node import crashed, drawn_change, with_record
 
 LINES = 4_096

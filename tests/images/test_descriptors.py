@@ -9,9 +9,10 @@ import tempfile
 
 from common import Cases, program, run_program
 from pair import Client, Port, wait_until
-from plain_image import PRIMARY, STANDBY, Writer
+from plain_image import PRIMARY, STANDBY
 from plain_replies import OK
 from plain_wire import Acknowledgement, text
+from plain_writer import Writer
 from standby_node import NOWHERE
 from stored_server import StoredServer
 from spelling import spell

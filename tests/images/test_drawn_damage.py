@@ -9,8 +9,9 @@ import plain_image
 from common import tell
 from damaged_images import entry, whole_entry
 from drawn_damage import LINES, drawn_damage, drawn_image
-from plain_image import PRIMARY, Words, Writer
+from plain_image import PRIMARY, Words
 from plain_keyspace import Put
+from plain_writer import Writer
 from standby_node import StandingBy
 from test_images import DONE, FAILED, Images, image_bytes, refusal, told, words_of
 

@@ -11,8 +11,9 @@ import time
 
 import common
 from common import run_program
-from plain_image import PRIMARY, STANDBY, Writer
+from plain_image import PRIMARY, STANDBY
 from plain_keyspace import DropKey, Put
+from plain_writer import Writer
 from test_images import DONE, FAILED, LINES, MISUSED, ROLES, Images, format_words, image_bytes
 from test_promote import STOPPED, Standby, with_groups
 

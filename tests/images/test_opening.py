@@ -3,8 +3,9 @@
 import random
 
 from damaged_images import BASE, ENTRIES_ALONE, ENTRIES_TOGETHER, FIELD_OF, RECORDS, SLOT, STRANGE, SUPERBLOCKS
-from plain_image import PRIMARY, STANDBY, Writer
+from plain_image import PRIMARY, STANDBY
 from plain_keyspace import Put
+from plain_writer import Writer
 from standby_node import LIMIT, StandingBy, crashed, drawn_change, drawn_frames, take, with_record
 from test_images import LINES, image_bytes, limited, words_of
 

@@ -9,10 +9,11 @@ import tempfile
 
 import plain_image
 from common import CAUSE, NEWS, Cases, run_program, without_news
-from plain_image import PRIMARY, STANDBY, Words, Writer
+from plain_image import PRIMARY, STANDBY, Words
 from plain_keyspace import DropKey, Put
 from test_images import DONE, FAILED, LINE_BYTES, LINES, MISUSED, format_words, image_bytes, told, words_of
 from damaged_images import BASE, ENTRIES_ALONE, ENTRIES_TOGETHER, RECORDS, SUPERBLOCKS
+from plain_writer import Writer
 
 PROGRAMS = ["server"]
 

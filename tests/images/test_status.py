@@ -10,8 +10,9 @@ import tempfile
 
 import common
 import plain_image
-from plain_image import PRIMARY, STANDBY, Words, Writer
+from plain_image import PRIMARY, STANDBY, Words
 from plain_keyspace import DropKey, Put
+from plain_writer import Writer
 from standby_node import cut_short
 
 PROGRAMS = ["server"]

@@ -7,6 +7,7 @@ import typing
 import plain_delta
 import plain_image
 import plain_redis
+import plain_writer
 import spelling
 
 SEATS = 1_024
@@ -81,7 +82,7 @@ class Node:
     """A node over a new image. `fail` is the number of the fence that fails, 0 for none."""
 
     def __init__(self, lines, role, fail):
-        self.image = plain_image.Writer(lines, role)
+        self.image = plain_writer.Writer(lines, role)
         self.runs = True
         self.is_over = False
         # frames that joined on and were not taken

@@ -279,6 +279,25 @@ class Releases(common.Cases):
             write(self.it.root / "crates" / "server" / "out" / "server", "#!/bin/sh\necho other\n")
             refused("crates/server/out/server is not what the gate built")
 
+    def test_what_the_programs_say_of_themselves(self):
+        say = lambda text: self.it.edit("crates/version/src/release.rt", f'pub const VERSION: &str = "{text}";\n')
+        gated = lambda program=PROVED: (self.it.gate(program), self.it.run("bin/release"))[1]
+        again = "other programs were released as 7 before: raise the number in crates/version/src/release.rt for the next ones\n"
+        with self.case("another toolchain"):
+            say("7 (logic 99)")
+            why = "it says that it was proved by logic 99, and the toolchain here is logic 1234: edit crates/version/src/release.rt"
+            self.assertEqual(gated(), (1, f"wbl-server: not released: {why}\n0 passed, 1 failed\n", ""))
+        say("7 (logic 1234)")
+        for name, program, is_told in (("the first", PROVED, False), ("the same again", PROVED, False), ("another", PROVED + "# other\n", True)):
+            with self.case(name):
+                status, said, _ = gated(program)
+                self.assertEqual((status, again in said), (0, is_told))
+                self.assertIn("\nrelease 7\n", (self.it.root / "releases" / "LIST").read_text())
+        with self.case("the next"):
+            say("8 (logic 1234)")
+            self.assertNotIn(again, gated(PROVED)[1])
+            self.assert_checked("1 passed, 0 failed")
+
     def test_the_same_is_packed_alike(self):
         self.release()
         known = [it.read_bytes() for it in sorted((self.it.root / "releases").iterdir())]

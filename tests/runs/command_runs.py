@@ -1,7 +1,7 @@
 """Requests that the simulator runs, each over the same records: their replies, and what they change in both images."""
 
 import plain_commands
-import plain_image
+import plain_writer
 from plain_commands import Effect
 from plain_keyspace import Clear, Keyspace, Put
 from simulation import NODES, Runs, Schedule
@@ -74,13 +74,13 @@ class Commands(Runs):
     def show_effects(self, table, kept=()):
         """As `show_requests`, with each effect whole. The plain commands have it over these records too, and what one run of many cases
         leaves is, word for word, what the plain machine finds for them (simulation.Runs)."""
-        keyspace, run, room = keyspace_of(kept), [], plain_image.Room(LINES)
+        keyspace, run, room = keyspace_of(kept), [], plain_writer.Room(LINES)
         for asked, wanted in table:
             words = words_of(asked)
             self.assertEqual(plain_commands.effect(keyspace, words), wanted)
             if len(run) == MOST_CASES or not room.take((*kept, *wanted.changes)):
                 self.show_run(run, kept)
-                run, room = [], plain_image.Room(LINES)
+                run, room = [], plain_writer.Room(LINES)
                 self.assertTrue(room.take((*kept, *wanted.changes)))
             run.append((words, wanted))
         self.show_run(run, kept)

@@ -8,10 +8,10 @@ import common
 import draws
 import pages
 import plain_commands
-import plain_image
 import plain_keyspace
 import plain_redis
 import plain_replies
+import plain_writer
 from command_runs import CLEAR, CLOSE, Commands, write, write_field
 from draws import GREATEST, LEAST, LONG_KEY, LONGEST_KEY
 from plain_keyspace import Drop, DropKey
@@ -263,7 +263,7 @@ class Drawn(Runs):
     def test_against_the_plain_redis(self):
         effects = []
         for seed in range(self.SEEDS):
-            drawn, redis = draws.numbers(f"commands {seed}"), plain_redis.Redis(plain_image.Room(self.LINES))
+            drawn, redis = draws.numbers(f"commands {seed}"), plain_redis.Redis(plain_writer.Room(self.LINES))
             asked = self.draw(drawn)
             served = [redis.serve(words) for words in asked]
             effects += served

@@ -8,8 +8,9 @@ import random
 
 import common
 from page_cache import PageCache
-from plain_image import PRIMARY, RECORD_LINES, RECORD_WORDS, WORDS_OF_LINE, BadImage, Words, Writer, read_image
+from plain_image import PRIMARY, RECORD_LINES, RECORD_WORDS, WORDS_OF_LINE, BadImage, Words, read_image
 from plain_keyspace import Drop, Put
+from plain_writer import Writer
 
 PROGRAMS = []
 

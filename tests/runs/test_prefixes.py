@@ -6,6 +6,7 @@ import plain_image
 import plain_keyspace
 import plain_machine
 import plain_redis
+import plain_writer
 from simulation import NODES, Runs, Schedule, simulate
 from spelling import spell
 
@@ -75,7 +76,7 @@ def history(seed):
 def keyspaces(calls):
     """The keyspace after each number of changing calls; how many there are after each number of calls; and the changes of
     each."""
-    redis = plain_redis.Redis(plain_image.Room(LINES))
+    redis = plain_redis.Redis(plain_writer.Room(LINES))
     found, positions = [{}], [0]
     for call in calls:
         redis.call(call.connection, call.words)

@@ -1,9 +1,9 @@
 """The server as its client meets it: bytes in, bytes out, statuses and messages."""
 
 import draws
-import plain_image
 import plain_redis
 import plain_replies
+import plain_writer
 import worked_cases as worked
 from common import Cases, run_in_pieces, run_program
 from plain_keyspace import Put
@@ -31,7 +31,7 @@ class Served(Cases):
 
     def assert_plainly_served(self, data):
         """The server answers as the plain Redis does to what the plain reader reads."""
-        self.assert_served(data, plain_redis.served(data, plain_image.Room(LINES)))
+        self.assert_served(data, plain_redis.served(data, plain_writer.Room(LINES)))
 
     def check_pieces(self, data, output):
         """The server answers so however the bytes come."""
@@ -227,7 +227,7 @@ class Damaged(Served):
         for seed in (1, 2, 3, 4, 5, 7, 9, 10):
             data = draws.Script(draws.numbers(f"script {seed}"), 400).text
             with self.case("script", seed=seed):
-                self.assertNotIn(STORE_IS_FULL, plain_redis.served(data, plain_image.Room(LINES)))
+                self.assertNotIn(STORE_IS_FULL, plain_redis.served(data, plain_writer.Room(LINES)))
                 self.assert_plainly_served(data)
 
     def test_scripts_that_write_more_versions_than_an_image_takes(self):

@@ -1,6 +1,7 @@
 -- What the program prints of itself, and its statuses (this project's profile).
-use Rattle.std.specs.Prelude.{◌≡◌, ◌⊎◌, ℕ, List, [], ◌∷◌, ◌++◌, length, Option, Some, None, IfSome, codes}
+use Rattle.std.specs.Prelude.{◌≡◌, ◌⊎◌, ℕ, List, [], ◌∷◌, ◌++◌, length, Option, Some, None, IfSome, String, string_bytes, codes}
 use Rattle.std.specs.List.{flat_map}
+use Rattle.version.specs.declared.release.TheConstants.{VERSION}
 use Rattle.std.specs.Io.KnownBytes.{Appends}
 use Rattle.kv_types.specs.declared.reply.Reply.{Reply}
 use Rattle.std.specs.Fmt.{decimal}
@@ -15,6 +16,15 @@ use Rattle.client.specs.declared.failure.Failure.TheVariants.{Misused, Broken, M
 -- what the program prints where it is started without a word
 abbrev pub usage : List ℕ
 usage = codes "wbl-cli --connect A [word ..]" ++ 10 ∷ []
+
+-- the one word behind the program's name asks which program it is
+abbrev pub AsksVersion : {Z : Type 0} → List (String Z) → Type 0
+AsksVersion (name ∷ word ∷ []) = (string_bytes word ≡ codes "--version") ⊎ (string_bytes word ≡ codes "-V")
+AsksVersion words = ⊥
+
+-- what the program prints then
+abbrev pub version_line : List ℕ
+version_line = codes "wbl-cli " ++ VERSION.now ++ 10 ∷ []
 
 -- the exit status
 abbrev pub status_after : Failure → ℕ

@@ -1,16 +1,17 @@
 //! What the program does for the words of its command line.
-ghost use Rattle.std.specs.Prelude.{◌≡◌, ℕ, ◌<◌, ◌≤◌, List, [], OnOk, length};
+ghost use Rattle.std.specs.Prelude.{◌≡◌, ℕ, ◌<◌, ◌≤◌, List, [], true, false, OnOk, length};
 ghost use Rattle.std.specs.Io.KnownBytes.{Appends};
 ghost use Rattle.client.specs.Exchange.{AreAsked, Talks};
-ghost use Rattle.client.specs.Told.{PrintsReplies, status_after, usage};
+ghost use Rattle.client.specs.Told.{AsksVersion, PrintsReplies, status_after, usage, version_line};
 
 use crate::exchange::Connection;
 use crate::failure::Failure;
-use crate::options::{Task, options};
+use crate::options::{PROGRAM, Task, options};
 use crate::talking::{ask, ask_lines, print};
 use std::alloc::Global;
 use std::io::{BufRead, Read, Write};
 use std::net::{Net, TcpListener, TcpStream};
+use version::VERSION;
 
 /// The status where every reply came and was printed.
 const DONE: u8 = 0;
@@ -19,7 +20,7 @@ const DONE: u8 = 0;
 const USAGE: &str = "wbl-cli --connect A [word ..]\n";
 
 /// Does what the words ask for, the first of which is the program's name, and returns the exit status. Without any further word it says how it
-/// is called. What went wrong is told to `errors`.
+/// is called, and asked for its version alone which program it is. What went wrong is told to `errors`.
 pub fn command<N: Net<Listener = TcpListener, Stream = TcpStream>, R: BufRead, W: Write, E: Write>(
     rt: &N,
     alloc: Global,
@@ -30,7 +31,8 @@ pub fn command<N: Net<Listener = TcpListener, Stream = TcpStream>, R: BufRead, W
 ) -> u8
     ensures status { result ≤ 2 }
     ensures usage { length words.now ≤ 1 → result ≡ 0 → Appends (W.contents writer.old) (W.contents writer.new) usage }
-    ensures replies { 1 < length words.now → result ≡ 0 → PrintsReplies (R.remaining reader.old) (W.contents writer.old) (W.contents writer.new) }
+    ensures version { AsksVersion words.now → result ≡ 0 → Appends (W.contents writer.old) (W.contents writer.new) version_line }
+    ensures replies { 1 < length words.now → ¬ AsksVersion words.now → result ≡ 0 → PrintsReplies (R.remaining reader.old) (W.contents writer.old) (W.contents writer.new) }
 {
     match run(rt, alloc, words, reader, writer) {
         Ok(()) => DONE,
@@ -57,10 +59,14 @@ fn run<N: Net<Listener = TcpListener, Stream = TcpStream>, R: BufRead, W: Write>
     writer: &mut W,
 ) -> Result<(), Failure>
     ensures usage { length words.now ≤ 1 → OnOk result (Appends (W.contents writer.old) (W.contents writer.new) usage) }
-    ensures replies { 1 < length words.now → OnOk result (PrintsReplies (R.remaining reader.old) (W.contents writer.old) (W.contents writer.new)) }
+    ensures version { AsksVersion words.now → OnOk result (Appends (W.contents writer.old) (W.contents writer.new) version_line) }
+    ensures replies { 1 < length words.now → ¬ AsksVersion words.now → OnOk result (PrintsReplies (R.remaining reader.old) (W.contents writer.old) (W.contents writer.new)) }
 {
     if words.len() <= 1 {
         return print_usage(writer);
+    }
+    if asks_version(words) {
+        return print_version(writer);
     }
     let task = options(alloc, words)?;
     let Ok(stream) = TcpStream::connect(rt, task.address) else {
@@ -77,6 +83,27 @@ fn print_usage<W: Write>(writer: &mut W) -> Result<(), Failure>
     ensures { OnOk result (Appends (W.contents writer.old) (W.contents writer.new) usage) }
 {
     match print(USAGE.as_bytes(), writer) {
+        Ok(()) => Ok(()),
+        Err(error) => Err(Failure::Write(error)),
+    }
+}
+
+/// Whether the words ask which program this is, and for nothing else.
+fn asks_version(words: &[String]) -> bool
+    ensures asks { result ≡ true → AsksVersion words.now }
+    ensures not { result ≡ false → ¬ AsksVersion words.now }
+{
+    match words {
+        [_, word] => word.as_str() == "--version" || word.as_str() == "-V",
+        _ => false,
+    }
+}
+
+/// Says which program this is.
+fn print_version<W: Write>(writer: &mut W) -> Result<(), Failure>
+    ensures { OnOk result (Appends (W.contents writer.old) (W.contents writer.new) version_line) }
+{
+    match writeln!(writer, "{PROGRAM} {VERSION}") {
         Ok(()) => Ok(()),
         Err(error) => Err(Failure::Write(error)),
     }

@@ -4,9 +4,10 @@ use clap::Error;
 use clap::builder::{Arg, ArgAction, Command};
 use clap::error::ErrorKind;
 use std::alloc::{AllocError, Global};
+use version::VERSION;
 
 /// The program's name in its own texts.
-const PROGRAM: &str = "wbl-cli";
+pub const PROGRAM: &str = "wbl-cli";
 
 const CONNECT: &str = "connect";
 
@@ -69,6 +70,7 @@ fn grammar<'a>(alloc: Global) -> Result<Command<'a>, Error> {
     let command = Command::new(alloc, PROGRAM)
         .bin_name(PROGRAM)?
         .about("Sends requests to a server, and prints the replies")
+        .version(VERSION)
         .arg(connect)?
         .arg(words)?;
     Ok(command)

@@ -1,0 +1,6 @@
+//! What each program says of itself where it is asked which one it is.
+#![tactic(auto)]
+
+mod release;
+
+pub use release::VERSION;
