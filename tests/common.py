@@ -48,13 +48,16 @@ SHORT_SHARE = 20
 
 # What a node tells while it runs (docs/server.md, "What a node tells").
 NEWS = re.compile(
-    rb"(?:opened at position \d+, epoch \d+, with \d+ keys|listening on \S+|link open to \S+ at position \d+"
+    rb"(?:wbl-server \d+ \(logic [0-9a-f]{16}\)|opened at position \d+, epoch \d+, with \d+ keys|listening on \S+|link open to \S+ at position \d+"
     rb"|(?:link to \S+ lost|no link to \S+|link ended|left the link|standby ahead|closed a connection from \S+|stopped|cannot listen at \S*): [^\n]+"
-    rb"|\S+: the standby is new: [^\n]+|\S+ at position \d+ ended \d+ links in a row [^\n]+)\n"
+    rb"|\S+: the standby is new: [^\n]+|\S+ at position \d+ ended \d+ links in a row [^\n]+"
+    rb"|waiting for the standby since \d+ seconds|the standby has answered after \d+ seconds"
+    rb"|at position \d+, (?:standby at \d+, \d+ of 1024 clients, \d+ requests|\d+ frames) a second)\n"
 )
 # What stands before a refusal on an image: the file, and why it is refused (docs/server.md, "How it ends").
 CAUSE = re.compile(
-    rb"(?P<file>[^\n]*) (?P<cause>is not there|is held by another process|may not be opened by this user, or is no file|could not be made, read, written or synced"
+    rb"(?P<file>[^\n]*?) (?P<cause>is not there|is held by another process|may not be opened by this user, or is no file|could not be made, read, written or synced"
+    rb"|could not be made: its folder is not there|could not be made: this user may not write to its folder, or there is no room"
     rb"|does not begin as an image|is an image of another version|has not as many lines as an image, or as were asked for|has come to the end of a counter"
     rb"|is in use by another process, and changed while it was read|breaks a rule of an image|is an image of the other role)\n"
 )

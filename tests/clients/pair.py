@@ -235,9 +235,8 @@ class Node:
             raise AssertionError(f"the {self.role} has ended: {self.errors.read_bytes()!r}")
         if not self.is_in_table():
             return False
-        # (an address is tried before the image is opened, and let go again)
-        if b"listening on" not in self.errors.read_bytes()[self.began :]:
-            time.sleep(0.05)
+        # (it starts its threads once it listens)
+        time.sleep(0.05)
         return self.is_in_table()
 
     def is_in_table(self):

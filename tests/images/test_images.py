@@ -25,6 +25,7 @@ LINE_BYTES = 64
 LINES = 4_096
 ROLES = {PRIMARY: "primary", STANDBY: "standby"}
 DONE, FAILED, MISUSED = 0, 1, 2
+NOT_MADE = b"could not be made: this user may not write to its folder, or there is no room"
 
 # "Refusals" of docs/replication.md, those of images and their files.
 TEXTS = {
@@ -83,12 +84,14 @@ class Images(Cases):
     def run_words(self, words, **options):
         return run_program("server", words, **options)
 
-    def assert_refused(self, words, number, **options):
-        """It is refused so, in the line after one that names the file and the cause."""
+    def assert_refused(self, words, number, cause=None, **options):
+        """It is refused so, in the line after one that names the file and the cause, which is this one where one is said."""
         finished = self.run_words(words, **options)
         first, last = [line for line in finished.errors.splitlines(keepends=True) if not NEWS.fullmatch(line)]
         self.assertEqual((finished.status, finished.output, last), (FAILED, b"", refusal(number)))
-        self.assertEqual(CAUSE.fullmatch(first)["file"], os.fsencode(words[words.index("--image") + 1]))
+        found = CAUSE.fullmatch(first)
+        self.assertEqual(found["file"], os.fsencode(words[words.index("--image") + 1]))
+        self.assertIn(cause, (None, found["cause"]))
 
     def inspect(self, path):
         return self.run_words(["inspect", "--image", str(path)])
@@ -133,16 +136,21 @@ class Formatting(Images):
 
     def test_files_that_cannot_be_made(self):
         with self.folder() as folder:
-            for path in (folder, folder / "none" / "p.img", ""):
+            for path, cause in [
+                (folder, b"may not be opened by this user, or is no file"),
+                (folder / "none" / "p.img", b"could not be made: its folder is not there"),
+                ("none/p.img", b"could not be made: its folder is not there"),
+                ("", NOT_MADE),
+            ]:
                 with self.case("path", path=str(path)):
-                    self.assert_refused(format_words(path), 1)
+                    self.assert_refused(format_words(path), 1, cause=cause)
 
     def test_a_file_that_may_not_grow(self):
         with self.folder() as folder:
             for size in (0, 64, LINES * LINE_BYTES // 2, LINES * LINE_BYTES - 1):
                 with self.case("size", size=size):
                     path = folder / f"{size}.img"
-                    self.assert_refused(format_words(path), 1, preexec_fn=limited(size))
+                    self.assert_refused(format_words(path), 1, cause=NOT_MADE, preexec_fn=limited(size))
                     self.assertFalse(path.exists())
 
     def test_a_full_disk(self):

@@ -12,6 +12,7 @@ use crate::reading::RequestReader;
 use crate::reply_side::ReplySide;
 use crate::request_side::RequestSide;
 use crate::signals::Signals;
+use crate::stillness::Stillness;
 use kv_types::{Held, Item, Refusal};
 use lobby::Arrival;
 use pipes::{RingPipe, Seat};
@@ -99,6 +100,8 @@ fn joined(stream: TcpStream, admission: Admission, parts: Parts) -> Connection
             replies: parts.reply_side,
             signals: parts.signals,
             is_noted: false,
+            stillness: Stillness::new(),
+            counted: 0,
         },
     }
 }

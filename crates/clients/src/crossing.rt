@@ -2,12 +2,14 @@
 ghost use Rattle.clients.specs.contracts.driven.DrivenConnection as connection;
 ghost use Rattle.clients.specs.contracts.driver.Driver as driver;
 ghost use Rattle.clients.specs.contracts.intake.DriverEntrance as entrance;
+ghost use Rattle.clients.specs.contracts.shown.Shown as shown;
 ghost use Rattle.lobby.specs.contracts.lobby.Lobby as lobby;
 ghost use Rattle.marks.specs.contracts.thread_marks.ThreadMarks as thread_marks;
 ghost use Rattle.wakes.specs.contracts.calls.Calls as calls;
 ghost use denote.Param.Send.{IsSend, IsSync};
 
 use crate::driven::DrivenConnection;
+use crate::shown::Shown;
 use lobby::Lobby;
 use marks::ThreadMarks;
 use wakes::Calls;
@@ -18,6 +20,8 @@ pub fn driver_is_send()
 {
     connection_is_send();
     entrance_is_send();
+    shown_is_send();
+    shown_is_sync();
     marks_are_send();
 }
 
@@ -41,6 +45,18 @@ fn marks_are_send()
     ensures { IsSend thread_marks.the_row }
 {
     is_send::<ThreadMarks>();
+}
+
+fn shown_is_send()
+    ensures { IsSend shown.the_row }
+{
+    is_send::<Shown>();
+}
+
+fn shown_is_sync()
+    ensures { IsSync shown.the_row }
+{
+    is_sync::<Shown>();
 }
 
 fn lobby_is_send()

@@ -6,7 +6,9 @@ ghost use Rattle.clients.specs.RequestSide.{Asks, KeepsRequests};
 
 use crate::reply_side::{ReplySide, Written};
 use crate::request_side::RequestSide;
+use crate::shown::Counted;
 use crate::signals::Signals;
+use crate::stillness::Stillness;
 use kv_types::Seen;
 use mio::event::Event;
 use mio::unix::SourceFd;
@@ -16,6 +18,7 @@ use std::io;
 use std::net::{Shutdown, TcpStream};
 use std::os::fd::AsRawFd;
 use std::sync::Wait;
+use std::time::{Duration, Instant};
 
 /// What a driver does with a connection next.
 #[derive(Clone, Copy, Debug, PartialEq, Eq)]
@@ -28,6 +31,13 @@ pub(crate) enum Next {
     Closes,
 }
 
+/// One look at all connections: when it is, and how long nothing may come on one.
+#[derive(Clone, Copy)]
+pub(crate) struct Look {
+    pub(crate) now: Option<Instant>,
+    pub(crate) idle: Option<Duration>,
+}
+
 /// A connection, as its driver has it: its socket, which never blocks, and its requests and replies.
 #[derive(Drop)]
 pub struct DrivenConnection {
@@ -38,6 +48,10 @@ pub struct DrivenConnection {
     pub(crate) signals: Signals,
     /// Whether it is among those that its driver visits next.
     pub(crate) is_noted: bool,
+    /// For how long nothing has come.
+    pub(crate) stillness: Stillness,
+    /// How many requests had come when the driver looked last, modulo 2^64.
+    pub(crate) counted: u64,
 }
 
 impl DrivenConnection {
@@ -135,12 +149,38 @@ impl DrivenConnection {
         }
     }
 
-    /// The driver looks at it, once a second, whether or not anybody called.
-    pub(crate) fn look(&mut self)
+    /// The driver looks at it, once a second, whether or not anybody called. Where nothing has come for too long, and nothing waits, its requests end as if
+    /// the peer had ended them.
+    pub(crate) fn look(&mut self, look: &Look, counted: &mut Counted)
         ensures replies { self.new.replies ≡ self.old.replies }
         ensures place { self.new.place ≡ self.old.place }
     {
+        let offered = self.requests.offered();
+        counted.count(
+            offered.wrapping_sub(self.counted),
+            self.replies.is_waiting(),
+        );
+        self.counted = offered;
+        if self.is_idle(look) {
+            let _ = self.stream.shutdown(Shutdown::Both);
+            self.requests.ends();
+        }
         self.requests.look(self.replies.is_over());
+    }
+
+    /// Whether nothing has come for too long, and nothing waits: each request has its reply, and each reply is written.
+    fn is_idle(&mut self, look: &Look) -> bool
+        ensures replies { self.new.replies ≡ self.old.replies }
+        ensures place { self.new.place ≡ self.old.place }
+    {
+        let has_come = self.requests.take_has_come();
+        if has_come || !self.replies.has_written(self.requests.offered()) {
+            self.stillness.is_broken();
+        }
+        match look.now {
+            Some(now) => self.stillness.lasts(now, look.idle),
+            None => false,
+        }
     }
 
     /// Closes the socket, and gives the place back.

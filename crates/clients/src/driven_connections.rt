@@ -4,15 +4,16 @@ ghost use Rattle.mio.specs.Event.{event_token};
 ghost use Rattle.mio.specs.Events.{items as events_in};
 ghost use Rattle.std.specs.Prelude.{◌≡◌, ℕ, All, false};
 
-use crate::driven::DrivenConnection;
+use crate::driven::{DrivenConnection, Look};
 use crate::intake::DriverEntrance;
 use crate::places::{note_all, note_called, note_ready, put, visit_all};
+use crate::shown::Shown;
 use kv_types::Seen;
 use marks::ThreadMarks;
 use mio::{Events, Poll, Registry};
 use pipes::MAX_SEATS;
 use std::alloc::{AllocError, Global};
-use std::sync::Wait;
+use std::sync::{Arc, Wait};
 use std::thread;
 use std::time::{Clock, Duration, Instant};
 use wakes::LONGEST_SLEEP_MILLISECONDS;
@@ -32,6 +33,10 @@ pub(crate) struct DrivenConnections {
     is_busy: bool,
     /// When all were looked at last.
     last_look: Option<Instant>,
+    /// How long nothing may come on a connection for which nothing waits.
+    idle: Option<Duration>,
+    /// Where it shows what it counts of them.
+    shown: Arc<Shown>,
 }
 
 impl DrivenConnections {
@@ -44,6 +49,8 @@ impl DrivenConnections {
         alloc: Global,
         poll: Poll,
         entrance: DriverEntrance,
+        idle: Option<Duration>,
+        shown: Arc<Shown>,
     ) -> Result<DrivenConnections, AllocError> {
         Ok(DrivenConnections {
             poll,
@@ -52,6 +59,8 @@ impl DrivenConnections {
             places: Vec::with_capacity(alloc, MAX_SEATS)?,
             is_busy: false,
             last_look: None,
+            idle,
+            shown,
         })
     }
 
@@ -92,7 +101,11 @@ impl DrivenConnections {
             note_called(self.entrance.calls(), &mut self.places);
         }
         if self.is_time_to_look(rt) {
-            note_all(&mut self.places);
+            let look = Look {
+                now: self.last_look,
+                idle: self.idle,
+            };
+            self.shown.show(&note_all(&mut self.places, &look));
         }
     }
 

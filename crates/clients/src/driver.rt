@@ -1,6 +1,7 @@
 //! A thread that drives connections.
 use crate::driven_connections::DrivenConnections;
 use crate::intake::DriverEntrance;
+use crate::shown::Shown;
 use kv_types::Refusal;
 use marks::ThreadMarks;
 use mio::{Poll, Token, Waker};
@@ -8,7 +9,7 @@ use pipes::MAX_SEATS;
 use std::alloc::Global;
 use std::net::Net;
 use std::sync::{Arc, Wait};
-use std::time::Clock;
+use std::time::{Clock, Duration};
 use wakes::Calls;
 
 /// Names the driver's own waker in the poll, beside the places of connections.
@@ -23,7 +24,8 @@ pub struct Driver {
 }
 
 impl Driver {
-    /// A driver without connections, and its entrance.
+    /// A driver without connections, and its entrance. Once a second it shows what there is. Where a time is given, a connection on which nothing came for as
+    /// long, and for which nothing waits, is closed.
     ///
     /// # Errors
     ///
@@ -32,6 +34,8 @@ impl Driver {
         rt: &R,
         alloc: Global,
         marks: ThreadMarks,
+        idle: Option<Duration>,
+        shown: Arc<Shown>,
     ) -> Result<(Driver, DriverEntrance), Refusal> {
         let Ok(poll) = Poll::new(rt) else {
             return Err(Refusal::Memory);
@@ -41,7 +45,7 @@ impl Driver {
         };
         let calls = Arc::new(alloc, Calls::new(alloc, waker)?)?;
         let entrance = DriverEntrance::new(alloc, calls)?;
-        let connections = DrivenConnections::new(alloc, poll, entrance.another()?)?;
+        let connections = DrivenConnections::new(alloc, poll, entrance.another()?, idle, shown)?;
         Ok((Driver { connections, marks }, entrance))
     }
 

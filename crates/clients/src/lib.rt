@@ -16,7 +16,9 @@ mod queues;
 mod reading;
 mod reply_side;
 mod request_side;
+mod shown;
 mod signals;
+mod stillness;
 mod writing;
 
 pub use block::{BLOCK_BYTES, Block, LEAST_ROOM_BYTES};
@@ -32,5 +34,6 @@ pub use queues::{ReplyQueue, RequestQueue};
 pub use reading::{LastPiece, Progress, RequestReader, TURN_BLOCKS};
 pub use reply_side::ReplySide;
 pub use request_side::RequestSide;
+pub use shown::Shown;
 pub use signals::{Signals, WasOver};
 pub use writing::{Round, write_round};

@@ -16,6 +16,12 @@ use std::io::{ErrorKind, Write};
 /// How many replies are taken from a ring at a time.
 pub const BATCH: usize = 256;
 
+/// Marks that cover every position.
+const ALL: Seen = Seen {
+    local: u64::MAX,
+    remote: u64::MAX,
+};
+
 /// What was taken from a ring of replies.
 #[derive(Clone, Copy, Debug, PartialEq, Eq)]
 pub enum Taken {
@@ -43,6 +49,8 @@ pub struct Outbox {
     gate: Gate,
     /// The greatest position of a reply that was held so far.
     last: u64,
+    /// How many replies were held so far, modulo 2^64.
+    count: u64,
     ghost within: { IsWithin last gate },
 }
 
@@ -54,6 +62,7 @@ impl Outbox {
         Outbox {
             gate: Gate::new(alloc),
             last: 0,
+            count: 0,
         }
     }
 
@@ -65,6 +74,7 @@ impl Outbox {
         ensures err { OnErr result (self.new.gate ≡ self.old.gate) }
     {
         self.last = later(self.last, held.position);
+        self.count = self.count.wrapping_add(1);
         self.gate.hold(&held.reply, held.position)
     }
 
@@ -87,6 +97,21 @@ impl Outbox {
             self.hold(&held)?;
         }
         Ok(Taken::Batch)
+    }
+
+    /// How many replies were held so far, modulo 2^64.
+    pub(crate) fn count(&self) -> u64 {
+        self.count
+    }
+
+    /// Whether a reply is held that was not released yet.
+    pub(crate) fn is_waiting(&self) -> bool {
+        self.gate.can_release(&ALL)
+    }
+
+    /// Whether some of what was released is not written yet.
+    pub(crate) fn is_pending(&self) -> bool {
+        self.gate.pending_len() > 0
     }
 
     /// Whether both nodes hold the positions of all replies that were ever held here.

@@ -4,8 +4,9 @@ ghost use Rattle.clients.specs.Places.{IsNoted, IsNotedAt, IsQuiet, IsVisitOf, N
 ghost use Rattle.mio.specs.Event.{event_token};
 ghost use Rattle.mio.specs.Events.{items as events_in};
 
-use crate::driven::{DrivenConnection, Next};
+use crate::driven::{DrivenConnection, Look, Next};
 use crate::intake::DriverEntrance;
+use crate::shown::Counted;
 use kv_types::Seen;
 use mio::Events;
 use mio::event::Event;
@@ -72,22 +73,24 @@ fn note_one(place: &mut Option<DrivenConnection>)
     }
 }
 
-/// Notes all, and has each look.
-pub(crate) fn note_all(places: &mut Vec<Option<DrivenConnection>>)
+/// Notes all, and looks at each. Answers what was counted.
+pub(crate) fn note_all(places: &mut Vec<Option<DrivenConnection>>, look: &Look) -> Counted
     ensures notes { Notes places.old.items places.new.items }
     ensures all { (k : ℕ) → IsNotedAt places.new.items k }
 {
+    let mut counted = Counted::nothing();
     for place in places.iter_mut() {
-        look_at(place);
+        look_at(place, look, &mut counted);
     }
+    counted
 }
 
-fn look_at(place: &mut Option<DrivenConnection>)
+fn look_at(place: &mut Option<DrivenConnection>, look: &Look, counted: &mut Counted)
     ensures notes { NotesPlace place.old place.new }
     ensures noted { IsNoted place.new }
 {
     if let Some(connection) = place {
-        connection.look();
+        connection.look(look, counted);
         connection.is_noted = true;
     }
 }

@@ -49,6 +49,8 @@ pub struct RequestReader {
     block: Block,
     /// An item that found no room. It is offered before all that come after it.
     held: Option<Item>,
+    /// How many items were offered, modulo 2^64.
+    offered: u64,
 }
 
 impl RequestReader {
@@ -64,6 +66,7 @@ impl RequestReader {
             inbound: Inbound::new(alloc),
             block: Block::new(alloc)?,
             held: None,
+            offered: 0,
         })
     }
 
@@ -72,6 +75,11 @@ impl RequestReader {
         ensures { IsTrue result ↔ IsSome self.now.held }
     {
         self.held.is_some()
+    }
+
+    /// How many items were offered so far, modulo 2^64.
+    pub(crate) fn offered(&self) -> u64 {
+        self.offered
     }
 
     /// One turn: reads what is there, up to `TURN_BLOCKS`, and offers the items that the bytes ask for, in order, up to one that closes the connection or
@@ -178,7 +186,10 @@ impl RequestReader {
             return false;
         };
         match offer_twice(outlet, item, signals) {
-            Ok(()) => true,
+            Ok(()) => {
+                self.offered = self.offered.wrapping_add(1);
+                true
+            }
             Err(back) => {
                 self.held = Some(back);
                 false

@@ -74,6 +74,17 @@ impl ReplySide {
         self.state == WritingState::Over
     }
 
+    /// Whether a reply waits for the marks.
+    pub(crate) fn is_waiting(&self) -> bool {
+        self.state == WritingState::Open && self.outbox.is_waiting()
+    }
+
+    /// Whether so many replies were taken, modulo 2^64, and all of them are written.
+    pub(crate) fn has_written(&self, count: u64) -> bool {
+        let is_left = self.outbox.is_waiting() || self.outbox.is_pending();
+        self.outbox.count() == count && !is_left
+    }
+
     /// Goes on as far as it can, where both marks were seen so far.
     pub(crate) fn go_on<R: Wait>(
         &mut self,

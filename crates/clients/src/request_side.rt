@@ -37,6 +37,8 @@ pub struct RequestSide {
     is_at_end: bool,
     /// Whether nothing came since the driver looked last.
     is_quiet: bool,
+    /// Whether the system said since then that something came.
+    has_come: bool,
     /// How many more blocks are let go.
     last_blocks: usize,
 }
@@ -53,6 +55,7 @@ impl RequestSide {
             is_ready: true,
             is_at_end: false,
             is_quiet: false,
+            has_come: true,
             last_blocks: LAST_BLOCKS,
         }
     }
@@ -62,6 +65,21 @@ impl RequestSide {
         ensures kept { (self.new.reader ≡ self.old.reader) × (self.new.items ≡ self.old.items) × (self.new.state ≡ self.old.state) }
     {
         self.is_ready = true;
+        self.has_come = true;
+    }
+
+    /// How many requests were offered so far, modulo 2^64.
+    pub(crate) fn offered(&self) -> u64 {
+        self.reader.offered()
+    }
+
+    /// Whether something came since this was asked last.
+    pub(crate) fn take_has_come(&mut self) -> bool
+        ensures kept { (self.new.reader ≡ self.old.reader) × (self.new.items ≡ self.old.items) × (self.new.state ≡ self.old.state) }
+    {
+        let has_come = self.has_come;
+        self.has_come = false;
+        has_come
     }
 
     /// The peer will send no more.

@@ -18,6 +18,7 @@ use crate::link_error::{LinkError, ends_by, refusal_of_ack, refusal_of_head};
 use crate::link_reader::LinkReader;
 use crate::link_writer::LinkWriter;
 use crate::log::Log;
+use crate::progress::Progress;
 use frames::{Ack, Frame};
 use kv_types::Refusal;
 use mv_keyspace::Keyspace;
@@ -27,6 +28,7 @@ use std::cell::Cell;
 use std::io;
 use std::io::{ErrorKind, Read, Write};
 use std::net::{IpAddr, TcpListener, TcpStream};
+use std::sync::Arc;
 use std::time::Clock;
 use stream_codec::{Decoder, GroupHead, Message, write_ack};
 use wbl_engine::Durable;
@@ -53,6 +55,7 @@ pub fn follow<C: Clock, E: Durable, K: Keyspace, W: Write>(
     requires stands { Stands E.device E.contents E.is_faulted K.table node.old }
     ensures stands { ¬ (result ≡ Ok Fault) → Stands E.device E.contents E.is_faulted K.table node.new }
 {
+    let progress = log.progress();
     let mut acceptor = LinkAcceptor::new(listener, host, clock, log);
     let mut newer = None;
     for _ in 0..u64::MAX {
@@ -63,7 +66,7 @@ pub fn follow<C: Clock, E: Durable, K: Keyspace, W: Write>(
         if !acceptor.admits(&stream) {
             continue;
         }
-        let (later, stopped) = serve_next(alloc, node, &stream, &mut acceptor);
+        let (later, stopped) = serve_next(alloc, node, &stream, &mut acceptor, &progress);
         if let Some(refusal) = stopped {
             return Ok(refusal);
         }
@@ -79,13 +82,14 @@ fn serve_next<C: Clock, E: Durable, K: Keyspace, W: Write>(
     node: &mut Standby<E, K>,
     stream: &TcpStream,
     acceptor: &mut LinkAcceptor<'_, C, W>,
+    progress: &Option<Arc<Progress>>,
 ) -> (Option<TcpStream>, Option<Refusal>)
     requires stands { Stands E.device E.contents E.is_faulted K.table node.old }
     ensures stands { ¬ (result.1 ≡ Some Fault) → Stands E.device E.contents E.is_faulted K.table node.new }
 {
     let written = Cell::new(0);
     let mut from = LinkReader::new(stream, acceptor, &written);
-    let mut to = LinkWriter::new(stream, &written);
+    let mut to = LinkWriter::new(stream, &written, progress);
     let served = serve_link(alloc, node, &mut from, &mut to);
     let stopped = stop_of(served);
     let newer = from.into_newer();

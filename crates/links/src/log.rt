@@ -1,10 +1,13 @@
 //! What a node tells of itself, a line at a time.
 use crate::link_error::LinkError;
+use crate::progress::Progress;
 use kv_types::Refusal;
+use pipes::MAX_SEATS;
 use std::alloc::Global;
 use std::fmt;
 use std::io::Write;
 use std::net::IpAddr;
+use std::sync::Arc;
 
 /// What a node tells whose standby holds what it never had itself.
 const STANDBY_AHEAD: &str =
@@ -29,11 +32,18 @@ const NOT_TAKEN: &str =
 pub struct Log<W> {
     alloc: Global,
     to: W,
+    /// Where a standby shows how far it is, for whoever tells of it now and then.
+    progress: Option<Arc<Progress>>,
 }
 
 /// What happened.
 #[derive(Clone, Copy)]
 pub enum News<'a> {
+    /// The program of this name, of this version, begins as a node.
+    Begun {
+        program: &'a str,
+        version: &'a str,
+    },
     /// An image was opened, with its record at this position, of this epoch, and holds so many keys.
     Opened {
         position: u64,
@@ -81,6 +91,26 @@ pub enum News<'a> {
     },
     /// The standby was once above this node, which takes no acknowledgement any more.
     StandbyAhead,
+    /// Replies have waited for the standby so long.
+    Waiting {
+        seconds: u64,
+    },
+    /// It has acknowledged something, after replies had waited for it so long.
+    Answered {
+        seconds: u64,
+    },
+    /// A primary whose image is at this position, whose standby has acknowledged this one, and that has so many clients, which asked so much a second.
+    PrimaryAt {
+        position: u64,
+        standby: u64,
+        clients: u64,
+        requests: u64,
+    },
+    /// A standby that is at this position, and took so many frames a second.
+    StandbyAt {
+        position: u64,
+        frames: u64,
+    },
     /// The node has stopped.
     Stopped {
         why: Refusal,
@@ -115,7 +145,29 @@ impl Lost {
 impl<W: Write> Log<W> {
     /// One that writes its lines there.
     pub fn new(alloc: Global, to: W) -> Log<W> {
-        Log { alloc, to }
+        Log {
+            alloc,
+            to,
+            progress: None,
+        }
+    }
+
+    /// The same, of a standby that shows there how far it is.
+    pub fn showing(self, progress: Arc<Progress>) -> Log<W> {
+        let Log { alloc, to, .. } = self;
+        Log {
+            alloc,
+            to,
+            progress: Some(progress),
+        }
+    }
+
+    /// Where a standby shows how far it is, if it does.
+    pub(crate) fn progress(&self) -> Option<Arc<Progress>> {
+        match &self.progress {
+            Some(progress) => Arc::try_clone(progress).ok(),
+            None => None,
+        }
     }
 
     /// Tells this.
@@ -130,6 +182,7 @@ impl<W: Write> Log<W> {
 impl<'a> fmt::Display for News<'a> {
     fn fmt<W: fmt::Write>(&self, f: &mut fmt::Formatter<W>) -> fmt::Result {
         match self {
+            News::Begun { program, version } => write!(f, "{program} {version}"),
             News::Opened {
                 position,
                 epoch,
@@ -166,6 +219,26 @@ impl<'a> fmt::Display for News<'a> {
                 )
             }
             News::StandbyAhead => f.write_str(STANDBY_AHEAD),
+            News::Waiting { seconds } => {
+                write!(f, "waiting for the standby since {seconds} seconds")
+            }
+            News::Answered { seconds } => {
+                write!(f, "the standby has answered after {seconds} seconds")
+            }
+            News::PrimaryAt {
+                position,
+                standby,
+                clients,
+                requests,
+            } => {
+                write!(
+                    f,
+                    "at position {position}, standby at {standby}, {clients} of {MAX_SEATS} clients, {requests} requests a second"
+                )
+            }
+            News::StandbyAt { position, frames } => {
+                write!(f, "at position {position}, {frames} frames a second")
+            }
             News::Stopped { why } => write!(f, "stopped: {why}"),
         }
     }

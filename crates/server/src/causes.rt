@@ -22,6 +22,22 @@ pub fn tell_cause<T, I: Images, E: Write>(
     }
 }
 
+/// The same of a call that makes the image where it is not there.
+pub fn tell_cause_of_making<T, I: Images, E: Write>(
+    alloc: Global,
+    images: &I,
+    name: &str,
+    done: &Result<T, Failure>,
+    errors: &mut E,
+) {
+    match done {
+        Err(Failure::Stopped(ServeError::Refused(Refusal::Fault))) => {
+            tell(alloc, name, fault_of_making(images.trouble(name)), errors);
+        }
+        done => tell_cause(alloc, images, name, done, errors),
+    }
+}
+
 /// Tells a line by one write. Where memory is refused it is let go.
 fn tell<E: Write>(alloc: Global, name: &str, cause: &str, errors: &mut E) {
     let mut line = Vec::new(alloc);
@@ -47,10 +63,20 @@ fn cause_of<I: Images>(refusal: Refusal, images: &I, name: &str) -> Option<&'sta
 /// Why a file could not be opened as a device.
 fn fault_of(trouble: Trouble) -> &'static str {
     match trouble {
-        Trouble::Missing => "is not there",
+        Trouble::Missing | Trouble::NoFolder => "is not there",
         Trouble::Held => "is held by another process",
         Trouble::Closed => "may not be opened by this user, or is no file",
         Trouble::None => "could not be made, read, written or synced",
+    }
+}
+
+/// Why a file could not be made or opened as a device. One that is not there afterwards was not made.
+fn fault_of_making(trouble: Trouble) -> &'static str {
+    match trouble {
+        Trouble::NoFolder => "could not be made: its folder is not there",
+        Trouble::Missing =>
+            "could not be made: this user may not write to its folder, or there is no room",
+        trouble => fault_of(trouble),
     }
 }
 
@@ -58,6 +84,7 @@ fn fault_of(trouble: Trouble) -> &'static str {
 fn damage_of(trouble: Trouble) -> &'static str {
     match trouble {
         Trouble::Held => "is in use by another process, and changed while it was read",
-        Trouble::Missing | Trouble::Closed | Trouble::None => "breaks a rule of an image",
+        Trouble::Missing | Trouble::NoFolder | Trouble::Closed | Trouble::None =>
+            "breaks a rule of an image",
     }
 }

@@ -3,14 +3,14 @@ ghost use Rattle.std.specs.Prelude.{◌≡◌, ◌<◌, ◌≤◌, OnOk, length}
 ghost use Rattle.server.specs.Served.{IsServed};
 ghost use Rattle.server.specs.Told.{status_after};
 
-use crate::causes::tell_cause;
+use crate::causes::{tell_cause, tell_cause_of_making};
 use crate::failure::Failure;
 use crate::formatting::format;
 use crate::images::Images;
 use crate::inspecting::inspect;
-use crate::options::{Task, options};
+use crate::options::{PROGRAM, Task, options};
 use crate::promoting::promote;
-use crate::serve::serve;
+use crate::serve::{ServeError, serve};
 use crate::serving_clients::serve_clients;
 use crate::standing_by::stand_by;
 use crate::status::status;
@@ -22,6 +22,7 @@ use std::random::RandomSource;
 use std::sync::Wait;
 use std::thread::Threads;
 use std::time::Clock;
+use version::VERSION;
 
 /// The status where all was done.
 const DONE: u8 = 0;
@@ -60,17 +61,17 @@ pub fn command<
     let mut errors = errors;
     match run(rt, alloc, words, images, is_asked, reader, writer, errors) {
         Ok(()) => DONE,
-        Err(failure) => tell(&failure, &mut errors),
+        Err(failure) => tell(alloc, &failure, &mut errors),
     }
 }
 
 /// Tells what went wrong, and returns the exit status. Where even that cannot be written, the status has to do.
-pub fn tell<E: Write>(failure: &Failure, errors: &mut E) -> u8
+pub fn tell<E: Write>(alloc: Global, failure: &Failure, errors: &mut E) -> u8
     ensures status { result ≡ status_after failure.now }
     ensures failed { 0 < result }
     ensures known { result ≤ 3 }
 {
-    let _ = failure.tell(errors);
+    let _ = failure.tell_at_once(alloc, errors);
     failure.status()
 }
 
@@ -124,7 +125,7 @@ fn run<
                 writer,
                 &mut errors,
             );
-            tell_cause(alloc, images, image, &done, &mut errors);
+            tell_cause_of_making(alloc, images, image, &done, &mut errors);
             done
         }
         Task::Inspect { image } => {
@@ -158,11 +159,23 @@ fn run<
             image,
             listen,
             from,
-        } => stand_by(rt, alloc, images, image, listen, from, errors),
+            report,
+        } => stand_by(rt, alloc, images, image, listen, from, report, errors),
         Task::Primary {
             image,
             listen,
             link,
-        } => serve_clients(rt, alloc, images, image, listen, link, errors),
+            report,
+            idle,
+        } => serve_clients(rt, alloc, images, image, listen, link, report, idle, errors),
+        Task::Version => print_version(writer),
+    }
+}
+
+/// Prints which program this is.
+fn print_version<W: Write>(writer: &mut W) -> Result<(), Failure> {
+    match writeln!(writer, "{PROGRAM} {VERSION}") {
+        Ok(()) => Ok(()),
+        Err(error) => Err(Failure::Stopped(ServeError::Write(error))),
     }
 }

@@ -6,7 +6,7 @@ ghost use Rattle.server.specs.Told.{below_text, kept_text, stop_text};
 use crate::serve::ServeError;
 use clap::error::ErrorKind;
 use kv_types::Refusal;
-use std::alloc::AllocError;
+use std::alloc::{AllocError, Global};
 use std::io::{self, Write};
 
 /// The status where what was asked was not done, or not all of it.
@@ -105,6 +105,17 @@ impl Failure {
             Failure::Misused(_) => MISUSED,
             Failure::CannotListen | Failure::Stopped(_) | Failure::InUse => FAILED,
             Failure::Kept(_) => KEPT,
+        }
+    }
+
+    /// Tells whoever started the program, by one write, so that no line of another thread stands inside. Without memory for that it is told piece by piece.
+    pub fn tell_at_once<W: Write>(&self, alloc: Global, errors: &mut W) -> io::Result<()>
+        ensures { OnOk result (IfSome (text_of self.now) (Appends (W.contents errors.old) (W.contents errors.new))) }
+    {
+        let mut text = Vec::new(alloc);
+        match self.tell(&mut text) {
+            Ok(()) => errors.write_all(&text),
+            Err(_) => self.tell(errors),
         }
     }
 

@@ -58,6 +58,8 @@ pub enum Trouble {
     None,
     /// There is nothing of this name.
     Missing,
+    /// There is not even the folder.
+    NoFolder,
     /// Another process has locked it.
     Held,
     /// The system refuses to open it.
@@ -81,6 +83,14 @@ impl<'a> Files<'a> {
         Files { rt }
     }
 
+    /// What of a file that is not there is missing.
+    fn missing(&self, name: &str) -> Trouble {
+        match fs::metadata(self.rt, folder_of(name)) {
+            Err(error) if error.kind() == ErrorKind::NotFound => Trouble::NoFolder,
+            _ => Trouble::Missing,
+        }
+    }
+
     /// Waits up to two seconds where another process holds this file.
     fn wait_for(&self, name: &str) {
         for _ in 0..TRIES {
@@ -89,6 +99,15 @@ impl<'a> Files<'a> {
             }
             thread::sleep(self.rt, Duration::from_millis(PAUSE_MILLISECONDS));
         }
+    }
+}
+
+/// The folder of a file.
+fn folder_of(name: &str) -> &str {
+    match name.rsplit_once('/') {
+        Some(("", _)) => "/",
+        Some((folder, _)) => folder,
+        None => ".",
     }
 }
 
@@ -111,7 +130,7 @@ impl<'a> Images for Files<'a> {
     fn trouble(&self, name: &str) -> Trouble {
         match File::options().read(true).write(true).open(self.rt, name) {
             Ok(file) => trouble_of(&file),
-            Err(error) if error.kind() == ErrorKind::NotFound => Trouble::Missing,
+            Err(error) if error.kind() == ErrorKind::NotFound => self.missing(name),
             Err(_) => Trouble::Closed,
         }
     }

@@ -1,7 +1,8 @@
 //! Listening at an address, with the cause where that cannot be done.
+use crate::bound::BoundSocket;
 use std::alloc::Global;
 use std::io::{self, ErrorKind, Write};
-use std::net::{Net, SocketAddr, TcpListener, TcpStream, ToSocketAddrs};
+use std::net::{Net, TcpListener, TcpStream, ToSocketAddrs};
 use std::thread;
 use std::time::{Clock, Duration};
 
@@ -10,72 +11,92 @@ const TRIES: u32 = 20;
 
 const PAUSE_MILLISECONDS: u64 = 100;
 
-/// Listens at this address. Where another holds it, that is waited for up to two seconds. `None` where nobody can be listened to there: the cause is told
-/// in a line.
-pub fn listen<N: Clock + Net<Listener = TcpListener, Stream = TcpStream>, E: Write>(
+/// Binds this address, at which nobody can connect yet. Where another holds it, that is waited for up to two seconds. `None` where nobody can be listened to
+/// there: the cause is told in a line.
+pub fn bind<N: Clock + Net<Listener = TcpListener, Stream = TcpStream>, E: Write>(
     rt: &N,
     alloc: Global,
     address: &str,
     errors: &mut E,
-) -> Option<TcpListener> {
+) -> Option<BoundSocket> {
     match bind_patiently(rt, address) {
-        Ok(listener) => Some(listener),
+        Ok(bound) => Some(bound),
         Err(error) => {
-            let mut line = Vec::new(alloc);
-            if writeln!(
-                line,
-                "cannot listen at {address}: {}",
-                cause_of(address, &error)
-            )
-            .is_ok()
-            {
-                let _ = errors.write_all(&line);
-            }
+            tell(alloc, address, &error, errors);
             None
         }
     }
+}
+
+/// Listens at this address, which was bound. Where another listens there, which had bound it too, that is waited for as well. `None` where nobody can be
+/// listened to there: the cause is told in a line.
+pub fn listen<C: Clock, E: Write>(
+    rt: &C,
+    alloc: Global,
+    bound: BoundSocket,
+    address: &str,
+    errors: &mut E,
+) -> Option<TcpListener> {
+    match listen_patiently(rt, &bound) {
+        Ok(()) => Some(bound.into_listener()),
+        Err(error) => {
+            tell(alloc, address, &error, errors);
+            None
+        }
+    }
+}
+
+/// Tells why nobody can be listened to at this address. Where memory is refused it is let go.
+fn tell<E: Write>(alloc: Global, address: &str, error: &io::Error, errors: &mut E) {
+    let mut line = Vec::new(alloc);
+    let cause = cause_of(address, error);
+    if writeln!(line, "cannot listen at {address}: {cause}").is_ok() {
+        let _ = errors.write_all(&line);
+    }
+}
+
+/// Listens, again and again where another does.
+fn listen_patiently<C: Clock>(rt: &C, bound: &BoundSocket) -> io::Result<()> {
+    for _ in 0..TRIES {
+        match bound.listen() {
+            Err(error) if error.kind() == ErrorKind::AddrInUse => {
+                thread::sleep(rt, Duration::from_millis(PAUSE_MILLISECONDS));
+            }
+            listened => return listened,
+        }
+    }
+    bound.listen()
 }
 
 /// Binds this address, again and again where it is in use.
 fn bind_patiently<N: Clock + Net<Listener = TcpListener, Stream = TcpStream>>(
     rt: &N,
     address: &str,
-) -> io::Result<TcpListener> {
+) -> io::Result<BoundSocket> {
     for _ in 0..TRIES {
-        match bind(rt, address) {
+        match bind_first(rt, address) {
             Err(error) if error.kind() == ErrorKind::AddrInUse => {
                 thread::sleep(rt, Duration::from_millis(PAUSE_MILLISECONDS));
             }
             bound => return bound,
         }
     }
-    bind(rt, address)
+    bind_first(rt, address)
 }
 
 /// Binds the first address of this text that can be.
-fn bind<N: Net<Listener = TcpListener, Stream = TcpStream>>(
+fn bind_first<N: Net<Listener = TcpListener, Stream = TcpStream>>(
     rt: &N,
     address: &str,
-) -> io::Result<TcpListener> {
+) -> io::Result<BoundSocket> {
     let mut fault = io::Error::from(ErrorKind::InvalidInput);
     for found in address.to_socket_addrs(rt)? {
-        match bind_with_room(rt, found) {
-            Ok(listener) => return Ok(listener),
+        match BoundSocket::bind(found) {
+            Ok(bound) => return Ok(bound),
             Err(error) => fault = error,
         }
     }
     Err(fault)
-}
-
-/// Binds an address with room for as many connections that were not accepted yet as the system allows. std's has room for 128: where more come at once
-/// before the acceptor has its turn, each further one waits a second.
-fn bind_with_room<N: Net<Listener = TcpListener, Stream = TcpStream>>(
-    rt: &N,
-    address: SocketAddr,
-) -> io::Result<TcpListener> {
-    let listener = TcpListener::from(mio::net::TcpListener::bind(rt, address)?);
-    listener.set_nonblocking(false)?;
-    Ok(listener)
 }
 
 /// Why nobody can be listened to at this address.

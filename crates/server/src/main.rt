@@ -3,6 +3,7 @@
 
 mod answering;
 mod asking;
+mod bound;
 mod causes;
 mod client;
 mod command;
@@ -54,7 +55,7 @@ fn main(rt: HostRuntime) -> ExitCode {
             &mut rt.stdout(),
             rt.stderr(),
         ),
-        Err(failure) => tell(&failure, &mut rt.stderr()),
+        Err(failure) => tell(rt.alloc(), &failure, &mut rt.stderr()),
     };
     ExitCode::from(status)
 }

@@ -4,10 +4,11 @@ use clap::error::ErrorKind;
 use clap::{ArgMatches, Error, value_parser};
 use std::alloc::Global;
 use std::net::{AddrParseError, IpAddr};
+use version::VERSION;
 use wbl_engine::Role;
 
 /// The program's name in its own texts.
-const PROGRAM: &str = "wbl-server";
+pub const PROGRAM: &str = "wbl-server";
 
 const PRIMARY: &str = "primary";
 
@@ -28,6 +29,12 @@ const BEHIND: &str = "behind";
 /// The option by which a standby takes links from one host alone.
 const FROM: &str = "from";
 
+/// The option by which a node tells now and then how far it is.
+const REPORT: &str = "report";
+
+/// The option by which a primary closes connections on which nothing comes.
+const IDLE: &str = "idle";
+
 const NO_HOST: &str = "'--from <HOST>' takes an IP address, without a port";
 
 /// The roles that an image is formatted for.
@@ -43,17 +50,21 @@ pub enum Task<'a> {
         role: Role,
         is_new: bool,
     },
-    /// To serve clients at one address, and send to the standby at the other.
+    /// To serve clients at one address, and send to the standby at the other. With a report it is told each so many seconds how far both nodes are; with an
+    /// idle time a connection on which nothing came for so many seconds is closed.
     Primary {
         image: &'a str,
         listen: &'a str,
         link: &'a str,
+        report: Option<u64>,
+        idle: Option<u64>,
     },
-    /// To follow a primary that dials this address, from this host alone if one is told.
+    /// To follow a primary that dials this address, from this host alone if one is told. With a report it is told each so many seconds how far it is.
     Standby {
         image: &'a str,
         listen: &'a str,
         from: Option<IpAddr>,
+        report: Option<u64>,
     },
     /// To make the image of a stopped standby a primary's, if the operator says that the old primary is stopped, and if it is at this position or above.
     Promote {
@@ -70,6 +81,8 @@ pub enum Task<'a> {
         image: &'a str,
         behind: Option<&'a str>,
     },
+    /// To print which program this is.
+    Version,
 }
 
 /// What the words ask for, the first of which is the program's name.
@@ -79,7 +92,11 @@ pub enum Task<'a> {
 /// The text for whoever wrote the command line: what is wrong with it, or the help that was asked for. `OutOfMemory` where memory was refused.
 pub fn options<'a>(alloc: Global, words: &'a [String]) -> Result<Task<'a>, Error> {
     let mut command = grammar(alloc)?;
-    let matches = command.try_get_matches_from_mut(words)?;
+    let matches = match command.try_get_matches_from_mut(words) {
+        Ok(matches) => matches,
+        Err(error) if error.kind() == ErrorKind::DisplayVersion => return Ok(Task::Version),
+        Err(error) => return Err(error),
+    };
     match asked(&matches) {
         Ok(Some(task)) => Ok(task),
         Ok(None) => Err(command.error(ErrorKind::MissingSubcommand, "a subcommand is missing")?),
@@ -106,6 +123,7 @@ fn grammar<'a>(alloc: Global) -> Result<Command<'a>, Error> {
     let command = Command::new(alloc, PROGRAM)
         .bin_name(PROGRAM)?
         .about("A durable key-value server; without arguments it serves standard input")
+        .version(VERSION)
         .subcommand_required(true)
         .subcommand(format_command(alloc)?)?
         .subcommand(primary_command(alloc)?)?
@@ -146,7 +164,13 @@ fn primary_command<'a>(alloc: Global) -> Result<Command<'a>, Error> {
         .about("Serves clients, and sends to the standby")
         .arg(image(alloc))?
         .arg(option(alloc, "listen", "ADDRESS", "Where clients connect"))?
-        .arg(option(alloc, "link", "ADDRESS", "Where the standby listens"))?;
+        .arg(option(alloc, "link", "ADDRESS", "Where the standby listens"))?
+        .arg(report(alloc))?
+        .arg(seconds(
+            alloc,
+            IDLE,
+            "Closes a connection on which nothing came for so long",
+        ))?;
     Ok(command)
 }
 
@@ -162,7 +186,8 @@ fn standby_command<'a>(alloc: Global) -> Result<Command<'a>, Error> {
         .about("Follows a primary")
         .arg(image(alloc))?
         .arg(option(alloc, "listen", "ADDRESS", "Where the primary connects"))?
-        .arg(from)?;
+        .arg(from)?
+        .arg(report(alloc))?;
     Ok(command)
 }
 
@@ -202,6 +227,18 @@ fn status_command<'a>(alloc: Global) -> Result<Command<'a>, Error> {
 /// The option that names the image.
 fn image<'a>(alloc: Global) -> Arg<'a> {
     option(alloc, "image", "FILE", "The file of the image")
+}
+
+/// The option for reports.
+fn report<'a>(alloc: Global) -> Arg<'a> {
+    seconds(alloc, REPORT, "Tells so often how far it is")
+}
+
+/// An option with a number of seconds, at least one, which may be left out.
+fn seconds<'a>(alloc: Global, name: &'a str, help: &'a str) -> Arg<'a> {
+    option(alloc, name, "SECONDS", help)
+        .value_parser(value_parser!(u64).range(1..))
+        .required(false)
 }
 
 /// An option with one value, which may not be left out.
@@ -257,11 +294,14 @@ fn task_of<'a>(name: &str, found: &ArgMatches<'a>, from: Option<IpAddr>) -> Opti
             image,
             listen: found.get_str("listen")?,
             link: found.get_str("link")?,
+            report: found.get_one(REPORT),
+            idle: found.get_one(IDLE),
         }),
         STANDBY => Some(Task::Standby {
             image,
             listen: found.get_str("listen")?,
             from,
+            report: found.get_one(REPORT),
         }),
         "promote" => Some(Task::Promote {
             image,

@@ -13,7 +13,7 @@ use links::{Log, follow};
 use mv_keyspace::MvKeyspace;
 use pmem::{Pmem, SimPmem};
 use primary::{Opened, open};
-use serving::{Stop, run};
+use serving::{Setup, Stop, run};
 use standby::Standby;
 use std::alloc::Global;
 use std::hash::RandomState;
@@ -199,7 +199,8 @@ fn serve_over<
     requires { (word : ℕ) → Only ((D.state device).words word) (image_of (D.state device).words word) }
 {
     let opened: Opened<WblEngine<D>, MvKeyspace> = open(alloc, device, hash_builder)?;
-    match run(rt, alloc, opened, listener, standby, Log::new(alloc, link)) {
+    let setup = Setup::quiet(Log::new(alloc, link));
+    match run(rt, alloc, opened, listener, standby, setup) {
         Stop::Refused(why) => Ok(PairEnd::Refused(why)),
         Stop::ListenerClosed => Ok(PairEnd::Broken),
     }

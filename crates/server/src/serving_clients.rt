@@ -6,13 +6,14 @@ ghost use Rattle.primary.specs.Standing.{Stands};
 use crate::causes::tell_cause;
 use crate::failure::Failure;
 use crate::images::Images;
-use crate::listening::listen as bind;
+use crate::listening::{self, bind};
+use crate::options::PROGRAM;
 use crate::serve::ServeError;
 use links::{Log, News};
 use mv_keyspace::MvKeyspace;
 use pmem::Pmem;
 use primary::{Opened, open};
-use serving::{Stop, run};
+use serving::{Setup, Stop, run};
 use std::alloc::Global;
 use std::hash::RandomState;
 use std::io::Write;
@@ -20,7 +21,8 @@ use std::net::{Net, TcpListener, TcpStream};
 use std::random::RandomSource;
 use std::sync::Wait;
 use std::thread::Threads;
-use std::time::Clock;
+use std::time::{Clock, Duration};
+use version::VERSION;
 use wbl_engine::{Durable, WblEngine};
 
 /// Opens the image of this name as a primary's, and serves clients at the address `listen`, with the standby at the address `link`, until the engine
@@ -44,12 +46,18 @@ pub fn serve_clients<
     name: &str,
     listen: &str,
     link: &str,
+    report: Option<u64>,
+    idle: Option<u64>,
     errors: E,
 ) -> Result<(), Failure> {
     let mut errors = errors;
     let mut log = Log::new(alloc, errors);
-    // (who connects before the image is open is to be refused)
-    let can_listen = bind(rt, alloc, listen, &mut errors).is_some();
+    log.say(News::Begun {
+        program: PROGRAM,
+        version: VERSION,
+    });
+    // (who connects before the image is open is refused)
+    let bound = bind(rt, alloc, listen, &mut errors);
     let done = open_node(rt, alloc, images, name);
     tell_cause(alloc, images, name, &done, &mut errors);
     let opened: Opened<WblEngine<D>, MvKeyspace> = done?;
@@ -58,16 +66,21 @@ pub fn serve_clients<
         epoch: opened.epoch,
         keys: opened.keys,
     });
-    if !can_listen {
+    let Some(bound) = bound else {
         return Err(Failure::CannotListen);
-    }
-    let Some(listener) = bind(rt, alloc, listen, &mut errors) else {
+    };
+    let Some(listener) = listening::listen(rt, alloc, bound, listen, &mut errors) else {
         return Err(Failure::CannotListen);
     };
     log.say(News::Listening { address: listen });
     let address = String::from_str(alloc, link)?;
-    let links = Log::new(alloc, errors);
-    match run(*rt, alloc, opened, listener, address, links) {
+    let setup = Setup {
+        link: Log::new(alloc, errors),
+        watch: Some(Log::new(alloc, errors)),
+        report_seconds: report,
+        idle: idle.map(Duration::from_secs),
+    };
+    match run(*rt, alloc, opened, listener, address, setup) {
         Stop::Refused(why) => {
             log.say(News::Stopped { why });
             Err(Failure::from(why))

@@ -5,23 +5,35 @@ ghost use Rattle.standby.specs.Taking.{Stands};
 use crate::causes::tell_cause;
 use crate::failure::Failure;
 use crate::images::Images;
-use crate::listening::listen as bind;
-use links::{Log, News, follow};
+use crate::listening::{self, bind};
+use crate::options::PROGRAM;
+use kv_types::Refusal;
+use links::{Log, News, Progress, follow};
 use mv_keyspace::{Keyspace, MvKeyspace};
 use standby::Standby;
 use std::alloc::Global;
 use std::io::Write;
 use std::net::{IpAddr, Net, TcpListener, TcpStream};
+use std::sync::{Arc, Wait};
+use std::thread;
+use std::thread::Threads;
 use std::time::Clock;
+use version::VERSION;
 use wbl_engine::{Durable, WblEngine};
 
 /// Opens the image of this name as a standby's, and takes one link at a time at this address until one stops the node, or the address cannot be
 /// listened at, or no longer. With a host it takes links from there alone. It does not return otherwise. What it does is told to `errors`, a line at a
 /// time.
 pub fn stand_by<
-    N: Clock + Net<Listener = TcpListener, Stream = TcpStream>,
+    N: Threads
+        + Wait
+        + Clock
+        + Net<Listener = TcpListener, Stream = TcpStream>
+        + Copy
+        + Send
+        + 'static,
     I: Images,
-    E: Write + Copy + Drop,
+    E: Write + Copy + Send + Drop + 'static,
 >(
     rt: &N,
     alloc: Global,
@@ -29,23 +41,32 @@ pub fn stand_by<
     name: &str,
     listen: &str,
     host: Option<IpAddr>,
+    report: Option<u64>,
     errors: E,
 ) -> Result<(), Failure> {
     let mut errors = errors;
     let mut log = Log::new(alloc, errors);
-    // (who connects before the image is open is to be refused)
-    let can_listen = bind(rt, alloc, listen, &mut errors).is_some();
+    log.say(News::Begun {
+        program: PROGRAM,
+        version: VERSION,
+    });
+    // (who connects before the image is open is refused)
+    let bound = bind(rt, alloc, listen, &mut errors);
     let done = open_node(alloc, images, name);
     tell_cause(alloc, images, name, &done, &mut errors);
     let mut node = done?;
     log.say(opened(&node));
-    if !can_listen {
+    let Some(bound) = bound else {
         return Err(Failure::CannotListen);
-    }
-    let Some(listener) = bind(rt, alloc, listen, &mut errors) else {
+    };
+    let Some(listener) = listening::listen(rt, alloc, bound, listen, &mut errors) else {
         return Err(Failure::CannotListen);
     };
     log.say(News::Listening { address: listen });
+    let mut log = match report {
+        Some(seconds) => report_progress(*rt, alloc, node.position(), seconds, log, errors)?,
+        None => log,
+    };
     match follow(rt, alloc, &mut node, &listener, host, &mut log) {
         Ok(why) => {
             log.say(News::Stopped { why });
@@ -66,6 +87,28 @@ fn open_node<I: Images>(
 {
     let device = images.open(name)?;
     Ok(standby::open(alloc, device)?)
+}
+
+/// Starts a thread that tells each so many seconds how far the node is. Answers the log of a node that shows it. Only `Memory`.
+fn report_progress<
+    N: Threads + Wait + Clock + Copy + Send + 'static,
+    E: Write + Send + Drop + 'static,
+>(
+    rt: N,
+    alloc: Global,
+    position: u64,
+    seconds: u64,
+    log: Log<E>,
+    errors: E,
+) -> Result<Log<E>, Refusal> {
+    let shown = Arc::new(alloc, Progress::new(position))?;
+    let progress = Arc::try_clone(&shown)?;
+    let mut told = Log::new(alloc, errors);
+    let reporting = thread::spawn(&rt, move || progress.tell(&rt, seconds, &mut told));
+    match reporting {
+        Ok(_) => Ok(log.showing(shown)),
+        Err(_) => Err(Refusal::Memory),
+    }
 }
 
 /// What a node tells whose image was opened.

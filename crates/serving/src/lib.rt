@@ -13,15 +13,18 @@ mod needs;
 mod node;
 mod open_connection;
 mod open_connections;
+mod setup;
 mod shared_entrance;
 mod starting;
 mod step_time;
 mod stop;
 mod turns;
+mod watching;
 
 pub use accepting::Acceptor;
 pub use node::Node;
 pub use open_connections::OpenConnections;
+pub use setup::Setup;
 pub use shared_entrance::SharedEntrance;
 pub use starting::run;
 pub use stop::Stop;

@@ -8,7 +8,8 @@ use crate::accepting::Acceptor;
 use crate::node::Node;
 use crate::open_connections::OpenConnections;
 use crate::shared_entrance::SharedEntrance;
-use clients::{Driver, DriverEntrance};
+use crate::watching::Watcher;
+use clients::{Driver, DriverEntrance, Shown};
 use kv_types::Refusal;
 use links::{AckReceiver, LinkSender};
 use lobby::Entrance;
@@ -19,6 +20,7 @@ use standby_stream::{Opening, Outgoing};
 use std::alloc::{AllocError, Global};
 use std::net::Net;
 use std::sync::{Arc, Mutex};
+use std::time::Duration;
 use wakes::{DueIn, DueOut, Flag, Idle, ReadyList, Sleeper, Waker, due_list, new_sleeper};
 use wbl_engine::Committed;
 
@@ -40,6 +42,7 @@ pub(crate) struct Threading {
     pub(crate) acceptor: Acceptor,
     pub(crate) drivers: Vec<Driver>,
     pub(crate) entrance: Arc<SharedEntrance>,
+    pub(crate) watcher: Watcher,
     /// Wakes the node's thread, for the committer's.
     pub(crate) wake: Waker,
 }
@@ -55,6 +58,8 @@ struct Seats {
     node: ThreadMarks,
     remote: ThreadMarks,
     watch: ThreadMarks,
+    /// The watcher's.
+    observer: ThreadMarks,
     ghost of_these: { root.marks ≡ arc_value marks },
     ghost raises: { remote.raises_remote ≡ true },
 }
@@ -87,6 +92,8 @@ struct ClientEnds {
     connections: OpenConnections,
     acceptor: Acceptor,
     drivers: Vec<Driver>,
+    /// What each of them shows.
+    shown: Vec<Arc<Shown>>,
     entrance: Arc<SharedEntrance>,
     /// Set once no further connection is accepted.
     listener_closed: Arc<Flag>,
@@ -95,7 +102,7 @@ struct ClientEnds {
     node: Waker,
 }
 
-/// All that the threads of a primary own, over an image that is durable so far.
+/// All that the threads of a primary own, over an image that is durable so far. Where a time is given, connections are closed that are idle for so long.
 ///
 /// # Errors
 ///
@@ -107,6 +114,7 @@ pub(crate) fn new_threading<R: Net>(
     opening: Opening,
     epoch: u64,
     address: String,
+    idle: Option<Duration>,
 ) -> Result<Threading, Refusal>
     ensures marks { IfOk result (λ made. (made.node.committer_marks.raises_local ≡ true) × (made.node.committer_marks.local ≡ committed.now)) }
     ensures link { IfOk result (λ made. Begin epoch opening made.sender made.receiver) }
@@ -119,8 +127,9 @@ pub(crate) fn new_threading<R: Net>(
         node,
         remote,
         watch,
+        observer,
     } = new_seats(alloc, committed)?;
-    let client_ends = new_client_ends(rt, alloc, marks, root, due)?;
+    let client_ends = new_client_ends(rt, alloc, marks, root, due, idle)?;
     let made = new_link(
         alloc,
         opening,
@@ -132,7 +141,7 @@ pub(crate) fn new_threading<R: Net>(
         &client_ends.node,
     );
     match made {
-        Ok(link) => Ok(assemble(client_ends, link, local, node)),
+        Ok(link) => Ok(assemble(client_ends, link, local, node, observer)),
         Err(refusal) => {
             drop(client_ends);
             Err(refusal)
@@ -145,6 +154,7 @@ fn assemble(
     link: LinkEnds,
     committer_marks: ThreadMarks,
     marks: ThreadMarks,
+    observer: ThreadMarks,
 ) -> Threading
     ensures marks { result.node.committer_marks ≡ committer_marks }
     ensures link { (result.sender ≡ link.sender) × (result.receiver ≡ link.receiver) }
@@ -153,6 +163,7 @@ fn assemble(
         connections,
         acceptor,
         drivers,
+        shown,
         entrance,
         listener_closed,
         sleeper,
@@ -181,6 +192,7 @@ fn assemble(
         acceptor,
         drivers,
         entrance,
+        watcher: Watcher::new(observer, shown),
         wake,
     }
 }
@@ -268,6 +280,7 @@ fn new_client_ends<R: Net>(
     marks: Arc<Marks>,
     root: MarkSeat,
     due: DueIn,
+    idle: Option<Duration>,
 ) -> Result<ClientEnds, Refusal>
     requires { root.marks ≡ arc_value marks }
 {
@@ -275,13 +288,14 @@ fn new_client_ends<R: Net>(
     let ready = new_ready(alloc, &node)?;
     let listener_closed = shared(alloc, Flag::new())?;
     let entrance = new_entrance(alloc)?;
-    let (drivers, entrances) = new_drivers(rt, alloc, marks, root)?;
+    let (drivers, entrances, shown) = new_drivers(rt, alloc, marks, root, idle)?;
     let acceptor = Acceptor::new(entrances, ready.0, listener_closed.0, node.another()?);
     let connections = OpenConnections::new(alloc, entrance.0, ready.1, due)?;
     Ok(ClientEnds {
         connections,
         acceptor,
         drivers,
+        shown,
         entrance: entrance.1,
         listener_closed: listener_closed.1,
         sleeper,
@@ -289,26 +303,30 @@ fn new_client_ends<R: Net>(
     })
 }
 
-/// The drivers, each with a seat of the marks, and their entrances.
+/// The drivers, each with a seat of the marks, their entrances, and what each shows.
 fn new_drivers<R: Net>(
     rt: &R,
     alloc: Global,
     marks: Arc<Marks>,
     root: MarkSeat,
-) -> Result<(Vec<Driver>, Vec<DriverEntrance>), Refusal>
+    idle: Option<Duration>,
+) -> Result<(Vec<Driver>, Vec<DriverEntrance>, Vec<Arc<Shown>>), Refusal>
     requires { root.marks ≡ arc_value marks }
 {
     let mut root = root;
     let mut drivers = Vec::with_capacity(alloc, DRIVERS)?;
     let mut entrances = Vec::with_capacity(alloc, DRIVERS)?;
+    let mut all_shown = Vec::with_capacity(alloc, DRIVERS)?;
     for _ in 0..DRIVERS {
         let seat = marks.split_seat::<Reader>(&mut root);
         let driver_marks = ThreadMarks::new(Arc::try_clone(&marks)?, seat);
-        let (driver, entrance) = Driver::new(rt, alloc, driver_marks)?;
+        let (shown, theirs) = shared(alloc, Shown::new())?;
+        let (driver, entrance) = Driver::new(rt, alloc, driver_marks, idle, theirs)?;
         drivers.push(driver)?;
         entrances.push(entrance)?;
+        all_shown.push(shown)?;
     }
-    Ok((drivers, entrances))
+    Ok((drivers, entrances, all_shown))
 }
 
 fn new_ready(alloc: Global, node: &Waker) -> Result<(Arc<ReadyList>, Arc<ReadyList>), AllocError> {
@@ -330,9 +348,11 @@ fn new_seats(alloc: Global, committed: &Committed) -> Result<Seats, Refusal>
     let remote = marks.split_seat::<marks::Link>(&mut root);
     let watch = marks.split_seat::<Reader>(&mut root);
     let node = marks.split_seat::<Reader>(&mut root);
+    let observer = marks.split_seat::<Reader>(&mut root);
     let marks = Arc::new(alloc, marks)?;
     let (local, node) = two_marks(&marks, local, node)?;
     let (remote, watch) = two_marks(&marks, remote, watch)?;
+    let observer = ThreadMarks::new(Arc::try_clone(&marks)?, observer);
     Ok(Seats {
         marks,
         root,
@@ -340,6 +360,7 @@ fn new_seats(alloc: Global, committed: &Committed) -> Result<Seats, Refusal>
         node,
         remote,
         watch,
+        observer,
     })
 }
 

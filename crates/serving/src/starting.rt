@@ -12,8 +12,10 @@ use crate::crossing::{acceptor_is_send, is_accepting, is_running};
 use crate::link_ends::LinkEnds;
 use crate::making::{NODE_SPIN, Threading, new_threading};
 use crate::node::{Lent, serve};
+use crate::setup::Setup;
 use crate::shared_entrance::SharedEntrance;
 use crate::stop::Stop;
+use crate::watching::Watcher;
 use clients::{Driver, driver_is_send};
 use kv_types::Refusal;
 use lending::{Borrower, lending};
@@ -35,7 +37,7 @@ use wbl_engine::Durable;
 /// connection. The threads that it started end with the program.
 ///
 /// The answer is why: `Fault` or `Exhausted` of the engine, `Memory` where there was none to begin with, or for a thread, or that the listener is over.
-/// What becomes of the link is told. What is sent and what is acknowledged there is of the epoch of the image that was opened, and what a standby is told that is
+/// What becomes of the link is told, and what else is asked for. What is sent and what is acknowledged there is of the epoch of the image that was opened, and what a standby is told that is
 /// behind is what was in it.
 pub fn run<
     R: Threads
@@ -55,7 +57,7 @@ pub fn run<
     opened: Opened<E, K>,
     listener: TcpListener,
     address: String,
-    log: Log<W>,
+    setup: Setup<W>,
 ) -> Stop
     requires stands { Stands E.device E.contents opened.primary }
     requires opened { IsOpened (E.contents opened.primary.back.committer.engine) opened.primary.front.sequencer opened.opening opened.position opened.epoch opened.keys }
@@ -67,8 +69,8 @@ pub fn run<
         ..
     } = opened;
     let committed = primary.back.committed();
-    match new_threading(&rt, alloc, &committed, opening, epoch, address) {
-        Ok(threading) => start(rt, alloc, threading, listener, primary, log),
+    match new_threading(&rt, alloc, &committed, opening, epoch, address, setup.idle) {
+        Ok(threading) => start(rt, alloc, threading, listener, primary, setup),
         Err(refusal) => {
             drop(primary);
             Stop::Refused(refusal)
@@ -95,7 +97,7 @@ fn start<
     threading: Threading,
     listener: TcpListener,
     primary: Primary<E, K>,
-    log: Log<W>,
+    setup: Setup<W>,
 ) -> Stop
     requires stands { Stands E.device E.contents primary }
     requires shown { IsShown E.device E.contents primary.back threading.node.committer_marks }
@@ -108,12 +110,19 @@ fn start<
         acceptor,
         drivers,
         entrance,
+        watcher,
         wake,
     } = threading;
-    let is_sending = start_sender(rt, alloc, sender, receiver, log);
+    let is_sending = start_sender(rt, alloc, sender, receiver, setup.link);
+    let is_watching = start_watcher(rt, watcher, setup.watch, setup.report_seconds);
     let is_driving = start_drivers(rt, drivers);
     let is_accepting = start_acceptor(rt, alloc, acceptor, listener, entrance);
-    match start_committer(rt, alloc, wake, is_sending && is_driving && is_accepting) {
+    match start_committer(
+        rt,
+        alloc,
+        wake,
+        is_sending && is_watching && is_driving && is_accepting,
+    ) {
         Some(lent) => serve(&rt, alloc, node, primary, lent),
         None => {
             drop(node);
@@ -138,6 +147,18 @@ fn start_sender<
 {
     let ends = LinkEnds { sender, receiver };
     let spawned = thread::spawn(&rt, move || ends.run(rt, alloc, log));
+    spawned.ok().is_some()
+}
+
+/// Starts the thread of the watcher, where somebody is told what it finds. Answers whether it did, or had not to.
+fn start_watcher<
+    R: Threads + Wait + Clock + Copy + Send + 'static,
+    W: Write + Send + Drop + 'static,
+>(rt: R, watcher: Watcher, log: Option<Log<W>>, report_seconds: Option<u64>) -> bool {
+    let Some(log) = log else {
+        return true;
+    };
+    let spawned = thread::spawn(&rt, move || watcher.run(&rt, log, report_seconds));
     spawned.ok().is_some()
 }
 

@@ -15,6 +15,6 @@ pub returns-clause-reads : goal.returns-clause-reads
 returns-clause-reads g c =
     let source = g.S.Read.remaining c.args.stream.now in
     let rest = g.S.Read.remaining c.read.new.stream in
-    reads-piece source rest c.args.self.now (record { inbound = c.feed.new.self; block = c.read.new.self; held = c.args.self.now.held }) c.offer_all.new.self
+    reads-piece source rest c.args.self.now (record { inbound = c.feed.new.self; block = c.read.new.self; held = c.args.self.now.held; offered = c.args.self.now.offered }) c.offer_all.new.self
     (g.O.Outlet.offered c.args.outlet.now) (g.O.Outlet.offered c.offer_all.new.outlet) c.in-Some.piece
     (subst (Consumes source rest) (ap bytes_of c.in-Some.is) c.in_ok-piece.ensures.read) refl c.in_ok-feed.ensures.fed c.offer_all.ensures.offers
