@@ -1,4 +1,4 @@
-"""The server and the client say which they are, and by which toolchain they were proved."""
+"""Each program says which it is, and by which toolchain it was proved."""
 
 import re
 import shutil
@@ -7,7 +7,7 @@ import subprocess
 import common
 import pages
 
-PROGRAMS = ["server", "client"]
+PROGRAMS = ["server", "client", "simulator"]
 
 SAYING = common.ROOT / "crates" / "version" / "src" / "release.rt"
 CONSTANT = re.compile(r'const VERSION: &str = "(\d+ \(logic ([0-9a-f]{16})\))";')

@@ -27,6 +27,10 @@ use descriptors::hold_closed;
 use std::hash::RandomState;
 use std::io::{BufWriter, Read, Write};
 use std::process::ExitCode;
+use version::VERSION;
+
+/// The program's name in its own texts.
+const PROGRAM: &str = "wbl-sim";
 
 fn main(rt: HostRuntime) -> ExitCode {
     let _held = match hold_closed(&rt) {
@@ -49,6 +53,9 @@ fn main(rt: HostRuntime) -> ExitCode {
 fn run(rt: &HostRuntime) -> Result<(), SimulatorError> {
     let alloc = rt.alloc();
     let options = read_options(rt)?;
+    if options.version {
+        return print_version(&mut rt.stdout());
+    }
     let mut text = Vec::new(alloc);
     rt.stdin()
         .read_to_end(&mut text)
@@ -61,5 +68,11 @@ fn run(rt: &HostRuntime) -> Result<(), SimulatorError> {
     drop(played);
     reported?;
     out.flush()?;
+    Ok(())
+}
+
+/// Prints which program this is.
+fn print_version<W: Write>(out: &mut W) -> Result<(), SimulatorError> {
+    writeln!(out, "{PROGRAM} {VERSION}")?;
     Ok(())
 }

@@ -23,6 +23,8 @@ pub struct Options {
     pub map: bool,
     /// Whether the words of each image are printed.
     pub images: bool,
+    /// Whether it is printed which program this is, and nothing is played.
+    pub version: bool,
 }
 
 /// Reads the command line. `Usage` if it is not understood.
@@ -35,6 +37,7 @@ pub fn read_options(rt: &(impl Env + Alloc)) -> Result<Options, SimulatorError> 
         whole: false,
         map: false,
         images: false,
+        version: false,
     };
     let mut awaits_lines = false;
     for word in words.skip(1) {
@@ -68,6 +71,7 @@ fn take_switch(options: &mut Options, word: &str) -> Result<(), SimulatorError> 
         "--whole" => options.whole = true,
         "--map" => options.map = true,
         "--images" => options.images = true,
+        "--version" | "-V" => options.version = true,
         _ => return Err(SimulatorError::Usage),
     }
     Ok(())
