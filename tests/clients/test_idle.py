@@ -6,7 +6,7 @@ import socket
 import time
 
 import common
-from pair import HOST, Client, ServingCases, wait_until
+from pair import HOST, Client, Ended, ServingCases, allow_descriptors, wait_until
 from plain_replies import OK, bulk
 from spelling import spell
 
@@ -14,6 +14,7 @@ PROGRAMS = ["server"]
 IS_SLOW = True
 QUICK = ["Idle.test_a_client_that_vanishes"]
 
+SEATS = 1_024
 SECONDS = 2
 # A driver looks once a second, or in two.
 LATE = 4 * common.BUSY
@@ -88,6 +89,41 @@ class Idle(ServingCases):
         pair.standby.thaw()
         self.assertEqual(other.reply(), OK)
         self.assertEqual([client.reply() for _ in range(600)], 600 * [OK])
+
+
+class AllSeatsTaken(ServingCases):
+    def test_who_has_been_idle_for_too_long_goes(self):
+        """All 1,024 seats are taken: somebody else gets in once one has been idle for so long, and who asks now and then stays."""
+        self.assertTrue(allow_descriptors(SEATS + 200), "this process may not have so many descriptors")
+        self.nodes.primary.words += ["--idle", f"{10 * SECONDS}"]
+        self.nodes.restart(self.nodes.primary)
+        self.nodes.wait()
+        clients = [wait_until(self.enter, "a seat") for _ in range(SEATS)]
+        still, *others = clients
+        began = time.monotonic()
+
+        def served():
+            for client in others[:: 100]:
+                self.assertEqual(client.ask("PING"), b"+PONG\r\n")
+            return self.enter()
+
+        wait_until(served, "a seat of one that was idle")
+        self.assertGreaterEqual(time.monotonic() - began, 10 * SECONDS - 1)
+        self.assertEqual(still.socket.recv(1), b"")
+        for client in others[:: 100]:
+            self.assertEqual(client.ask("PING"), b"+PONG\r\n")
+
+    def enter(self):
+        """A connection that has a seat, or None where there was none for it."""
+        client = self.nodes.client()
+        try:
+            found = client.ask("PING")
+        except (Ended, OSError):
+            return None
+        if found == b"+PONG\r\n":
+            return client
+        self.assertEqual(found, b"-ERR max number of clients reached\r\n")
+        return None
 
 
 class NotAsked(ServingCases):

@@ -2,6 +2,7 @@
 afterwards."""
 
 import pathlib
+import re
 import shutil
 import time
 
@@ -231,7 +232,7 @@ class Sizes(Operated):
         for value in "12":
             for key in kept:
                 self.assertEqual(client.ask("SET", key, value), OK)
-        status, monitor, count = blocks_below(PAGE, "What to look at")[0]
+        (status, monitor, count), (watch,) = blocks_below(PAGE, "What to look at")
         self.assertEqual(self.shell.run(monitor), "")
         self.assertRegex(self.shell.run(status), r"\Aa\.img: primary, .*versions 4\d\d of 512 \(\d\d %, .*\nb\.img: standby, .* of 661 .*\nbehind: -?\d+\n\Z")
         wanted = 1 if shutil.which("ss") else 0
@@ -239,6 +240,9 @@ class Sizes(Operated):
         more = [client.ask("SET", f"more{at}", "1") for at in range(100)]
         self.assertEqual(more[-1], b"-ERR store is full\r\n")
         self.assertEqual(self.shell.run(monitor), "over nine tenths: see a larger image\n")
+        # (the logs said so as well, the primary's before the store was full)
+        full = re.compile(r'99 of 100 versions are taken, \d+ of 512: see "A larger image" in docs/operating\.md')
+        wait_until(lambda: [line for line in self.shell.run(watch).splitlines() if full.fullmatch(line)], "a log that says how full an image is")
         self.assertEqual([client.ask("GET", kept[0]), client.ask("DEL", *kept[:100])], [bulk(b"2"), integer(100)])
         self.assertEqual(client.ask("SET", "again", "1"), OK)
         self.assert_without_errors()

@@ -5,6 +5,7 @@ import re
 import socket
 import subprocess
 import time
+import typing
 
 import common
 from pair import ServingCases, wait_until
@@ -13,12 +14,14 @@ from spelling import spell
 
 PROGRAMS = ["server"]
 IS_SLOW = True
-QUICK = ["Waiting.test_a_frozen_standby", "Reports.test_both_nodes", "FirstLine"]
+QUICK = ["Waiting.test_a_frozen_standby", "Reports.test_both_nodes", "Filling.test_lines", "FirstLine"]
 
 WAITING = re.compile(rb"waiting for the standby since (\d+) seconds")
 ANSWERED = re.compile(rb"the standby has answered after (\d+) seconds")
-PRIMARY = re.compile(rb"at position (\d+), standby at (\d+), (\d+) of 1024 clients, (\d+) requests a second")
-STANDBY = re.compile(rb"at position (\d+), (\d+) frames a second")
+USED = rb"(\d+) keys, (\d+) of (\d+) versions and (\d+) of (\d+) lines"
+PRIMARY = re.compile(rb"at position (\d+), standby at (\d+), " + USED + rb", (\d+) of 1024 clients, (\d+) requests a second, longest wait (\d+) ms")
+STANDBY = re.compile(rb"at position (\d+), " + USED + rb", (\d+) frames a second")
+FILLING = re.compile(rb'(9|99) of (?:10|100) (?:(versions)|lines) are taken, (\d+) of (\d+): see "A larger image" in docs/operating\.md')
 VERSION = re.compile(rb"wbl-server \d+ \(logic [0-9a-f]{16}\)")
 # After how many seconds a wait is told.
 TOLD = [1, 2, 3, 4, 5, 10, 20, 30, 60, 120]
@@ -28,6 +31,37 @@ def found_in(node, pattern):
     """The numbers of each line of the node's run that is such a line as a whole."""
     lines = node.errors.read_bytes()[node.began :].split(b"\n")
     return [tuple(map(int, found.groups())) for line in lines if (found := pattern.fullmatch(line))]
+
+
+class PrimaryReport(typing.NamedTuple):
+    position: int
+    standby: int
+    keys: int
+    versions: int
+    entries: int
+    lines: int
+    room: int
+    clients: int
+    requests: int
+    wait: int
+
+
+class StandbyReport(typing.NamedTuple):
+    position: int
+    keys: int
+    versions: int
+    entries: int
+    lines: int
+    room: int
+    frames: int
+
+
+def primary_reports(node):
+    return [PrimaryReport(*found) for found in found_in(node, PRIMARY)]
+
+
+def standby_reports(node):
+    return [StandbyReport(*found) for found in found_in(node, STANDBY)]
 
 
 class Waiting(ServingCases):
@@ -104,14 +138,20 @@ class Reports(ServingCases):
         while time.monotonic() < end:
             self.assertEqual(client.ask("SET", "a", f"{asked}"), OK)
             asked += 1
-        reports = lambda: found_in(primary, PRIMARY)
-        wait_until(lambda: reports()[-1:] == [(asked, asked, 2, 0)], "a report of a primary that rests")
-        wait_until(lambda: found_in(standby, STANDBY)[-1:] == [(asked, 0)], "a report of a standby that rests")
+        reports = lambda: primary_reports(primary)
+        resting = lambda: [it for it in reports()[-1:] if (it.position, it.standby, it.keys, it.versions, it.lines, it.clients, it.requests) == (asked, asked, 1, 1, 1, 2, 0)]
+        (last,) = wait_until(resting, "a report of a primary that rests")
+        following = lambda: [it for it in standby_reports(standby)[-1:] if (it.position, it.keys, it.versions, it.lines, it.frames) == (asked, 1, 1, 1, 0)]
+        (other,) = wait_until(following, "a report of a standby that rests")
+        for node, report in ((primary, last), (standby, other)):
+            told = common.run_program("server", ["status", "--image", node.image]).output.decode()
+            found = dict(line.rsplit(" ", 1) for line in told.splitlines())
+            self.assertEqual((report.entries, report.room), (int(found["entries"]), int(found["room"])))
         # (a report of several seconds has fewer requests a second)
-        self.assertLessEqual(sum(requests for *_, requests in reports()), asked + 1)
-        self.assertGreater(max(requests for *_, requests in reports()), asked // (20 * common.BUSY))
-        self.assertGreater(max(frames for _, frames in found_in(standby, STANDBY)), 0)
-        for positions in ([position for position, *_ in reports()], [position for position, _ in found_in(standby, STANDBY)]):
+        self.assertLessEqual(sum(it.requests for it in reports()), asked + 1)
+        self.assertGreater(max(it.requests for it in reports()), asked // (20 * common.BUSY))
+        self.assertGreater(max(it.frames for it in standby_reports(standby)), 0)
+        for positions in ([it.position for it in reports()], [it.position for it in standby_reports(standby)]):
             self.assertEqual(positions, sorted(positions))
 
     def test_how_often(self):
@@ -126,8 +166,15 @@ class Reports(ServingCases):
         self.assertEqual(client.ask("SET", "a", "1"), OK)
         self.nodes.standby.freeze()
         client.send(spell("SET", "a", "2"))
-        wait_until(lambda: (2, 1) in [found[:2] for found in found_in(self.nodes.primary, PRIMARY)], "a report of both positions")
+        reports = lambda: primary_reports(self.nodes.primary)
+        wait_until(lambda: (2, 1) in [found[:2] for found in reports()], "a report of both positions")
+        # while it goes on a wait is told, ever longer, and once more as a whole when it has ended
+        wait_until(lambda: reports()[-1].wait >= 2_000, "a wait of two seconds")
+        before = reports()
         self.nodes.standby.thaw()
+        self.assertEqual(client.reply(), OK)
+        wait_until(lambda: [it for it in reports()[len(before) :] if it.wait >= before[-1].wait], "the whole wait")
+        wait_until(lambda: reports()[-1].wait < 1_000, "a report without a wait")
 
     def test_none_is_asked_for(self):
         time.sleep(2.5)
@@ -141,6 +188,68 @@ class Reports(ServingCases):
                         finished = common.run_program("server", [*node.words, f"{word}={seconds}"])
                         self.assertEqual((finished.status, finished.output), (2, b""))
                         self.assertIn(word.encode(), finished.errors)
+
+
+class Filling(ServingCases):
+    """Of versions and of lines it is told by either node, once where they come to nine tenths and once to 99 of 100, whether reports are asked for or not."""
+
+    ENTRIES, ROOM = 512, 3_576
+
+    def setUp(self):
+        super().setUp()
+        self.small = self.pair(lines=4_096)
+        self.client = self.small.client()
+
+    def told(self, node):
+        lines = node.errors.read_bytes()[node.began :].split(b"\n")
+        return [(int(found[1]), bool(found[2]), int(found[3]), int(found[4])) for line in lines if (found := FILLING.fullmatch(line))]
+
+    def keep(self, first, last):
+        for at in range(first, last):
+            self.assertEqual(self.client.ask("SET", f"k{at}", "1"), OK)
+
+    def drop(self, first, last):
+        self.client.ask("DEL", *(f"k{at}" for at in range(first, last)))
+
+    def wait_for(self, *shares):
+        """Both nodes have told of these shares of versions, and of no lines."""
+        def are_told():
+            return all([told[:2] for told in self.told(node)] == [(share, True) for share in shares] for node in (self.small.primary, self.small.standby))
+
+        wait_until(are_told, f"that {shares} are told")
+        for node in (self.small.primary, self.small.standby):
+            for share, _, taken, of in self.told(node):
+                self.assertEqual(of, self.ENTRIES)
+                self.assertLessEqual(of - taken, of // (10 if share == 9 else 100))
+
+    def test_versions(self):
+        self.keep(0, 460)
+        time.sleep(3)
+        self.wait_for()
+        self.keep(460, 470)
+        self.wait_for(9)
+        # (around nine tenths it is told once)
+        self.drop(450, 470)
+        time.sleep(3)
+        self.keep(450, 470)
+        time.sleep(3)
+        self.wait_for(9)
+        self.keep(470, 511)
+        self.wait_for(9, 99)
+        self.drop(300, 511)
+        # (what ended is free once both nodes have nothing to do)
+        time.sleep(5 * common.BUSY)
+        self.keep(300, 470)
+        self.wait_for(9, 99, 9)
+
+    def test_lines(self):
+        for at in range(3):
+            self.assertEqual(self.client.ask("SET", f"large{at}", 65_000 * "v"), OK)
+        self.assertEqual(self.client.ask("SET", "more", 20_000 * "v"), OK)
+        for node in (self.small.primary, self.small.standby):
+            found = wait_until(lambda node=node: self.told(node), "a line of lines")
+            lines = 3 * -(-(65_000 + len("large0")) // 64) + -(-(20_000 + len("more")) // 64)
+            self.assertEqual(found, [(9, False, lines, self.ROOM)])
 
 
 class FirstLine(ServingCases):

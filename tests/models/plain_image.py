@@ -140,6 +140,15 @@ def read_versions(device, record):
     return Versions(counted, gapped)
 
 
+def placed(device, number):
+    """The name of the version in this entry, and the first line and the number of lines of its extent."""
+    entry = Entry(*device.line(DIRECTORY_LINE + number))
+    key_length, field_length = entry.key_lengths % LENGTH_SHIFT, entry.key_lengths // LENGTH_SHIFT
+    data = device.bytes(entry.line, key_length + field_length)
+    name = (data,) if entry.kind == STRING else (data[:key_length], data[key_length:])
+    return name, (entry.line, entry.lines)
+
+
 def versions_on(device):
     """What the versions of a whole image are."""
     record = read_image(device).record

@@ -1,185 +1,39 @@
 """The pair of nodes and their connections, played plainly, from docs/promises.md ("The events") and
 docs/replication.md: which events do their step, the list of calls, what is released, where both nodes stand, and at
-which event a fence that fails ends the run."""
-
-import typing
+which event a fence that fails ends the run. A fence may also be told to fail while it runs; and a run may go on after one that failed, whose node then
+stops, and have crashes in the middle of a call."""
 
 import plain_delta
 import plain_image
 import plain_redis
-import plain_writer
 import spelling
+from plain_connection import Connection, Frame, FreeList, Group
+from plain_crashes import CUT_CALLS, Crashes
+from plain_device import Fault
+from plain_node import Node
 
 SEATS = 1_024
 PIPE_ITEMS = 256
 KEPT_GROUPS = 256
 OPEN_CHANGES = 64
 
-# Fences that each of these makes. A reopening that first clears a gap makes those of both.
-FORMAT_FENCES = 3
-COMMIT_FENCES = 3
-FREE_FENCES = 1
-CLEAR_FENCES = 3
-REOPEN_FENCES = 2
-PROMOTE_FENCES = 2
-
 # The nodes that have to run for an event: for most the primary. Those that crash, open again or are fenced need not run.
 NODES_OF = {"open_link": ("primary", "standby"), "deliver": ("standby",), "apply": ("standby",), "crash": (), "reopen": (), "fence": (),
-            "promote": ("standby",)}
+            "promote": ("standby",), "fail_fence": ()}
 
 DEFAULT_LINES = (4_096, 4_096)
 
 
-class Fault(Exception):
-    """A fence failed."""
-
-
-class Connection:
-    """One connection: what it sent, and its replies on their way through its gate. A reply is beside its
-    position."""
-
-    def __init__(self):
-        self.is_open = True
-        self.reader = spelling.Reader(plain_redis.closes)
-        self.offered = 0
-        self.waiting = []
-        self.made = []
-        self.held = []
-        self.pending = b""
-        self.released = b""
-        self.marks = {"local": 0, "remote": 0}
-
-    def covered(self):
-        """How many of the held replies, from the first on, both marks cover."""
-        least = min(self.marks.values())
-        return next((place for place, (_, position) in enumerate(self.held) if position > least), len(self.held))
-
-
-class Group(typing.NamedTuple):
-    """Waits for the committer: all changes between two positions."""
-
-    before: int
-    after: int
-
-
-class Frame(typing.NamedTuple):
-    """What is sent: the changes that lead from the position before to the one after, by the primary of this epoch."""
-
-    before: int
-    after: int
-    changes: tuple
-    epoch: int
-
-
-class FreeList(typing.NamedTuple):
-    """Waits for the committer: entries of versions that have ended, and the position at which the newest of them did."""
-
-    position: int
-    entries: tuple
-
-
-class Node:
-    """A node over a new image. `fail` is the number of the fence that fails, 0 for none."""
-
-    def __init__(self, lines, role, fail):
-        self.image = plain_writer.Writer(lines, role)
-        self.runs = True
-        self.is_over = False
-        # frames that joined on and were not taken
-        self.refused = 0
-        self.fences = 0
-        self.fail = fail
-        self.fence(FORMAT_FENCES)
-
-    @property
-    def position(self):
-        return self.image.record.position
-
-    @property
-    def gaps(self):
-        return len(self.image.record.gaps)
-
-    def fence(self, count):
-        self.fences += count
-        if self.fences - count < self.fail <= self.fences:
-            raise Fault
-
-    def commit(self, parts, positions):
-        self.fence(COMMIT_FENCES)
-        self.image.commit_parts(parts, positions)
-
-    def free(self, entries):
-        """The places that are free on the image then."""
-        self.fence(FREE_FENCES)
-        return self.image.free(entries)
-
-    def clear_gap(self):
-        self.fence(CLEAR_FENCES)
-        self.image.clear_gap()
-
-    def take(self, changes, positions, is_told):
-        """A standby takes a frame: what has ended is freed before it and after it. Where it has to make room for it, it is what was told of the run that
-        says whether that could be done. Whether it was taken."""
-        self.free_ended()
-        if (self.image.places_may_differ or not self.image.room.take_at_once(changes)) and not self.make_room(changes, is_told):
-            self.refused += 1
-            return False
-        self.commit([self.image.part(changes)], positions)
-        self.free_ended()
-        return True
-
-    def make_room(self, changes, is_told):
-        """Whether there is room for a frame once versions were moved; it is taken then."""
-        if self.fences < self.fail:
-            raise ValueError("how many fences moves make is not known, so none may fail behind them")
-        if not self.image.make_room(changes) or not is_told:
-            return False
-        self.image.pack()
-        return self.image.room.take(changes)
-
-    def free_ended(self):
-        if self.image.ended:
-            self.fence(FREE_FENCES)
-            self.image.free_ended()
-
-    def crash(self):
-        """Whether it ran. Its image stays."""
-        was_running, self.runs = self.runs, False
-        if was_running:
-            self.image.crash()
-        return was_running
-
-    def reopen(self):
-        """Whether it had crashed."""
-        if self.runs or self.is_over:
-            return False
-        if self.gaps == plain_image.MOST_GAPS:
-            self.fence(CLEAR_FENCES)
-        self.fence(REOPEN_FENCES)
-        self.image.reopen()
-        self.runs = True
-        return True
-
-    def promote(self):
-        """Its image is a primary's, which is to be opened again."""
-        self.fence(PROMOTE_FENCES)
-        self.image.promote()
-        self.crash()
-
-    def end(self):
-        """Whether anything could happen to it until then. Its image stays."""
-        was_over, self.is_over, self.runs = self.is_over, True, False
-        return not was_over
-
-
-class Machine:
+class Machine(Crashes):
     """A run. `done` says of each event whether it did its step, `calls` has each call as (connection, item, reply,
     position), and `ended` names the event at which a fence failed, "formatting", or None. `told` has the positions that the standby acknowledged in
     the run that this one is compared with: a standby that has to make room takes a frame where that one did. Where there is none it takes it where lines
-    and entries are enough."""
+    and entries are enough. `goes_on` where it goes on after a fence that was told to fail, and calls may be cut: otherwise the call that meets such a
+    fence ends it, and no call is cut."""
 
-    def __init__(self, lines=DEFAULT_LINES, fail=(0, 0), told=None):
+    def __init__(self, lines=DEFAULT_LINES, fail=(0, 0), told=None, goes_on=False):
         self.told = told
+        self.goes_on = goes_on
         self.connections = []
         self.calls = []
         # of each changing call its part
@@ -225,14 +79,22 @@ class Machine:
             return self
         for place, event in enumerate(events):
             name, *words = event.split()
-            name = name.replace("-", "_")
             try:
-                is_awake = all(getattr(self, node).runs for node in NODES_OF.get(name, ("primary",)))
-                self.done.append(is_awake and bool(getattr(self, name)(*words)))
+                self.done.append(self._does(name, words))
             except Fault:
-                self.ended = place
-                break
+                if not self.goes_on:
+                    self.ended = place
+                    self._crash_devices(events[place + 1:])
+                    break
+                getattr(self, CUT_CALLS.get(name) or words[0]).stop()
+                self.done.append(True)
         return self
+
+    def _does(self, name, words):
+        """Whether an event does its step."""
+        name = name.replace("-", "_")
+        is_awake = all(getattr(self, node).runs for node in NODES_OF.get(name, ("primary",)))
+        return is_awake and bool(getattr(self, name)(*words))
 
     def ended_line(self, lines_before):
         """The line of the event that ended the run, where the events are one on each line."""
@@ -320,20 +182,28 @@ class Machine:
         if at is None:
             return False
         *lists, group = self.work[:at + 1]
-        self.primary.commit(self.parts[group.before:group.after], group.after - group.before)
+        self._commit_group(group)
         self.aside += lists
         self.stage = ("durable", group)
         del self.work[:at + 1]
         return True
 
+    def _commit_group(self, group):
+        self.primary.image.commit_parts(self.parts[group.before:group.after], group.after - group.before)
+
+    def _reached(self):
+        """The free lists that were reached, where nothing else is to be done and the standby has passed the first of them; otherwise none."""
+        if self.stage[0] != "ready" or self._next_group() is not None:
+            return []
+        reached = self.aside + (self.work if self._has_room() else [])
+        return reached if reached and self.remote >= reached[0].position else []
+
     def free(self):
         """The first list that was reached is freed; all others are aside then."""
-        if self.stage[0] != "ready" or self._next_group() is not None:
+        reached = self._reached()
+        if not reached:
             return False
-        reached = self.aside + (self.work if self._has_room() else [])
-        if not reached or self.remote < reached[0].position:
-            return False
-        self.notices.append(self.primary.free(reached[0].entries))
+        self.notices.append(self.primary.image.free(reached[0].entries))
         self.aside = reached[1:]
         if self._has_room():
             self.work = []
@@ -344,12 +214,13 @@ class Machine:
             self.primary.image.room.give(self.notices.pop(0))
             return True
 
+    def _may_clear(self):
+        return self.stage[0] == "ready" and self._has_room() and not self.work and not self.aside and self.primary.gaps > 0
+
     def clear_gap(self):
-        if self.stage[0] != "ready" or not self._has_room() or self.work or self.aside or not self.primary.gaps:
-            return False
-        self.primary.clear_gap()
-        self.notices.append([])
-        return True
+        if self._may_clear():
+            self.notices.append(self.primary.image.clear_gap())
+            return True
 
     def raise_local(self):
         if self.stage[0] == "durable":
@@ -401,12 +272,16 @@ class Machine:
     def apply(self):
         if not self.arrived:
             return False
-        before, after, changes, _ = self.arrived.pop(0)
-        if before == self.standby.position:
-            self.standby.take(changes, after - before, self._is_told(after))
-        if after <= self.standby.position:
+        frame = self.arrived.pop(0)
+        self._take(frame)
+        if frame.after <= self.standby.position:
             self.acknowledgements.append(self.standby.position)
         return True
+
+    def _take(self, frame):
+        """The standby takes a frame that joins on."""
+        if frame.before == self.standby.position:
+            self.standby.take(frame.changes, frame.after - frame.before, self._is_told(frame.after))
 
     def _is_told(self, position):
         """Whether the next acknowledgement may be of this position."""
@@ -462,48 +337,6 @@ class Machine:
             connection.is_open = False
             self.redis.leave(int(c))
             return True
-
-    # ---- crashes: between two events no word of an image has several candidates, so the picks choose nothing
-
-    def crash(self, node, *_picks):
-        if not getattr(self, node).crash():
-            return False
-        if node == "standby":
-            self.arrived = []
-        else:
-            self._crash_primary(self.primary.position)
-        return True
-
-    def _crash_primary(self, position):
-        """All connections are over, and the calls after this position, that of the image, are gone. What the image tells of the list
-        that is left is what a standby may be told that is behind."""
-        for connection in self.connections:
-            connection.is_open = False
-        self.calls = [call for call in self.calls if call[3] <= position]
-        self.parts = self.parts[:position]
-        self.redis.crash(position, self.primary.image.room)
-        self._begin(plain_delta.opening_of(self.primary.image), self.primary.image.ended)
-
-    def reopen(self, node):
-        return getattr(self, node).reopen()
-
-    # ---- failover
-
-    def fence(self):
-        return self.primary.end()
-
-    def promote(self):
-        """The standby goes on as the primary of the next epoch, from its image. The node that was the primary takes its place, and nothing happens to
-        it."""
-        if not self.primary.is_over:
-            return False
-        self.standby.promote()
-        self.primary, self.standby = self.standby, self.primary
-        self.arrived = []
-        self.former_parts = self.redis.parts
-        self.epoch += 1
-        self._crash_primary(self.primary.position)
-        return self.primary.reopen()
 
     def parts_of(self, node):
         """The parts of the list that the image of this node is of."""

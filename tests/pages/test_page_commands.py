@@ -57,13 +57,15 @@ class Commands(common.Cases):
                         self.assertNotEqual(self.run_command(lines[0]), "")
 
     def test_sessions(self):
-        for (first, events), command, (_, output) in self.sessions():
-            with self.case("session", line=first):
+        found = {page: self.sessions(page) for page in (SESSIONS, SIMULATOR)}
+        self.assertEqual([len(sessions) for sessions in found.values()], [5, 2])
+        for page, ((first, events), command, (_, output)) in [(page, each) for page, sessions in found.items() for each in sessions]:
+            with self.case("session", page=pages.name_of(page), line=first):
                 self.assertEqual(self.run_command(command, lines_of(events)), lines_of(output).decode())
 
     def test_what_is_said_of_the_sessions(self):
         # the second with another crash, and the third with the lines that let the standby catch up
-        _, ((_, failing), fails, (_, left)), ((_, lagging), lags, _), *_ = self.sessions()
+        _, ((_, failing), fails, (_, left)), ((_, lagging), lags, _), *_ = self.sessions(SESSIONS)
         other, added = [lines for _, lines in pages.blocks(SESSIONS) if lines[0].startswith(("primary:", "open-link"))]
         found = self.run_command(fails, lines_of(failing).replace(b"crash primary 0", b"crash primary 1"))
         self.assertEqual(found.splitlines(), [*left[:2], other[0], left[3], other[1], *left[4:]])
@@ -71,17 +73,16 @@ class Commands(common.Cases):
         found = self.run_command(lags, lines_of([*lagging[:place], *added, *lagging[place:]]))
         self.assertIn('connection 0: released "+OK\\r\\n+OK\\r\\n"\n', found)
 
-    def sessions(self):
-        """The events of each session, its command, and its output. The blocks above and below a command are the two."""
-        text, blocks, found = pages.text_of(SESSIONS), pages.blocks(SESSIONS), []
+    def sessions(self, page):
+        """The events of each session of a page, its command, and its output. The blocks above and below a command are the two."""
+        text, blocks, found = pages.text_of(page), pages.blocks(page), []
         for shown in re.finditer(r"(?m)^`(bin/wbl-sim [^`]*)` prints$", text):
             line = text.count("\n", 0, shown.start()) + 1
             above, below = [it for it in blocks if it[0] < line], [it for it in blocks if it[0] > line]
             found.append((above[-1], shown[1], below[0]))
-        self.assertEqual(len(found), 5)
         return found
 
     def test_usage(self):
-        usage = next(lines[0] for _, lines in pages.blocks(SIMULATOR) if lines[0].startswith("bin/wbl-sim ["))
+        usage = next(lines for _, lines in pages.blocks(SIMULATOR) if lines[0].startswith("bin/wbl-sim ["))
         said = common.run_program("simulator", ["--usage"]).errors.decode()
-        self.assertEqual(said, f"usage: {usage.removeprefix('bin/')}\n")
+        self.assertEqual(said.removeprefix("usage: ").split(), " ".join(usage).replace("bin/", "").split())

@@ -279,9 +279,11 @@ class Runs(common.Cases):
         self.assert_played(trace, machine, len(events), len(head))
         if lines[1] >= lines[0] + MORE_LINES:
             self.assertEqual(machine.given["standby"].refused, 0, "frames that the standby has no room for, though it has lines to spare")
-        if machine.ended is None:
-            for place, node in enumerate(NODES):
+        for place, node in enumerate(NODES):
+            if machine.ended is None:
                 self.assert_image(trace, machine, node, lines[place])
+            elif machine.ended != "formatting":
+                self.assert_words(trace, machine, node)
         return trace
 
     def assert_played(self, trace, machine, events, skipped_lines):
@@ -306,6 +308,13 @@ class Runs(common.Cases):
             self.assert_bytes(trace.released[c], wanted)
         self.assertEqual((trace.frames, trace.acknowledgements), told_between(machine))
         self.assertEqual(trace.texts, texts_between(machine))
+
+    def assert_words(self, trace, machine, node):
+        """The device has the words that the crashes left of what the node did to it, also where a fence failed."""
+        writer = machine.given[node].image
+        if not writer.places_may_differ:
+            wrong = sorted(set(trace.words[node].items()) ^ set(writer.words.items()))
+            self.assertEqual(wrong[:5], [], f"words of the {node} that are not as they should be, or should be and are not")
 
     def assert_image(self, trace, machine, node, lines):
         """The image is, word for word, that of what the node did to it, and it reads so: just these entries are in use. Where places may differ it has

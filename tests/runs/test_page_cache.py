@@ -211,5 +211,6 @@ class PageCaches(common.Cases):
         for reopening in (by_reading, by_a_sync, by_writing):
             with self.case(reopening.__name__):
                 states = [state for _, found in self.wrong(reopening) for state in found]
-                self.assertIn("refusal 7: number of the record", states)
+                # (which rule is broken depends on the draws)
+                self.assertTrue(any(isinstance(state, str) and state.startswith("refusal 7: ") for state in states))
                 self.assertTrue(any(not isinstance(state, str) for state in states))

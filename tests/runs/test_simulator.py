@@ -13,7 +13,9 @@ FAILED, MISUSED = 1, 2
 MOST_EVENTS = 16_777_216
 ABOVE_U64 = 2**64
 
-USAGE = b"usage: wbl-sim [--lines N,N] [--list | --whole] [--map] [--images] < EVENTS\n"
+USAGE = b"""usage: wbl-sim [--lines N,N] [--list | --whole] [--map] [--images] < EVENTS
+       wbl-sim --explore SEED EVENTS
+"""
 
 FIRST_SET = [
     "enter", "feed 0 SET a 1", "offer 0", "turn 0", "close-group", "commit", "raise-local", "hand", "send", "deliver 0",
@@ -55,18 +57,22 @@ BAD_LINES = [
     "repeat 2 crash primary", f"repeat {MOST_EVENTS + 1} enter", f"repeat {ABOVE_U64 - 1} enter",
     f"repeat {ABOVE_U64} enter", "fail", "fail primary", "fail 1 primary", "fail third 1", "fail primary 01",
     "fail primary 1 2", "crash", "crash primary", "crash third 0", "crash 0", "crash primary x", "crash primary 00",
-    "crash primary 0 x", f"crash primary {ABOVE_U64}", "reopen", "reopen third", "reopen primary 0", "reopen 0", "repeat 2 reopen",
+    "crash primary 0 x", f"crash primary {ABOVE_U64}", "crash primary commit", "crash primary commit 1", "crash primary commit x 0",
+    "crash primary commit 1 x", "crash primary commit 01 0", "crash commit 1 0", "crash primary hand 1 0", "crash primary Commit 1 0",
+    "crash primary commit apply 1 0", "fail-fence", "fail-fence primary", "fail-fence 1 primary", "fail-fence third 1", "fail-fence primary 01",
+    "fail-fence primary 1 2", "fail_fence primary 1", "reopen", "reopen third", "reopen primary 0", "reopen 0", "repeat 2 reopen",
 ]
 
 # By its text on the page, lines of which the last is told so.
 TEXTS_OF_BAD_LINES = {
     "unknown event": ["nonsense", "nonsense 0 x", "repeat 2 fail primary 1", "\xff"],
-    "a word is missing": ["offer", "feed 0", "read 0", "crash primary", "repeat 2", "fail primary"],
-    "a word too many": ["enter 0", "offer 0 0", "deliver 0 0 0", "fail primary 1 2"],
-    "not a decimal number below 2^64": ["offer x", "deliver 0 x", "crash primary 0 01", "repeat x enter", "fail primary x", f"offer {ABOVE_U64}"],
+    "a word is missing": ["offer", "feed 0", "read 0", "crash primary", "crash primary apply 1", "repeat 2", "fail primary", "fail-fence primary"],
+    "a word too many": ["enter 0", "offer 0 0", "deliver 0 0 0", "fail primary 1 2", "fail-fence primary 1 2"],
+    "not a decimal number below 2^64": ["offer x", "deliver 0 x", "crash primary 0 01", "crash primary hand 1 0", "crash primary free x 0", "repeat x enter",
+                                        "fail primary x", "fail-fence standby x", f"offer {ABOVE_U64}"],
     "not an even number of hex digits": ["feed-bytes 0 0", "feed-bytes 0 0g"],
     "the mark is neither local nor remote": ["read 0 both"],
-    "the node is neither primary nor standby": ["crash third 0", "reopen third", "fail third 1"],
+    "the node is neither primary nor standby": ["crash third 0", "reopen third", "fail third 1", "fail-fence third 1"],
     "fail after the first event": ["enter\nfail primary 1"],
     "more than 16777216 events": [f"repeat {MOST_EVENTS + 1} enter", f"repeat {MOST_EVENTS} enter\nenter"],
 }
@@ -166,6 +172,16 @@ class Lines(Cases):
         self.assertEqual(trace.event_lines, [1, 1, 2, 3, 3, 4, 5, 5, 6, 7, 8, 9])
         self.assertEqual(trace.done, [True, False, False, True, False, True, False, False, True, False, True, True])
         self.assertEqual([(line.record, line.gaps) for line in trace.nodes.values()], [(2, 1), (2, 1)])
+
+    def test_cut_calls_are_not_enabled(self):
+        calls = [("primary", "commit"), ("primary", "free"), ("primary", "clear-gap"), ("primary", "reopen"), ("standby", "apply"), ("standby", "reopen"),
+                 ("standby", "promote"), ("standby", "commit")]
+        added = [f"crash {node} {call} {count} 0 1" for node, call in calls for count in (0, 1, 99)]
+        for place in range(len(FIRST_SET) + 1):
+            with self.case("place", place=place):
+                trace = simulate([*FIRST_SET[:place], *added, *FIRST_SET[place:]])
+                self.assertEqual(trace.done, place * [True] + len(added) * [False] + (len(FIRST_SET) - place) * [True])
+                self.assertEqual(trace.released, [b"+OK\r\n"])
 
     def test_many_reopenings(self):
         # of the gaps of nine reopenings the oldest was cleared, in a record of its own

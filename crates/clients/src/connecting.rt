@@ -13,6 +13,7 @@ use crate::reply_side::ReplySide;
 use crate::request_side::RequestSide;
 use crate::signals::Signals;
 use crate::stillness::Stillness;
+use crate::waits::Measured;
 use kv_types::{Held, Item, Refusal};
 use lobby::Arrival;
 use pipes::{RingPipe, Seat};
@@ -102,6 +103,7 @@ fn joined(stream: TcpStream, admission: Admission, parts: Parts) -> Connection
             is_noted: false,
             stillness: Stillness::new(),
             counted: 0,
+            measured: Measured::Nothing,
         },
     }
 }

@@ -2,6 +2,7 @@
 ghost use Rattle.clients.specs.contracts.driven.DrivenConnection as connection;
 ghost use Rattle.clients.specs.contracts.driver.Driver as driver;
 ghost use Rattle.clients.specs.contracts.intake.DriverEntrance as entrance;
+ghost use Rattle.clients.specs.contracts.intake.IdleLook as idle;
 ghost use Rattle.clients.specs.contracts.shown.Shown as shown;
 ghost use Rattle.lobby.specs.contracts.lobby.Lobby as lobby;
 ghost use Rattle.marks.specs.contracts.thread_marks.ThreadMarks as thread_marks;
@@ -9,6 +10,7 @@ ghost use Rattle.wakes.specs.contracts.calls.Calls as calls;
 ghost use denote.Param.Send.{IsSend, IsSync};
 
 use crate::driven::DrivenConnection;
+use crate::intake::IdleLook;
 use crate::shown::Shown;
 use lobby::Lobby;
 use marks::ThreadMarks;
@@ -33,6 +35,8 @@ pub fn entrance_is_send()
     lobby_is_send();
     calls_are_send();
     calls_are_sync();
+    idle_is_send();
+    idle_is_sync();
 }
 
 fn connection_is_send()
@@ -75,6 +79,18 @@ fn calls_are_sync()
     ensures { IsSync calls.the_row }
 {
     is_sync::<Calls>();
+}
+
+fn idle_is_send()
+    ensures { IsSend idle.the_row }
+{
+    is_send::<IdleLook>();
+}
+
+fn idle_is_sync()
+    ensures { IsSync idle.the_row }
+{
+    is_sync::<IdleLook>();
 }
 
 fn is_send<T: Send>()

@@ -9,6 +9,7 @@ use crate::request_side::RequestSide;
 use crate::shown::Counted;
 use crate::signals::Signals;
 use crate::stillness::Stillness;
+use crate::waits::{Measured, Standing, Waits};
 use kv_types::Seen;
 use mio::event::Event;
 use mio::unix::SourceFd;
@@ -52,6 +53,8 @@ pub struct DrivenConnection {
     pub(crate) stillness: Stillness,
     /// How many requests had come when the driver looked last, modulo 2^64.
     pub(crate) counted: u64,
+    /// What is measured of its waits.
+    pub(crate) measured: Measured,
 }
 
 impl DrivenConnection {
@@ -85,8 +88,8 @@ impl DrivenConnection {
         }
     }
 
-    /// Goes on with all that it can do now.
-    pub(crate) fn visit<R: Wait>(&mut self, rt: &R, seen: &Seen) -> Next
+    /// Goes on with all that it can do now, and notes how long a reply was waited for.
+    pub(crate) fn visit<R: Wait>(&mut self, rt: &R, seen: &Seen, waits: &mut Waits) -> Next
         ensures replies { IsVisited seen.now self.old.replies self.new.replies }
         ensures requests { Asks self.old.requests self.new.requests }
         ensures closes { result ≡ Next.Closes → self.new.replies.state ≡ state.Over }
@@ -94,12 +97,32 @@ impl DrivenConnection {
     {
         let reads_on = self.requests.go_on(rt, &self.stream, &self.signals);
         let writes_on = self.write(rt, seen);
+        self.measure(seen, waits);
         if self.requests.is_over() && self.replies.is_over() {
             Next::Closes
         } else if reads_on | writes_on {
             Next::Busy
         } else {
             Next::Waits
+        }
+    }
+
+    /// Notes for how long the reply was waited for that both marks have covered by now, if there is one.
+    fn measure(&mut self, seen: &Seen, waits: &mut Waits)
+        ensures requests { self.new.requests ≡ self.old.requests }
+        ensures replies { self.new.replies ≡ self.old.replies }
+        ensures place { self.new.place ≡ self.old.place }
+    {
+        let Some(now) = waits.now else {
+            return;
+        };
+        let standing = Standing {
+            asked: self.requests.offered(),
+            taken: self.replies.taken(),
+            last: self.replies.last(),
+        };
+        if let Some(waited) = self.measured.go_on(now, &standing, seen) {
+            waits.note(waited);
         }
     }
 
@@ -155,27 +178,42 @@ impl DrivenConnection {
         ensures replies { self.new.replies ≡ self.old.replies }
         ensures place { self.new.place ≡ self.old.place }
     {
+        if let Some(now) = look.now {
+            counted.waits.note(self.measured.lasts(now));
+        }
         let offered = self.requests.offered();
         counted.count(
             offered.wrapping_sub(self.counted),
             self.replies.is_waiting(),
         );
         self.counted = offered;
-        if self.is_idle(look) {
+        self.end_if_idle(look);
+        self.requests.look(self.replies.is_over());
+    }
+
+    /// Where nothing has come for too long, and nothing waits, its requests end as if the peer had ended them. Answers whether they do.
+    pub(crate) fn end_if_idle(&mut self, look: &Look) -> bool
+        ensures replies { self.new.replies ≡ self.old.replies }
+        ensures place { self.new.place ≡ self.old.place }
+        ensures noted { self.new.is_noted ≡ self.old.is_noted }
+    {
+        let is_idle = self.is_idle(look);
+        if is_idle {
             let _ = self.stream.shutdown(Shutdown::Both);
             self.requests.ends();
         }
-        self.requests.look(self.replies.is_over());
+        is_idle
     }
 
     /// Whether nothing has come for too long, and nothing waits: each request has its reply, and each reply is written.
     fn is_idle(&mut self, look: &Look) -> bool
         ensures replies { self.new.replies ≡ self.old.replies }
         ensures place { self.new.place ≡ self.old.place }
+        ensures noted { self.new.is_noted ≡ self.old.is_noted }
     {
         let has_come = self.requests.take_has_come();
         if has_come || !self.replies.has_written(self.requests.offered()) {
-            self.stillness.is_broken();
+            self.stillness.is_broken(look.now);
         }
         match look.now {
             Some(now) => self.stillness.lasts(now, look.idle),

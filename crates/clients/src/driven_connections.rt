@@ -6,8 +6,9 @@ ghost use Rattle.std.specs.Prelude.{◌≡◌, ℕ, All, false};
 
 use crate::driven::{DrivenConnection, Look};
 use crate::intake::DriverEntrance;
-use crate::places::{note_all, note_called, note_ready, put, visit_all};
+use crate::places::{note_all, note_called, note_idle, note_ready, put, visit_all};
 use crate::shown::Shown;
+use crate::waits::Waits;
 use kv_types::Seen;
 use marks::ThreadMarks;
 use mio::{Events, Poll, Registry};
@@ -37,6 +38,8 @@ pub(crate) struct DrivenConnections {
     idle: Option<Duration>,
     /// Where it shows what it counts of them.
     shown: Arc<Shown>,
+    /// How long they waited since it did.
+    waits: Waits,
 }
 
 impl DrivenConnections {
@@ -61,6 +64,7 @@ impl DrivenConnections {
             last_look: None,
             idle,
             shown,
+            waits: Waits::none(),
         })
     }
 
@@ -105,8 +109,26 @@ impl DrivenConnections {
                 now: self.last_look,
                 idle: self.idle,
             };
-            self.shown.show(&note_all(&mut self.places, &look));
+            let counted = note_all(&mut self.places, &look, self.waits);
+            self.shown.show(&counted);
+            self.waits = self.waits.over();
         }
+        self.end_idle();
+    }
+
+    /// Where somebody waits for a seat, those that have been idle for too long end at once.
+    fn end_idle(&mut self)
+        ensures notes { Notes self.old.places.items self.new.places.items }
+    {
+        if !self.entrance.is_asked_to_look() {
+            return;
+        }
+        let look = Look {
+            now: self.waits.now,
+            idle: self.idle,
+        };
+        let any = note_idle(&mut self.places, &look);
+        self.entrance.has_looked(any);
     }
 
     /// Takes in the connections that came.
@@ -129,6 +151,7 @@ impl DrivenConnections {
         ensures places { self.new.places ≡ self.old.places }
     {
         let Ok(now) = Instant::now(rt) else {
+            self.waits.now = None;
             return true;
         };
         let is_time = match self.last_look {
@@ -139,6 +162,7 @@ impl DrivenConnections {
         if is_time {
             self.last_look = Some(now);
         }
+        self.waits.now = Some(now);
         is_time
     }
 
@@ -147,7 +171,7 @@ impl DrivenConnections {
         ensures visits { Visits seen.now self.old.places.items self.new.places.items }
         ensures busy { (self.new).is_busy ≡ false → (k : ℕ) → IsQuiet (connection_at self.new.places.items k) }
     {
-        self.is_busy = visit_all(rt, seen, &self.entrance, &mut self.places);
+        self.is_busy = visit_all(rt, seen, &self.entrance, &mut self.waits, &mut self.places);
     }
 }
 

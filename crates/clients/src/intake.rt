@@ -6,7 +6,7 @@ use pipes::{MAX_SEATS, Seat};
 use std::alloc::{AllocError, Global};
 use std::collections::VecDeque;
 use std::sync::{Arc, Mutex, Wait};
-use wakes::Calls;
+use wakes::{Calls, Flag};
 
 /// The places of a driver, and the connections that it has yet to take in. A place is held until the socket is closed, which may be after another
 /// connection has the seat.
@@ -21,6 +21,16 @@ struct Intake {
 pub struct DriverEntrance {
     intake: Arc<Mutex<Intake>>,
     calls: Arc<Calls>,
+    idle: Arc<IdleLook>,
+}
+
+/// Whether the driver is to look now who has been idle for too long.
+#[derive(Drop)]
+pub(crate) struct IdleLook {
+    /// Set by whoever waits for a seat, until the driver has looked.
+    is_asked: Flag,
+    /// Whether it found one then.
+    has_found: Flag,
 }
 
 impl DriverEntrance {
@@ -34,9 +44,14 @@ impl DriverEntrance {
             places: Lobby::new(alloc)?,
             newcomers: VecDeque::with_capacity(alloc, MAX_SEATS)?,
         };
+        let idle = IdleLook {
+            is_asked: Flag::new(),
+            has_found: Flag::new(),
+        };
         Ok(DriverEntrance {
             intake: Arc::new(alloc, Mutex::new(intake))?,
             calls,
+            idle: Arc::new(alloc, idle)?,
         })
     }
 
@@ -48,7 +63,12 @@ impl DriverEntrance {
     pub(crate) fn another(&self) -> Result<DriverEntrance, AllocError> {
         let intake = Arc::try_clone(&self.intake)?;
         let calls = Arc::try_clone(&self.calls)?;
-        Ok(DriverEntrance { intake, calls })
+        let idle = Arc::try_clone(&self.idle)?;
+        Ok(DriverEntrance {
+            intake,
+            calls,
+            idle,
+        })
     }
 
     /// The calls for the driver's connections.
@@ -71,6 +91,31 @@ impl DriverEntrance {
         // There is room for each place.
         let _ = self.intake.lock(rt).newcomers.push_back(connection);
         self.calls.wake();
+    }
+
+    /// Has the driver look who has been idle for too long, and end those.
+    pub fn look_for_idle(&self) {
+        self.idle.is_asked.set();
+        self.calls.wake();
+    }
+
+    /// Whether the driver has looked since, and has found none.
+    pub fn has_found_none(&self) -> bool {
+        !self.idle.is_asked.is_set() && !self.idle.has_found.is_set()
+    }
+
+    /// Whether the driver is to look.
+    pub(crate) fn is_asked_to_look(&self) -> bool {
+        self.idle.is_asked.is_set()
+    }
+
+    /// The driver has looked, and has found one or none.
+    pub(crate) fn has_looked(&self, any: bool) {
+        let _ = self.idle.has_found.take();
+        if any {
+            self.idle.has_found.set();
+        }
+        let _ = self.idle.is_asked.take();
     }
 
     /// The connection that has waited longest for the driver, if one does.

@@ -19,6 +19,7 @@ mod request_side;
 mod shown;
 mod signals;
 mod stillness;
+mod waits;
 mod writing;
 
 pub use block::{BLOCK_BYTES, Block, LEAST_ROOM_BYTES};

@@ -104,6 +104,11 @@ impl Outbox {
         self.count
     }
 
+    /// The greatest position of a reply that was held so far.
+    pub(crate) fn last(&self) -> u64 {
+        self.last
+    }
+
     /// Whether a reply is held that was not released yet.
     pub(crate) fn is_waiting(&self) -> bool {
         self.gate.can_release(&ALL)

@@ -7,6 +7,7 @@ ghost use Rattle.mio.specs.Events.{items as events_in};
 use crate::driven::{DrivenConnection, Look, Next};
 use crate::intake::DriverEntrance;
 use crate::shown::Counted;
+use crate::waits::Waits;
 use kv_types::Seen;
 use mio::Events;
 use mio::event::Event;
@@ -73,12 +74,16 @@ fn note_one(place: &mut Option<DrivenConnection>)
     }
 }
 
-/// Notes all, and looks at each. Answers what was counted.
-pub(crate) fn note_all(places: &mut Vec<Option<DrivenConnection>>, look: &Look) -> Counted
+/// Notes all, and looks at each. Answers what was counted; there were these waits before.
+pub(crate) fn note_all(
+    places: &mut Vec<Option<DrivenConnection>>,
+    look: &Look,
+    waits: Waits,
+) -> Counted
     ensures notes { Notes places.old.items places.new.items }
     ensures all { (k : ℕ) → IsNotedAt places.new.items k }
 {
-    let mut counted = Counted::nothing();
+    let mut counted = Counted::nothing(waits);
     for place in places.iter_mut() {
         look_at(place, look, &mut counted);
     }
@@ -92,6 +97,30 @@ fn look_at(place: &mut Option<DrivenConnection>, look: &Look, counted: &mut Coun
     if let Some(connection) = place {
         connection.look(look, counted);
         connection.is_noted = true;
+    }
+}
+
+/// Notes those that have been idle for too long, whose requests end. Answers whether there was one.
+pub(crate) fn note_idle(places: &mut Vec<Option<DrivenConnection>>, look: &Look) -> bool
+    ensures notes { Notes places.old.items places.new.items }
+{
+    let mut any = false;
+    for place in places.iter_mut() {
+        any |= end_if_idle(place, look);
+    }
+    any
+}
+
+fn end_if_idle(place: &mut Option<DrivenConnection>, look: &Look) -> bool
+    ensures notes { NotesPlace place.old place.new }
+{
+    match place {
+        Some(connection) => {
+            let ends = connection.end_if_idle(look);
+            connection.is_noted |= ends;
+            ends
+        }
+        None => false,
     }
 }
 
@@ -132,6 +161,7 @@ pub(crate) fn visit_all<R: Wait>(
     rt: &R,
     seen: &Seen,
     entrance: &DriverEntrance,
+    waits: &mut Waits,
     places: &mut Vec<Option<DrivenConnection>>,
 ) -> bool
     ensures visits { Visits seen.now places.old.items places.new.items }
@@ -139,7 +169,7 @@ pub(crate) fn visit_all<R: Wait>(
 {
     let mut is_busy = false;
     for place in places.iter_mut() {
-        is_busy |= visit_place(rt, seen, entrance, place);
+        is_busy |= visit_place(rt, seen, entrance, waits, place);
     }
     is_busy
 }
@@ -149,12 +179,13 @@ fn visit_place<R: Wait>(
     rt: &R,
     seen: &Seen,
     entrance: &DriverEntrance,
+    waits: &mut Waits,
     place: &mut Option<DrivenConnection>,
 ) -> bool
     ensures visits { VisitsPlace seen.now place.old place.new }
     ensures busy { result ≡ false → IsQuiet place.new }
 {
-    match visit_one(rt, seen, place) {
+    match visit_one(rt, seen, waits, place) {
         Next::Waits => false,
         Next::Busy => true,
         Next::Closes => {
@@ -165,7 +196,12 @@ fn visit_place<R: Wait>(
 }
 
 /// Visits the connection at a place, if there is one that is noted. It is noted again where it has more to do.
-fn visit_one<R: Wait>(rt: &R, seen: &Seen, place: &mut Option<DrivenConnection>) -> Next
+fn visit_one<R: Wait>(
+    rt: &R,
+    seen: &Seen,
+    waits: &mut Waits,
+    place: &mut Option<DrivenConnection>,
+) -> Next
     ensures visits { VisitsPlace seen.now place.old place.new }
     ensures closes { result ≡ Next.Closes → (VisitsPlace seen.now place.old None) }
     ensures waits { result ≡ Next.Waits → IsQuiet place.new }
@@ -173,7 +209,7 @@ fn visit_one<R: Wait>(rt: &R, seen: &Seen, place: &mut Option<DrivenConnection>)
 {
     match place {
         Some(connection) if connection.is_noted => {
-            let next = connection.visit(rt, seen);
+            let next = connection.visit(rt, seen, waits);
             connection.is_noted = next == Next::Busy;
             next
         }

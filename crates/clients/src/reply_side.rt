@@ -79,6 +79,16 @@ impl ReplySide {
         self.state == WritingState::Open && self.outbox.is_waiting()
     }
 
+    /// How many replies were taken so far, modulo 2^64.
+    pub(crate) fn taken(&self) -> u64 {
+        self.outbox.count()
+    }
+
+    /// The greatest position of a reply that was taken so far.
+    pub(crate) fn last(&self) -> u64 {
+        self.outbox.last()
+    }
+
     /// Whether so many replies were taken, modulo 2^64, and all of them are written.
     pub(crate) fn has_written(&self, count: u64) -> bool {
         let is_left = self.outbox.is_waiting() || self.outbox.is_pending();

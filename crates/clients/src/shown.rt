@@ -1,4 +1,5 @@
 //! What a driver shows of its connections to whoever tells of the node.
+use crate::waits::Waits;
 use std::sync::atomic::{AtomicBool, AtomicU64, Ordering};
 
 /// What a driver shows of its connections, once a second, as it found it then.
@@ -7,6 +8,8 @@ pub struct Shown {
     connections: AtomicU64,
     requests: AtomicU64,
     is_waiting: AtomicBool,
+    /// In milliseconds.
+    longest_wait: AtomicU64,
 }
 
 impl Shown {
@@ -16,6 +19,7 @@ impl Shown {
             connections: AtomicU64::new(0),
             requests: AtomicU64::new(0),
             is_waiting: AtomicBool::new(false),
+            longest_wait: AtomicU64::new(0),
         }
     }
 
@@ -34,13 +38,21 @@ impl Shown {
         self.is_waiting.load(Ordering::SeqCst)
     }
 
-    /// Shows what was counted: connections, requests since the last time, and whether a reply waits.
+    /// How many milliseconds a reply was waited for at most since this was asked last, or is waited for by now.
+    pub fn take_longest_wait(&self) -> u64 {
+        self.longest_wait.swap(0, Ordering::SeqCst)
+    }
+
+    /// Shows what was counted: connections, requests since the last time, whether a reply waits, and for how long one was waited for.
     pub(crate) fn show(&self, counted: &Counted) {
         self.connections
             .store(counted.connections, Ordering::SeqCst);
         let requests = self.requests().wrapping_add(counted.requests);
         self.requests.store(requests, Ordering::SeqCst);
         self.is_waiting.store(counted.is_waiting, Ordering::SeqCst);
+        let longest = self.longest_wait.load(Ordering::SeqCst);
+        let longest = longest.max(counted.waits.longest_millis());
+        self.longest_wait.store(longest, Ordering::SeqCst);
     }
 }
 
@@ -50,15 +62,18 @@ pub(crate) struct Counted {
     connections: u64,
     requests: u64,
     is_waiting: bool,
+    /// The longest wait among them.
+    pub(crate) waits: Waits,
 }
 
 impl Counted {
-    /// None was looked at yet.
-    pub(crate) fn nothing() -> Counted {
+    /// None was looked at yet. In the visits since the last time there were these waits.
+    pub(crate) fn nothing(waits: Waits) -> Counted {
         Counted {
             connections: 0,
             requests: 0,
             is_waiting: false,
+            waits,
         }
     }
 

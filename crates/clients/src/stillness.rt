@@ -4,7 +4,7 @@ use std::time::{Duration, Instant};
 /// For how long nothing has come on a connection for which nothing waits either.
 #[derive(Clone, Copy)]
 pub(crate) struct Stillness {
-    /// The first look since which nothing came, if there was one.
+    /// The last look by which something had come or waited, if there was one.
     since: Option<Instant>,
 }
 
@@ -14,9 +14,9 @@ impl Stillness {
         Stillness { since: None }
     }
 
-    /// Something came, or something waits.
-    pub(crate) fn is_broken(&mut self) {
-        self.since = None;
+    /// Something came since the last look, or something waits.
+    pub(crate) fn is_broken(&mut self, now: Option<Instant>) {
+        self.since = now;
     }
 
     /// Whether it lasts so long by now. Without a limit it never does.

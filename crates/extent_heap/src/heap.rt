@@ -2,6 +2,7 @@
 ghost use Rattle.std.specs.Prelude.{◌≡◌, ℕ, ◌+◌, ◌^◌, ◌<◌, ◌≤◌, ◌↔◌, ◌⊎◌, false, IsTrue, IfOk, IfErr, OnOk, OnErr, IsErrOf, length, vec_len};
 ghost use Rattle.std.specs.Vec.{vec_capacity};
 ghost use Rattle.extent_heap.specs.Below.{has_room_below};
+ghost use Rattle.extent_heap.specs.Entries.{count_free};
 ghost use Rattle.extent_heap.specs.Runs.{longest, some_run};
 ghost use Rattle.extent_heap.specs.Room.{Room, fresh_room, has_room, is_free_line, is_free_entry, IsFreeRun, free_lines_below, ClaimsExtent, TakesExtent, GivesExtent, IsOut, ClaimsEntry, TakesEntry, GivesEntry, IsOutEntry};
 
@@ -138,6 +139,13 @@ impl ExtentHeap {
         ensures { result ≡ free_lines_below self.now (self.now).end_line }
     {
         self.free
+    }
+
+    /// How many entries are free.
+    pub fn free_entries(&self) -> u64
+        ensures { result ≡ count_free (self.now).entries }
+    {
+        self.entries.count()
     }
 
     /// How many lines the longest run of free lines has: 0 if no line is free.

@@ -1,17 +1,9 @@
 //! The committer.
-ghost use Rattle.std.specs.Prelude.{◌≡◌, ◌≢◌, ◌⊎◌, ◌↔◌, ◌++◌, ◌∷◌, [], ◌<◌, ℕ, Some, Err, true, false, nat_lt, IsTrue, List, length, MatchOption, OnOk, OnErr, IfOk, IfErr, IsErrOf};
-ghost use Rattle.kv_types.specs.declared.refusal.Refusal.{Refusal as Cause};
-ghost use Rattle.pmem.specs.Device.{Only, newest_at};
-ghost use Rattle.pmem.specs.Crash.{IsImage, IsSettled, image_of, picked};
-ghost use Rattle.pmem.specs.Runs.{LeavesOnly};
+ghost use Rattle.std.specs.Prelude.{◌≡◌, ◌≢◌, ◌⊎◌, ◌↔◌, ◌++◌, ◌∷◌, [], ◌<◌, Some, Err, true, false, nat_lt, IsTrue, List, length};
 ghost use Rattle.model.specs.declared.group.Group.{Group};
-ghost use Rattle.model.specs.declared.record.Record.{Record as CommitRecord};
 ghost use Rattle.model.specs.declared.work.FreeList.{FreeList};
 ghost use Rattle.model.specs.Group.{AreEnded, IsGroup};
-ghost use Rattle.heap_layout.specs.Superblock.{super_refusal};
 ghost use Rattle.wbl_engine.specs.Contents.{IsDurable};
-ghost use Rattle.wbl_engine.specs.Lawful.{IsUndamaged};
-ghost use Rattle.wbl_engine.specs.Reopening.{IsShown, RefusesReopening, Reopens, StaysReadable};
 ghost use Rattle.group_commit.specs.Committing.{Commits, raised};
 ghost use Rattle.group_commit.specs.Due.{due_now, has_group, left_by, reached_by};
 ghost use Rattle.group_commit.specs.Working.{ClearsGap, FreesFirst, IsLawful, LacksRoom, TakesGroup, Takes, entries_of_lists};
@@ -20,23 +12,23 @@ use crate::due::{Due, due_when_ready};
 use crate::queue::set_aside;
 use crate::stage::{Done, Stage};
 use kv_types::Refusal;
-use model::{FreeList, Group, Role, Work};
+use model::{FreeList, Group, Work};
 use pipes::{LocalPipe, Outlet};
 use pmem::Pmem;
 use std::alloc::Global;
 use std::collections::VecDeque;
-use wbl_engine::{Committed, Durable, Restarting, Versions};
+use wbl_engine::{Committed, Durable};
 
 /// Commits groups, one at a time: each is durable before the local mark tells of it, and told of before it is handed on. Beside that it frees what
 /// has ended, once the standby has passed the ends, and clears gaps.
 #[derive(Drop)]
 pub struct Committer<E> {
-    engine: E,
-    stage: Stage,
+    pub(crate) engine: E,
+    pub(crate) stage: Stage,
     // The position up to which this node told that everything is durable.
-    local: u64,
+    pub(crate) local: u64,
     // Free lists that were taken from the queue, the oldest first. They wait for the standby.
-    aside: VecDeque<FreeList>,
+    pub(crate) aside: VecDeque<FreeList>,
 }
 
 impl<E: Durable> Committer<E> {
@@ -299,60 +291,5 @@ impl<E: Durable> Committer<E> {
                 Done::Idle
             }
         }
-    }
-}
-
-impl<E: Restarting> Committer<E> {
-    /// Crashes the engine's device now, with picks as at `pmem::Crashing::crash`. The engine is faulted until it is restarted. What is in hand, what
-    /// stands aside and the local mark stay until then.
-    pub fn crash(&mut self, picks: &[u64])
-        ensures settled { IsSettled (E.device self.new.engine).words }
-        ensures image { IsImage (E.device self.old.engine).words (image_of (E.device self.new.engine).words) }
-        // where the device had the memory to do so
-        ensures picked { (E.device self.new.engine).starved ≡ false
-            → (word : ℕ) → newest_at (E.device self.new.engine) word ≡ picked (E.device self.old.engine).words picks.now word }
-        ensures lines { (E.device self.new.engine).lines ≡ (E.device self.old.engine).lines }
-        ensures failures { (E.device self.new.engine).failures ≡ (E.device self.old.engine).failures }
-        ensures faulted { E.is_faulted self.new.engine ≡ true }
-        ensures moments { LeavesOnly (E.device self.old.engine) (E.device self.new.engine) (IsImage (E.device self.old.engine).words) }
-        ensures stage { self.new.stage ≡ self.old.stage }
-        ensures local { self.new.local ≡ self.old.local }
-        ensures aside { self.new.aside ≡ self.old.aside }
-    {
-        self.engine.crash(picks);
-    }
-
-    /// Opens the image of the engine's device again in its role, and returns all versions of the image. The committer may take a group then, its
-    /// local mark is at the engine's position, and what was in hand or stood aside is dropped.
-    ///
-    /// # Errors
-    ///
-    /// As at `WblEngine::reopen`. The committer is as it was, but for the engine where a fence failed.
-    pub fn restart(&mut self, alloc: Global, role: Role) -> Result<Versions, Refusal>
-        requires settled { (word : ℕ) → Only ((E.device self.old.engine).words word) (image_of (E.device self.old.engine).words word) }
-        ensures reopens { IfOk result (λ versions. Reopens (E.device self.old.engine).lines (image_of (E.device self.old.engine).words) role
-            (E.contents self.new.engine) versions.counted.items versions.gapped.items) }
-        ensures shown { IfOk result (λ versions.
-            IsShown (E.contents self.new.engine) versions.counted.items versions.gapped.items (image_of (E.device self.new.engine).words)) }
-        ensures durable { OnOk result (IsDurable (E.device self.new.engine) (E.contents self.new.engine)) }
-        ensures sound { OnOk result ((E.is_faulted self.new.engine ≡ false)
-            × ((E.device self.new.engine).failures ≡ (E.device self.old.engine).failures)) }
-        ensures stopped { IsErrOf result Refusal.Fault → E.is_faulted self.new.engine ≡ true }
-        ensures ready { OnOk result ((self.new.stage ≡ Stage.Ready) × (self.new.local ≡ (E.contents self.new.engine).current.position) × (self.new.aside.items ≡ [])) }
-        ensures kept { OnErr result ((self.new.stage ≡ self.old.stage) × (self.new.local ≡ self.old.local) × (self.new.aside ≡ self.old.aside)) }
-        ensures refused { IfErr result (λ refusal. (refusal ≡ Refusal.Fault)
-            ⊎ (RefusesReopening (E.device self.old.engine).lines (image_of (E.device self.old.engine).words) role refusal × (self.new ≡ self.old))) }
-        ensures fault { IsErrOf result Refusal.Fault → (E.device self.old.engine).failures < (E.device self.new.engine).failures }
-        ensures superblock { (refusal : Cause) → super_refusal (E.device self.old.engine).lines (image_of (E.device self.old.engine).words) ≡ Some refusal
-            → result ≡ Err refusal }
-        ensures moments { (r : CommitRecord) → IsUndamaged (E.device self.old.engine).lines r (image_of (E.device self.old.engine).words)
-            → LeavesOnly (E.device self.old.engine) (E.device self.new.engine)
-            (StaysReadable (E.device self.old.engine).lines r (image_of (E.device self.old.engine).words)) }
-    {
-        let versions = self.engine.restart(alloc, role)?;
-        self.stage = Stage::Ready;
-        self.local = self.position();
-        self.aside.clear();
-        Ok(versions)
     }
 }

@@ -4,6 +4,7 @@
 mod committer;
 mod due;
 mod queue;
+mod restarting;
 mod stage;
 
 pub use committer::Committer;

@@ -58,7 +58,7 @@ tie Greater Less e f g = cc
 tie Greater Equal e f g = cc
 tie Greater Greater e f g = cc
 
-first_not_less : (o p : Ordering) → is_lt (ordering_then o p) ≡ false → is_lt o ≡ false
+pub first_not_less : (o p : Ordering) → is_lt (ordering_then o p) ≡ false → is_lt o ≡ false
 first_not_less Less p e = e
 first_not_less Equal p e = refl
 first_not_less Greater p e = refl

@@ -6,5 +6,6 @@ pub mod ReadBack
 pub mod SameWords
 pub mod NoTwo
 pub mod Clashes
+pub mod TaggedLemmas
 pub mod Picked
 pub mod VersionsLemmas

@@ -1,4 +1,6 @@
 pub mod Superblock
+pub mod Tag
+pub mod Tagged
 pub mod Entry
 pub mod Shape
 pub mod Put

@@ -3,6 +3,7 @@ ghost use Rattle.std.specs.Prelude.{◌≡◌, ◌↔◌, ◌<◌, All, IsTrue};
 ghost use Rattle.heap_layout.specs.Versions.{NoTwo, overlap};
 ghost use Rattle.model.specs.ReadImage.{is_clash as the_clash};
 
+use crate::tagged::Tagged;
 use kv_types::{Extent, RecordId};
 
 /// Whether no two of the runs have a line in common. It may change their order.
@@ -15,12 +16,12 @@ pub(crate) fn are_apart(runs: &mut [Extent]) -> bool
 }
 
 /// Whether no two of the records clash. It may change their order.
-pub(crate) fn are_distinct(ids: &mut [&RecordId]) -> bool
-    ensures { IsTrue result ↔ NoTwo (λ a b. the_clash a.now b.now) ids.old }
+pub(crate) fn are_distinct(ids: &mut [Tagged<'_>]) -> bool
+    ensures { IsTrue result ↔ NoTwo (λ a b. the_clash a.id.now b.id.now) ids.old }
 {
     // Where any two clash, two neighbours do: a string stands right before the first field of its key.
-    ids.sort_unstable();
-    ids.is_sorted_by(|id, next| !is_clash(*id, *next))
+    ids.sort_unstable_by(|id, other| id.order(other));
+    ids.is_sorted_by(|id, next| !is_clash(id.id, next.id))
 }
 
 /// Whether the two are the same record, or a string and a field of one key.

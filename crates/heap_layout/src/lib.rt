@@ -7,6 +7,7 @@ mod laws;
 mod place;
 mod shape;
 mod superblock;
+mod tagged;
 mod version;
 mod versions;
 mod writing;

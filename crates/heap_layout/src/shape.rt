@@ -117,8 +117,9 @@ fn bytes_at<P: Pmem>(
     ensures bytes { IfOk result (λ v. v.items ≡ images.bytes_at (image_of (P.state device.now).words) line count) }
     ensures len { IfOk result (λ v. vec_len v ≡ count) }
 {
-    let mut bytes = Vec::new(alloc);
-    for k in 0..(count + (WORD_BYTES - 1)) / WORD_BYTES {
+    let words = (count + (WORD_BYTES - 1)) / WORD_BYTES;
+    let mut bytes = Vec::with_capacity(alloc, (WORD_BYTES * words) as usize)?;
+    for k in 0..words {
         bytes.extend_from_slice(&device.load(LINE_WORDS * line + k).to_le_bytes())?;
     }
     bytes.truncate(count as usize);

@@ -10,8 +10,9 @@ ghost use Rattle.heap_layout.specs.Versions.{AreVersions, AreUnder, NoTwo, overl
 
 use crate::apart::{are_apart, are_distinct};
 use crate::entry::{Entry, read_stamps};
+use crate::tagged::Tagged;
 use crate::version::read_version;
-use kv_types::{EntryNo, Extent, RecordId, Refusal};
+use kv_types::{EntryNo, Extent, Refusal};
 use model::{LAYOUT, Record};
 use pmem::Pmem;
 use std::alloc::{AllocError, Global};
@@ -146,12 +147,15 @@ fn extents(alloc: Global, versions: &[(EntryNo, Entry)]) -> Result<Vec<Extent>, 
 }
 
 /// The records of the live versions.
-fn names_of_live(alloc: Global, versions: &[(EntryNo, Entry)]) -> Result<Vec<&RecordId>, AllocError>
-    ensures { IfOk result (λ ids. map (λ id. id.now) ids.items ≡ live_ids versions.now) }
+fn names_of_live(
+    alloc: Global,
+    versions: &[(EntryNo, Entry)],
+) -> Result<Vec<Tagged<'_>>, AllocError>
+    ensures { IfOk result (λ ids. map (λ id. id.id.now) ids.items ≡ live_ids versions.now) }
 {
     versions
         .iter()
         .filter(|(_, entry)| entry.end == 0)
-        .map(|(_, entry)| &entry.id)
+        .map(|(_, entry)| Tagged::new(&entry.id))
         .collect(alloc)
 }

@@ -5,3 +5,4 @@ pub mod Hearing
 pub mod Opening
 pub mod Serving
 pub mod Ends
+pub mod Usage

@@ -9,10 +9,12 @@ ghost use Rattle.stream_codec.specs.Stream.{fed};
 ghost use Rattle.frames.specs.declared.ack.Ack.{Ack as Told};
 ghost use Rattle.stream_codec.specs.declared.message.Message.TheVariants.{Ack as AckMessage};
 ghost use Rattle.links.specs.Reading.{piece_of};
+ghost use Rattle.placing.specs.Fill.{fill_of};
 ghost use Rattle.standby.specs.Taking.{Stands};
 ghost use Rattle.links.specs.Serving.{held, Acknowledges, Answers, HasRun, IsTidied, Says, Served, ack_text, refusal_of_ack, refusal_of_head};
 ghost use Rattle.links.specs.declared.link_error.LinkError.TheVariants.{Closed, Refused, Stops};
 
+use crate::fill_gauges::FillSetter;
 use crate::link_acceptor::LinkAcceptor;
 use crate::link_error::{LinkError, ends_by, refusal_of_ack, refusal_of_head};
 use crate::link_reader::LinkReader;
@@ -38,7 +40,7 @@ const BLOCK_BYTES: usize = 65_536;
 
 /// Takes one link at a time, until one stops the node, and says why it did. With a host, connections from any other are closed at once. A link on which
 /// nothing comes for a second, or no whole frame and few bytes for five, ends where another connection waits, which is the next; one whose primary takes
-/// nothing for five seconds ends. It tells why links end that the primary does not close. Where a connection cannot be taken for now, it rests by the
+/// nothing for five seconds ends. It tells why links end that the primary does not close, and shows how much the node holds. Where a connection cannot be taken for now, it rests by the
 /// clock and goes on.
 ///
 /// # Errors
@@ -50,6 +52,7 @@ pub fn follow<C: Clock, E: Durable, K: Keyspace, W: Write>(
     node: &mut Standby<E, K>,
     listener: &TcpListener,
     host: Option<IpAddr>,
+    shown: &mut FillSetter,
     log: &mut Log<W>,
 ) -> io::Result<Refusal>
     requires stands { Stands E.device E.contents E.is_faulted K.table node.old }
@@ -66,7 +69,7 @@ pub fn follow<C: Clock, E: Durable, K: Keyspace, W: Write>(
         if !acceptor.admits(&stream) {
             continue;
         }
-        let (later, stopped) = serve_next(alloc, node, &stream, &mut acceptor, &progress);
+        let (later, stopped) = serve_next(alloc, node, &stream, &mut acceptor, shown, &progress);
         if let Some(refusal) = stopped {
             return Ok(refusal);
         }
@@ -82,6 +85,7 @@ fn serve_next<C: Clock, E: Durable, K: Keyspace, W: Write>(
     node: &mut Standby<E, K>,
     stream: &TcpStream,
     acceptor: &mut LinkAcceptor<'_, C, W>,
+    shown: &mut FillSetter,
     progress: &Option<Arc<Progress>>,
 ) -> (Option<TcpStream>, Option<Refusal>)
     requires stands { Stands E.device E.contents E.is_faulted K.table node.old }
@@ -90,7 +94,7 @@ fn serve_next<C: Clock, E: Durable, K: Keyspace, W: Write>(
     let written = Cell::new(0);
     let mut from = LinkReader::new(stream, acceptor, &written);
     let mut to = LinkWriter::new(stream, &written, progress);
-    let served = serve_link(alloc, node, &mut from, &mut to);
+    let served = serve_link(alloc, node, &mut from, &mut to, shown);
     let stopped = stop_of(served);
     let newer = from.into_newer();
     if let Err(end) = served {
@@ -111,7 +115,8 @@ fn stop_of(served: Result<(), LinkError>) -> Option<Refusal>
 
 /// Serves one link: says where the node is, and then answers each frame that comes, in order, until the primary closes the connection. Then what was written is the
 /// acknowledgement of where the node was, and those with which it answered the frames that were read, in order. Each is sent as soon as its frame is
-/// durable. What a frame ended is freed with the next one, or once nothing has come for a second.
+/// durable. What a frame ended is freed with the next one, or once nothing has come for a second. How much the node holds is shown from the beginning, and
+/// after each piece of the bytes that are read.
 ///
 /// # Errors
 ///
@@ -121,17 +126,19 @@ pub fn serve_link<E: Durable, K: Keyspace, I: Read, O: Write>(
     node: &mut Standby<E, K>,
     from: &mut I,
     to: &mut O,
+    shown: &mut FillSetter,
 ) -> Result<(), LinkError>
     requires stands { Stands E.device E.contents E.is_faulted K.table node.old }
     ensures stands { ¬ IsErrOf result (Stops Fault) → Stands E.device E.contents E.is_faulted K.table node.new }
     ensures served { OnOk result ((opened : Option (List ℕ)) × (unread : Option (List ℕ))
         × Appends (O.contents to.old) opened (ack_text (record { epoch = (E.contents node.old.engine).current.epoch; position = (E.contents node.old.engine).current.position }))
         × Served (held (E.contents node.old.engine) (K.table node.old.keyspace)) (I.remaining from.old) opened (held (E.contents node.new.engine) (K.table node.new.keyspace)) (I.remaining from.new) (O.contents to.new) unread) }
+    ensures shown { OnOk result (shown.new ≡ fill_of (K.table node.new.keyspace) node.new.heap) }
 {
     let mut block = new_block(alloc)?;
     let mut out = Vec::new(alloc);
     say_position(node.ack(), to, &mut out)?;
-    answer_until_closed(alloc, node, from, to, &mut block, &mut out)?;
+    answer_until_closed(alloc, node, from, to, shown, &mut block, &mut out)?;
     Ok(())
 }
 
@@ -157,6 +164,7 @@ fn answer_until_closed<E: Durable, K: Keyspace, I: Read, O: Write>(
     node: &mut Standby<E, K>,
     from: &mut I,
     to: &mut O,
+    shown: &mut FillSetter,
     block: &mut Vec<u8>,
     out: &mut Vec<u8>,
 ) -> Result<(), LinkError>
@@ -165,18 +173,22 @@ fn answer_until_closed<E: Durable, K: Keyspace, I: Read, O: Write>(
     ensures stands { ¬ IsErrOf result (Stops Fault) → Stands E.device E.contents E.is_faulted K.table node.new }
     ensures served { OnOk result ((unread : Option (List ℕ)) × Served (held (E.contents node.old.engine) (K.table node.old.keyspace)) (I.remaining from.old) (O.contents to.old)
         (held (E.contents node.new.engine) (K.table node.new.keyspace)) (I.remaining from.new) (O.contents to.new) unread) }
+    ensures shown { OnOk result (shown.new ≡ fill_of (K.table node.new.keyspace) node.new.heap) }
 {
     let mut decoder = Decoder::new(alloc);
+    shown.show(&node.fill());
     for _ in 0..u64::MAX {
         let piece = match read_piece(from, block)? {
             Came::Piece(piece) => piece,
             Came::Nothing => {
                 tidy(alloc, node)?;
+                shown.show(&node.fill());
                 continue;
             }
             Came::End => return Ok(()),
         };
         answer_piece(alloc, node, &mut decoder, piece, out, to)?;
+        shown.show(&node.fill());
     }
     Ok(())
 }

@@ -1,6 +1,7 @@
 //! What a node tells of itself, a line at a time.
 use crate::link_error::LinkError;
 use crate::progress::Progress;
+use crate::usage::{Share, Usage};
 use kv_types::Refusal;
 use pipes::MAX_SEATS;
 use std::alloc::Global;
@@ -22,6 +23,9 @@ const LINK_LEFT: &str = "left the link: nothing came on it, and another connecti
 /// What follows the refusal of a frame for which there is no room.
 const NO_ROOM: &str =
     ": this standby has no room for a frame: see \"A standby without room\" in docs/server.md";
+
+/// What there is to do about an image that fills.
+const LARGER: &str = "see \"A larger image\" in docs/operating.md";
 
 /// What follows where a standby does not take what is sent.
 const NOT_TAKEN: &str =
@@ -99,17 +103,27 @@ pub enum News<'a> {
     Answered {
         seconds: u64,
     },
-    /// A primary whose image is at this position, whose standby has acknowledged this one, and that has so many clients, which asked so much a second.
+    /// A primary whose image is at this position, whose standby has acknowledged this one, that holds so much, and that has so many clients, which asked so
+    /// much a second, and of which one waited so many milliseconds for a reply.
     PrimaryAt {
         position: u64,
         standby: u64,
+        usage: Usage,
         clients: u64,
         requests: u64,
+        longest_wait: u64,
     },
-    /// A standby that is at this position, and took so many frames a second.
+    /// A standby that is at this position, holds so much, and took so many frames a second.
     StandbyAt {
         position: u64,
+        usage: Usage,
         frames: u64,
+    },
+    /// Of the versions or the lines of an image at least so many of 100 are taken.
+    Filling {
+        what: &'static str,
+        share: Share,
+        percent: u64,
     },
     /// The node has stopped.
     Stopped {
@@ -228,16 +242,36 @@ impl<'a> fmt::Display for News<'a> {
             News::PrimaryAt {
                 position,
                 standby,
+                usage,
                 clients,
                 requests,
+                longest_wait,
             } => {
                 write!(
                     f,
-                    "at position {position}, standby at {standby}, {clients} of {MAX_SEATS} clients, {requests} requests a second"
+                    "at position {position}, standby at {standby}, {usage}, {clients} of {MAX_SEATS} clients, {requests} requests a second, longest wait {longest_wait} ms"
                 )
             }
-            News::StandbyAt { position, frames } => {
-                write!(f, "at position {position}, {frames} frames a second")
+            News::StandbyAt {
+                position,
+                usage,
+                frames,
+            } => {
+                write!(
+                    f,
+                    "at position {position}, {usage}, {frames} frames a second"
+                )
+            }
+            News::Filling {
+                what,
+                share,
+                percent,
+            } => {
+                write!(
+                    f,
+                    "{} {what} are taken, {share}: {LARGER}",
+                    share_word(*percent)
+                )
             }
             News::Stopped { why } => write!(f, "stopped: {why}"),
         }
@@ -276,6 +310,15 @@ fn word_of(why: &LinkError) -> &'static str {
     match why {
         LinkError::Closed => "link ended:",
         LinkError::Refused(_) | LinkError::Stops(_) => "left the link:",
+    }
+}
+
+/// How many are taken at least where 90 or 99 of 100 are.
+fn share_word(percent: u64) -> &'static str {
+    if percent >= 99 {
+        "99 of 100"
+    } else {
+        "9 of 10"
     }
 }
 

@@ -1,14 +1,19 @@
 //! How far a standby is, as it shows whoever tells of it.
+use crate::filling::Filling;
 use crate::log::{Log, News};
+use crate::rate::Rate;
 use frames::Ack;
 use std::io::Write;
-use std::sync::Wait;
 use std::sync::atomic::{AtomicU64, Ordering};
+use std::sync::{Arc, Wait};
 use std::thread;
-use std::time::{Clock, Duration};
+use std::time::{Clock, Duration, Instant};
 
 /// Where the position stands in the bytes of an acknowledgement, with the epoch before it.
 const NUMBERS_BYTES: usize = 16;
+
+/// How often it is looked at.
+const LOOK_SECONDS: u64 = 1;
 
 /// How far a standby is, as it shows whoever tells of it.
 #[derive(Drop)]
@@ -37,18 +42,58 @@ impl Progress {
             self.frames.store(frames, Ordering::SeqCst);
         }
     }
+}
 
-    /// Tells for ever, each time that so many seconds have passed, where the standby is and how many frames it took.
-    pub fn tell<R: Wait + Clock, W: Write>(&self, rt: &R, seconds: u64, log: &mut Log<W>) {
-        let mut told = 0;
+/// What looks once a second at a standby, and tells what there is to tell.
+#[derive(Drop)]
+pub struct StandbyWatcher {
+    progress: Arc<Progress>,
+    filling: Filling,
+}
+
+impl StandbyWatcher {
+    /// What looks at what is shown there.
+    pub fn new(progress: Arc<Progress>, filling: Filling) -> StandbyWatcher {
+        StandbyWatcher { progress, filling }
+    }
+
+    /// Looks and tells for ever: of an image that fills and, with a number of seconds, each time that so many have passed, how far the standby is.
+    pub fn run<R: Wait + Clock, W: Write + Drop>(
+        self,
+        rt: &R,
+        log: Log<W>,
+        report_seconds: Option<u64>,
+    ) {
+        let mut watcher = self;
+        let mut log = log;
+        let mut rate = Rate::new();
         for _ in rt.forever() {
-            thread::sleep(rt, Duration::from_secs(seconds));
-            let frames = self.frames.load(Ordering::SeqCst);
+            thread::sleep(rt, Duration::from_secs(LOOK_SECONDS));
+            if let Ok(now) = Instant::now(rt) {
+                watcher.look(&mut rate, now, report_seconds, &mut log);
+            }
+        }
+    }
+
+    /// Looks once.
+    fn look<W: Write>(
+        &mut self,
+        rate: &mut Rate,
+        now: Instant,
+        every: Option<u64>,
+        log: &mut Log<W>,
+    ) {
+        let usage = self.filling.look(log);
+        let Some(every) = every else {
+            return;
+        };
+        let frames = self.progress.frames.load(Ordering::SeqCst);
+        if let Some(frames) = rate.look(now, every, frames) {
             log.say(News::StandbyAt {
-                position: self.position.load(Ordering::SeqCst),
-                frames: frames.wrapping_sub(told) / seconds.max(1),
+                position: self.progress.position.load(Ordering::SeqCst),
+                usage,
+                frames,
             });
-            told = frames;
         }
     }
 }

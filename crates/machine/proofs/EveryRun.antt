@@ -220,8 +220,8 @@ nothing_happens_fenced w Apply fenced other = cc
 nothing_happens_fenced w (FailFence nodes.Primary n) fenced other = not-run w (FailFence nodes.Primary n) (retired-stands w.primary.life fenced)
 nothing_happens_fenced w (FailFence nodes.Standby n) fenced other = cc
 nothing_happens_fenced w (Crash nodes.Primary call k picks) fenced other =
-    let uncut : ((is_between call || w.allowed.failures) && may_cut w nodes.Primary call) ≡ false = and-false (is_between call || w.allowed.failures) _ (retired-uncut w call fenced) in
-    and-false w.allowed.restarts ((is_between call || w.allowed.failures) && may_cut w nodes.Primary call) uncut
+    let uncut : ((is_between call || w.allowed.cuts) && may_cut w nodes.Primary call) ≡ false = and-false (is_between call || w.allowed.cuts) _ (retired-uncut w call fenced) in
+    and-false w.allowed.restarts ((is_between call || w.allowed.cuts) && may_cut w nodes.Primary call) uncut
 nothing_happens_fenced w (Crash nodes.Standby call k picks) fenced other = cc
 nothing_happens_fenced w (Reopen nodes.Primary) fenced other = and-false w.allowed.restarts _ (retired-uncut w cut.Reopen fenced)
 nothing_happens_fenced w (Reopen nodes.Standby) fenced other = cc

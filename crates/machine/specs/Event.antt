@@ -1,7 +1,7 @@
 -- The pair of nodes as a machine (this project's profile): which event may happen, what it does, and what a run is. The state is defined in
 -- `Connection` and `World`, whose definitions this file re-exports.
 pub use Rattle.machine.specs.Connection.{may_enter, may_feed, may_offer, may_turn, may_hold, may_release, may_write, fed_with, offered_next, taken_first, with_made, held_first, having_seen, having_released, written, left_inbound, left_outbound, left}
-pub use Rattle.machine.specs.World.{Inbound, Outbound, Connection, Span, Frame, Acknowledgement, Stage, Ready, Durable, Shown, Work, Commits, Frees, Committer, Link, Remains, At, AsPrimary, Life, Running, Stopped, Crashed, Retired, Disk, Primary, Standby, Wire, Allowed, World, all_allowed, none_allowed, no_connection, new_connection, new_committer, new_link, new_disk, start_at, start_with, start, is_running, is_stopped, is_crashed, is_retired, torn, IsSure, safe_position, get_connection, connection_of, is_open, is_open_at, count_open, changed_at, with_inbound, with_outbound, with_primary, with_connections, on_inbound, on_outbound, with_committer, with_link, with_standby, with_sent, with_acknowledged, asked, is_closed_by, seen_of, open_changes, has_room, spans_of, lists_of, lists_before, from_group, is_ready, is_durable, is_shown, is_covered, covered_prefix, uncovered_rest, texts_of}
+pub use Rattle.machine.specs.World.{Inbound, Outbound, Connection, Span, Frame, Acknowledgement, Stage, Ready, Durable, Shown, Work, Commits, Frees, Committer, Link, Remains, At, AsPrimary, Life, Running, Stopped, Crashed, Retired, Disk, Primary, Standby, Wire, Allowed, World, all_allowed, none_allowed, no_connection, new_connection, new_committer, new_link, new_disk, start_at, start_with, start, is_running, is_stopped, is_crashed, is_retired, torn, safe_position, get_connection, connection_of, is_open, is_open_at, count_open, changed_at, with_inbound, with_outbound, with_primary, with_connections, on_inbound, on_outbound, with_committer, with_link, with_standby, with_sent, with_acknowledged, asked, is_closed_by, seen_of, open_changes, has_room, spans_of, lists_of, lists_before, from_group, is_ready, is_durable, is_shown, is_covered, covered_prefix, uncovered_rest, texts_of}
 use Rattle.std.specs.Prelude.{◌≡◌, ◌⊎◌, ℕ, ◌+◌, ◌-◌, ◌<◌, ◌≤◌, Bool, true, false, not, ◌&&◌, ◌||◌, nat_lt, nat_le, nat_eq, if◌then◌else◌, max, List, [], ◌∷◌, ◌++◌, length, take, drop, map, filter, Contains, ◌≢◌, slice_get, Option, Some, None}
 use Rattle.model.specs.declared.call.Call.{Call}
 use Rattle.model.specs.declared.record.TheConstants.{MAX_GAPS}
@@ -101,7 +101,7 @@ may_happen w (Release c) = may_release w.primary.connections c
 may_happen w (Write c n) = may_write w.primary.connections c n
 may_happen w (Leave c) = is_open w c
 may_happen w (FailFence node n) = w.allowed.failures
-may_happen w (Crash node call k picks) = w.allowed.restarts && ((is_between call || w.allowed.failures) && may_cut w node call)
+may_happen w (Crash node call k picks) = w.allowed.restarts && ((is_between call || w.allowed.cuts) && may_cut w node call)
 may_happen w (Reopen node) = w.allowed.restarts && is_crashed (life_of w node)
 may_happen w Fence = w.allowed.fencing && not (is_retired w.primary.life)
 -- the primary was fenced

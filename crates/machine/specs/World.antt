@@ -138,8 +138,10 @@ pub record Allowed : Type 0 where
   pub fencing : Bool
   -- the standby may be promoted after that
   pub promotions : Bool
-  -- fences of their devices may fail, and they may crash inside a call
+  -- fences of their devices may fail
   pub failures : Bool
+  -- they may crash inside a call
+  pub cuts : Bool
 
 pub record World : Type 0 where
   pub allowed : Allowed
@@ -187,10 +189,10 @@ abbrev pub start_with : Allowed → World
 start_with allowed = start_at FIRST_EPOCH allowed
 
 abbrev pub none_allowed : Allowed
-none_allowed = record { restarts = false; fencing = false; promotions = false; failures = false }
+none_allowed = record { restarts = false; fencing = false; promotions = false; failures = false; cuts = false }
 
 abbrev pub all_allowed : Allowed
-all_allowed = record { restarts = true; fencing = true; promotions = true; failures = true }
+all_allowed = record { restarts = true; fencing = true; promotions = true; failures = true; cuts = true }
 
 -- two nodes of which none crashes, is fenced or is promoted, and whose devices' fences do not fail
 abbrev pub start : World
@@ -228,14 +230,6 @@ torn Running = []
 torn (Stopped remains) = remains
 torn Crashed = []
 torn Retired = []
-
--- no fence of a device fails: none was asked to, and none has
-pub record IsSure (w : World) : Type 0 where
-  pub failures : w.allowed.failures ≡ false
-  pub primary_sure : w.primary.disk.failing ≡ false
-  pub standby_sure : w.standby.disk.failing ≡ false
-  pub primary_whole : torn w.primary.life ≡ []
-  pub standby_whole : torn w.standby.life ≡ []
 
 -- Whatever crash or failover comes, the list keeps its calls up to this position: that of the standby's record, or the one at which it was promoted.
 abbrev pub safe_position : World → ℕ

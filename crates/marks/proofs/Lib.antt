@@ -1,3 +1,4 @@
+pub mod Gauges
 pub mod Holders
 pub mod Keeps
 pub mod Seats

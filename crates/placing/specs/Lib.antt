@@ -5,5 +5,6 @@ pub mod Read
 pub mod Out
 pub mod Rebuilt
 pub mod Back
+pub mod Fill
 pub mod Fitting
 pub mod Below

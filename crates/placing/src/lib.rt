@@ -3,6 +3,7 @@
 #![tactic(auto)]
 
 mod below;
+mod fill;
 mod fitting;
 mod giving;
 mod laws;
@@ -11,6 +12,7 @@ mod places;
 mod rebuilding;
 
 pub use below::{fits_surely_below, has_room_below_for};
+pub use fill::{Fill, count_fill};
 pub use fitting::{fits_surely, has_room_for};
 pub use giving::give_all;
 pub use laws::images_are_read_by_entries;

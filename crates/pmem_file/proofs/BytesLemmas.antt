@@ -1,9 +1,9 @@
 -- Words to bytes and back.
-use Rattle.std.proofs.Common.{◌≡◌, ℕ, ◌+◌, ◌%◌, ◌^◌, ◌<◌, ◌≤◌, zero, suc, List, [], ◌∷◌, ◌++◌, length, take, drop, get_or, refl, ap, ◌∙◌, arith}
-use Rattle.std.proofs.lemmas.List.{get_or-drop, length-drop, drop-drop}
+use Rattle.std.proofs.Common.{◌≡◌, ℕ, ◌+◌, ◌/◌, ◌%◌, ◌^◌, ◌<◌, ◌≤◌, zero, suc, List, [], ◌∷◌, ◌++◌, length, take, drop, get_or, refl, sym, ap, ◌∙◌, arith, append_assoc}
+use Rattle.std.proofs.lemmas.List.{append-nil, get_or-drop, length-drop, drop-drop}
 use Rattle.std.proofs.lemmas.Nat.{from_le_bytes-to_le_bytes_8, le_bytes_8}
-use Rattle.std.specs.Int.{w64, from_le_bytes}
-use Rattle.pmem_file.specs.Byte.{bytes_of, words_in}
+use Rattle.std.specs.Int.{w64, from_le_bytes, to_le_bytes}
+use Rattle.pmem_file.specs.Byte.{bytes_of, words_in, eight_at}
 
 -- fewer than eight bytes are no word
 pub words_in-short : (bytes : List ℕ) → length bytes < 8 → words_in bytes ≡ []
@@ -16,12 +16,6 @@ words_in-short (a ∷ b ∷ c ∷ d ∷ e ∷ []) short = refl
 words_in-short (a ∷ b ∷ c ∷ d ∷ e ∷ f ∷ []) short = refl
 words_in-short (a ∷ b ∷ c ∷ d ∷ e ∷ f ∷ g ∷ []) short = refl
 words_in-short (a ∷ b ∷ c ∷ d ∷ e ∷ f ∷ g ∷ h ∷ bytes) short = absurd (omega arith)
-
--- the eight bytes at this place
-abbrev pub eight_at : List ℕ → ℕ → List ℕ
-eight_at bytes at =
-    get_or bytes at 0 ∷ get_or bytes (at + 1) 0 ∷ get_or bytes (at + 2) 0 ∷ get_or bytes (at + 3) 0
-    ∷ get_or bytes (at + 4) 0 ∷ get_or bytes (at + 5) 0 ∷ get_or bytes (at + 6) 0 ∷ get_or bytes (at + 7) 0 ∷ []
 
 -- the first word, and those after it
 words_in-first : (bytes : List ℕ) → 8 ≤ length bytes → words_in bytes ≡ from_le_bytes w64 (eight_at bytes 0) ∷ words_in (drop 8 bytes)
@@ -83,3 +77,23 @@ bytes_of-words_in (a ∷ b ∷ c ∷ d ∷ e ∷ f ∷ g ∷ h ∷ bytes) whole 
     ap (λ (xs : List ℕ). xs ++ bytes_of (words_in bytes)) (le_bytes_8 first (from_le_bytes w64 first) refl (take-below 8 256 (a ∷ b ∷ c ∷ d ∷ e ∷ f ∷ g ∷ h ∷ bytes) (omega arith) fits) refl)
     ∙ ap (λ (xs : List ℕ). first ++ xs)
     (bytes_of-words_in bytes (omega (arith, whole)) (λ k. fits (suc (suc (suc (suc (suc (suc (suc (suc k))))))))))
+
+-- one word more
+pub bytes_of-more : (words : List ℕ) (word : ℕ) → bytes_of (words ++ word ∷ []) ≡ bytes_of words ++ to_le_bytes w64 word
+bytes_of-more [] word = append-nil (to_le_bytes w64 word)
+bytes_of-more (w ∷ words) word =
+    ap (λ (bytes : List ℕ). to_le_bytes w64 w ++ bytes) (bytes_of-more words word) ∙ sym (append_assoc (to_le_bytes w64 w) (bytes_of words) (to_le_bytes w64 word))
+
+-- eight bytes are a word
+pub length-words_in : (bytes : List ℕ) → length (words_in bytes) ≡ length bytes / 8
+length-words_in [] = refl
+length-words_in (a ∷ []) = refl
+length-words_in (a ∷ b ∷ []) = refl
+length-words_in (a ∷ b ∷ c ∷ []) = refl
+length-words_in (a ∷ b ∷ c ∷ d ∷ []) = refl
+length-words_in (a ∷ b ∷ c ∷ d ∷ e ∷ []) = refl
+length-words_in (a ∷ b ∷ c ∷ d ∷ e ∷ f ∷ []) = refl
+length-words_in (a ∷ b ∷ c ∷ d ∷ e ∷ f ∷ g ∷ []) = refl
+length-words_in (a ∷ b ∷ c ∷ d ∷ e ∷ f ∷ g ∷ h ∷ bytes) =
+    let rest = length-words_in bytes in
+    omega (arith, rest)

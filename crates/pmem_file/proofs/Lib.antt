@@ -1,4 +1,5 @@
 pub mod BytesLemmas
+mod WordsLemmas
 pub mod CallsLemmas
 pub mod HoldingLemmas
 pub mod LinesLemmas

@@ -61,7 +61,7 @@ Brings words old new =
 
 -- the words that the file held when it was read
 abbrev pub read_of : FileCalls → List ℕ
-read_of (Read words) = words.value.items
+read_of (Read words) = words.value
 read_of (Wrote' offset bytes done mark before) = read_of before
 read_of (Measured' bytes done mark before) = read_of before
 read_of (Synced' done mark before) = read_of before

@@ -76,4 +76,4 @@ pub record Persists (old new : FilePmem) : Type 0 where
   pub lines : List ℕ
   pub sorted : IsNonDecreasing lines
   pub noted : (line : ℕ) → has_line lines line ≡ is_noted old.notes line
-  pub calls : asked_by new ≡ Synced true ∷ with_writes old.words.items (runs_of lines) (Measured (8 * length old.words.items) true ∷ asked_by old)
+  pub calls : asked_by new ≡ Synced true ∷ with_writes old.words (runs_of lines) (Measured (8 * length old.words) true ∷ asked_by old)

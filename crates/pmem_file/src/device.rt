@@ -1,5 +1,5 @@
 // A device over a file.
-ghost use Rattle.std.specs.Prelude.{◌≡◌, ◌*◌, ◌^◌, ◌<◌, ◌≤◌, ◌-◌, min, vec_len, vec_capacity};
+ghost use Rattle.std.specs.Prelude.{◌≡◌, ◌*◌, ◌^◌, ◌<◌, ◌≤◌, ◌-◌, min, length, vec_len, vec_capacity};
 ghost use Rattle.pmem.specs.History.{words_of, failures_of};
 ghost use Rattle.pmem_file.specs.Call.{read_of, calls_of};
 ghost use Rattle.pmem_file.specs.declared.run.TheConstants.{LINES_A_WRITE};
@@ -10,6 +10,7 @@ use crate::logged_file::LoggedFile;
 use crate::notes::Notes;
 use crate::opening::Opening;
 use crate::opening_calls::OpeningCalls;
+use crate::words::Words;
 use pmem::{Fault, History, Pmem};
 
 /// A device whose words are in a file. Once it is open it takes no memory.
@@ -19,7 +20,7 @@ use pmem::{Fault, History, Pmem};
 #[derive(Drop)]
 pub struct FilePmem {
     /// The newest value of each word.
-    words: Vec<u64>,
+    words: Words,
     /// The lines flushed since the last fence that succeeded.
     notes: Notes,
     /// Room for the bytes of one write.
@@ -29,16 +30,16 @@ pub struct FilePmem {
     file: LoggedFile,
     failures: u64,
     history: History,
-    ghost sized: { vec_len words ≡ 8 * vec_len notes.marks },
+    ghost sized: { length words ≡ 8 * vec_len notes.marks },
     ghost countable: { 8 * vec_len notes.marks < 2 ^ 64 },
-    ghost addressed: { 8 * vec_len words < 2 ^ 64 },
+    ghost addressed: { 8 * length words < 2 ^ 64 },
     ghost room: { 64 * LINES_A_WRITE ≤ vec_capacity buffer },
-    ghost holds: { Holds words.items notes (read_of file.calls) (calls_of file.calls) (words_of history) } by { Holds-prop words.items notes (read_of file.calls) (calls_of file.calls) (words_of history) },
+    ghost holds: { Holds words notes (read_of file.calls) (calls_of file.calls) (words_of history) } by { Holds-prop words notes (read_of file.calls) (calls_of file.calls) (words_of history) },
     ghost counted: { failures ≡ min (failures_of history) (2 ^ 64 - 1) },
 }
 
 impl FilePmem {
-    ghost use Rattle.std.specs.Prelude.{ℕ, ◌≡◌, slice_index};
+    ghost use Rattle.std.specs.Prelude.{ℕ, ◌≡◌, length, slice_index};
     ghost use Rattle.pmem.specs.Device.{moment};
     ghost use Rattle.pmem.specs.Crash.{MayLeave};
     ghost use Rattle.pmem_file.specs.Call.{IsFileImage};
@@ -46,19 +47,21 @@ impl FilePmem {
     ghost use Rattle.pmem_file.specs.Opening.{steps_of};
 
     /// A device over an open file that holds these words. There is room to note every line of these words and for the bytes of one write.
-    pub(crate) fn new(words: Vec<u64>, notes: Notes, buffer: Vec<u8>, opening: Opening) -> FilePmem
-        requires sized { vec_len words ≡ 8 * vec_len notes.marks }
-        requires countable { 8 * vec_len words < 2 ^ 64 }
+    pub(crate) fn new(words: Words, notes: Notes, buffer: Vec<u8>, opening: Opening) -> FilePmem
+        requires sized { length words ≡ 8 * vec_len notes.marks }
+        requires countable { 8 * length words < 2 ^ 64 }
         requires room { 64 * LINES_A_WRITE ≤ vec_capacity buffer }
         ensures fresh { IsFresh result }
         ensures lines { (state_of result).lines ≡ vec_len notes.marks }
-        ensures read { read_by result ≡ words.items }
-        ensures fit { (word : ℕ) → slice_index words.items word < 2 ^ 64 }
+        ensures read { read_by result ≡ words }
+        ensures fit { (word : ℕ) → slice_index words word < 2 ^ 64 }
         ensures opening { opening_by result ≡ steps_of opening.calls }
     {
+        // (each of them is a word)
+        let _words = words.len();
         let (file, opening) = opening.into_parts();
         let file = LoggedFile::new(file, &words);
-        let history = History::opened(&words);
+        let history = words.history();
         FilePmem {
             words,
             notes,
@@ -87,7 +90,7 @@ impl Pmem for FilePmem {
     ghost state = { state_of };
 
     fn load(&self, word: u64) -> u64 {
-        self.words[word as usize]
+        self.words.get(word as usize)
     }
 
     fn store(&mut self, word: u64, value: u64)
@@ -99,7 +102,7 @@ impl Pmem for FilePmem {
         ensures opening { opening_by self.new ≡ opening_by self.old }
         ensures read { read_by self.new ≡ read_by self.old }
     {
-        self.words[word as usize] = value;
+        self.words.set(word as usize, value);
         self.history.stored(word, value);
     }
 

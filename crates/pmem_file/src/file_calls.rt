@@ -2,6 +2,7 @@
 ghost use Rattle.std.specs.Prelude.{◌≡◌, [], ◌∷◌};
 ghost use Rattle.pmem_file.specs.Call.{read_of, calls_of, Wrote, Measured, Synced};
 
+use crate::words::Words;
 use std::snapshot::Snapshot;
 
 /// What was asked of a file since it was read, and whether it was done, the newest call outermost. It takes no memory but its tag: a
@@ -9,7 +10,7 @@ use std::snapshot::Snapshot;
 #[derive(Drop)]
 pub enum FileCalls {
     /// Nothing yet: these words were read.
-    Read(Snapshot<Vec<u64>>),
+    Read(Snapshot<Words>),
     /// A write of these bytes from this byte of the file on.
     Wrote(Snapshot<u64>, Snapshot<Vec<u8>>, Snapshot<bool>, Snapshot<FileCalls>),
     /// A look at the file's length, whether it is so many bytes.
@@ -20,8 +21,8 @@ pub enum FileCalls {
 
 impl FileCalls {
     /// Nothing was asked of a file yet that holds these words.
-    pub fn read(words: &Vec<u64>) -> FileCalls
-        ensures read { read_of result ≡ words.now.items }
+    pub fn read(words: &Words) -> FileCalls
+        ensures read { read_of result ≡ words.now }
         ensures calls { calls_of result ≡ [] }
     {
         FileCalls::Read(Snapshot::of(words))

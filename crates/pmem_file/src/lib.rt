@@ -11,6 +11,7 @@ mod open;
 mod opening;
 mod opening_calls;
 mod run;
+mod words;
 
 pub use device::FilePmem;
 pub use laws::reading_is_not_enough;

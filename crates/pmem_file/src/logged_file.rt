@@ -3,9 +3,9 @@ ghost use Rattle.std.specs.Prelude.{◌≡◌, ℕ, ◌+◌, ◌*◌, ◌^◌, �
 ghost use Rattle.pmem_file.specs.Call.{read_of, calls_of, has_failed, Brings, Wrote, Measured, Synced};
 ghost use Rattle.pmem_file.specs.Line.{has_line, runs_of, run_bytes, with_writes, Fixes};
 
-use crate::bytes::encode;
 use crate::file_calls::FileCalls;
 use crate::run::{LINES_A_WRITE, Run};
+use crate::words::Words;
 use std::fs::File;
 use std::io::{Seek, SeekFrom};
 use std::os::unix::fs::FileExt;
@@ -22,8 +22,8 @@ pub struct LoggedFile {
 
 impl LoggedFile {
     /// A file that held these words when it was read.
-    pub fn new(file: File, words: &Vec<u64>) -> LoggedFile
-        ensures read { read_of result.calls ≡ words.now.items }
+    pub fn new(file: File, words: &Words) -> LoggedFile
+        ensures read { read_of result.calls ≡ words.now }
         ensures calls { calls_of result.calls ≡ [] }
     {
         LoggedFile {
@@ -71,7 +71,7 @@ impl LoggedFile {
     }
 
     /// Writes a run of lines of these words. The buffer holds its bytes meanwhile.
-    pub fn write_run(&mut self, buffer: &mut Vec<u8>, words: &[u64], run: Run) -> bool
+    pub fn write_run(&mut self, buffer: &mut Vec<u8>, words: &Words, run: Run) -> bool
         requires in_range { 8 * (run.first + run.count) ≤ length words.now }
         requires short { run.count ≤ LINES_A_WRITE }
         requires room { 64 * LINES_A_WRITE ≤ vec_capacity buffer.old }
@@ -81,14 +81,12 @@ impl LoggedFile {
             ≡ Wrote (64 * run.first) (run_bytes words.now (run.first, run.count)) result ∷ calls_of self.old.calls }
         ensures capacity { vec_capacity buffer.old ≤ vec_capacity buffer.new }
     {
-        let start = 8 * run.first as usize;
-        let end = start + 8 * run.count as usize;
-        encode(&words[start..end], buffer);
+        words.encode(8 * run.first as usize, 8 * run.count as usize, buffer);
         self.write(64 * run.first, buffer)
     }
 
     /// Writes these lines of these words, neighbours by one write, and ends where a write fails.
-    pub fn write_lines(&mut self, buffer: &mut Vec<u8>, words: &[u64], lines: &[u64]) -> bool
+    pub fn write_lines(&mut self, buffer: &mut Vec<u8>, words: &Words, lines: &[u64]) -> bool
         requires in_range { (line : ℕ) → has_line lines.now line ≡ true → 8 * line + 8 ≤ length words.now }
         requires room { 64 * LINES_A_WRITE ≤ vec_capacity buffer.old }
         requires countable { 8 * length words.now < 2 ^ 64 }
@@ -102,6 +100,8 @@ impl LoggedFile {
         let Some((first, later)) = lines.split_first() else {
             return true;
         };
+        // (each of them is a word)
+        let _words = words.len();
         let mut run = Run::of(*first);
         for line in later {
             if run.is_next(*line) {
@@ -116,7 +116,7 @@ impl LoggedFile {
     }
 
     /// Brings these lines of these words to the disk, and says whether it did. Nothing more is asked once a call has failed.
-    pub fn persist(&mut self, buffer: &mut Vec<u8>, words: &[u64], lines: &[u64]) -> bool
+    pub fn persist(&mut self, buffer: &mut Vec<u8>, words: &Words, lines: &[u64]) -> bool
         requires in_range { (line : ℕ) → has_line lines.now line ≡ true → 8 * line + 8 ≤ length words.now }
         requires room { 64 * LINES_A_WRITE ≤ vec_capacity buffer.old }
         requires countable { 8 * length words.now < 2 ^ 64 }

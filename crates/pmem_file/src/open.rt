@@ -7,11 +7,11 @@ ghost use Rattle.pmem_file.specs.declared.run.TheConstants.{LINES_A_WRITE};
 ghost use Rattle.pmem_file.specs.Device.{state_of, IsFresh, IsRead, IsOpened, IsCreated};
 ghost use Rattle.pmem_file.specs.Opening.{steps_of, Locked, Resized, FileSynced, FolderSynced, Found, DataSynced, with_blocks};
 
-use crate::bytes::decode;
 use crate::device::FilePmem;
 use crate::notes::Notes;
 use crate::opening::Opening;
 use crate::run::LINES_A_WRITE;
+use crate::words::Words;
 use kv_types::Refusal;
 use model::{LINE_BYTES, MAX_LINES, MIN_LINES};
 use std::alloc::Global;
@@ -108,7 +108,7 @@ impl FilePmem {
 /// What a device over a file has in memory.
 #[derive(Drop)]
 struct Loaded {
-    words: Vec<u64>,
+    words: Words,
     notes: Notes,
     /// Room for the bytes of one write.
     buffer: Vec<u8>,
@@ -123,11 +123,11 @@ fn load_settled<R: Files<File = File> + Alloc<A = Global>>(
     lines: u64,
 ) -> Result<Loaded, Refusal>
     requires { lines ≤ MAX_LINES }
-    ensures words { IfOk result (λ loaded. vec_len loaded.words ≡ 8 * lines) }
+    ensures words { IfOk result (λ loaded. length loaded.words ≡ 8 * lines) }
     ensures marks { IfOk result (λ loaded. vec_len loaded.notes.marks ≡ lines) }
     ensures room { IfOk result (λ loaded. 64 * LINES_A_WRITE ≤ vec_capacity loaded.buffer) }
     ensures noted { IfOk result (λ loaded. steps_of opening.new.calls
-        ≡ DataSynced true ∷ with_blocks true loaded.words.items (div_ceil lines LINES_A_WRITE)
+        ≡ DataSynced true ∷ with_blocks true loaded.words (div_ceil lines LINES_A_WRITE)
         (Found (Some (64 * lines)) ∷ FolderSynced true ∷ FileSynced true
         ∷ (if is_new then Resized (64 * lines) true ∷ steps_of opening.old.calls else steps_of opening.old.calls))) }
     ensures causes { IfErr result (λ refusal. (refusal ≡ Refusal.Fault) ⊎ ((refusal ≡ Refusal.WrongSize) ⊎ (refusal ≡ Refusal.Memory))) }
@@ -190,11 +190,11 @@ fn count_lines(opening: &mut Opening) -> Result<u64, Refusal>
 /// What a device has in memory of a locked file of `lines` lines, which the disk has too.
 fn load(alloc: Global, opening: &mut Opening, lines: u64) -> Result<Loaded, Refusal>
     requires { lines ≤ MAX_LINES }
-    ensures words { IfOk result (λ loaded. vec_len loaded.words ≡ 8 * lines) }
+    ensures words { IfOk result (λ loaded. length loaded.words ≡ 8 * lines) }
     ensures marks { IfOk result (λ loaded. vec_len loaded.notes.marks ≡ lines) }
     ensures room { IfOk result (λ loaded. 64 * LINES_A_WRITE ≤ vec_capacity loaded.buffer) }
     ensures noted { IfOk result (λ loaded. steps_of opening.new.calls
-        ≡ DataSynced true ∷ with_blocks true loaded.words.items (div_ceil lines LINES_A_WRITE) (steps_of opening.old.calls)) }
+        ≡ DataSynced true ∷ with_blocks true loaded.words (div_ceil lines LINES_A_WRITE) (steps_of opening.old.calls)) }
     ensures causes { IfErr result (λ refusal. (refusal ≡ Refusal.Fault) ⊎ (refusal ≡ Refusal.Memory)) }
 {
     let notes = Notes::new(alloc, lines as usize)?;
@@ -216,14 +216,14 @@ fn read_words(
     opening: &mut Opening,
     lines: u64,
     writes_back: bool,
-) -> Result<Vec<u64>, Refusal>
+) -> Result<Words, Refusal>
     requires { lines ≤ MAX_LINES }
-    ensures count { IfOk result (λ words. vec_len words ≡ 8 * lines) }
+    ensures count { IfOk result (λ words. length words ≡ 8 * lines) }
     ensures noted { IfOk result (λ words. steps_of opening.new.calls
-        ≡ with_blocks writes_back words.items (div_ceil lines LINES_A_WRITE) (steps_of opening.old.calls)) }
+        ≡ with_blocks writes_back words (div_ceil lines LINES_A_WRITE) (steps_of opening.old.calls)) }
     ensures causes { IfErr result (λ refusal. (refusal ≡ Refusal.Fault) ⊎ (refusal ≡ Refusal.Memory)) }
 {
-    let mut words = Vec::with_capacity(alloc, 8 * lines as usize)?;
+    let mut words = Words::new(alloc, 8 * lines as usize)?;
     let mut block = vec![in alloc; 0; BLOCK_BYTES]?;
     for number in 0..lines.div_ceil(LINES_A_WRITE) {
         let first = LINES_A_WRITE * number;
@@ -233,7 +233,7 @@ fn read_words(
         if !opening.read_block(LINE_BYTES * first, &mut block, writes_back) {
             return Err(Refusal::Fault);
         }
-        decode(&block, &mut words)?;
+        words.add(&block)?;
     }
     Ok(words)
 }

@@ -198,3 +198,15 @@ module _ (low : ℕ) (past : Past) (contents : Contents) (before after : Waiting
   close-keeps (Ok true) closed none refused = keeps-closed (closed refl).1
   close-keeps (Ok false) closed none refused = let same = none refl in rw (same.2, same.1) keeps
   close-keeps (Err refusal) closed none refused = rw (refused.2, refused.1) keeps
+
+-- the position stays
+closed-at : (old : Sequencing) (before : Waiting Work) (new : Sequencing) (after : Waiting Work) → ClosesOne old before new after → new.position ≡ old.position
+closed-at old before new after (inl group) = ap (λ (s : Sequencing). s.position) group.hands.after
+closed-at old before new after (inr list) = ap (λ (s : Sequencing). s.position) list.hands.after
+
+pub close-at : (before after : Waiting Work) (old new : Sequencing) (result : Result Bool Refusal) → IfOk result (λ did. did ≡ true → MayClose old before × ClosesOne old before new after)
+    → IfOk result (λ did. did ≡ false → (¬ MayClose old before) × (new ≡ old) × (after ≡ before))
+    → OnErr result (MayClose old before × (new ≡ old) × (after.items ≡ before.items)) → new.position ≡ old.position
+close-at before after old new (Ok true) closed none refused = closed-at old before new after (closed refl).1
+close-at before after old new (Ok false) closed none refused = ap (λ (s : Sequencing). s.position) (none refl).1
+close-at before after old new (Err refusal) closed none refused = ap (λ (s : Sequencing). s.position) refused.1

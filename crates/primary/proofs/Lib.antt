@@ -12,3 +12,5 @@ pub mod RecallLemmas
 pub mod KeptLemmas
 pub mod KeptTurns
 pub mod KeptImages
+pub mod FittingLemmas
+pub mod SoundTurns

@@ -1,9 +1,13 @@
 //! What of a primary commits.
-ghost use Rattle.std.specs.Prelude.{◌≡◌, ◌↔◌, ◌≤◌, ◌++◌, false, true, nat_lt, ℕ, List, [], IfOk, IsErrOf};
-ghost use Rattle.pmem.specs.Device.{newest_at};
-ghost use Rattle.pmem.specs.Crash.{IsImage, IsSettled, image_of, picked};
+ghost use Rattle.std.specs.Prelude.{◌≡◌, ◌⊎◌, ◌↔◌, ◌≤◌, ◌+◌, ◌++◌, ◌==◌, if◌then◌else◌, false, true, nat_lt, ℕ, List, [], None, Some, IfOk, IsErrOf, OnOk};
+ghost use Rattle.pmem.specs.Device.{moment, newest_at};
+ghost use Rattle.pmem.specs.Device.Fences.{Sure};
+ghost use Rattle.pmem.specs.Crash.{IsImage, IsSettled, Keeps, MayLeave, image_of, picked, words_to_crash};
 ghost use Rattle.pmem.specs.Runs.{LeavesOnly};
 ghost use Rattle.model.specs.declared.group.Group.{Group};
+ghost use Rattle.model.specs.declared.image.TheConstants.{MAX_LINES, MIN_LINES};
+ghost use Rattle.model.specs.declared.record.Record.{Record as CommitRecord};
+ghost use Rattle.wbl_engine.specs.Lawful.{IsUndamaged};
 ghost use Rattle.wbl_engine.specs.declared.freeing.Freed.{Freed};
 ghost use Rattle.redis_core.specs.Sequencing.{Sequencing};
 ghost use Rattle.group_commit.specs.Due.{due_now};
@@ -15,7 +19,7 @@ ghost use Rattle.primary.specs.Standing.{BackStands, notices_of, position_after}
 
 use group_commit::{Committer, Done, Due};
 use kv_types::Refusal;
-use model::{Group, Work};
+use model::{Group, Record, Work};
 use pipes::{LocalPipe, Outlet};
 use std::alloc::Global;
 use wbl_engine::{Committed, Durable, Restarting};
@@ -98,6 +102,9 @@ impl<E: Durable> Back<E> {
             ≡ position_after came (E.contents self.old.committer.engine).current.position) }
         ensures rises { IfOk result (λ _. (E.contents self.old.committer.engine).current.position ≤ (E.contents self.new.committer.engine).current.position) }
         ensures stays { IsErrOf result Refusal.Memory → (E.contents self.new.committer.engine).current.position ≡ (E.contents self.old.committer.engine).current.position }
+        // no fence failed where it answers, and where memory was refused nothing was done to the engine
+        ensures sound { OnOk result (E.is_faulted self.old.committer.engine ≡ false → E.is_faulted self.new.committer.engine ≡ false) }
+        ensures unmoved { IsErrOf result Refusal.Memory → self.new.committer.engine ≡ self.old.committer.engine }
         // what it says to be durable is
         ensures committed { IfOk result (λ came. (position : ℕ) → came ≡ done.Committed position → position ≡ (E.contents self.new.committer.engine).current.position) }
         // what is recalled of the past from `low` on stays so, as long as the standby has passed no less than it is told to have
@@ -153,5 +160,67 @@ impl<E: Restarting> Back<E> {
             → BackKeeps E.contents low past self.old s → ImageRecalls low past (image_of (E.device self.new.committer.engine).words) }
     {
         self.committer.crash(picks);
+    }
+
+    /// Makes the n-th fence of the engine's device from now fail, counted from 1; this replaces an earlier request. With 0 no fence is asked to fail.
+    pub fn fail_at(&mut self, n: u64)
+        ensures asked { E.device self.new.committer.engine ≡ record (E.device self.old.committer.engine) { fences = Sure (if n == 0 then None else Some n) } }
+        ensures contents { E.contents self.new.committer.engine ≡ E.contents self.old.committer.engine }
+        ensures faulted { E.is_faulted self.new.committer.engine ≡ E.is_faulted self.old.committer.engine }
+        ensures stage { self.new.committer.stage ≡ self.old.committer.stage }
+        ensures local { self.new.committer.local ≡ self.old.committer.local }
+        ensures aside { self.new.committer.aside ≡ self.old.committer.aside }
+        ensures work { self.new.work ≡ self.old.work }
+    {
+        self.committer.fail_at(n);
+    }
+
+    /// Makes the next `crash_kept` pick from the candidates of the engine's device as they will be after `k` more calls of it, if that many are made; this
+    /// replaces an earlier request. If there is no memory for the copy, the device is starved.
+    pub fn keep_at(&mut self, k: u64)
+        ensures keeps { Keeps (E.device self.old.committer.engine) (E.device self.new.committer.engine) (moment (E.device self.old.committer.engine) + k) }
+        ensures contents { E.contents self.new.committer.engine ≡ E.contents self.old.committer.engine }
+        ensures faulted { E.is_faulted self.new.committer.engine ≡ E.is_faulted self.old.committer.engine }
+        ensures stage { self.new.committer.stage ≡ self.old.committer.stage }
+        ensures local { self.new.committer.local ≡ self.old.committer.local }
+        ensures aside { self.new.committer.aside ≡ self.old.committer.aside }
+        ensures work { self.new.work ≡ self.old.work }
+    {
+        self.committer.keep_at(k);
+    }
+
+    /// Crashes the engine's device as of the moment that it was asked to keep, as `Restarting::crash_kept` does. The engine is faulted until the primary is
+    /// restarted. What
+    /// waits or is in hand stays until then.
+    pub fn crash_kept(&mut self, picks: &[u64])
+        ensures settled { IsSettled (E.device self.new.committer.engine).words }
+        // an image of that moment, or of a later one
+        ensures left { (t : ℕ) → (E.device self.old.committer.engine).kept ≡ Some t → MayLeave (E.device self.old.committer.engine) t (image_of (E.device self.new.committer.engine).words) }
+        ensures unkept { (E.device self.old.committer.engine).kept ≡ None → IsImage (E.device self.old.committer.engine).words (image_of (E.device self.new.committer.engine).words) }
+        // where the device had the memory to do so
+        ensures picked { (E.device self.new.committer.engine).starved ≡ false → (word : ℕ)
+            → newest_at (E.device self.new.committer.engine) word ≡ picked (words_to_crash (E.device self.old.committer.engine) (E.device self.old.committer.engine).kept) picks.now word }
+        ensures lines { (E.device self.new.committer.engine).lines ≡ (E.device self.old.committer.engine).lines }
+        ensures failures { (E.device self.new.committer.engine).failures ≡ (E.device self.old.committer.engine).failures }
+        ensures fences { (E.device self.new.committer.engine).fences ≡ (E.device self.old.committer.engine).fences }
+        ensures forgotten { (E.device self.new.committer.engine).kept ≡ None }
+        ensures faulted { E.is_faulted self.new.committer.engine ≡ true }
+        // what could be left now may be, and then what was
+        ensures moments { LeavesOnly (E.device self.old.committer.engine) (E.device self.new.committer.engine)
+            (λ image. IsImage (E.device self.old.committer.engine).words image ⊎ (image ≡ image_of (E.device self.new.committer.engine).words)) }
+        ensures stage { self.new.committer.stage ≡ self.old.committer.stage }
+        ensures local { self.new.committer.local ≡ self.old.committer.local }
+        ensures aside { self.new.committer.aside ≡ self.old.committer.aside }
+        ensures work { self.new.work ≡ self.old.work }
+    {
+        self.committer.crash_kept(picks);
+    }
+
+    /// The record of the image, as loads return it; none where the image has none that obeys the rules.
+    pub fn image_record(&self) -> Option<Record>
+        ensures { (r : CommitRecord) → MIN_LINES ≤ (E.device self.now.committer.engine).lines → (E.device self.now.committer.engine).lines ≤ MAX_LINES
+            → IsUndamaged (E.device self.now.committer.engine).lines r (image_of (E.device self.now.committer.engine).words) → result ≡ Some r }
+    {
+        self.committer.image_record()
     }
 }

@@ -11,6 +11,7 @@ ghost use Rattle.model.specs.declared.work.FreeList.{FreeList};
 ghost use Rattle.model.specs.declared.work.Work.{Work};
 ghost use Rattle.model.specs.Group.{Contents};
 ghost use Rattle.multi_watch.specs.Session.{idle_session};
+ghost use Rattle.placing.specs.Fill.{fill_of};
 ghost use Rattle.redis_core.specs.Sequencing.{Expects, IsAheadOf, MovesSeat, TakesBack, is_closed};
 ghost use Rattle.redis_core.specs.Turn.{Answers, OnServed, OnIdle, OnBlocked, OnGroupFull, OnEnded, OnUnserved};
 ghost use Rattle.primary.specs.Leading.{KeepsLead};
@@ -20,6 +21,7 @@ ghost use Rattle.primary.specs.Settled.{HasNothingOpen};
 use kv_types::{Held, Item, Refusal};
 use mv_keyspace::Keyspace;
 use pipes::{Inlet, Outlet, Seat};
+use placing::Fill;
 use redis_core::{Sequencer, Turn};
 use std::alloc::Global;
 use wbl_engine::Freed;
@@ -44,6 +46,13 @@ impl<K: Keyspace> Front<K> {
         ensures { result ≡ has_room count lines (self.now.sequencer).room }
     {
         self.sequencer.has_room(count, lines)
+    }
+
+    /// How many keys there are after all calls so far, and what of the heap is free then.
+    pub fn fill(&self) -> Fill
+        ensures { result ≡ fill_of (self.now.sequencer).table (self.now.sequencer).room }
+    {
+        self.sequencer.fill()
     }
 
     /// Whether something waits here that may make room: changes that wait for a group, and may have ended versions, or ended versions that wait to be

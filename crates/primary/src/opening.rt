@@ -1,14 +1,15 @@
 //! A primary that is made of its image.
-ghost use Rattle.std.specs.Prelude.{◌≡◌, ◌⊎◌, ◌<◌, ℕ, [], IfOk, IfErr};
+ghost use Rattle.std.specs.Prelude.{◌≡◌, ◌⊎◌, ◌<◌, ◌≤◌, ℕ, [], false, IfOk, IfErr};
 ghost use Rattle.pmem.specs.Device.{Only};
 ghost use Rattle.pmem.specs.Crash.{image_of};
-ghost use Rattle.model.specs.declared.image.TheConstants.{COUNTER_LIMIT};
+ghost use Rattle.model.specs.declared.image.TheConstants.{COUNTER_LIMIT, MAX_LINES};
 ghost use Rattle.model.specs.Image.{Image};
 ghost use Rattle.group_commit.specs.declared.stage.Stage.TheVariants.{Ready};
 ghost use Rattle.wbl_engine.specs.Contents.{IsDurable};
 ghost use Rattle.wbl_engine.specs.Reopening.{RefusesReopening};
 ghost use Rattle.wbl_engine.specs.Restarting.{IsReopened};
 ghost use Rattle.placing.specs.Read.{AreOf};
+ghost use Rattle.standby_stream.specs.Delta.{HaveTheirLines};
 ghost use Rattle.primary.specs.Recalling.{AreKeyspaces, BackKeeps, DeltaLeads, ImageRecalls, Past};
 ghost use Rattle.primary.specs.Resuming.{IsOpened};
 ghost use Rattle.primary.specs.Standing.{Stands};
@@ -56,6 +57,8 @@ pub fn open<P: Pmem + Drop, K: Keyspace + Drop>(
         opened.primary.front.sequencer opened.opening opened.position opened.epoch opened.keys) }
     ensures ready { IfOk result (λ opened. (opened.primary.back.work.items ≡ []) × (opened.primary.back.committer.stage ≡ Ready)
         × (opened.primary.back.committer.aside.items ≡ []) × (opened.primary.back.committer.local ≡ opened.position)) }
+    ensures sound { IfOk result (λ opened. ⟦<WblEngine<P> as Durable>⟧.is_faulted opened.primary.back.committer.engine ≡ false) }
+    ensures size { IfOk result (λ opened. (⟦<WblEngine<P> as Durable>⟧.contents opened.primary.back.committer.engine).lines ≤ MAX_LINES) }
     // what the image recalls of the past is kept, and what a standby is told leads from each position there
     ensures keeps { IfOk result (λ opened. (low : ℕ) (past : Past) → AreKeyspaces past → ImageRecalls low past (image_of (P.state device).words)
         → BackKeeps ⟦<WblEngine<P> as Durable>⟧.contents low past opened.primary.back opened.primary.front.sequencer) }
@@ -80,6 +83,8 @@ fn assemble<E: Durable + Drop, K: Keyspace + Drop>(
     requires read { AreOf (E.contents engine) versions.counted.items versions.gapped.items }
     requires durable { IsDurable (E.device engine) (E.contents engine) }
     requires counted { (E.contents engine).current.position < COUNTER_LIMIT }
+    requires lines { HaveTheirLines (E.contents engine) }
+    requires size { (E.contents engine).lines ≤ MAX_LINES }
     ensures stands { IfOk result (λ opened. Stands E.device E.contents opened.primary) }
     ensures engine { IfOk result (λ opened. opened.primary.back.committer.engine ≡ engine) }
     ensures opened { IfOk result (λ opened. IsOpened (E.contents engine) opened.primary.front.sequencer opened.opening opened.position opened.epoch opened.keys) }

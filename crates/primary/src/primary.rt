@@ -97,6 +97,8 @@ pub fn close<E: Durable, K: Keyspace>(
         × (back.new.work.items ≡ back.old.work.items)) }
     ensures stands { BackStands E.device E.contents back.old front.old.sequencer [] → BackStands E.device E.contents back.new front.new.sequencer [] }
     ensures committer { back.new.committer ≡ back.old.committer }
+    // nothing is called
+    ensures at { front.new.sequencer.position ≡ front.old.sequencer.position }
     ensures keeps { (low : ℕ) (past : Past) → BackStands E.device E.contents back.old front.old.sequencer [] → BackKeeps E.contents low past back.old front.old.sequencer
         → BackKeeps E.contents low past back.new front.new.sequencer }
 {

@@ -14,6 +14,7 @@ ghost use Rattle.model.specs.Command as meaning;
 ghost use Rattle.model.specs.Group.{Contents};
 ghost use Rattle.mv_keyspace.specs.Table.{records};
 ghost use Rattle.placing.specs.Back.{HasOut};
+ghost use Rattle.placing.specs.Fill.{fill_of};
 ghost use Rattle.placing.specs.Left.{IsBeside};
 ghost use Rattle.placing.specs.Place.{HasRoomFor};
 ghost use Rattle.redis_core.specs.Sequencing.{Expects, IsAheadOf, MovesSeat, TakesBack, Underlies, is_closed, starts};
@@ -29,7 +30,7 @@ use model::{COUNTER_LIMIT, FreeList, MAX_PARTS, Part, closes};
 use multi_watch::Act;
 use mv_keyspace::Keyspace;
 use pipes::{Inlet, MAX_SEATS, Outlet, Seat};
-use placing::Rebuilt;
+use placing::{Fill, Rebuilt};
 use std::alloc::Global;
 use std::hash::RandomState;
 use std::marker::Model;
@@ -128,6 +129,13 @@ impl<K: Keyspace> Sequencer<K> {
         ensures { result ≡ has_room count lines (self.now).room }
     {
         self.store.has_room(count, lines)
+    }
+
+    /// How many keys there are after all calls so far, and what of the heap is free then.
+    pub fn fill(&self) -> Fill
+        ensures { result ≡ fill_of (self.now).table (self.now).room }
+    {
+        self.store.fill()
     }
 
     /// The position of the list of calls: how many of them changed something.

@@ -5,6 +5,7 @@ ghost use Rattle.multi_watch.specs.Session.{idle_session};
 ghost use Rattle.multi_watch.specs.Admission.{act_now, step, session_after_refusal};
 ghost use Rattle.multi_watch.specs.Sessions.{session_at, HasRoom};
 ghost use Rattle.placing.specs.Back.{CanGiveAll};
+ghost use Rattle.placing.specs.Fill.{fill_of};
 ghost use Rattle.placing.specs.Left.{IsBeside};
 ghost use Rattle.redis_core.specs.Seats.{is_closed_at};
 ghost use Rattle.placing.specs.Place.{HasRoomFor};
@@ -20,7 +21,7 @@ use model::{COUNTER_LIMIT, Effect, MAX_CHANGE_TEXT_BYTES, outcome_of};
 use multi_watch::Act;
 use mv_keyspace::Keyspace;
 use pipes::Seat;
-use placing::{empty_part, give_all, perform};
+use placing::{Fill, count_fill, empty_part, give_all, perform};
 use std::alloc::Global;
 use std::marker::Model;
 
@@ -69,6 +70,13 @@ impl<K: Keyspace> Store<K> {
         ensures { result ≡ has_room count lines (self.now).room }
     {
         self.heap.has_room(count, lines)
+    }
+
+    /// How much there is, and how much there is room for.
+    pub(crate) fn fill(&self) -> Fill
+        ensures { result ≡ fill_of (self.now).table (self.now).room }
+    {
+        count_fill(&self.keyspace, &self.heap)
     }
 
     /// Opens a seat with an idle session.

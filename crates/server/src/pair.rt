@@ -9,7 +9,7 @@ use crate::link_listener::{LinkListener, StandbyListener};
 use crate::serve::ServeError;
 use crate::simulated::new_image;
 use kv_types::Refusal;
-use links::{Log, follow};
+use links::{Log, follow, new_fill};
 use mv_keyspace::MvKeyspace;
 use pmem::{Pmem, SimPmem};
 use primary::{Opened, open};
@@ -113,8 +113,11 @@ fn follow_anew<N: Clock>(
     let link = StandbyListener::new(alloc, client)?;
     let device = new_image(alloc, Role::Standby)?;
     let mut node: Standby<WblEngine<SimPmem>, MvKeyspace> = standby::open(alloc, device)?;
+    let (mut shown, _) = new_fill(alloc, &node.fill())?;
     let mut log = Log::new(alloc, link);
-    match follow(clock, alloc, &mut node, listener, None, &mut log) {
+    match follow(
+        clock, alloc, &mut node, listener, None, &mut shown, &mut log,
+    ) {
         Ok(why) => Ok(PairEnd::Refused(why)),
         Err(_) => Ok(PairEnd::Broken),
     }

@@ -9,11 +9,11 @@ use crate::images::Images;
 use crate::listening::{self, bind};
 use crate::options::PROGRAM;
 use crate::serve::ServeError;
-use links::{Log, News};
+use links::{Capacity, Log, News};
 use mv_keyspace::MvKeyspace;
 use pmem::Pmem;
 use primary::{Opened, open};
-use serving::{Setup, Stop, run};
+use serving::{Setup, Stop, Watch, run};
 use std::alloc::Global;
 use std::hash::RandomState;
 use std::io::Write;
@@ -60,7 +60,7 @@ pub fn serve_clients<
     let bound = bind(rt, alloc, listen, &mut errors);
     let done = open_node(rt, alloc, images, name);
     tell_cause(alloc, images, name, &done, &mut errors);
-    let opened: Opened<WblEngine<D>, MvKeyspace> = done?;
+    let (opened, lines): (Opened<WblEngine<D>, MvKeyspace>, u64) = done?;
     log.say(News::Opened {
         position: opened.position,
         epoch: opened.epoch,
@@ -76,8 +76,11 @@ pub fn serve_clients<
     let address = String::from_str(alloc, link)?;
     let setup = Setup {
         link: Log::new(alloc, errors),
-        watch: Some(Log::new(alloc, errors)),
-        report_seconds: report,
+        watch: Some(Watch {
+            log: Log::new(alloc, errors),
+            report_seconds: report,
+            capacity: Capacity::of_image(lines),
+        }),
         idle: idle.map(Duration::from_secs),
     };
     match run(*rt, alloc, opened, listener, address, setup) {
@@ -89,21 +92,22 @@ pub fn serve_clients<
     }
 }
 
-/// The node over the image of this name.
+/// The node over the image of this name, and how many lines that has.
 fn open_node<N: RandomSource, D: Pmem + Drop, I: Images<Device = D>>(
     rt: &N,
     alloc: Global,
     images: &I,
     name: &str,
-) -> Result<Opened<WblEngine<D>, MvKeyspace>, Failure>
-    ensures stands { IfOk result (λ opened. Stands ⟦<WblEngine<D> as Durable>⟧.device ⟦<WblEngine<D> as Durable>⟧.contents opened.primary) }
-    ensures opened { IfOk result (λ opened. IsOpened (⟦<WblEngine<D> as Durable>⟧.contents opened.primary.back.committer.engine)
-        opened.primary.front.sequencer opened.opening opened.position opened.epoch opened.keys) }
+) -> Result<(Opened<WblEngine<D>, MvKeyspace>, u64), Failure>
+    ensures stands { IfOk result (λ node. Stands ⟦<WblEngine<D> as Durable>⟧.device ⟦<WblEngine<D> as Durable>⟧.contents node.0.primary) }
+    ensures opened { IfOk result (λ node. IsOpened (⟦<WblEngine<D> as Durable>⟧.contents node.0.primary.back.committer.engine)
+        node.0.primary.front.sequencer node.0.opening node.0.position node.0.epoch node.0.keys) }
 {
     let device = images.open(name)?;
+    let lines = device.lines();
     let hash_builder = match RandomState::new(rt) {
         Ok(hash_builder) => hash_builder,
         Err(error) => return Err(Failure::Stopped(ServeError::Random(error))),
     };
-    Ok(open(alloc, device, hash_builder)?)
+    Ok((open(alloc, device, hash_builder)?, lines))
 }

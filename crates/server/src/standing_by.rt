@@ -8,7 +8,7 @@ use crate::images::Images;
 use crate::listening::{self, bind};
 use crate::options::PROGRAM;
 use kv_types::Refusal;
-use links::{Log, News, Progress, follow};
+use links::{Capacity, FillSetter, Filling, Log, News, Progress, StandbyWatcher, follow, new_fill};
 use mv_keyspace::{Keyspace, MvKeyspace};
 use standby::Standby;
 use std::alloc::Global;
@@ -63,11 +63,10 @@ pub fn stand_by<
         return Err(Failure::CannotListen);
     };
     log.say(News::Listening { address: listen });
-    let mut log = match report {
-        Some(seconds) => report_progress(*rt, alloc, node.position(), seconds, log, errors)?,
-        None => log,
-    };
-    match follow(rt, alloc, &mut node, &listener, host, &mut log) {
+    let (progress, mut shown, watcher) = new_watcher(alloc, &node)?;
+    start_watcher(*rt, watcher, Log::new(alloc, errors), report)?;
+    let mut log = log.showing(progress);
+    match follow(rt, alloc, &mut node, &listener, host, &mut shown, &mut log) {
         Ok(why) => {
             log.say(News::Stopped { why });
             Err(Failure::from(why))
@@ -89,24 +88,26 @@ fn open_node<I: Images>(
     Ok(standby::open(alloc, device)?)
 }
 
-/// Starts a thread that tells each so many seconds how far the node is. Answers the log of a node that shows it. Only `Memory`.
-fn report_progress<
+/// Where a node shows how far it is and how much it holds, and what looks there.
+fn new_watcher<E: Durable, K: Keyspace>(
+    alloc: Global,
+    node: &Standby<E, K>,
+) -> Result<(Arc<Progress>, FillSetter, StandbyWatcher), Refusal> {
+    let progress = Arc::new(alloc, Progress::new(node.position()))?;
+    let (shown, fill) = new_fill(alloc, &node.fill())?;
+    let filling = Filling::new(fill, Capacity::of_image(node.engine.lines()));
+    let watcher = StandbyWatcher::new(Arc::try_clone(&progress)?, filling);
+    Ok((progress, shown, watcher))
+}
+
+/// Starts the thread that tells of the node while it runs, with a number of seconds how far it is each time that so many have passed. Only `Memory`.
+fn start_watcher<
     N: Threads + Wait + Clock + Copy + Send + 'static,
     E: Write + Send + Drop + 'static,
->(
-    rt: N,
-    alloc: Global,
-    position: u64,
-    seconds: u64,
-    log: Log<E>,
-    errors: E,
-) -> Result<Log<E>, Refusal> {
-    let shown = Arc::new(alloc, Progress::new(position))?;
-    let progress = Arc::try_clone(&shown)?;
-    let mut told = Log::new(alloc, errors);
-    let reporting = thread::spawn(&rt, move || progress.tell(&rt, seconds, &mut told));
-    match reporting {
-        Ok(_) => Ok(log.showing(shown)),
+>(rt: N, watcher: StandbyWatcher, log: Log<E>, report: Option<u64>) -> Result<(), Refusal> {
+    let watching = thread::spawn(&rt, move || watcher.run(&rt, log, report));
+    match watching {
+        Ok(_) => Ok(()),
         Err(_) => Err(Refusal::Memory),
     }
 }

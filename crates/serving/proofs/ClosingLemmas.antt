@@ -1,10 +1,12 @@
 -- A group and then a list, each closed where it is due.
-use Rattle.std.proofs.Common.{◌≡◌, ℕ, Bool, true, false, not, ◌&&◌, ◌||◌, sym, ap, ap₂, subst, ◌∙◌}
+use Rattle.std.proofs.Common.{◌≡◌, ℕ, Bool, true, false, not, ◌&&◌, ◌||◌, length, Result, Ok, Err, OnErr, inl, inr, sym, ap, ap₂, subst, ◌∙◌}
+use Rattle.kv_types.specs.declared.refusal.Refusal.{Refusal}
 use Rattle.model.specs.declared.work.Work.{Work}
 use Rattle.pipes.specs.Waiting.{Waiting}
 use Rattle.extent_heap.specs.Room.{has_room}
 use Rattle.redis_core.specs.Sequencing.{Sequencing}
-use Rattle.serving.specs.Closing.{ClosesBoth, ClosesGroup, ClosesList, is_tight}
+use Rattle.serving.specs.Closing.{ClosesBoth, ClosesGroup, ClosesList, LacksBoth, LacksMemory, is_tight}
+use Rattle.serving.specs.Gathering.{is_group_due, is_list_due}
 use Rattle.serving.specs.declared.closing.TheConstants.{LINES_OF_AN_ENTRY}
 use Rattle.serving.specs.declared.gathering.Gathering.{Gathering}
 use Rattle.serving.specs.declared.gathering.TheConstants.{LISTED_AT_ONCE}
@@ -38,3 +40,23 @@ both-closed gathering noted remote is_short is_closed is_listed tight did old be
   list = subst (λ (t : Bool). ClosesList noted remote t between middle new after is_listed) same list;
   did_is = did_is;
 }
+
+-- ---- where memory was refused
+
+pub lacks-first : (result : Result Bool Refusal) (gathering noted : Gathering) (remote : ℕ) (is_short : Bool) (old new : Sequencing) (before after : Waiting Work)
+    → LacksMemory (is_group_due gathering old.position remote is_short) old before new after → OnErr result (LacksBoth gathering remote is_short old before new after noted)
+lacks-first (Ok did) gathering noted remote is_short old new before after lacks = tt
+lacks-first (Err refusal) gathering noted remote is_short old new before after lacks = inl lacks
+
+pub lacks-second : (result : Result Bool Refusal) (gathering noted : Gathering) (remote : ℕ) (is_short is_closed tight : Bool) (old between new : Sequencing) (before middle after : Waiting Work)
+    → ClosesGroup gathering remote is_short old before between middle noted is_closed → tight ≡ is_tight is_short is_closed between
+    → LacksMemory (is_list_due noted between.position remote tight (length between.ended)) between middle new after
+    → OnErr result (LacksBoth gathering remote is_short old before new after noted)
+lacks-second (Ok did) gathering noted remote is_short is_closed tight old between new before middle after closes same lacks = tt
+lacks-second (Err refusal) gathering noted remote is_short is_closed tight old between new before middle after closes same lacks = inr (
+  between,
+  middle,
+  is_closed,
+  closes,
+  subst (λ (t : Bool). LacksMemory (is_list_due noted between.position remote t (length between.ended)) between middle new after) same lacks,
+)

@@ -1,11 +1,16 @@
 mod ClosingLemmas
 mod EndingLemmas
 mod HereOrLent
+mod KeepingLemmas
 mod LinkingLemmas
 mod NeedLemmas
+mod PastLemmas
 pub mod PlacesLemmas
 pub mod StepsLemmas
 mod TendingLemmas
 mod TurnsEnd
 pub mod TurnsLemmas
 mod VisitLemmas
+mod StepActs
+mod VisitActs
+mod RoundActs

@@ -1,5 +1,5 @@
 -- What a round does with the committer's job, put together.
-use Rattle.std.proofs.Common.{◌≡◌, ℕ, Bool, Option, Some, Result, Ok, Err, IfOk, IfErr, sym, subst}
+use Rattle.std.proofs.Common.{◌≡◌, ℕ, Bool, Option, Some, Result, Ok, Err, IfOk, IfErr, OnErr, sym, subst}
 use Rattle.pmem.specs.Device.{State}
 use Rattle.kv_types.specs.declared.refusal.Refusal.{Refusal}
 use Rattle.kv_types.specs.declared.refusal.Refusal.TheVariants as refusal
@@ -8,7 +8,7 @@ use Rattle.model.specs.declared.work.Work.{Work}
 use Rattle.model.specs.Group.{Contents}
 use Rattle.pipes.specs.Waiting.{Waiting}
 use Rattle.redis_core.specs.Sequencing.{Sequencing}
-use Rattle.serving.specs.Closing.{ClosesBoth}
+use Rattle.serving.specs.Closing.{ClosesBoth, LacksBoth}
 use Rattle.serving.specs.Tending.{ClosesOrLacks, Tends, TendsJob}
 use Rattle.serving.specs.declared.commit_job.CommitJob.{CommitJob}
 use Rattle.serving.specs.declared.gathering.Gathering.{Gathering}
@@ -16,9 +16,9 @@ use Rattle.serving.specs.declared.tended.Tended.{Tended}
 
 pub closes-or-lacks : (gathering noted : Gathering) (remote : ℕ) (is_short : Bool) (old new : Sequencing) (before after : Waiting Work) (closed : Result Bool Refusal)
     → IfOk closed (λ did. ClosesBoth gathering remote is_short old before new after noted did) → IfErr closed (λ cause. cause ≡ refusal.Memory)
-    → ClosesOrLacks gathering remote is_short old before new after noted closed
-closes-or-lacks gathering noted remote is_short old new before after (Ok did) closes lacks = closes
-closes-or-lacks gathering noted remote is_short old new before after (Err cause) closes lacks = lacks
+    → OnErr closed (LacksBoth gathering remote is_short old before new after noted) → ClosesOrLacks gathering remote is_short old before new after noted closed
+closes-or-lacks gathering noted remote is_short old new before after (Ok did) closes memory lacks = closes
+closes-or-lacks gathering noted remote is_short old new before after (Err cause) closes memory lacks = (memory, lacks)
 
 module _ {E : Type 0} (device : E → State) (contents : E → Contents) (is_faulted : E → Bool) where
   pub tends-home : (remote : ℕ) (is_short : Bool) (gathering noted : Gathering) (home : Option (CommitJob E)) (job : CommitJob E) (lender : EndView (CommitJob E)) (old : Sequencing)

@@ -1,5 +1,5 @@
 -- Turns one after the other: what they took, in order, what they offered, and what still waits at the sequencer.
-use Rattle.std.proofs.Common.{◌≡◌, ◌≢◌, ℕ, Bool, true, false, List, [], ◌∷◌, ◌++◌, length, Option, Some, None, refl, sym, ap, subst, ◌∙◌, append_assoc, append-nil, length-append, option_to_list, arith}
+use Rattle.std.proofs.Common.{◌≡◌, ◌≢◌, ◌<◌, ℕ, Bool, true, false, List, [], ◌∷◌, ◌++◌, length, Option, Some, None, refl, sym, ap, subst, ◌∙◌, append_assoc, append-nil, length-append, option_to_list, arith, le_refl}
 use Rattle.kv_types.specs.declared.change.Change.{Change}
 use Rattle.kv_types.specs.declared.item.Item.{Item}
 use Rattle.kv_types.specs.declared.reply.Held.{Held}
@@ -15,10 +15,12 @@ use Rattle.multi_watch.specs.Session.{Session}
 use Rattle.redis_core.specs.Sequencing.{MovesSeat, Sequencing, state_of}
 use Rattle.redis_core.specs.Turn.{Answers, Moves, OnBlocked, call_of}
 use Rattle.primary.specs.Leading.{KeepsLead}
+use Rattle.primary.specs.Recalling.{Recollects}
 use Rattle.primary.specs.Settled.{HasNothingOpen}
 use Rattle.serving.specs.Serving.{Serves, WaitsOnlyFor}
 use Rattle.serving.specs.declared.open_connection.OpenConnection.{OpenConnection}
 use Rattle.serving.specs.Turns.{Requests, Replies, TakesNext, LooksAhead, LooksAt, TakesInOrder, TakesTurn, TakesTurns, IsTurn, AreAnswered, AreTurns}
+use Rattle.serving.proofs.PastLemmas.{MovesOn, goes-on, goes-on-still, goes-on-then, moves-answered, moves-rise, moves-same, moves-seated}
 
 -- ---- what is taken
 
@@ -67,13 +69,14 @@ module _ {P : Type 0} where
 -- ---- what is answered
 
 answered-more : (seat : ℕ) (old between new : Sequencing) (items : List Item) (made : List Held) (item : Item) (held : Held)
-    → AreAnswered seat old items made between → Answers between seat item held.reply new → held.position ≡ new.position
+    → AreAnswered seat old items made between → length between.waiting < MAX_PARTS → Answers between seat item held.reply new → held.position ≡ new.position
     → AreAnswered seat old (items ++ item ∷ []) (made ++ held ∷ []) new
-answered-more seat old between new [] [] item held are answers at = (new, subst (λ (s : Sequencing). Answers s seat item held.reply new) are answers, at, refl)
-answered-more seat old between new (first ∷ items) (one ∷ made) item held are answers at =
-    (are.0, are.1, are.2, answered-more seat are.0 between new items made item held are.3 answers at)
-answered-more seat old between new [] (one ∷ made) item held are answers at = absurd are
-answered-more seat old between new (first ∷ items) [] item held are answers at = absurd are
+answered-more seat old between new [] [] item held are few answers at =
+    (new, subst (λ (s : Sequencing). length s.waiting < MAX_PARTS) are few, subst (λ (s : Sequencing). Answers s seat item held.reply new) are answers, at, refl)
+answered-more seat old between new (first ∷ items) (one ∷ made) item held are few answers at =
+    (are.0, are.1, are.2, are.3, answered-more seat are.0 between new items made item held are.4 few answers at)
+answered-more seat old between new [] (one ∷ made) item held are few answers at = absurd are
+answered-more seat old between new (first ∷ items) [] item held are few answers at = absurd are
 
 some-more : (made : List Held) (held : Held) → true ≡ is_nonempty (made ++ held ∷ [])
 some-more [] held = refl
@@ -123,7 +126,7 @@ module _ {P Q : Type 0} where
         items = turns.items ++ one.served.0 ∷ [];
         made = turns.made ++ held ∷ [];
         taken = takes-then requests then after turns.items (one.served.0 ∷ []) turns.taken (takes-one then after one.served.0 one.served.2);
-        answered = answered-more seat old between new turns.items turns.made one.served.0 held turns.answered one.served.4 refl;
+        answered = answered-more seat old between new turns.items turns.made one.served.0 held turns.answered one.served_only.1 one.served.4 refl;
         offered = one.served.3 ∙ ap (λ (xs : List Held). xs ++ held ∷ []) turns.offered ∙ append_assoc (offered_at replies) turns.made (held ∷ []);
         some = some-more turns.made held;
         same = IsSameOutlet-trans replies at now turns.same one.same;
@@ -226,9 +229,21 @@ answers-waits old new seat item reply answers none = record {
 
 module _ {P Q : Type 0} where
   pub turn-serves : (seat : ℕ) (old new : Sequencing) (requests after : Requests P) (replies now : Replies Q) (came : Turn)
-      → KeepsLead old new → IsTurn seat old requests replies came new after now → Serves old new
-  turn-serves seat old new requests after replies now came keeps one = record { keeps = keeps; waits = waits came one }
+      → KeepsLead old new → Recollects old new → IsTurn seat old requests replies came new after now → Serves old new
+  turn-serves seat old new requests after replies now came keeps recollects one = record {
+    keeps = keeps;
+    waits = waits came one;
+    rises = moves-rise old new (moves came one);
+    goes_on = goes-on old new keeps recollects (moves came one);
+  }
     where
+      moves : (came : Turn) → IsTurn seat old requests replies came new after now → MovesOn old new
+      moves turn.Served one = moves-answered old new seat one.served.0 one.served.1 one.served.4
+      moves turn.Idle one = moves-same old new one.unserved.0
+      moves turn.Blocked one = moves-same old new one.unserved.0
+      moves turn.GroupFull one = moves-same old new one.unserved.0
+      moves turn.Ended one = moves-same old new one.unserved.0
+
       waits : (came : Turn) → IsTurn seat old requests replies came new after now → HasNothingOpen new → HasNothingOpen old
       waits turn.Served one none = answers-waits old new seat one.served.0 one.served.1 one.served.4 none
       waits turn.Idle one none = subst HasNothingOpen one.unserved.0 none
@@ -245,15 +260,22 @@ module _ {P Q : Type 0} where
 -- ---- serving
 
 pub serves-still : (s : Sequencing) → Serves s s
-serves-still s = record { keeps = λ _ _ _ leads. leads; waits = λ none. none }
+serves-still s = record { keeps = λ _ _ _ leads. leads; waits = λ none. none; rises = le_refl s.position; goes_on = goes-on-still s }
 
 pub serves-then : (old between new : Sequencing) → Serves old between → Serves between new → Serves old new
-serves-then old between new one other = record { keeps = λ contents waiting aside leads. other.keeps contents waiting aside (one.keeps contents waiting aside leads); waits = λ none. one.waits (other.waits none) }
+serves-then old between new one other = record {
+  keeps = λ contents waiting aside leads. other.keeps contents waiting aside (one.keeps contents waiting aside leads);
+  waits = λ none. one.waits (other.waits none);
+  rises = omega (arith, one.rises, other.rises);
+  goes_on = goes-on-then old between new one.rises one.keeps one.goes_on other.goes_on;
+}
 
-pub moved-serves : (old new : Sequencing) (seat : ℕ) (now : Option Session) → KeepsLead old new → MovesSeat old seat now new → Serves old new
-moved-serves old new seat now keeps moves = record {
+pub moved-serves : (old new : Sequencing) (seat : ℕ) (now : Option Session) → KeepsLead old new → Recollects old new → MovesSeat old seat now new → Serves old new
+moved-serves old new seat now keeps recollects moves = record {
   keeps = keeps;
   waits = λ none. record { no_changes = sym moves.waiting ∙ none.no_changes; none_ended = sym moves.ended ∙ none.none_ended };
+  rises = omega (arith, moves.position);
+  goes_on = goes-on old new keeps recollects (moves-seated old new seat now moves);
 }
 
 -- who waits goes on to wait for something

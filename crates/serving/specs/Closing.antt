@@ -26,6 +26,13 @@ abbrev pub ClosesList : Gathering → ℕ → Bool → Sequencing → Waiting Wo
 ClosesList gathering remote is_short old before new after did =
     ClosesDue (is_list_due gathering old.position remote is_short (length old.ended)) old before new after did
 
+-- It was due and might have been closed, and nothing changed.
+pub record LacksMemory (due : Bool) (old : Sequencing) (before : Waiting Work) (new : Sequencing) (after : Waiting Work) : Type 0 where
+  pub is_due : due ≡ true
+  pub may : MayClose old before
+  pub stays : new ≡ old
+  pub left : after.items ≡ before.items
+
 -- Room is short where a request waits for it, or where a group was closed that leaves less than what a list may keep back.
 abbrev pub is_tight : Bool → Bool → Sequencing → Bool
 is_tight is_short is_closed s = is_short || (is_closed && not (has_room LISTED_AT_ONCE LINES_OF_AN_ENTRY s.room))
@@ -41,3 +48,10 @@ pub record ClosesBoth (gathering : Gathering) (remote : ℕ) (is_short : Bool) (
   pub group : ClosesGroup gathering remote is_short old before between middle noted is_closed
   pub list : ClosesList noted remote (is_tight is_short is_closed between) between middle new after is_listed
   pub did_is : did ≡ (is_closed || is_listed)
+
+-- What a refusal of memory leaves: the group that was due is not closed; or what was due of it is, and the list that was due is not.
+abbrev pub LacksBoth : Gathering → ℕ → Bool → Sequencing → Waiting Work → Sequencing → Waiting Work → Gathering → Type 0
+LacksBoth gathering remote is_short old before new after noted =
+    LacksMemory (is_group_due gathering old.position remote is_short) old before new after
+    ⊎ ((between : Sequencing) × (middle : Waiting Work) × (is_closed : Bool) × ClosesGroup gathering remote is_short old before between middle noted is_closed
+    × LacksMemory (is_list_due noted between.position remote (is_tight is_short is_closed between) (length between.ended)) between middle new after)

@@ -1,5 +1,5 @@
 -- What the committer's thread is lent, and what may become of it.
-use Rattle.std.specs.Prelude.{◌≡◌, ◌≤◌, ℕ, Bool, nat_lt, Option, Some, None, List, [], ◌∷◌, true, Ok, Err, Result}
+use Rattle.std.specs.Prelude.{◌≡◌, ℕ, Bool, nat_lt, Option, Some, None, List, [], ◌∷◌, true, Ok, Err, Result}
 use Rattle.pmem.specs.Device.{State}
 use Rattle.kv_types.specs.declared.refusal.Refusal.{Refusal}
 use Rattle.model.specs.declared.group.Group.{Group}
@@ -14,6 +14,7 @@ use Rattle.group_commit.specs.Due.{due_now}
 use Rattle.group_commit.specs.Working.{Takes}
 use Rattle.primary.specs.Settled.{HasNothingInHand}
 use Rattle.primary.specs.Standing.{BackStands, notices_of}
+use Rattle.serving.specs.Keeping.{KeepsThrough}
 use Rattle.serving.specs.Stepping.{EndAs}
 use Rattle.serving.specs.declared.committing.Stepped.{Stepped}
 use Rattle.serving.specs.declared.commit_job.CommitJob.{CommitJob}
@@ -74,11 +75,12 @@ module _ {E : Type 0} (device : E → State) (contents : E → Contents) where
       AreSteps remote old link (came ∷ all) new link' =
           (between : Back E) × (at : RingOutlet Group P) × IsStep remote old link came between at × AreSteps remote between at all new link'
 
-    -- All steps were taken by the remote mark of the job, which stays, until they end. Each sequencer that was ahead of it is so after them, and what they
-    -- committed is shown.
+    -- All steps were taken by the remote mark of the job, which stays, until they end. Each sequencer that was ahead of it is so after them, what they
+    -- committed is shown, and what was kept of the past is, if the standby has passed that mark.
     abbrev pub DoesSteps : CommitJob E → CommitJob E → Type 0
     DoesSteps old new =
         ((s : Sequencing) → BackStands device contents old.back s [] → StandsAfter new.back s new.came)
         × IsShownAfter new.back new.marks new.came
         × (new.remote ≡ old.remote)
         × ((all : List (Result Done Refusal)) × AreSteps old.remote old.back old.groups all new.back new.groups × EndAs all new.came)
+        × KeepsThrough device contents is_faulted old.remote old.back new.came new.back

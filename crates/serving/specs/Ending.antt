@@ -1,5 +1,5 @@
 -- How the turns of a connection end.
-use Rattle.std.specs.Prelude.{◌≡◌, ◌≢◌, ◌⊎◌, ◌+◌, ℕ, max, Bool, true, false, not, ◌&&◌, ◌||◌, nat_lt, if◌then◌else◌, length}
+use Rattle.std.specs.Prelude.{◌≡◌, ◌≢◌, ◌⊎◌, ◌+◌, max, Bool, true, not, ◌&&◌, ◌||◌, nat_lt, if◌then◌else◌, length}
 use Rattle.extent_heap.specs.Room.{has_room}
 use Rattle.pipes.specs.Ring.{offered_at}
 use Rattle.redis_core.specs.declared.turn.Turn.{Turn}

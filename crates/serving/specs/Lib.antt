@@ -1,9 +1,11 @@
+pub mod Acts
 pub mod Again
 pub mod Callers
 pub mod Closing
 pub mod CommitJob
 pub mod Ending
 pub mod Gathering
+pub mod Keeping
 pub mod Linking
 pub mod Need
 pub mod Places

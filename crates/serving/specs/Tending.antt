@@ -13,7 +13,7 @@ use Rattle.rtrb.specs.Ring.{known_free}
 use Rattle.redis_core.specs.Sequencing.{Sequencing}
 use Rattle.group_commit.specs.Due.{due_now}
 use Rattle.primary.specs.Standing.{IsTold}
-use Rattle.serving.specs.Closing.{ClosesBoth}
+use Rattle.serving.specs.Closing.{ClosesBoth, LacksBoth}
 use Rattle.serving.specs.CommitJob.{DoesSteps}
 use Rattle.serving.specs.Serving.{Serves}
 use Rattle.serving.specs.Steps.{does_step}
@@ -51,7 +51,7 @@ did_tend tended = did_close tended.closed || did_step tended.job
 -- what is due was closed, or memory for it was refused
 abbrev pub ClosesOrLacks : Gathering → ℕ → Bool → Sequencing → Waiting Work → Sequencing → Waiting Work → Gathering → Result Bool Refusal → Type 0
 ClosesOrLacks gathering remote is_short old before new after noted (Ok did) = ClosesBoth gathering remote is_short old before new after noted did
-ClosesOrLacks gathering remote is_short old before new after noted (Err cause) = cause ≡ refusal.Memory
+ClosesOrLacks gathering remote is_short old before new after noted (Err cause) = (cause ≡ refusal.Memory) × LacksBoth gathering remote is_short old before new after noted
 
 -- by what is known of an engine
 module _ {E : Type 0} (device : E → State) (contents : E → Contents) (is_faulted : E → Bool) where

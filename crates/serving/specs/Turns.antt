@@ -24,11 +24,11 @@ Requests P = LookAhead Item (RingInlet Item P)
 abbrev pub Replies : Type 0 → Type 0
 Replies Q = RingOutlet Held Q
 
--- These items were answered one after the other, each once, and these are the replies, each with the position of the list after it.
+-- These items were answered one after the other, each once and where the group was not full, and these are the replies, each with the position of the list after it.
 abbrev pub AreAnswered : ℕ → Sequencing → List Item → List Held → Sequencing → Type 0
 AreAnswered seat old [] [] new = new ≡ old
 AreAnswered seat old (item ∷ items) (held ∷ replies) new =
-    (between : Sequencing) × Answers old seat item held.reply between × (held.position ≡ between.position) × AreAnswered seat between items replies new
+    (between : Sequencing) × (length old.waiting < MAX_PARTS) × Answers old seat item held.reply between × (held.position ≡ between.position) × AreAnswered seat between items replies new
 AreAnswered seat old _ _ new = ⊥
 
 module _ {P : Type 0} where

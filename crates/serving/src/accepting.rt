@@ -16,6 +16,11 @@ const NO_SEAT: &[u8] = b"-ERR max number of clients reached\r\n";
 /// How long it rests where a connection was refused it, as where there are no more descriptors, in milliseconds.
 const PAUSE_MILLISECONDS: u64 = 100;
 
+/// How often it looks for a seat where some are closed that are idle for too long, and after how many milliseconds each time.
+const SEAT_TRIES: u32 = 40;
+
+const SEAT_MILLISECONDS: u64 = 5;
+
 /// What the acceptor owns.
 #[derive(Drop)]
 pub struct Acceptor {
@@ -23,6 +28,8 @@ pub struct Acceptor {
     drivers: Vec<DriverEntrance>,
     /// Which of them has its turn next.
     turn: usize,
+    /// Whether they close connections that are idle for too long.
+    closes_idle: bool,
     ready: Arc<ReadyList>,
     /// Set once no further connection is accepted.
     listener_closed: Arc<Flag>,
@@ -31,9 +38,10 @@ pub struct Acceptor {
 }
 
 impl Acceptor {
-    /// An acceptor that gives connections to these drivers in turn. It sets the flag once it accepts no further connection.
+    /// An acceptor that gives connections to these drivers in turn, which close those that are idle for too long, or do not. It sets the flag once it accepts no further connection.
     pub fn new(
         drivers: Vec<DriverEntrance>,
+        closes_idle: bool,
         ready: Arc<ReadyList>,
         listener_closed: Arc<Flag>,
         node: Waker,
@@ -41,14 +49,15 @@ impl Acceptor {
         Acceptor {
             drivers,
             turn: 0,
+            closes_idle,
             ready,
             listener_closed,
             node,
         }
     }
 
-    /// Accepts connections until the listener takes none any more, and then says so to the node's thread. A connection for which there is no seat is
-    /// told so and closed; one for which memory is refused is closed.
+    /// Accepts connections until the listener takes none any more, and then says so to the node's thread. A connection for which there is no seat, and for
+    /// which none is made by closing others that are idle for too long, is told so and closed; one for which memory is refused is closed.
     pub fn run<R: Wait + Clock>(
         self,
         rt: &R,
@@ -80,7 +89,7 @@ impl Acceptor {
     }
 
     /// Gives a connection to the next driver.
-    fn admit<R: Wait>(
+    fn admit<R: Wait + Clock>(
         &mut self,
         rt: &R,
         alloc: Global,
@@ -94,7 +103,7 @@ impl Acceptor {
     }
 
     /// Gives a connection a seat and a place at its driver, if there are both.
-    fn admit_at<R: Wait>(
+    fn admit_at<R: Wait + Clock>(
         &self,
         rt: &R,
         alloc: Global,
@@ -102,12 +111,41 @@ impl Acceptor {
         driver: &DriverEntrance,
         entrance: &Arc<SharedEntrance>,
     ) {
-        match admission(rt, driver, entrance) {
+        match self.find_seat(rt, driver, entrance) {
             Some(admission) => self.connect(rt, alloc, stream, admission, driver, entrance),
             None => {
                 let _ = (&mut &stream).write_all(NO_SEAT);
             }
         }
+    }
+
+    /// A seat, and a place at this driver. Where there is none, those are closed that are idle for too long, if there are such.
+    fn find_seat<R: Wait + Clock>(
+        &self,
+        rt: &R,
+        driver: &DriverEntrance,
+        entrance: &Arc<SharedEntrance>,
+    ) -> Option<Admission> {
+        let found = admission(rt, driver, entrance);
+        if found.is_some() || !self.closes_idle {
+            return found;
+        }
+        for each in &self.drivers {
+            each.look_for_idle();
+        }
+        for _ in 0..SEAT_TRIES {
+            thread::sleep(rt, Duration::from_millis(SEAT_MILLISECONDS));
+            let found = admission(rt, driver, entrance);
+            if found.is_some() || self.has_found_none() {
+                return found;
+            }
+        }
+        None
+    }
+
+    /// Whether all drivers have looked, and nobody is idle for too long.
+    fn has_found_none(&self) -> bool {
+        self.drivers.iter().all(|each| each.has_found_none())
     }
 
     /// Hands a connection to its driver, and lets it wait at the entrance. The driver has it first: whoever is called for it is there then.

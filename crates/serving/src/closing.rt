@@ -1,8 +1,10 @@
 //! What is due is closed: changes that wait become a group, versions that have ended a free list.
-ghost use Rattle.std.specs.Prelude.{◌≡◌, [], IfOk, IfErr};
+ghost use Rattle.std.specs.Prelude.{◌≡◌, ℕ, [], length, IfOk, IfErr, OnErr};
 ghost use Rattle.extent_heap.specs.Room.{has_room};
+ghost use Rattle.primary.specs.Recalling.{BackKeeps, Past};
 ghost use Rattle.primary.specs.Standing.{BackStands};
-ghost use Rattle.serving.specs.Closing.{ClosesBoth, ClosesGroup, ClosesList};
+ghost use Rattle.serving.specs.Closing.{ClosesBoth, ClosesGroup, ClosesList, LacksBoth, LacksMemory};
+ghost use Rattle.serving.specs.Gathering.{is_group_due, is_list_due};
 ghost use Rattle.serving.specs.declared.gathering.TheConstants.{LISTED_AT_ONCE};
 
 use crate::gathering::{Gathering, LISTED_AT_ONCE};
@@ -32,8 +34,13 @@ pub(crate) fn close_due<E: Durable, K: Keyspace>(
     requires { BackStands E.device E.contents back.old front.old.sequencer [] }
     ensures closes { IfOk result (ClosesBoth gathering.old remote is_short front.old.sequencer back.old.work front.new.sequencer back.new.work gathering.new) }
     ensures cause { IfErr result (λ refusal. refusal ≡ Refusal.Memory) }
+    // memory is said to be refused only for what was due and might have been closed
+    ensures lacks { OnErr result (LacksBoth gathering.old remote is_short front.old.sequencer back.old.work front.new.sequencer back.new.work gathering.new) }
     ensures stands { BackStands E.device E.contents back.new front.new.sequencer [] }
     ensures committer { back.new.committer ≡ back.old.committer }
+    // nothing is called, and what is kept of the past stays so
+    ensures at { front.new.sequencer.position ≡ front.old.sequencer.position }
+    ensures past { (low : ℕ) (past : Past) → BackKeeps E.contents low past back.old front.old.sequencer → BackKeeps E.contents low past back.new front.new.sequencer }
 {
     let is_closed = close_group(alloc, front, back, gathering, remote, is_short)?;
     let is_tight = is_short || (is_closed && !has_ample_room(front));
@@ -56,8 +63,12 @@ fn close_group<E: Durable, K: Keyspace>(
 ) -> Result<bool, Refusal>
     ensures closes { IfOk result (ClosesGroup gathering.old remote is_short front.old.sequencer back.old.work front.new.sequencer back.new.work gathering.new) }
     ensures cause { IfErr result (λ refusal. refusal ≡ Refusal.Memory) }
+    ensures lacks { OnErr result (LacksMemory (is_group_due gathering.old front.old.sequencer.position remote is_short) front.old.sequencer back.old.work front.new.sequencer back.new.work) }
     ensures stands { BackStands E.device E.contents back.old front.old.sequencer [] → BackStands E.device E.contents back.new front.new.sequencer [] }
     ensures committer { back.new.committer ≡ back.old.committer }
+    ensures at { front.new.sequencer.position ≡ front.old.sequencer.position }
+    ensures past { (low : ℕ) (past : Past) → BackStands E.device E.contents back.old front.old.sequencer [] → BackKeeps E.contents low past back.old front.old.sequencer
+        → BackKeeps E.contents low past back.new front.new.sequencer }
 {
     let position = front.position();
     if !gathering.is_group_due(position, remote, is_short) {
@@ -85,8 +96,13 @@ fn close_list<E: Durable, K: Keyspace>(
 ) -> Result<bool, Refusal>
     ensures closes { IfOk result (ClosesList gathering.now remote is_short front.old.sequencer back.old.work front.new.sequencer back.new.work) }
     ensures cause { IfErr result (λ refusal. refusal ≡ Refusal.Memory) }
+    ensures lacks { OnErr result (LacksMemory (is_list_due gathering.now front.old.sequencer.position remote is_short (length front.old.sequencer.ended)) front.old.sequencer back.old.work
+        front.new.sequencer back.new.work) }
     ensures stands { BackStands E.device E.contents back.old front.old.sequencer [] → BackStands E.device E.contents back.new front.new.sequencer [] }
     ensures committer { back.new.committer ≡ back.old.committer }
+    ensures at { front.new.sequencer.position ≡ front.old.sequencer.position }
+    ensures past { (low : ℕ) (past : Past) → BackStands E.device E.contents back.old front.old.sequencer [] → BackKeeps E.contents low past back.old front.old.sequencer
+        → BackKeeps E.contents low past back.new front.new.sequencer }
 {
     let ended = front.count_ended();
     if !gathering.is_list_due(front.position(), remote, is_short, ended) {

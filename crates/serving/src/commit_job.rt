@@ -1,5 +1,6 @@
 //! What the committer's thread is lent, and what it does with it.
-ghost use Rattle.std.specs.Prelude.{◌≡◌, [], Ok, Err, None, IfErr, IfOk, OnOk};
+ghost use Rattle.std.specs.Prelude.{◌≡◌, ℕ, [], Ok, Err, None, IfErr, IfOk, OnOk};
+ghost use Rattle.primary.specs.Recalling.{BackKeeps, Past};
 ghost use Rattle.primary.specs.Standing.{BackStands, IsTold};
 ghost use Rattle.serving.specs.CommitJob.{DoesSteps, IsLed, IsShown, IsShownAfter, StandsAfter};
 ghost use Rattle.serving.specs.declared.committing.Stepped.{Stepped as Steps};
@@ -93,6 +94,9 @@ pub(crate) fn settle<E: Durable, K: Keyspace>(
     ensures shown { OnOk result (IsShown E.device E.contents job.now.back job.now.marks) }
     ensures told { IfOk result (λ did. (stepped : Steps) × (job.now.came ≡ Ok stepped) × (did ≡ stepped.any) × IsTold stepped.last front.old.sequencer front.new.sequencer) }
     ensures refused { IfErr result (λ refusal. job.now.came ≡ Err refusal) }
+    // nothing is called, and what is kept of the past stays so
+    ensures at { front.new.sequencer.position ≡ front.old.sequencer.position }
+    ensures past { (low : ℕ) (past : Past) → BackKeeps E.contents low past job.now.back front.old.sequencer → BackKeeps E.contents low past job.now.back front.new.sequencer }
 {
     match &job.came {
         Ok(stepped) => {

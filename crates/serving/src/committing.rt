@@ -6,6 +6,7 @@ ghost use Rattle.group_commit.specs.declared.stage.Done.{Done as Came};
 ghost use Rattle.redis_core.specs.Sequencing.{Sequencing};
 ghost use Rattle.primary.specs.Standing.{BackStands, notices_of, position_after};
 ghost use Rattle.serving.specs.CommitJob.{AreSteps, IsShown, IsStep};
+ghost use Rattle.serving.specs.Keeping.{KeepsThrough};
 ghost use Rattle.serving.specs.Stepping.{EndAs, does_something, is_passed, passed_on};
 ghost use Rattle.serving.specs.Steps.{does_step};
 
@@ -65,6 +66,8 @@ pub(crate) fn take_steps<E: Durable>(
         → BackStands E.device E.contents back.new s (notices_of stepped.last)) }
     ensures shown { OnOk result (IsShown E.device E.contents back.new marks.new) }
     ensures steps { (all : List (Result Came Cause)) × AreSteps E.device E.contents E.is_faulted remote back.old groups.old all back.new groups.new × EndAs all result }
+    // what was kept of the past is, where the standby has passed the remote mark
+    ensures past { KeepsThrough E.device E.contents E.is_faulted remote back.old result back.new }
 {
     let mut any = false;
     for _ in 0..MOST_STEPS {
@@ -94,6 +97,7 @@ fn take_step<E: Durable>(
         → BackStands E.device E.contents back.new s (notices_of came)) }
     ensures shown { OnOk result (IsShown E.device E.contents back.new marks.new) }
     ensures step { (came : Result Came Cause) × IsStep E.device E.contents E.is_faulted remote back.old groups.old came back.new groups.new × (result ≡ passed_on came) }
+    ensures past { KeepsThrough E.device E.contents E.is_faulted remote back.old result back.new }
 {
     match back.commit(alloc, groups, remote) {
         Ok(done) => {

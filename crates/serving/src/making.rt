@@ -11,11 +11,12 @@ use crate::shared_entrance::SharedEntrance;
 use crate::watching::Watcher;
 use clients::{Driver, DriverEntrance, Shown};
 use kv_types::Refusal;
-use links::{AckReceiver, LinkSender};
+use links::{AckReceiver, FillReader, FillSetter, LinkSender, new_fill};
 use lobby::Entrance;
 use marks::{Committer, MarkSeat, Marks, Reader, ThreadMarks};
 use model::Group;
 use pipes::{RingOutlet, RingPipe};
+use placing::Fill;
 use standby_stream::{Opening, Outgoing};
 use std::alloc::{AllocError, Global};
 use std::net::Net;
@@ -102,7 +103,8 @@ struct ClientEnds {
     node: Waker,
 }
 
-/// All that the threads of a primary own, over an image that is durable so far. Where a time is given, connections are closed that are idle for so long.
+/// All that the threads of a primary own, over an image that is durable so far, and that holds so much. Where a time is given, connections are closed that are
+/// idle for so long.
 ///
 /// # Errors
 ///
@@ -115,11 +117,13 @@ pub(crate) fn new_threading<R: Net>(
     epoch: u64,
     address: String,
     idle: Option<Duration>,
+    fill: &Fill,
 ) -> Result<Threading, Refusal>
     ensures marks { IfOk result (λ made. (made.node.committer_marks.raises_local ≡ true) × (made.node.committer_marks.local ≡ committed.now)) }
     ensures link { IfOk result (λ made. Begin epoch opening made.sender made.receiver) }
 {
     let (due, due_out) = due_list(alloc)?;
+    let fill = new_fill(alloc, fill)?;
     let Seats {
         marks,
         root,
@@ -141,7 +145,7 @@ pub(crate) fn new_threading<R: Net>(
         &client_ends.node,
     );
     match made {
-        Ok(link) => Ok(assemble(client_ends, link, local, node, observer)),
+        Ok(link) => Ok(assemble(client_ends, link, local, node, observer, fill)),
         Err(refusal) => {
             drop(client_ends);
             Err(refusal)
@@ -155,6 +159,7 @@ fn assemble(
     committer_marks: ThreadMarks,
     marks: ThreadMarks,
     observer: ThreadMarks,
+    fill: (FillSetter, FillReader),
 ) -> Threading
     ensures marks { result.node.committer_marks ≡ committer_marks }
     ensures link { (result.sender ≡ link.sender) × (result.receiver ≡ link.receiver) }
@@ -184,6 +189,7 @@ fn assemble(
         sleeper,
         idle: Idle::new(NODE_SPIN),
         listener_closed,
+        fill: fill.0,
     };
     Threading {
         node,
@@ -192,7 +198,7 @@ fn assemble(
         acceptor,
         drivers,
         entrance,
-        watcher: Watcher::new(observer, shown),
+        watcher: Watcher::new(observer, shown, fill.1),
         wake,
     }
 }
@@ -289,7 +295,13 @@ fn new_client_ends<R: Net>(
     let listener_closed = shared(alloc, Flag::new())?;
     let entrance = new_entrance(alloc)?;
     let (drivers, entrances, shown) = new_drivers(rt, alloc, marks, root, idle)?;
-    let acceptor = Acceptor::new(entrances, ready.0, listener_closed.0, node.another()?);
+    let acceptor = Acceptor::new(
+        entrances,
+        idle.is_some(),
+        ready.0,
+        listener_closed.0,
+        node.another()?,
+    );
     let connections = OpenConnections::new(alloc, entrance.0, ready.1, due)?;
     Ok(ClientEnds {
         connections,

@@ -1,8 +1,10 @@
 //! The node's thread: it serves the connections, and has committed what they changed and freed what has ended.
 ghost use Rattle.std.specs.Prelude.{◌≡◌, ◌≤◌, ◌↔◌, max, None, false, true, IfOk, IsSome, OnOk};
+ghost use Rattle.placing.specs.Fill.{fill_of};
 ghost use Rattle.primary.specs.Settled.{HasNothingOpen};
 ghost use Rattle.primary.specs.Standing.{Stands};
 ghost use Rattle.serving.specs.CommitJob.{GoesBy, HasNothingAtHome, IsHereOrLent, IsShown, remote_of};
+ghost use Rattle.serving.specs.Keeping.{JobKeepsThrough, PastGoesOn, RunGoesOn, job_of};
 ghost use Rattle.serving.specs.Serving.{HasRead, Serves};
 ghost use Rattle.serving.specs.Tending.{Fetches, TakesRound, Tends};
 ghost use Rattle.serving.specs.Visiting.{ServesRound};
@@ -18,6 +20,7 @@ use crate::tended::{Fetched, JobCame, Tended};
 use group_commit::Done;
 use kv_types::Refusal;
 use lending::Lender;
+use links::FillSetter;
 use marks::ThreadMarks;
 use model::Group;
 use mv_keyspace::Keyspace;
@@ -45,6 +48,8 @@ pub struct Node {
     pub idle: Idle,
     /// Set once no further connection is accepted.
     pub listener_closed: Arc<Flag>,
+    /// Where it shows how much it holds.
+    pub fill: FillSetter,
 }
 
 /// The committer's thread, as the node's has it.
@@ -67,6 +72,8 @@ struct NodeState<E: Durable, K: Keyspace> {
     /// The job, where it is not lent.
     home: Option<CommitJob<E>>,
     gathering: Gathering,
+    /// Where it is shown how much the front holds.
+    fill: FillSetter,
 }
 
 /// Serves the connections until the engine refuses a step, by `Fault` or `Exhausted`, or no further connection is accepted.
@@ -92,6 +99,7 @@ pub(crate) fn serve<R: Wait + Clock, E: Durable + Drop, K: Keyspace + Drop>(
         sleeper,
         mut idle,
         listener_closed,
+        fill,
     } = node;
     let gathering = Gathering::new(front.position());
     let mut state = NodeState {
@@ -102,6 +110,7 @@ pub(crate) fn serve<R: Wait + Clock, E: Durable + Drop, K: Keyspace + Drop>(
         waker,
         home: Some(new_job(back, committer_marks, groups, link)),
         gathering,
+        fill,
     };
     let stop = take_rounds(rt, alloc, &mut state, &mut idle, &sleeper, &listener_closed);
     drop(state);
@@ -119,6 +128,9 @@ fn take_rounds<R: Wait + Clock, E: Durable + Drop, K: Keyspace>(
 ) -> Stop
     requires stands { IsHereOrLent E.device E.contents state.old.home state.old.lender.value state.old.front.sequencer }
     requires remote { (remote_of state.old.home ≤ state.old.marks.remote) × (remote_of state.old.lender.value ≤ state.old.marks.remote) }
+    // however many rounds there were: the past that was kept goes on, where the standby has passed the remote mark as it was read last
+    ensures past { result ≡ Stop.ListenerClosed → RunGoesOn E.device E.contents E.is_faulted state.new.marks.remote (job_of state.old.home state.old.lender.value)
+        state.old.front.sequencer (job_of state.new.home state.new.lender.value) state.new.front.sequencer }
 {
     for _ in rt.forever() {
         let is_busy = match take_round(rt, alloc, state) {
@@ -135,7 +147,8 @@ fn take_rounds<R: Wait + Clock, E: Durable + Drop, K: Keyspace>(
 }
 
 /// Takes the job back if it is done and has committed what is due, so that this goes on while connections are served. Then it has committed what became due
-/// meanwhile. Answers whether anything was done. The job goes by no more of the remote mark than was read of it.
+/// meanwhile. Answers whether anything was done. The job goes by no more of the remote mark than was read of it. How much the front holds in the end is
+/// shown.
 ///
 /// # Errors
 ///
@@ -153,11 +166,16 @@ fn take_round<R: Wait + Clock, E: Durable + Drop, K: Keyspace>(
     ensures round { IfOk result (TakesRound E.device E.contents E.is_faulted state.old.marks.remote state.old.connections state.old.gathering
         state.old.home state.old.lender state.old.front.sequencer state.new.marks.remote state.new.connections state.new.gathering
         state.new.home state.new.lender state.new.front.sequencer) }
+    // the past that was kept goes on, where the standby has passed the remote mark
+    ensures past { OnOk result (PastGoesOn E.device E.contents E.is_faulted state.new.marks.remote (job_of state.old.home state.old.lender.value) state.old.front.sequencer
+        (job_of state.new.home state.new.lender.value) state.new.front.sequencer) }
+    ensures shown { OnOk result (state.new.fill ≡ fill_of (state.new.front.sequencer).table (state.new.front.sequencer).room) }
 {
     let fetched = fetch(&mut state.front, &mut state.lender, &mut state.home)?;
     let before = commit_due(rt, alloc, state)?;
     let served = serve_connections(rt, alloc, state);
     let after = commit_due(rt, alloc, state)?;
+    state.fill.show(&state.front.fill());
     Ok(fetched.is_busy() | before.is_busy() | served | after.is_busy())
 }
 
@@ -198,6 +216,8 @@ fn commit_due<R: Clock, E: Durable + Drop, K: Keyspace>(
     ensures tends { IfOk result (Tends E.device E.contents E.is_faulted state.new.marks.remote state.old.connections.is_short state.old.gathering
         state.new.gathering state.old.home state.old.lender state.old.front.sequencer state.new.home state.new.lender state.new.front.sequencer) }
     ensures connections { state.new.connections ≡ state.old.connections }
+    ensures past { OnOk result (JobKeepsThrough E.device E.contents E.is_faulted state.new.marks.remote (job_of state.old.home state.old.lender.value) state.old.front.sequencer
+        (job_of state.new.home state.new.lender.value) state.new.front.sequencer) }
 {
     let remote = state.marks.read_remote();
     let is_short = state.connections.is_short();
@@ -259,6 +279,8 @@ fn fetch<E: Durable + Drop, K: Keyspace>(
     ensures stands { OnOk result (IsHereOrLent E.device E.contents home.new lender.new.value front.new.sequencer) }
     ensures remote { (remote_of home.new ≤ max (remote_of home.old) (remote_of lender.old.value)) × (remote_of lender.new.value ≤ remote_of lender.old.value) }
     ensures fetches { IfOk result (Fetches E.device E.contents E.is_faulted home.old lender.old front.old.sequencer home.new lender.new front.new.sequencer) }
+    ensures past { OnOk result (JobKeepsThrough E.device E.contents E.is_faulted (remote_of lender.old.value) (job_of home.old lender.old.value) front.old.sequencer
+        (job_of home.new lender.new.value) front.new.sequencer) }
 {
     if home.is_some() {
         return Ok(Fetched::Here);
@@ -296,6 +318,8 @@ fn commit<R: Clock, E: Durable + Drop, K: Keyspace>(
     ensures remote { OnOk result ((remote_of home.new ≤ remote) × (remote_of lender.new.value ≤ remote)) }
     ensures tends { IfOk result (Tends E.device E.contents E.is_faulted remote is_short gathering.old gathering.new home.old lender.old front.old.sequencer
         home.new lender.new front.new.sequencer) }
+    ensures past { OnOk result (JobKeepsThrough E.device E.contents E.is_faulted remote (job_of home.old lender.old.value) front.old.sequencer
+        (job_of home.new lender.new.value) front.new.sequencer) }
 {
     let Some(job) = home.take() else {
         return Ok(Tended::AWAY);

@@ -1,5 +1,5 @@
 //! What an operator may ask of a primary.
-use links::Log;
+use links::{Capacity, Log};
 use std::time::Duration;
 
 /// What a primary tells and where, and which connections it closes.
@@ -7,12 +7,21 @@ use std::time::Duration;
 pub struct Setup<W> {
     /// Where it is told what becomes of the link.
     pub link: Log<W>,
-    /// Where it is told how long replies wait for the standby, if it is.
-    pub watch: Option<Log<W>>,
-    /// How often it is told there how far both nodes are, in seconds, if it is.
-    pub report_seconds: Option<u64>,
+    /// What is told of the node while it runs, if anything is.
+    pub watch: Option<Watch<W>>,
     /// How long nothing may come on a connection for which nothing waits, before it is closed. Without it any time.
     pub idle: Option<Duration>,
+}
+
+/// What is told of a node while it runs: how long replies wait for the standby, of an image that fills, and how far both nodes are.
+#[derive(Drop)]
+pub struct Watch<W> {
+    /// Where it is told.
+    pub log: Log<W>,
+    /// How often it is told how far both nodes are, in seconds, if it is.
+    pub report_seconds: Option<u64>,
+    /// For how much the node's image has room.
+    pub capacity: Capacity,
 }
 
 impl<W> Setup<W> {
@@ -21,7 +30,6 @@ impl<W> Setup<W> {
         Setup {
             link,
             watch: None,
-            report_seconds: None,
             idle: None,
         }
     }

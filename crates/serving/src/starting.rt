@@ -12,7 +12,7 @@ use crate::crossing::{acceptor_is_send, is_accepting, is_running};
 use crate::link_ends::LinkEnds;
 use crate::making::{NODE_SPIN, Threading, new_threading};
 use crate::node::{Lent, serve};
-use crate::setup::Setup;
+use crate::setup::{Setup, Watch};
 use crate::shared_entrance::SharedEntrance;
 use crate::stop::Stop;
 use crate::watching::Watcher;
@@ -37,8 +37,9 @@ use wbl_engine::Durable;
 /// connection. The threads that it started end with the program.
 ///
 /// The answer is why: `Fault` or `Exhausted` of the engine, `Memory` where there was none to begin with, or for a thread, or that the listener is over.
-/// What becomes of the link is told, and what else is asked for. What is sent and what is acknowledged there is of the epoch of the image that was opened, and what a standby is told that is
-/// behind is what was in it.
+/// What becomes of the link is told, and what else is asked for. What is sent and what is acknowledged there is of the epoch of the image that was opened, and
+/// what a standby is told that is behind is what was in it: it leads to the keyspace that was opened, from each position at which that image recalls its
+/// keyspace.
 pub fn run<
     R: Threads
         + Wait
@@ -69,7 +70,10 @@ pub fn run<
         ..
     } = opened;
     let committed = primary.back.committed();
-    match new_threading(&rt, alloc, &committed, opening, epoch, address, setup.idle) {
+    let fill = primary.front.fill();
+    match new_threading(
+        &rt, alloc, &committed, opening, epoch, address, setup.idle, &fill,
+    ) {
         Ok(threading) => start(rt, alloc, threading, listener, primary, setup),
         Err(refusal) => {
             drop(primary);
@@ -114,7 +118,7 @@ fn start<
         wake,
     } = threading;
     let is_sending = start_sender(rt, alloc, sender, receiver, setup.link);
-    let is_watching = start_watcher(rt, watcher, setup.watch, setup.report_seconds);
+    let is_watching = start_watcher(rt, watcher, setup.watch);
     let is_driving = start_drivers(rt, drivers);
     let is_accepting = start_acceptor(rt, alloc, acceptor, listener, entrance);
     match start_committer(
@@ -154,11 +158,11 @@ fn start_sender<
 fn start_watcher<
     R: Threads + Wait + Clock + Copy + Send + 'static,
     W: Write + Send + Drop + 'static,
->(rt: R, watcher: Watcher, log: Option<Log<W>>, report_seconds: Option<u64>) -> bool {
-    let Some(log) = log else {
+>(rt: R, watcher: Watcher, watch: Option<Watch<W>>) -> bool {
+    let Some(watch) = watch else {
         return true;
     };
-    let spawned = thread::spawn(&rt, move || watcher.run(&rt, log, report_seconds));
+    let spawned = thread::spawn(&rt, move || watcher.run(&rt, watch));
     spawned.ok().is_some()
 }
 

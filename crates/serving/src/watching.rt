@@ -1,9 +1,10 @@
-//! What a primary tells of itself while it runs: how long replies wait for the standby, and now and then how far both nodes are.
+//! What a primary tells of itself while it runs: how long replies wait for the standby, of an image that fills, and now and then how far both nodes are.
 ghost use Rattle.std.specs.Prelude.{◌<◌};
 
+use crate::setup::Watch;
 use clients::Shown;
 use kv_types::Seen;
-use links::{Log, News};
+use links::{FillReader, Filling, Log, News, Rate, Usage};
 use marks::ThreadMarks;
 use std::io::Write;
 use std::sync::{Arc, Wait};
@@ -26,6 +27,16 @@ pub(crate) struct Watcher {
     marks: ThreadMarks,
     /// What each driver shows of its connections.
     shown: Vec<Arc<Shown>>,
+    /// What the node's thread shows of what it holds.
+    fill: FillReader,
+}
+
+/// What it has found so far.
+#[derive(Drop)]
+struct Watched {
+    waiting: Waiting,
+    filling: Filling,
+    rate: Rate,
 }
 
 /// For how long replies have waited for the standby.
@@ -39,98 +50,113 @@ struct Waiting {
     told: u64,
 }
 
-/// When it was told last how far both nodes are, and how many requests had come by then.
-#[derive(Clone, Copy)]
-struct Report {
-    last: Option<Instant>,
-    requests: u64,
-}
-
 impl Watcher {
-    /// What looks at these marks, and at what the drivers show.
-    pub(crate) fn new(marks: ThreadMarks, shown: Vec<Arc<Shown>>) -> Watcher {
-        Watcher { marks, shown }
+    /// What looks at these marks, and at what the drivers and the node's thread show.
+    pub(crate) fn new(marks: ThreadMarks, shown: Vec<Arc<Shown>>, fill: FillReader) -> Watcher {
+        Watcher { marks, shown, fill }
     }
 
-    /// Looks and tells for ever. With a number of seconds it tells so often how far both nodes are.
-    pub(crate) fn run<R: Wait + Clock, W: Write + Drop>(
-        self,
-        rt: &R,
-        log: Log<W>,
-        report_seconds: Option<u64>,
-    ) {
-        let mut watcher = self;
-        let mut log = log;
-        let mut waiting = Waiting::not();
-        let mut report = Report::new();
+    /// Looks and tells for ever.
+    pub(crate) fn run<R: Wait + Clock, W: Write + Drop>(self, rt: &R, watch: Watch<W>) {
+        let Watcher {
+            mut marks,
+            shown,
+            fill,
+        } = self;
+        let Watch {
+            mut log,
+            report_seconds,
+            capacity,
+        } = watch;
+        let mut watched = Watched {
+            waiting: Waiting::not(),
+            filling: Filling::new(fill, capacity),
+            rate: Rate::new(),
+        };
         for _ in rt.forever() {
             thread::sleep(rt, Duration::from_secs(LOOK_SECONDS));
             if let Ok(now) = Instant::now(rt) {
-                let seen = watcher.marks.read();
-                watcher.tell_waiting(&mut waiting, now, &seen, &mut log);
-                watcher.tell_report(&mut report, now, &seen, report_seconds, &mut log);
+                let seen = marks.read();
+                watched.look(now, &seen, &shown, report_seconds, &mut log);
             }
         }
     }
+}
 
-    /// Tells how long replies have waited, if that is due.
-    fn tell_waiting<W: Write>(
-        &self,
-        waiting: &mut Waiting,
+impl Watched {
+    /// Looks once, and tells what there is to tell.
+    fn look<W: Write>(
+        &mut self,
         now: Instant,
         seen: &Seen,
+        shown: &[Arc<Shown>],
+        every: Option<u64>,
         log: &mut Log<W>,
     ) {
-        let is_waiting = seen.remote < seen.local && self.is_waiting();
-        if let Some(news) = waiting.look(now, seen.remote, is_waiting) {
+        let is_waiting = seen.remote < seen.local && is_waiting(shown);
+        if let Some(news) = self.waiting.look(now, seen.remote, is_waiting) {
             log.say(news);
         }
+        let usage = self.filling.look(log);
+        self.tell_report(now, seen, shown, usage, every, log);
     }
 
     /// Tells how far both nodes are, if that is wanted and due.
     fn tell_report<W: Write>(
-        &self,
-        report: &mut Report,
+        &mut self,
         now: Instant,
         seen: &Seen,
+        shown: &[Arc<Shown>],
+        usage: Usage,
         every: Option<u64>,
         log: &mut Log<W>,
     ) {
         let Some(every) = every else {
             return;
         };
-        if let Some(requests) = report.look(now, every, self.requests()) {
+        if let Some(requests) = self.rate.look(now, every, count_requests(shown)) {
             log.say(News::PrimaryAt {
                 position: seen.local,
                 standby: seen.remote,
-                clients: self.connections(),
+                usage,
+                clients: count_connections(shown),
                 requests,
+                longest_wait: take_longest_wait(shown),
             });
         }
     }
+}
 
-    /// Whether a reply waits for a mark.
-    fn is_waiting(&self) -> bool {
-        self.shown.iter().any(|shown| shown.is_waiting())
-    }
+/// Whether a reply waits for a mark.
+fn is_waiting(shown: &[Arc<Shown>]) -> bool {
+    shown.iter().any(|one| one.is_waiting())
+}
 
-    /// How many connections there are.
-    fn connections(&self) -> u64 {
-        let mut all: u64 = 0;
-        for shown in &self.shown {
-            all = all.saturating_add(shown.connections());
-        }
-        all
+/// How many connections there are.
+fn count_connections(shown: &[Arc<Shown>]) -> u64 {
+    let mut all: u64 = 0;
+    for one in shown {
+        all = all.saturating_add(one.connections());
     }
+    all
+}
 
-    /// How many requests have come so far.
-    fn requests(&self) -> u64 {
-        let mut all: u64 = 0;
-        for shown in &self.shown {
-            all = all.wrapping_add(shown.requests());
-        }
-        all
+/// How many requests have come so far.
+fn count_requests(shown: &[Arc<Shown>]) -> u64 {
+    let mut all: u64 = 0;
+    for one in shown {
+        all = all.wrapping_add(one.requests());
     }
+    all
+}
+
+/// How many milliseconds a reply was waited for at most since this was asked last.
+fn take_longest_wait(shown: &[Arc<Shown>]) -> u64 {
+    let mut longest: u64 = 0;
+    for one in shown {
+        longest = longest.max(one.take_longest_wait());
+    }
+    longest
 }
 
 impl Waiting {
@@ -176,33 +202,6 @@ impl Waiting {
         }
         let seconds = now.duration_since(since).as_secs();
         Some(News::Answered { seconds })
-    }
-}
-
-impl Report {
-    /// Nothing was told yet.
-    fn new() -> Report {
-        Report {
-            last: None,
-            requests: 0,
-        }
-    }
-
-    /// Looks: so many requests have come by now. Answers how many came a second, where it is to be told each so many seconds and they have passed.
-    fn look(&mut self, now: Instant, every: u64, requests: u64) -> Option<u64> {
-        let Some(last) = self.last else {
-            self.last = Some(now);
-            self.requests = requests;
-            return None;
-        };
-        let seconds = now.duration_since(last).as_secs();
-        if seconds < every {
-            return None;
-        }
-        let came = requests.wrapping_sub(self.requests);
-        self.last = Some(now);
-        self.requests = requests;
-        Some(came / seconds.max(1))
     }
 }
 

@@ -5,12 +5,13 @@ use std::error::Error;
 use std::io::ErrorKind;
 use std::{fmt, io};
 
-const USAGE: &str = "usage: wbl-sim [--lines N,N] [--list | --whole] [--map] [--images] < EVENTS";
+const USAGE: &str = "usage: wbl-sim [--lines N,N] [--list | --whole] [--map] [--images] < EVENTS
+       wbl-sim --explore SEED EVENTS";
 
 /// The exit status if the command line or a line of the events is not understood.
 const MISUSED: u8 = 2;
 
-/// The exit status if the simulator itself failed.
+/// The exit status if the simulator itself failed, or a history broke the promise.
 const FAILED: u8 = 1;
 
 /// Why the simulator ended without a whole report. Except for `Write` and `Memory`, nothing was printed.
@@ -28,6 +29,8 @@ pub enum SimulatorError {
     Memory,
     /// The report could not be written, or not all of it.
     Write(io::Error),
+    /// A history that was drawn breaks the promise. It was printed.
+    Broken,
 }
 
 impl SimulatorError {
@@ -38,7 +41,8 @@ impl SimulatorError {
             SimulatorError::Read(_)
             | SimulatorError::Random(_)
             | SimulatorError::Memory
-            | SimulatorError::Write(_) => FAILED,
+            | SimulatorError::Write(_)
+            | SimulatorError::Broken => FAILED,
         }
     }
 
@@ -60,6 +64,7 @@ impl fmt::Display for SimulatorError {
             SimulatorError::Random(error) => write!(f, "no random numbers: {error}"),
             SimulatorError::Memory => f.write_str("out of memory"),
             SimulatorError::Write(error) => write!(f, "writing failed: {error}"),
+            SimulatorError::Broken => f.write_str("a history breaks the promise"),
         }
     }
 }

@@ -3,12 +3,12 @@ ghost use Rattle.std.specs.Prelude.{◌≡◌, IfOk};
 ghost use Rattle.hex.specs.Hex.{decode_of};
 
 use crate::cause::{Cause, LineError};
+use crate::crash_words::read_crash;
 use crate::line_words::LineWords;
-use crate::number::read_number;
 use crate::spelling::spelled;
 use bytes::Bytes;
 use hex::FromHexError;
-use machine::{Cut, Event};
+use machine::Event;
 use std::alloc::{AllocError, Global};
 
 /// The event with this name and the words that follow it.
@@ -39,6 +39,7 @@ fn event_of_words(name: &str, words: &mut LineWords<'_>) -> Result<Event, Cause>
         "write" => read_write(words),
         "deliver" => read_deliver(words),
         "reopen" => Ok(Event::Reopen(words.node()?)),
+        "fail-fence" => read_failure(words),
         _ => match event_alone(name) {
             Some(event) => Ok(event),
             None => event_with_number(name, words),
@@ -91,20 +92,16 @@ fn read_write(words: &mut LineWords<'_>) -> Result<Event, Cause> {
     Ok(Event::Write(connection, words.number()?))
 }
 
+/// A node, and which of its fences fails from then on.
+fn read_failure(words: &mut LineWords<'_>) -> Result<Event, Cause> {
+    let node = words.node()?;
+    Ok(Event::FailFence(node, words.number()?))
+}
+
 /// A frame, and in how many bytes at a time it comes: whole, where no number says so.
 fn read_deliver(words: &mut LineWords<'_>) -> Result<Event, Cause> {
     let frame = words.number()?;
     Ok(Event::Deliver(frame, words.number_or(0)?))
-}
-
-/// A node, and the picks of its crash between two events: one at least.
-fn read_crash(alloc: Global, words: &mut LineWords<'_>) -> Result<Event, LineError> {
-    let node = words.node()?;
-    let mut picks = vec![in alloc; words.number()?]?;
-    for word in words {
-        picks.push(read_number(word).ok_or(Cause::NotNumber)?)?;
-    }
-    Ok(Event::Crash(node, Cut::Between, 0, picks))
 }
 
 /// A connection, and the words of a request.

@@ -1,24 +1,46 @@
 //! Plays a list of events over a pair of simulated nodes, and prints each as it happens and the outcome at the end.
 #![tactic(auto)]
 
+mod acts;
+mod breach;
+mod case;
 mod cause;
+mod client;
+mod crash_words;
+mod dice;
+mod drawing;
+mod drawn_requests;
 mod error;
+mod event_text;
 mod event_words;
+mod explore;
+mod found;
 mod image;
 mod line_words;
 mod node;
 mod node_report;
 mod number;
 mod options;
+mod plain_commands;
+mod plain_records;
+mod plain_redis;
+mod plain_replies;
 mod play;
 mod quoted;
 mod report;
 mod schedule;
 mod script;
+mod shortening;
+mod shown;
+mod sight;
 mod spelling;
+mod step_kinds;
+mod tally;
 mod wire_report;
+mod witness;
 
 use crate::error::SimulatorError;
+use crate::explore::explore;
 use crate::options::read_options;
 use crate::play::play;
 use crate::report::report;
@@ -56,12 +78,18 @@ fn run(rt: &HostRuntime) -> Result<(), SimulatorError> {
     if options.version {
         return print_version(&mut rt.stdout());
     }
+    let hash_builder = RandomState::new(rt).map_err(SimulatorError::Random)?;
+    if let Some(exploration) = options.explore {
+        let mut out = BufWriter::new(alloc, rt.stdout())?;
+        explore(alloc, &mut out, exploration, hash_builder)?;
+        out.flush()?;
+        return Ok(());
+    }
     let mut text = Vec::new(alloc);
     rt.stdin()
         .read_to_end(&mut text)
         .map_err(SimulatorError::Read)?;
     let script = read_script(alloc, &text)?;
-    let hash_builder = RandomState::new(rt).map_err(SimulatorError::Random)?;
     let mut out = BufWriter::new(alloc, rt.stdout())?;
     let played = play(alloc, &mut out, &options, &script, hash_builder)?;
     let reported = report(alloc, &mut out, &options, script.schedule.lines(), &played);

@@ -25,6 +25,25 @@ pub struct Options {
     pub images: bool,
     /// Whether it is printed which program this is, and nothing is played.
     pub version: bool,
+    /// Whether histories are drawn, and how many.
+    pub explore: Option<Exploration>,
+}
+
+/// Histories that are drawn.
+#[derive(Clone, Copy, Debug, PartialEq, Eq)]
+pub struct Exploration {
+    pub seed: u64,
+    /// How many events are to happen at least.
+    pub events: u64,
+}
+
+/// What the words of an option are that were not read yet.
+#[derive(Clone, Copy, Debug, PartialEq, Eq)]
+enum Awaited {
+    Nothing,
+    Lines,
+    Seed,
+    Events(u64),
 }
 
 /// Reads the command line. `Usage` if it is not understood.
@@ -38,22 +57,50 @@ pub fn read_options(rt: &(impl Env + Alloc)) -> Result<Options, SimulatorError> 
         map: false,
         images: false,
         version: false,
+        explore: None,
     };
-    let mut awaits_lines = false;
+    let mut awaited = Awaited::Nothing;
     for word in words.skip(1) {
-        if awaits_lines {
-            awaits_lines = false;
-            take_lines(&mut options, word.as_str())?;
-        } else if word.as_str() == "--lines" {
-            awaits_lines = true;
-        } else {
-            take_switch(&mut options, word.as_str())?;
-        }
+        awaited = take_word(&mut options, awaited, word.as_str())?;
     }
-    if awaits_lines || (options.list && options.whole) {
+    if awaited != Awaited::Nothing || (options.list && options.whole) {
         return Err(SimulatorError::Usage);
     }
     Ok(options)
+}
+
+/// Takes one word, and returns what the next one is to be.
+fn take_word(
+    options: &mut Options,
+    awaited: Awaited,
+    word: &str,
+) -> Result<Awaited, SimulatorError> {
+    match awaited {
+        Awaited::Lines => take_lines(options, word)?,
+        Awaited::Seed => return Ok(Awaited::Events(take_number(word)?)),
+        Awaited::Events(seed) => {
+            let events = take_number(word)?;
+            options.explore = Some(Exploration { seed, events });
+        }
+        Awaited::Nothing => return take_option(options, word),
+    }
+    Ok(Awaited::Nothing)
+}
+
+/// Takes an option, and returns what has to follow it.
+fn take_option(options: &mut Options, word: &str) -> Result<Awaited, SimulatorError> {
+    match word {
+        "--lines" => Ok(Awaited::Lines),
+        "--explore" => Ok(Awaited::Seed),
+        _ => {
+            take_switch(options, word)?;
+            Ok(Awaited::Nothing)
+        }
+    }
+}
+
+fn take_number(word: &str) -> Result<u64, SimulatorError> {
+    read_number(word.as_bytes()).ok_or(SimulatorError::Usage)
 }
 
 /// The error for a command line that cannot be read: an argument that is not text is not understood.

@@ -1,9 +1,11 @@
 //! A standby whose device crashes under it, and whose image is then opened again.
-ghost use Rattle.std.specs.Prelude.{◌≡◌, ◌⊎◌, ◌<◌, ℕ, true, false, Some, Err, OnOk, IfErr, IsErrOf};
+ghost use Rattle.std.specs.Prelude.{◌≡◌, ◌⊎◌, ◌<◌, ◌≤◌, ◌+◌, ◌==◌, if◌then◌else◌, ℕ, true, false, None, Some, Err, OnOk, IfErr, IsErrOf};
 ghost use Rattle.kv_types.specs.declared.refusal.Refusal.{Refusal as Cause};
-ghost use Rattle.pmem.specs.Device.{Only, newest_at};
-ghost use Rattle.pmem.specs.Crash.{IsImage, IsSettled, image_of, picked};
+ghost use Rattle.pmem.specs.Device.{Only, moment, newest_at};
+ghost use Rattle.pmem.specs.Device.Fences.{Sure};
+ghost use Rattle.pmem.specs.Crash.{IsImage, IsSettled, Keeps, MayLeave, image_of, picked, words_to_crash};
 ghost use Rattle.pmem.specs.Runs.{LeavesOnly};
+ghost use Rattle.model.specs.declared.image.TheConstants.{MAX_LINES, MIN_LINES};
 ghost use Rattle.model.specs.declared.record.Record.{Record as CommitRecord};
 ghost use Rattle.heap_layout.specs.Superblock.{super_refusal};
 ghost use Rattle.wbl_engine.specs.Contents.{IsDurable};
@@ -15,7 +17,7 @@ ghost use Rattle.wbl_engine.specs.Restarting.{IsReopened};
 use crate::opening::read_back;
 use crate::standby::Standby;
 use kv_types::Refusal;
-use model::Role;
+use model::{Record, Role};
 use mv_keyspace::Keyspace;
 use std::alloc::Global;
 use wbl_engine::Restarting;
@@ -38,6 +40,65 @@ impl<E: Restarting, K: Keyspace + Drop> Standby<E, K> {
         ensures ended { self.new.ended ≡ self.old.ended }
     {
         self.engine.crash(picks);
+    }
+
+    /// Makes the n-th fence of the engine's device from now fail, counted from 1; this replaces an earlier request. With 0 no fence is asked to fail.
+    pub fn fail_at(&mut self, n: u64)
+        ensures asked { E.device self.new.engine ≡ record (E.device self.old.engine) { fences = Sure (if n == 0 then None else Some n) } }
+        ensures contents { E.contents self.new.engine ≡ E.contents self.old.engine }
+        ensures faulted { E.is_faulted self.new.engine ≡ E.is_faulted self.old.engine }
+        ensures keyspace { self.new.keyspace ≡ self.old.keyspace }
+        ensures heap { self.new.heap ≡ self.old.heap }
+        ensures ended { self.new.ended ≡ self.old.ended }
+    {
+        self.engine.fail_at(n);
+    }
+
+    /// Makes the next `crash_kept` pick from the candidates of the engine's device as they will be after `k` more calls of it, if that many are made; this
+    /// replaces an earlier request. If there is no memory for the copy, the device is starved.
+    pub fn keep_at(&mut self, k: u64)
+        ensures keeps { Keeps (E.device self.old.engine) (E.device self.new.engine) (moment (E.device self.old.engine) + k) }
+        ensures contents { E.contents self.new.engine ≡ E.contents self.old.engine }
+        ensures faulted { E.is_faulted self.new.engine ≡ E.is_faulted self.old.engine }
+        ensures keyspace { self.new.keyspace ≡ self.old.keyspace }
+        ensures heap { self.new.heap ≡ self.old.heap }
+        ensures ended { self.new.ended ≡ self.old.ended }
+    {
+        self.engine.keep_at(k);
+    }
+
+    /// Crashes the engine's device as of the moment that it was asked to keep, as `Restarting::crash_kept` does. The engine is faulted until the standby is
+    /// restarted. The keyspace,
+    /// the heap and the list of what has ended stay as they are until then.
+    pub fn crash_kept(&mut self, picks: &[u64])
+        ensures settled { IsSettled (E.device self.new.engine).words }
+        // an image of that moment, or of a later one
+        ensures left { (t : ℕ) → (E.device self.old.engine).kept ≡ Some t → MayLeave (E.device self.old.engine) t (image_of (E.device self.new.engine).words) }
+        ensures unkept { (E.device self.old.engine).kept ≡ None → IsImage (E.device self.old.engine).words (image_of (E.device self.new.engine).words) }
+        // where the device had the memory to do so
+        ensures picked { (E.device self.new.engine).starved ≡ false → (word : ℕ)
+            → newest_at (E.device self.new.engine) word ≡ picked (words_to_crash (E.device self.old.engine) (E.device self.old.engine).kept) picks.now word }
+        ensures lines { (E.device self.new.engine).lines ≡ (E.device self.old.engine).lines }
+        ensures failures { (E.device self.new.engine).failures ≡ (E.device self.old.engine).failures }
+        ensures fences { (E.device self.new.engine).fences ≡ (E.device self.old.engine).fences }
+        ensures forgotten { (E.device self.new.engine).kept ≡ None }
+        ensures faulted { E.is_faulted self.new.engine ≡ true }
+        // what could be left now may be, and then what was
+        ensures moments { LeavesOnly (E.device self.old.engine) (E.device self.new.engine)
+            (λ image. IsImage (E.device self.old.engine).words image ⊎ (image ≡ image_of (E.device self.new.engine).words)) }
+        ensures keyspace { self.new.keyspace ≡ self.old.keyspace }
+        ensures heap { self.new.heap ≡ self.old.heap }
+        ensures ended { self.new.ended ≡ self.old.ended }
+    {
+        self.engine.crash_kept(picks);
+    }
+
+    /// The record of the image, as loads return it; none where the image has none that obeys the rules.
+    pub fn image_record(&self) -> Option<Record>
+        ensures { (r : CommitRecord) → MIN_LINES ≤ (E.device self.now.engine).lines → (E.device self.now.engine).lines ≤ MAX_LINES
+            → IsUndamaged (E.device self.now.engine).lines r (image_of (E.device self.now.engine).words) → result ≡ Some r }
+    {
+        self.engine.image_record()
     }
 
     /// Opens the image of the engine's device again as a standby's, and makes the keyspace and the heap from its versions. Those that have ended are

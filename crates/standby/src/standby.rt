@@ -2,13 +2,14 @@
 ghost use Rattle.std.specs.Prelude.{◌≡◌, ◌↔◌, IfErr, IsErrOf};
 ghost use Rattle.kv_types.specs.declared.refusal.Refusal.TheVariants.{Fault};
 ghost use Rattle.wbl_engine.specs.Contents.{IsDurable};
+ghost use Rattle.placing.specs.Fill.{fill_of};
 ghost use Rattle.standby.specs.Taking.{Stands, TakesFrame};
 
 use extent_heap::ExtentHeap;
 use frames::{Ack, Frame};
 use kv_types::{EntryNo, Refusal};
 use mv_keyspace::Keyspace;
-use placing::Rebuilt;
+use placing::{Fill, Rebuilt, count_fill};
 use std::alloc::Global;
 use wbl_engine::Durable;
 
@@ -47,6 +48,13 @@ impl<E: Durable, K: Keyspace> Standby<E, K> {
         ensures { result ≡ (E.contents self.now.engine).current.epoch }
     {
         self.engine.record().epoch
+    }
+
+    /// How many keys it holds, and what of its image is free.
+    pub fn fill(&self) -> Fill
+        ensures { result ≡ fill_of (K.table self.now.keyspace) self.now.heap }
+    {
+        count_fill(&self.keyspace, &self.heap)
     }
 
     /// The acknowledgement of the current position. The engine's record has to be durable, as it is of a standby that `Stands`.

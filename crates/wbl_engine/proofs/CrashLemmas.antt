@@ -1,12 +1,14 @@
--- A crash of the present moment.
-use Rattle.std.proofs.Common.{◌≡◌, ℕ, ◌+◌, ◌≤◌, false, List, [], ◌∷◌, length, inl, inr, ◌⊎◌, refl, sym, ap, subst, ◌∙◌, arith}
+-- A crash of the present moment, or of one that was kept.
+use Rattle.std.proofs.Common.{◌≡◌, ℕ, ◌+◌, ◌≤◌, false, List, Option, Some, None, [], ◌∷◌, length, inl, inr, ◌⊎◌, refl, sym, ap, subst, ◌∙◌, arith}
 use Rattle.std.specs.Prelude.{nat_le}
-use Rattle.std.proofs.lemmas.Bool.{cond-false, lt-leb}
+use Rattle.std.proofs.lemmas.Bool.{cases_lt, cond-false, cond-true, le-leb, lt-leb}
 use Rattle.pmem.specs.Device.{MayBe, State, Word, moment, newest_at}
-use Rattle.pmem.specs.Crash.{IsImage, Keeps, Restarts, image_of, picked, words_at, words_to_crash}
+use Rattle.pmem.specs.Crash.{HadImage, IsImage, Keeps, MayLeave, Restarts, image_of, picked, words_at, words_to_crash}
 use Rattle.pmem.specs.Runs.{LeavesOnly}
 use Rattle.pmem.proofs.Leaving.{step_leaves}
 use Rattle.pmem.proofs.Staging.{IsImage-settled}
+use Rattle.model.specs.declared.record.Record.{Record}
+use Rattle.wbl_engine.specs.AtRest.{IsAtRest}
 
 -- the words of the present moment are the present ones
 words_at-now : (now : ℕ → Word) (past : List (ℕ → Word)) (t : ℕ) → length past ≤ t → words_at now past t ≡ now
@@ -51,3 +53,43 @@ crash_moments {old} {asked} {new} crashed =
   where
     past_is : new.past ≡ old.words ∷ old.past
     past_is = let words = crashed.keeps.words in let past = crashed.keeps.past in let all = crashed.restarts.past in cc
+
+-- ---- a request
+
+-- what an engine maintains stays where no word of its device changed
+pub rest_asked : (r : Record) (old new : State) → new.words ≡ old.words → new.lines ≡ old.lines → IsAtRest r old → IsAtRest r new
+rest_asked r old new words lines rest =
+    let same : IsAtRest r (record old { words = new.words; lines = new.lines }) =
+    subst (λ (w : ℕ → Word). IsAtRest r (record old { words = w; lines = new.lines })) (sym words) (subst (λ (n : ℕ). IsAtRest r (record old { lines = n })) (sym lines) rest) in
+    record { many = same.many; few = same.few; lawful = same.lawful; whole = same.whole; recorded = same.recorded; certain = same.certain }
+
+-- ---- a moment that was kept
+
+-- what a crash at moment t leaves, it leaves since t
+since-then : (now : ℕ → Word) (past : List (ℕ → Word)) (t : ℕ) (image : ℕ → ℕ) → IsImage (words_at now past t) image → IsImage now image ⊎ HadImage past t image
+since-then now [] t image is = inl is
+since-then now (words ∷ past) t image is =
+    elim (cases_lt (length past) t) [
+      | inl late ↦ inl (subst (λ (at : ℕ → Word). IsImage at image) (cond-false (nat_le t (length past)) (words_at words past t) now (lt-leb t (length past) late)) is)
+      | inr within ↦
+          elim (since-then words past t image (subst (λ (at : ℕ → Word). IsImage at image) (cond-true (nat_le t (length past)) (words_at words past t) now (le-leb t (length past) within)) is)) [
+            | inl here ↦ inr (inl (within, here))
+            | inr before ↦ inr (inr before)
+          ]
+    ]
+
+pub kept_left : (old new : State) → IsImage (words_to_crash old old.kept) (image_of new.words) ⊎ IsImage old.words (image_of new.words)
+    → (t : ℕ) → old.kept ≡ Some t → MayLeave old t (image_of new.words)
+kept_left old new (inl kept) t is =
+    since-then old.words old.past t (image_of new.words) (subst (λ (moment : Option ℕ). IsImage (words_to_crash old moment) (image_of new.words)) is kept)
+kept_left old new (inr now) t is = inl now
+
+pub unkept_left : (old new : State) → IsImage (words_to_crash old old.kept) (image_of new.words) ⊎ IsImage old.words (image_of new.words)
+    → old.kept ≡ None → IsImage old.words (image_of new.words)
+unkept_left old new (inl kept) is = subst (λ (moment : Option ℕ). IsImage (words_to_crash old moment) (image_of new.words)) is kept
+unkept_left old new (inr now) is = now
+
+pub kept_moments : {old new : State} → Restarts old new → LeavesOnly old new (λ image. IsImage old.words image ⊎ (image ≡ image_of new.words))
+kept_moments {old} {new} restarts =
+    step_leaves old new (λ image. IsImage old.words image ⊎ (image ≡ image_of new.words)) restarts.past (λ image is. inl is)
+    (λ image is. let each : (word : ℕ) → image word ≡ image_of new.words word = IsImage-settled new.words image restarts.settled is in inr (grind arith))

@@ -107,7 +107,7 @@ reopening_lawful old new image role counted gapped are keeps reopens =
 -- ---- refusals
 
 -- a superblock that breaks no rule earns no refusal
-super_none : (lines : ℕ) (image : Image) → MIN_LINES ≤ lines → lines ≤ MAX_LINES → HasSuperblock lines image → super_refusal lines image ≡ None
+pub super_none : (lines : ℕ) (image : Image) → MIN_LINES ≤ lines → lines ≤ MAX_LINES → HasSuperblock lines image → super_refusal lines image ≡ None
 super_none lines image many few has =
     earns_none (is_wrong_size lines) (image 0 == magic_number) (image 1 == LAYOUT.version) (image 2 == lines) (image 3 == directory_room lines)
     (or_from (nat_lt lines MIN_LINES) (nat_lt MAX_LINES lines) (le-ltb lines MIN_LINES many) (le-ltb MAX_LINES lines few))

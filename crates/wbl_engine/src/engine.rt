@@ -10,6 +10,7 @@ use crate::durable::Durable;
 use crate::erasing::erase_stamps;
 use crate::format::{first_record, format_device};
 use crate::freeing::{Freed, extent_of, freed_by, named_extents};
+use crate::inspecting::read_record;
 use crate::promoting::{promoted_record, write_promoted};
 use crate::relocating::{commit_relocation, relocated_record};
 use crate::reopening::reopen_device;
@@ -292,6 +293,23 @@ impl<P: Pmem> Durable for WblEngine<P> {
 }
 
 impl<P: Crashing> Restarting for WblEngine<P> {
+    fn fail_at(&mut self, n: u64) {
+        self.device.fail_at(n);
+    }
+
+    fn keep_at(&mut self, k: u64) {
+        self.device.keep_at(k);
+    }
+
+    fn crash_kept(&mut self, picks: &[u64]) {
+        Crashing::crash(&mut self.device, picks);
+        self.faulted = true;
+    }
+
+    fn image_record(&self) -> Option<Record> {
+        read_record(&self.device)
+    }
+
     fn crash(&mut self, picks: &[u64]) {
         // this replaces an earlier request, so that the crash picks from the candidates of this moment
         self.device.keep_at(0);

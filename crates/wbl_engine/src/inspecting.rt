@@ -1,5 +1,6 @@
 //! An image is read by all rules of its format.
 ghost use Rattle.std.specs.Prelude.{◌≡◌, ◌≤◌, Some, Err, IfOk, IfErr, OnOk};
+ghost use Rattle.model.specs.declared.record.Record.{Record as CommitRecord};
 ghost use Rattle.pmem.specs.Crash.{image_of};
 ghost use Rattle.kv_types.specs.declared.refusal.Refusal.{Refusal as Cause};
 ghost use Rattle.model.specs.declared.image.TheConstants.{MIN_LINES, MAX_LINES};
@@ -54,5 +55,20 @@ pub fn read_undamaged<P: Pmem>(alloc: Global, device: &P) -> Result<(Record, Ver
     match read_versions(alloc, device, &current) {
         Ok(versions) => Ok((current, versions)),
         Err(refusal) => Err(refusal),
+    }
+}
+
+/// The record of the image, as loads return it; none where the superblock is not that of an image of this device, or where the image has no
+/// record that obeys the rules.
+pub fn read_record<P: Pmem>(device: &P) -> Option<Record>
+    ensures { (r : CommitRecord) → MIN_LINES ≤ (P.state device.now).lines → (P.state device.now).lines ≤ MAX_LINES
+        → IsUndamaged (P.state device.now).lines r (image_of (P.state device.now).words) → result ≡ Some r }
+{
+    match read_super(device) {
+        Ok(_) => match read_current(device) {
+            Ok(current) => Some(current),
+            Err(_) => None,
+        },
+        Err(_) => None,
     }
 }

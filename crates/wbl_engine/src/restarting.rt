@@ -1,9 +1,11 @@
 //! Engines whose device crashes under them, and whose image is then opened again.
-ghost use Rattle.std.specs.Prelude.{◌≡◌, ◌⊎◌, ◌<◌, ℕ, true, false, Some, Err, OnOk, IfOk, IfErr, IsErrOf};
+ghost use Rattle.std.specs.Prelude.{◌≡◌, ◌⊎◌, ◌<◌, ◌≤◌, ◌+◌, ◌==◌, if◌then◌else◌, ℕ, true, false, None, Some, Err, OnOk, IfOk, IfErr, IsErrOf};
 ghost use Rattle.kv_types.specs.declared.refusal.Refusal.{Refusal as Cause};
-ghost use Rattle.pmem.specs.Device.{Only, newest_at};
-ghost use Rattle.pmem.specs.Crash.{IsImage, IsSettled, image_of, picked};
+ghost use Rattle.pmem.specs.Device.{Only, moment, newest_at};
+ghost use Rattle.pmem.specs.Device.Fences.{Sure};
+ghost use Rattle.pmem.specs.Crash.{IsImage, IsSettled, Keeps, MayLeave, image_of, picked, words_to_crash};
 ghost use Rattle.pmem.specs.Runs.{LeavesOnly};
+ghost use Rattle.model.specs.declared.image.TheConstants.{MAX_LINES, MIN_LINES};
 ghost use Rattle.model.specs.declared.record.Record.{Record as CommitRecord};
 ghost use Rattle.heap_layout.specs.Superblock.{super_refusal};
 ghost use Rattle.wbl_engine.specs.Contents.{IsDurable};
@@ -13,11 +15,48 @@ ghost use Rattle.wbl_engine.specs.Reopening.{IsShown, RefusesReopening, Reopens,
 use crate::durable::Durable;
 use heap_layout::Versions;
 use kv_types::Refusal;
-use model::Role;
+use model::{Record, Role};
 use std::alloc::Global;
 
 /// An engine over a device that may crash, and whose image is opened again in its place.
 pub trait Restarting: Durable {
+    /// Makes the n-th fence of the device from now fail, counted from 1; this replaces an earlier request. With 0 no fence is asked to fail.
+    fn fail_at(&mut self, n: u64)
+        ensures asked { Self.device self.new ≡ record (Self.device self.old) { fences = Sure (if n == 0 then None else Some n) } }
+        ensures contents { Self.contents self.new ≡ Self.contents self.old }
+        ensures faulted { Self.is_faulted self.new ≡ Self.is_faulted self.old };
+
+    /// Makes the next `crash_kept` pick from the candidates as they will be after `k` more calls of the device, if that many are made; this replaces an
+    /// earlier request. If there is no memory for the copy, the device is starved.
+    fn keep_at(&mut self, k: u64)
+        ensures keeps { Keeps (Self.device self.old) (Self.device self.new) (moment (Self.device self.old) + k) }
+        ensures contents { Self.contents self.new ≡ Self.contents self.old }
+        ensures faulted { Self.is_faulted self.new ≡ Self.is_faulted self.old };
+
+    /// Crashes the device as of the moment that it was asked to keep; now, if it was asked for none, or if that has not come. The picks are those of
+    /// `pmem::Crashing::crash`. The engine is faulted until it is restarted.
+    fn crash_kept(&mut self, picks: &[u64])
+        ensures settled { IsSettled (Self.device self.new).words }
+        // an image of that moment, or of a later one
+        ensures left { (t : ℕ) → (Self.device self.old).kept ≡ Some t → MayLeave (Self.device self.old) t (image_of (Self.device self.new).words) }
+        ensures unkept { (Self.device self.old).kept ≡ None → IsImage (Self.device self.old).words (image_of (Self.device self.new).words) }
+        // where the device had the memory to do so
+        ensures picked { (Self.device self.new).starved ≡ false → (word : ℕ)
+            → newest_at (Self.device self.new) word ≡ picked (words_to_crash (Self.device self.old) (Self.device self.old).kept) picks.now word }
+        ensures lines { (Self.device self.new).lines ≡ (Self.device self.old).lines }
+        ensures failures { (Self.device self.new).failures ≡ (Self.device self.old).failures }
+        ensures fences { (Self.device self.new).fences ≡ (Self.device self.old).fences }
+        ensures forgotten { (Self.device self.new).kept ≡ None }
+        ensures faulted { Self.is_faulted self.new ≡ true }
+        // what could be left now may be, and then what was
+        ensures moments { LeavesOnly (Self.device self.old) (Self.device self.new)
+            (λ image. IsImage (Self.device self.old).words image ⊎ (image ≡ image_of (Self.device self.new).words)) };
+
+    /// The record of the image, as loads return it; none where the image has none that obeys the rules.
+    fn image_record(&self) -> Option<Record>
+        ensures { (r : CommitRecord) → MIN_LINES ≤ (Self.device self.now).lines → (Self.device self.now).lines ≤ MAX_LINES
+            → IsUndamaged (Self.device self.now).lines r (image_of (Self.device self.now).words) → result ≡ Some r };
+
     /// Crashes the device now, whatever it was asked to keep for its next crash. The picks are those of `pmem::Crashing::crash`. The engine is
     /// faulted until it is restarted.
     fn crash(&mut self, picks: &[u64])

@@ -41,7 +41,6 @@ use Rattle.world.specs.Link.{AreFramesSent, IsOwn, LinkRefines}
 use Rattle.connections.specs.Session.{ConnectionsRefine, SessionsRefine, SequencerRefines, SeatsFollow, seats_of}
 use Rattle.connections.specs.declared.connection.Connection.{Connection}
 use Rattle.world.specs.Standby.{Node, StandbyStands, ArrivalsRefine}
-use Rattle.machine.specs.Event.{new_disk}
 use Rattle.world.specs.Headline.{start}
 use Rattle.world.specs.Condition.{has_crashed, life_as, runs}
 use Rattle.world.specs.declared.condition.Condition.TheVariants as condition
@@ -149,7 +148,7 @@ pair-starts first second pair sessions sequencer none_ended none none_aside read
       sound = sound-start allowed;
       lives = record {
         allowed_are = refl;
-        primary_disk = ap (λ (c : Condition). new_disk (primary_number c)) (sym follows);
+        primary_disk = ap (λ (c : Condition). primary_number c) (sym follows);
         standby_disk = refl;
         primary = sym (ap life_as serves);
         standby = sym (ap life_as follows);

@@ -25,7 +25,7 @@ use Rattle.machine.proofs.SoundEvents.{sound-step}
 use Rattle.world.specs.Committing.{AreContentsAt, EngineStands, OpensAt, OpensAtEither}
 use Rattle.world.specs.Pair.{Pair, PairRefines, PartsRefine, Steps}
 use Rattle.world.proofs.EngineLemmas.{keeps-opens, moves-rest}
-use Rattle.world.proofs.LivesLemmas.{Runs, enabled-is, is_own, lives-step, own-runs}
+use Rattle.world.proofs.LivesLemmas.{Runs, SameLives, enabled-is, is_own, lives-like, own-runs}
 use Rattle.world.proofs.PairLemmas.{standby-stands}
 use Rattle.world.specs.Condition as condition
 
@@ -111,17 +111,17 @@ cleared-moments holder calls p device device' contents are lawful room moments =
 -- ---- an event of it
 
 -- its image stands where it stood
-pub primary-steps : (event : Event) (first second : Holder) (w w' : World) (old new : Pair) → is_own event ≡ true → PairRefines first second old w → new.primary_condition ≡ old.primary_condition
+pub primary-steps : (event : Event) (first second : Holder) (w w' : World) (old new : Pair) → is_own event ≡ true → SameLives w w' → PairRefines first second old w → new.primary_condition ≡ old.primary_condition
     → new.standby_condition ≡ old.standby_condition → new.standby.device ≡ old.standby.device → new.device.failures ≡ old.device.failures → Happens w event w' → true ≡ may_happen w event
     → LeavesOnly old.device new.device (OpensAt first w.primary.calls w'.primary.committer.position) → PartsRefine first second new w' → Steps first second w event true old new
-primary-steps event first second w w' old new own stands runs follows device' failures happens may moments parts =
+primary-steps event first second w w' old new own same stands runs follows device' failures happens may moments parts =
     let lives : Runs first second new.primary_condition new.standby_condition w event =
     subst (λ serves. Runs first second serves new.standby_condition w event) (sym runs) (subst (λ follows. Runs first second old.primary_condition follows w event) (sym follows) (own-runs stands event own)) in
     let step : Step w event true w' = record { done = may ∙ sym (enabled-is lives); happens = λ did. happens; stands = λ did. absurd (true≢false did) } in
     record {
       world = w';
       step = step;
-      stands = record { sound = sound-step w event true w' step stands.sound; lives = lives-step lives happens; parts = inl (ap condition.runs runs ∙ stands.serves, parts) };
+      stands = record { sound = sound-step w event true w' step stands.sound; lives = lives-like same lives.lives; parts = inl (ap condition.runs runs ∙ stands.serves, parts) };
       moves = record {
         primary = record {
           leaves = LeavesOnly-weaken (OpensAtEither first w.primary.calls w.primary.committer.position w'.primary.committer.position) (λ image at. inr at) moments;

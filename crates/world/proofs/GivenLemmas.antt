@@ -10,12 +10,12 @@ use Rattle.machine.specs.declared.event.Cut.TheVariants as cut
 use Rattle.machine.specs.declared.event.Mark.{Mark}
 use Rattle.machine.specs.declared.event.Mark.TheVariants.{Local, Remote}
 use Rattle.machine.specs.declared.event.Node.TheVariants as node
-use Rattle.machine.specs.Event.{Acknowledgement, IsSure, Remains, Connection, Inbound, Outbound, Step, World, Happens, called, changed_at, connection_of, crashed, may_happen, nodes_run, fed_with, get_connection, having_read, having_released, held_first, left, offered_next, on_inbound, on_outbound, taken_first, told, with_call, with_inbound, with_link, with_made, with_outbound, written}
+use Rattle.machine.specs.Event.{Acknowledgement, Remains, Connection, Inbound, Outbound, Step, World, Happens, called, changed_at, connection_of, crashed, may_happen, nodes_run, fed_with, get_connection, having_read, having_released, held_first, left, offered_next, on_inbound, on_outbound, taken_first, told, with_call, with_inbound, with_link, with_made, with_outbound, written}
 use Rattle.machine.specs.Promise.{released_in}
 use Rattle.machine.proofs.ConnectionLemmas.{get-changed_other, get-entered}
 use Rattle.machine.proofs.CrashLemmas.{get-over}
 use Rattle.machine.proofs.SoundConnection.{both}
-use Rattle.machine.proofs.SureLemmas.{between, remains, unfailed}
+use Rattle.machine.proofs.SureLemmas.{IsSure, between, remains, sure-unfailed}
 use Rattle.world.specs.Step.{CallsBy, released_by}
 
 -- ---- calls
@@ -26,20 +26,21 @@ told-calls w ack = refl
 of_calls : (w then new : World) → new ≡ then → then.primary.calls ≡ w.primary.calls → new.primary.calls ≡ w.primary.calls
 of_calls w then new e same = ap (λ (x : World). x.primary.calls) e ∙ same
 
-calls-happen : (w : World) (event : Event) (new : World) → IsSure w → may_happen w event ≡ true → Happens w event new → CallsBy w event true new.primary.calls
+calls-happen : (w : World) (event : Event) (new : World) → IsSure w new → may_happen w event ≡ true → Happens w event new → CallsBy w event true new.primary.calls
 calls-happen w (Turn c) new sure may h = (h.call, h.connection, h.first, h.reply, ap (λ (x : World). x.primary.calls) h.now)
-calls-happen w (FailFence n k) new sure may h = absurd (true≢false (sym may ∙ sure.failures))
+calls-happen w (FailFence node.Primary k) new sure may h = of_calls w _ new h refl
+calls-happen w (FailFence node.Standby k) new sure may h = of_calls w _ new h refl
 calls-happen w (Crash node.Primary call k picks) new sure may h =
-    ap (λ (x : World). x.primary.calls) (h.now ∙ ap (λ (r : Remains). crashed node.Primary r w) (remains w node.Primary call h.remain sure (between w node.Primary call sure may) h.one))
+    ap (λ (x : World). x.primary.calls) (h.now ∙ ap (λ (r : Remains). crashed node.Primary r w) (remains w new node.Primary call h.remain sure (between w new node.Primary call sure may) h.one))
 calls-happen w (Crash node.Standby call k picks) new sure may h =
-    of_calls w _ new (h.now ∙ ap (λ (r : Remains). crashed node.Standby r w) (remains w node.Standby call h.remain sure (between w node.Standby call sure may) h.one)) refl
-calls-happen w (Reopen node.Primary) new sure may h = of_calls w _ new (unfailed w node.Primary cut.Reopen new sure.primary_sure h).now refl
-calls-happen w (Reopen node.Standby) new sure may h = of_calls w _ new (unfailed w node.Standby cut.Reopen new sure.standby_sure h) refl
-calls-happen w Promote new sure may h = ap (λ (x : World). x.primary.calls) (unfailed w node.Standby cut.Promote new sure.standby_sure h).now
-calls-happen w Commit new sure may h = of_calls w _ new (unfailed w node.Primary cut.Commit new sure.primary_sure h) refl
-calls-happen w Free new sure may h = of_calls w _ new (unfailed w node.Primary cut.Free new sure.primary_sure h) refl
-calls-happen w ClearGap new sure may h = of_calls w _ new (unfailed w node.Primary cut.ClearGap new sure.primary_sure h) refl
-calls-happen w Apply new sure may h = of_calls w _ new (unfailed w node.Standby cut.Apply new sure.standby_sure h).now refl
+    of_calls w _ new (h.now ∙ ap (λ (r : Remains). crashed node.Standby r w) (remains w new node.Standby call h.remain sure (between w new node.Standby call sure may) h.one)) refl
+calls-happen w (Reopen node.Primary) new sure may h = of_calls w _ new (sure-unfailed w node.Primary cut.Reopen new sure h).now refl
+calls-happen w (Reopen node.Standby) new sure may h = of_calls w _ new (sure-unfailed w node.Standby cut.Reopen new sure h) refl
+calls-happen w Promote new sure may h = ap (λ (x : World). x.primary.calls) (sure-unfailed w node.Standby cut.Promote new sure h).now
+calls-happen w Commit new sure may h = of_calls w _ new (sure-unfailed w node.Primary cut.Commit new sure h) refl
+calls-happen w Free new sure may h = of_calls w _ new (sure-unfailed w node.Primary cut.Free new sure h) refl
+calls-happen w ClearGap new sure may h = of_calls w _ new (sure-unfailed w node.Primary cut.ClearGap new sure h) refl
+calls-happen w Apply new sure may h = of_calls w _ new (sure-unfailed w node.Standby cut.Apply new sure h).now refl
 calls-happen w CloseGroup new sure may h =
     elim h [
       | inl group ↦ of_calls w _ new group.1.now refl
@@ -60,7 +61,7 @@ calls-stay w event calls same = same
 may-step : (w : World) (event : Event) (new : World) → Step w event true new → may_happen w event ≡ true
 may-step w event new step = (both (nodes_run w event) (may_happen w event) (sym step.done)).1
 
-pub calls-step : (w : World) (event : Event) (did : Bool) (new : World) → IsSure w → Step w event did new → CallsBy w event did new.primary.calls
+pub calls-step : (w : World) (event : Event) (did : Bool) (new : World) → IsSure w new → Step w event did new → CallsBy w event did new.primary.calls
 calls-step w event true new sure step = calls-happen w event new sure (may-step w event new step) (step.happens refl)
 calls-step w event false new sure step = calls-stay w event new.primary.calls (ap (λ (x : World). x.primary.calls) (step.stands refl))
 
@@ -120,7 +121,7 @@ none w c = refl
 told-silent : (w : World) (ack : Option Acknowledgement) → Silent w (with_link (told w.primary.epoch w.primary.committer.position ack w.primary.link) w)
 told-silent w ack c = refl
 
-released-happens : (w : World) (event : Event) (new : World) → IsSure w → may_happen w event ≡ true → Happens w event new → (c : ℕ) → released_in new c ≡ released_in w c ++ released_by w event true c
+released-happens : (w : World) (event : Event) (new : World) → IsSure w new → may_happen w event ≡ true → Happens w event new → (c : ℕ) → released_in new c ≡ released_in w c ++ released_by w event true c
 released-happens w Enter new sure may h = quiet w _ new h (get-entered (λ connection. connection.outbound.released) refl w.primary.connections)
 released-happens w (Feed d piece) new sure may h = quiet w _ new h (silent-inbound w d (fed_with piece))
 released-happens w (Offer d) new sure may h = quiet w _ new h (silent-inbound w d offered_next)
@@ -130,26 +131,27 @@ released-happens w CloseGroup new sure may h =
       | inl group ↦ quiet w _ new group.1.now (λ c. refl)
       | inr list ↦ quiet w _ new list.1 (λ c. refl)
     ]
-released-happens w Commit new sure may h = quiet w _ new (unfailed w node.Primary cut.Commit new sure.primary_sure h) (λ c. refl)
-released-happens w Free new sure may h = quiet w _ new (unfailed w node.Primary cut.Free new sure.primary_sure h) (λ c. refl)
-released-happens w ClearGap new sure may h = quiet w _ new (unfailed w node.Primary cut.ClearGap new sure.primary_sure h) (λ c. refl)
-released-happens w Apply new sure may h = quiet w _ new (unfailed w node.Standby cut.Apply new sure.standby_sure h).now (λ c. refl)
+released-happens w Commit new sure may h = quiet w _ new (sure-unfailed w node.Primary cut.Commit new sure h) (λ c. refl)
+released-happens w Free new sure may h = quiet w _ new (sure-unfailed w node.Primary cut.Free new sure h) (λ c. refl)
+released-happens w ClearGap new sure may h = quiet w _ new (sure-unfailed w node.Primary cut.ClearGap new sure h) (λ c. refl)
+released-happens w Apply new sure may h = quiet w _ new (sure-unfailed w node.Standby cut.Apply new sure h).now (λ c. refl)
 released-happens w (AckDelivered a) new sure may h = quiet w _ new h (told-silent w (slice_get w.wire.acknowledgements a))
 released-happens w (Hold d) new sure may h = quiet w _ new h (silent-outbound w d held_first (λ outbound. refl))
 released-happens w (Read d mark) new sure may h = quiet w _ new h (silent-outbound w d (having_read mark w) (silent-read w mark))
 released-happens w (Release d) new sure may h = quiet w _ new h (silent-outbound w d having_released (λ outbound. refl))
 released-happens w (Write d n) new sure may h = λ c. ap (λ (x : World). released_in x c) h ∙ written-at w d n c
 released-happens w (Leave d) new sure may h = quiet w _ new h (silent-changed d left w.primary.connections (λ connection. refl))
-released-happens w (FailFence n k) new sure may h = absurd (true≢false (sym may ∙ sure.failures))
+released-happens w (FailFence node.Primary k) new sure may h = quiet w _ new h (λ c. refl)
+released-happens w (FailFence node.Standby k) new sure may h = quiet w _ new h (λ c. refl)
 released-happens w (Crash node.Primary call k picks) new sure may h =
-    quiet w _ new (h.now ∙ ap (λ (r : Remains). crashed node.Primary r w) (remains w node.Primary call h.remain sure (between w node.Primary call sure may) h.one))
+    quiet w _ new (h.now ∙ ap (λ (r : Remains). crashed node.Primary r w) (remains w new node.Primary call h.remain sure (between w new node.Primary call sure may) h.one))
     (λ c. ap (λ (x : Connection). x.outbound.released) (get-over w.primary.connections c))
 released-happens w (Crash node.Standby call k picks) new sure may h =
-    quiet w _ new (h.now ∙ ap (λ (r : Remains). crashed node.Standby r w) (remains w node.Standby call h.remain sure (between w node.Standby call sure may) h.one)) (λ c. refl)
-released-happens w (Reopen node.Primary) new sure may h = quiet w _ new (unfailed w node.Primary cut.Reopen new sure.primary_sure h).now (λ c. refl)
-released-happens w (Reopen node.Standby) new sure may h = quiet w _ new (unfailed w node.Standby cut.Reopen new sure.standby_sure h) (λ c. refl)
+    quiet w _ new (h.now ∙ ap (λ (r : Remains). crashed node.Standby r w) (remains w new node.Standby call h.remain sure (between w new node.Standby call sure may) h.one)) (λ c. refl)
+released-happens w (Reopen node.Primary) new sure may h = quiet w _ new (sure-unfailed w node.Primary cut.Reopen new sure h).now (λ c. refl)
+released-happens w (Reopen node.Standby) new sure may h = quiet w _ new (sure-unfailed w node.Standby cut.Reopen new sure h) (λ c. refl)
 released-happens w Promote new sure may h =
-    quiet w _ new (unfailed w node.Standby cut.Promote new sure.standby_sure h).now (λ c. ap (λ (x : Connection). x.outbound.released) (get-over w.primary.connections c))
+    quiet w _ new (sure-unfailed w node.Standby cut.Promote new sure h).now (λ c. ap (λ (x : Connection). x.outbound.released) (get-over w.primary.connections c))
 released-happens w event new sure may h = quiet w _ new h (λ c. refl)
 
 -- nothing is released where the event was not enabled
@@ -157,7 +159,7 @@ released-stays : (w : World) (event : Event) (c : ℕ) → released_by w event f
 released-stays w (Write d n) c = refl
 released-stays w event c = refl
 
-pub released-step : (w : World) (event : Event) (did : Bool) (new : World) → IsSure w → Step w event did new → (c : ℕ) → released_in new c ≡ released_in w c ++ released_by w event did c
+pub released-step : (w : World) (event : Event) (did : Bool) (new : World) → IsSure w new → Step w event did new → (c : ℕ) → released_in new c ≡ released_in w c ++ released_by w event did c
 released-step w event true new sure step = released-happens w event new sure (may-step w event new step) (step.happens refl)
 released-step w event false new sure step = λ c.
     ap (λ (x : World). released_in x c) (step.stands refl) ∙ sym (append-nil (released_in w c)) ∙ ap (λ xs. released_in w c ++ xs) (sym (released-stays w event c))

@@ -30,6 +30,7 @@ pub mod PairLives
 pub mod PairCrash
 pub mod OpenedLemmas
 pub mod PairReopen
+pub mod PairFailing
 pub mod PairFence
 pub mod PromotionLemmas
 pub mod PairPromote

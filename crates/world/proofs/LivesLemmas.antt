@@ -3,11 +3,9 @@ use Rattle.std.proofs.Common.{◌≡◌, Bool, true, false, ◌&&◌, Option, sl
 use Rattle.model.specs.Standing.{Holder}
 use Rattle.machine.specs.declared.event.Event.{Event}
 use Rattle.machine.specs.declared.event.Event.TheVariants.{Turn, CloseGroup, Commit, Free, ClearGap, OpenLink, Deliver, Apply, AckDelivered, FailFence, Crash, Reopen, Fence, Promote}
-use Rattle.machine.specs.declared.event.Cut.TheVariants as cut
-use Rattle.machine.specs.declared.event.Node.TheVariants as node_of
 use Rattle.machine.specs.World as machine
-use Rattle.machine.specs.Event.{Acknowledgement, Allowed, Disk, Frame, Standby, World, IsSure, Happens, Takes, is_enabled, is_retired, is_running, may_happen, nodes_run, told, torn, with_link, without_first}
-use Rattle.machine.proofs.SureLemmas.{unfailed}
+use Rattle.machine.specs.Event.{Acknowledgement, Allowed, Frame, Standby, World, Happens, Takes, is_enabled, is_retired, is_running, is_stopped, may_happen, nodes_run, told, torn, with_link}
+use Rattle.machine.proofs.SureLemmas.{IsSure}
 use Rattle.world.specs.Pair.{AreLives, NodesRefine, Pair, PairRefines}
 use Rattle.world.specs.Condition.{has_crashed, has_ended, life_as, runs}
 use Rattle.world.specs.declared.condition.Condition.{Condition}
@@ -15,8 +13,12 @@ use Rattle.world.specs.declared.condition.Condition.TheVariants.{Running, Crashe
 
 -- ---- kinds of events
 
--- no node crashes in it, none is opened again, no fence is asked to fail, and no failover comes
+-- no node crashes in it, none is opened again, no fence is asked to fail or may do so, and no failover comes
 abbrev pub is_plain : Event → Bool
+is_plain Commit = false
+is_plain Free = false
+is_plain ClearGap = false
+is_plain Apply = false
 is_plain (FailFence node n) = false
 is_plain (Crash node call k picks) = false
 is_plain (Reopen node) = false
@@ -36,14 +38,6 @@ is_own Fence = false
 is_own Promote = false
 is_own event = true
 
-own-plain : (event : Event) → is_own event ≡ true → is_plain event ≡ true
-own-plain (FailFence node n) own = own
-own-plain (Crash node call k picks) own = own
-own-plain (Reopen node) own = own
-own-plain Fence own = own
-own-plain Promote own = own
-own-plain event own = refl
-
 own-nodes : (w : World) (event : Event) → is_own event ≡ true → w.primary.life ≡ machine.Running → nodes_run w event ≡ true
 own-nodes w OpenLink own r = absurd (true≢false (sym own))
 own-nodes w (Deliver frame piece) own r = absurd (true≢false (sym own))
@@ -60,8 +54,8 @@ own-nodes w event own r = rw r refl
 -- of the two worlds the same is said
 pub record SameLives (old new : World) : Type 0 where
   pub allowed : new.allowed ≡ old.allowed
-  pub primary_disk : new.primary.disk ≡ old.primary.disk
-  pub standby_disk : new.standby.disk ≡ old.standby.disk
+  pub primary_disk : new.primary.disk.number ≡ old.primary.disk.number
+  pub standby_disk : new.standby.disk.number ≡ old.standby.disk.number
   pub primary : new.primary.life ≡ old.primary.life
   pub standby : new.standby.life ≡ old.standby.life
   pub epoch : new.primary.epoch ≡ old.primary.epoch
@@ -72,7 +66,7 @@ of old then new e same = subst (SameLives old) (sym e) same
 told-lives : (w : World) (ack : Option Acknowledgement) → SameLives w (with_link (told w.primary.epoch w.primary.committer.position ack w.primary.link) w)
 told-lives w ack = record { allowed = refl; primary_disk = refl; standby_disk = refl; primary = refl; standby = refl; epoch = refl }
 
-taken-life : (frame : Frame) (old new : Standby) (told : List Acknowledgement) → Takes frame old new told → (new.life ≡ old.life) × (new.disk ≡ old.disk)
+pub taken-life : (frame : Frame) (old new : Standby) (told : List Acknowledgement) → Takes frame old new told → (new.life ≡ old.life) × (new.disk ≡ old.disk)
 taken-life frame old new told takes =
     elim takes [
       | inl other ↦ by other.1
@@ -85,31 +79,25 @@ taken-life frame old new told takes =
     by : new ≡ old → (new.life ≡ old.life) × (new.disk ≡ old.disk)
     by same = (ap (λ (x : Standby). x.life) same, ap (λ (x : Standby). x.disk) same)
 
--- where no fence was asked to fail
-pub plain-happens : (w : World) (event : Event) (new : World) → is_plain event ≡ true → w.primary.disk.failing ≡ false → w.standby.disk.failing ≡ false → Happens w event new → SameLives w new
-plain-happens w (Turn c) new plain first second h = of w _ new h.now (record { allowed = refl; primary_disk = refl; standby_disk = refl; primary = refl; standby = refl; epoch = refl })
-plain-happens w Commit new plain first second h =
-    of w _ new (unfailed w node_of.Primary cut.Commit new first h) (record { allowed = refl; primary_disk = refl; standby_disk = refl; primary = refl; standby = refl; epoch = refl })
-plain-happens w Free new plain first second h =
-    of w _ new (unfailed w node_of.Primary cut.Free new first h) (record { allowed = refl; primary_disk = refl; standby_disk = refl; primary = refl; standby = refl; epoch = refl })
-plain-happens w ClearGap new plain first second h =
-    of w _ new (unfailed w node_of.Primary cut.ClearGap new first h) (record { allowed = refl; primary_disk = refl; standby_disk = refl; primary = refl; standby = refl; epoch = refl })
-plain-happens w Apply new plain first second h =
-    let applies = unfailed w node_of.Standby cut.Apply new second h in
-    let same = taken-life applies.frame (without_first w.standby) applies.standby applies.told applies.takes in
-    of w _ new applies.now (record { allowed = refl; primary_disk = refl; standby_disk = same.1; primary = refl; standby = same.0; epoch = refl })
-plain-happens w (AckDelivered a) new plain first second h = of w _ new h (told-lives w (slice_get w.wire.acknowledgements a))
-plain-happens w (FailFence node n) new plain first second h = absurd (true≢false (sym plain))
-plain-happens w (Crash node call k picks) new plain first second h = absurd (true≢false (sym plain))
-plain-happens w (Reopen node) new plain first second h = absurd (true≢false (sym plain))
-plain-happens w Fence new plain first second h = absurd (true≢false (sym plain))
-plain-happens w Promote new plain first second h = absurd (true≢false (sym plain))
-plain-happens w CloseGroup new plain first second h =
+-- where no fence may fail
+pub plain-happens : (w : World) (event : Event) (new : World) → is_plain event ≡ true → Happens w event new → SameLives w new
+plain-happens w (Turn c) new plain h = of w _ new h.now (record { allowed = refl; primary_disk = refl; standby_disk = refl; primary = refl; standby = refl; epoch = refl })
+plain-happens w Commit new plain h = absurd (true≢false (sym plain))
+plain-happens w Free new plain h = absurd (true≢false (sym plain))
+plain-happens w ClearGap new plain h = absurd (true≢false (sym plain))
+plain-happens w Apply new plain h = absurd (true≢false (sym plain))
+plain-happens w (AckDelivered a) new plain h = of w _ new h (told-lives w (slice_get w.wire.acknowledgements a))
+plain-happens w (FailFence node n) new plain h = absurd (true≢false (sym plain))
+plain-happens w (Crash node call k picks) new plain h = absurd (true≢false (sym plain))
+plain-happens w (Reopen node) new plain h = absurd (true≢false (sym plain))
+plain-happens w Fence new plain h = absurd (true≢false (sym plain))
+plain-happens w Promote new plain h = absurd (true≢false (sym plain))
+plain-happens w CloseGroup new plain h =
     elim h [
       | inl group ↦ of w _ new group.1.now (record { allowed = refl; primary_disk = refl; standby_disk = refl; primary = refl; standby = refl; epoch = refl })
       | inr list ↦ of w _ new list.1 (record { allowed = refl; primary_disk = refl; standby_disk = refl; primary = refl; standby = refl; epoch = refl })
     ]
-plain-happens w event new plain first second h = of w _ new h (record { allowed = refl; primary_disk = refl; standby_disk = refl; primary = refl; standby = refl; epoch = refl })
+plain-happens w event new plain h = of w _ new h (record { allowed = refl; primary_disk = refl; standby_disk = refl; primary = refl; standby = refl; epoch = refl })
 
 pub lives-like : {first second : Holder} {serves follows : Condition} {w w' : World} → SameLives w w' → AreLives first second serves follows w → AreLives first second serves follows w'
 lives-like same lives = record {
@@ -130,30 +118,34 @@ torn_as Running = refl
 torn_as Crashed = refl
 torn_as Ended = refl
 
-pub sure-lives : {first second : Holder} {serves follows : Condition} {w : World} → AreLives first second serves follows w → IsSure w
-sure-lives {first} {second} {serves} {follows} {w} lives = record {
-  failures = ap (λ (a : Allowed). a.failures) lives.allowed_are;
-  primary_sure = ap (λ (d : Disk). d.failing) lives.primary_disk;
-  standby_sure = ap (λ (d : Disk). d.failing) lives.standby_disk;
+stopped_as : (condition : Condition) → is_stopped (life_as condition) ≡ false
+stopped_as Running = refl
+stopped_as Crashed = refl
+stopped_as Ended = refl
+
+pub sure-lives : {first second first' second' : Holder} {serves follows serves' follows' : Condition} {w w' : World} → AreLives first second serves follows w → AreLives first' second' serves' follows' w' → IsSure w w'
+sure-lives {first} {second} {first'} {second'} {serves} {follows} {serves'} {follows'} {w} {w'} lives lives' = record {
+  cuts = ap (λ (a : Allowed). a.cuts) lives.allowed_are;
   primary_whole = ap torn lives.primary ∙ torn_as serves;
   standby_whole = ap torn lives.standby ∙ torn_as follows;
+  primary_goes = ap is_stopped lives'.primary ∙ stopped_as serves';
+  standby_goes = ap is_stopped lives'.standby ∙ stopped_as follows';
 }
 
 -- ---- an event whose nodes run
 
--- the nodes that take part in the event run, and none crashes in it
+-- the nodes that take part in the event run
 pub record Runs (first second : Holder) (serves follows : Condition) (w : World) (event : Event) : Type 0 where
   pub lives : AreLives first second serves follows w
   pub nodes : nodes_run w event ≡ true
-  pub plain : is_plain event ≡ true
 
 -- what has something to do is enabled
 pub enabled-is : {first second : Holder} {serves follows : Condition} {w : World} {event : Event} → Runs first second serves follows w event → is_enabled w event ≡ may_happen w event
 enabled-is {first} {second} {serves} {follows} {w} {event} runs = ap (λ b. b && may_happen w event) runs.nodes
 
 -- the same nodes run afterwards
-pub lives-step : {first second : Holder} {serves follows : Condition} {w w' : World} {event : Event} → Runs first second serves follows w event → Happens w event w' → AreLives first second serves follows w'
-lives-step {first} {second} {serves} {follows} {w} {w'} {event} runs happens = lives-like (plain-happens w event w' runs.plain (ap (λ (d : Disk). d.failing) runs.lives.primary_disk) (ap (λ (d : Disk). d.failing) runs.lives.standby_disk) happens) runs.lives
+pub lives-step : {first second : Holder} {serves follows : Condition} {w w' : World} {event : Event} → Runs first second serves follows w event → is_plain event ≡ true → Happens w event w' → AreLives first second serves follows w'
+lives-step {first} {second} {serves} {follows} {w} {w'} {event} runs plain happens = lives-like (plain-happens w event w' plain happens) runs.lives
 
 running-life : (condition : Condition) → runs condition ≡ true → life_as condition ≡ machine.Running
 running-life Running up = refl
@@ -165,7 +157,7 @@ serving {first} {second} {pair} {w} stands = stands.lives.primary ∙ running-li
 
 -- an event that needs the primary alone
 pub own-runs : {first second : Holder} {pair : Pair} {w : World} → PairRefines first second pair w → (event : Event) → is_own event ≡ true → Runs first second pair.primary_condition pair.standby_condition w event
-own-runs {first} {second} {pair} {w} stands event own = record { lives = stands.lives; nodes = own-nodes w event own (serving stands); plain = own-plain event own }
+own-runs {first} {second} {pair} {w} stands event own = record { lives = stands.lives; nodes = own-nodes w event own (serving stands) }
 
 pub nodes-refine : {first second : Holder} {pair : Pair} {w : World} → PairRefines first second pair w → NodesRefine first second pair w
 nodes-refine stands = record { sound = stands.sound; lives = stands.lives; parts = inl (stands.serves, stands.parts) }

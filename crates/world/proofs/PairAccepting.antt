@@ -53,7 +53,7 @@ accept-does old sequencer notice rest told takes expected = record { steps = ste
     steps : (first second : Holder) (w : World) → PairRefines first second old w → Steps first second w events.AcceptFreed true old (with_accepted sequencer rest old)
     steps first second w stands =
         let some = ap length (sym told) ∙ stands.parts.freeing.notices_are in
-        goes-steps first second w (machine.accepted w) events.AcceptFreed true old (with_accepted sequencer rest old) refl refl (nodes-refine stands) (own-runs stands events.AcceptFreed refl) stands.serves refl
+        goes-steps first second w (machine.accepted w) events.AcceptFreed true old (with_accepted sequencer rest old) refl refl (nodes-refine stands) (own-runs stands events.AcceptFreed refl) stands.serves refl refl
         (record { done = sym (lt-ltb 0 w.primary.notices (omega (arith, some))); goes = λ did. parts-then first second w stands.parts; stays = λ did. absurd (true≢false did) })
 
 pub no_notices : (notices : List Freed) → length notices ≡ 0 → notices ≡ []

@@ -145,7 +145,9 @@ module _ {E : Type 0} (device : E → State) (contents : E → Contents) (is_fau
       cleared-does : (ok : Done) (one : ClearsOne after waiting' (Ok ok)) → Does from events.ClearGap (Ok true) (cleared_with after waiting' (notices ++ one.clears.answer.0 ∷ []) handed)
       cleared-does ok one = record {
         steps = λ first second w stands.
-            primary-steps events.ClearGap first second w (machine.cleared w) from (cleared_with after waiting' (notices ++ one.clears.answer.0 ∷ []) handed) refl stands refl refl refl one.clears.sound.1 (inl refl)
+            primary-steps events.ClearGap first second w (machine.cleared w) from (cleared_with after waiting' (notices ++ one.clears.answer.0 ∷ []) handed) refl
+            (record { allowed = refl; primary_disk = refl; standby_disk = refl; primary = refl; standby = refl; epoch = refl })
+            stands refl refl refl one.clears.sound.1 (inl refl)
             (sym (clear_may first second w stands)) (cleared-then (Ok ok) one first second w stands.parts) (clear-parts ok one first second w stands);
         cut = tt;
         calls = none-added _ _ refl;

@@ -117,7 +117,7 @@ close-happens first second old w stands may =
 close-to : (first second : Holder) (old : Pair) (waiting : Waiting Work) (sequencer : Sequencing) (w new : World) → PairRefines first second old w → MayClose old.sequencer old.committing.waiting
     → Closes w new → PartsRefine first second (with_work waiting sequencer old) new → Steps first second w events.CloseGroup true old (with_work waiting sequencer old)
 close-to first second old waiting sequencer w new stands may closes parts =
-    goes-steps first second w new events.CloseGroup true old (with_work waiting sequencer old) refl refl (nodes-refine stands) (own-runs stands events.CloseGroup refl) stands.serves closes
+    goes-steps first second w new events.CloseGroup true old (with_work waiting sequencer old) refl refl (nodes-refine stands) (own-runs stands events.CloseGroup refl) stands.serves refl closes
     (record { done = sym (close-happens first second old w stands may); goes = λ did. parts; stays = λ did. absurd (true≢false did) })
 
 close-steps : (first second : Holder) (old : Pair) (waiting : Waiting Work) (sequencer : Sequencing) (w : World) → PairRefines first second old w

@@ -11,7 +11,7 @@ use Rattle.machine.specs.declared.event.Event.TheVariants as events
 use Rattle.machine.specs.Event.{Commits, Frees, Link as MachineLink, Work as MachineWork, World, Committer as MachineCommitter, Step, may_happen, committed_first, from_group, handed, handed_to, raised_local, ready_again, with_committer, with_link}
 use Rattle.machine.specs.Sound.{Sound}
 use Rattle.machine.proofs.SoundEvents.{sound-step}
-use Rattle.world.proofs.LivesLemmas.{Runs, enabled-is, lives-step, nodes-refine, own-runs}
+use Rattle.world.proofs.LivesLemmas.{Runs, enabled-is, lives-like, nodes-refine, own-runs}
 use Rattle.connections.specs.Going.{Goes}
 use Rattle.world.specs.GroupSpan.{AreGroupsOf}
 use Rattle.world.specs.Cause.{Stretch, Breaks, RestsAtLimit, EndsBy, Resting}
@@ -47,7 +47,7 @@ commit-steps first second w old new device' same sound runs serves failures only
     record {
       world = w';
       step = step;
-      stands = record { sound = sound-step w events.Commit true w' step sound; lives = lives-step runs (inl refl); parts = inl (serves, parts) };
+      stands = record { sound = sound-step w events.Commit true w' step sound; lives = lives-like (record { allowed = refl; primary_disk = refl; standby_disk = refl; primary = refl; standby = refl; epoch = refl }) runs.lives; parts = inl (serves, parts) };
       moves = record {
         primary = record { leaves = only; failures = failures };
         standby = λ whole. moves-same second w.primary.calls w.standby.position w.standby.position old.standby.device new.standby.device device'
@@ -88,7 +88,7 @@ raise-does old committing did go waiting aside =
     record {
       steps = λ first second w stands.
           let parts = stands.parts in
-          goes-steps first second w (with_committer (raised_local w.primary.committer) w) events.RaiseLocal did old (with_committing committing old) refl refl (nodes-refine stands) (own-runs stands events.RaiseLocal refl) stands.serves refl
+          goes-steps first second w (with_committer (raised_local w.primary.committer) w) events.RaiseLocal did old (with_committing committing old) refl refl (nodes-refine stands) (own-runs stands events.RaiseLocal refl) stands.serves refl refl
           (goes-map (go w parts.committing parts.engine.contents_at.at)
           (λ moved. shown-parts first second old committing w (raised_local w.primary.committer) parts waiting aside moved refl refl)
           (λ stayed. shown-parts first second old committing w w.primary.committer parts waiting aside stayed refl refl));
@@ -113,7 +113,7 @@ hand-does old committing waiting did go same aside =
       steps = λ first second w stands.
           let parts = stands.parts in
           goes-steps first second w (with_link (handed_to (handed w.primary.committer.stage) w.primary.link) (with_committer (ready_again w.primary.committer) w)) events.Hand did
-          old (with_handed committing waiting old) refl refl (nodes-refine stands) (own-runs stands events.Hand refl) stands.serves refl
+          old (with_handed committing waiting old) refl refl (nodes-refine stands) (own-runs stands events.Hand refl) stands.serves refl refl
           (goes-map (go w stands.sound parts.committing parts.link.waiting)
           (λ moved. on w (ready_again w.primary.committer) (handed_to (handed w.primary.committer.stage) w.primary.link) parts moved.0 refl refl refl moved.1)
           (λ stayed. on w w.primary.committer w.primary.link parts stayed.0 refl refl refl stayed.1));

@@ -11,7 +11,7 @@ use Rattle.model.specs.Standing.{Holder}
 use Rattle.machine.specs.declared.event.Event.TheVariants as events
 use Rattle.machine.specs.declared.event.Cut.TheVariants as cuts
 use Rattle.machine.specs.declared.event.Node.TheVariants as node
-use Rattle.machine.specs.Event.{Allowed, World, At, Life, new_disk, Step, crashed, is_enabled, is_running, is_stopped, left}
+use Rattle.machine.specs.Event.{Allowed, World, At, Life, Step, crashed, is_enabled, is_running, is_stopped, left}
 use Rattle.machine.specs.Sound.{IsFrameWithin}
 use Rattle.machine.proofs.SoundEvents.{sound-step}
 use Rattle.world.specs.Committing.{Committing}
@@ -176,7 +176,7 @@ standby-crashes old arrivals node' k picks follows has lost told =
           step = step;
           stands = record {
             sound = sound-step w event true w' step stands.sound;
-            lives = search (rules, stands.lives, stands.lives.primary_disk ∙ ap new_disk (ap (λ b. cond b 1 0) (not-over old.standby_condition follows)));
+            lives = search (rules, stands.lives, stands.lives.primary_disk ∙ ap (λ b. cond b 1 0) (not-over old.standby_condition follows));
             parts = refines;
           };
           moves = record {

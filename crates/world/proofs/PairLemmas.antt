@@ -22,7 +22,7 @@ use Rattle.world.specs.Committing.{Rests, Opens, next_primary, next_standby}
 use Rattle.connections.specs.Session.{IsListOf, SessionsRefine, SequencerRefines, SeatsFollow, KeepsSeats, AddsOne, StandsStill, TakesTurn, TellsTheSame, seats_of}
 use Rattle.world.specs.Pair.{HasStandby, Pair, EitherRefines, NodesRefine, PartsRefine, PairRefines, IsCut, MovesBoth, Steps, Does}
 use Rattle.world.specs.Standby.{Node, StandbyRefines}
-use Rattle.world.proofs.LivesLemmas.{Runs, enabled-is, is_own, lives-step, nodes-refine, own-runs}
+use Rattle.world.proofs.LivesLemmas.{Runs, enabled-is, is_own, is_plain, lives-step, nodes-refine, own-runs}
 use Rattle.primary.specs.Standing.{StandsOver}
 use Rattle.primary.proofs.AheadLemmas.{laid-engine}
 use Rattle.connections.specs.declared.connections.Connections.{Connections}
@@ -103,17 +103,17 @@ untouched first second old new w w' device device' parts =
 
 -- an event that touches no device
 pub goes-either : (first second : Holder) (w w' : World) (event : Event) (did : Bool) (old new : Pair) → new.device ≡ old.device → new.standby.device ≡ old.standby.device → NodesRefine first second old w
-    → Runs first second new.primary_condition new.standby_condition w event → Happens w event w'
+    → Runs first second new.primary_condition new.standby_condition w event → is_plain event ≡ true → Happens w event w'
     → Goes (may_happen w event) did (EitherRefines first second new w') (EitherRefines first second new w) → Steps first second w event did old new
-goes-either first second w w' event true old new device device' before runs happens goes =
+goes-either first second w w' event true old new device device' before runs plain happens goes =
     let step : Step w event true w' = record { done = goes.done ∙ sym (enabled-is runs); happens = λ did. happens; stands = λ did. absurd (true≢false did) } in
     record {
       world = w';
       step = step;
-      stands = record { sound = sound-step w event true w' step before.sound; lives = lives-step runs happens; parts = goes.goes refl };
+      stands = record { sound = sound-step w event true w' step before.sound; lives = lives-step runs plain happens; parts = goes.goes refl };
       moves = untouched first second old new w w' device device' before.parts;
     }
-goes-either first second w w' event false old new device device' before runs happens goes =
+goes-either first second w w' event false old new device device' before runs plain happens goes =
     record {
       world = w;
       step = record { done = goes.done ∙ sym (enabled-is runs); happens = λ did. absurd (true≢false (sym did)); stands = λ did. refl };
@@ -123,10 +123,10 @@ goes-either first second w w' event false old new device device' before runs hap
 
 -- of one whose primary runs
 pub goes-steps : (first second : Holder) (w w' : World) (event : Event) (did : Bool) (old new : Pair) → new.device ≡ old.device → new.standby.device ≡ old.standby.device → NodesRefine first second old w
-    → Runs first second new.primary_condition new.standby_condition w event → runs new.primary_condition ≡ true → Happens w event w'
+    → Runs first second new.primary_condition new.standby_condition w event → runs new.primary_condition ≡ true → is_plain event ≡ true → Happens w event w'
     → Goes (may_happen w event) did (PartsRefine first second new w') (PartsRefine first second new w) → Steps first second w event did old new
-goes-steps first second w w' event did old new device device' before runs serves happens goes =
-    goes-either first second w w' event did old new device device' before runs happens (goes-map goes (λ moved. inl (serves, moved)) (λ stayed. inl (serves, stayed)))
+goes-steps first second w w' event did old new device device' before runs serves plain happens goes =
+    goes-either first second w w' event did old new device device' before runs plain happens (goes-map goes (λ moved. inl (serves, moved)) (λ stayed. inl (serves, stayed)))
 
 -- ---- cuts
 
@@ -240,6 +240,7 @@ SessionsGo enabled change did old transcript new transcript' =
 -- an event of the primary that is enabled by its connections alone, and changes nothing else
 pub record IsOfConnections (event : Event) (enabled : List Connection → Bool) (change : List Connection → List Connection) : Type 0 where
   pub own : is_own event ≡ true
+  pub plain : is_plain event ≡ true
   pub may : (w : World) → may_happen w event ≡ enabled w.primary.connections
   pub happens : (w : World) → Happens w event (with_connections (change w.primary.connections) w)
 
@@ -255,7 +256,7 @@ sessions-steps : (event : Event) (enabled : List Connection → Bool) (change : 
     → (first second : Holder) (w : World) → PairRefines first second old w → Steps first second w event did old (with_sessions sessions transcript old)
 sessions-steps event enabled change is old sessions transcript did go keeps first second w stands =
     let went = go w.primary.connections w.primary.calls stands.parts.sessions in
-    goes-steps first second w (with_connections (change w.primary.connections) w) event did old (with_sessions sessions transcript old) refl refl (nodes-refine stands) (own-runs stands event is.own) stands.serves (is.happens w)
+    goes-steps first second w (with_connections (change w.primary.connections) w) event did old (with_sessions sessions transcript old) refl refl (nodes-refine stands) (own-runs stands event is.own) stands.serves is.plain (is.happens w)
     (goes-map (record { done = went.done ∙ sym (is.may w); goes = went.goes; stays = went.stays })
     (sessions-parts first second old sessions transcript (change w.primary.connections) w stands.parts keeps)
     (sessions-parts first second old sessions transcript w.primary.connections w stands.parts keeps))
@@ -296,7 +297,7 @@ read-does c mark local remote old sessions did local_is remote_is go keeps =
         let now : List Connection = change w.primary.committer.local w.primary.link.remote in
         let marks : change local remote ≡ now = ap₂ change (local_is ∙ stands.parts.committing.local_is) (remote_is ∙ stands.parts.link.remote_is) in
         let went = go w.primary.connections w.primary.calls stands.parts.sessions in
-        goes-steps first second w (with_connections now w) (events.Read c mark) did old (with_sessions sessions old.transcript old) refl refl (nodes-refine stands) (own-runs stands (events.Read c mark) refl) stands.serves refl
+        goes-steps first second w (with_connections now w) (events.Read c mark) did old (with_sessions sessions old.transcript old) refl refl (nodes-refine stands) (own-runs stands (events.Read c mark) refl) stands.serves refl refl
         (goes-map went
         (λ stand. sessions-parts first second old sessions old.transcript now w stands.parts keeps (subst (λ (connections : List Connection). SessionsRefine sessions old.transcript connections w.primary.calls) marks stand))
         (sessions-parts first second old sessions old.transcript w.primary.connections w stands.parts keeps))
@@ -352,7 +353,7 @@ turn-steps first second old sessions transcript sequencer w c true stands takes 
     let w' = called c call w in
     let turns : Turns w c w' = record { call = call; connection = next.connection; first = next.first; reply = next.reply; now = refl } in
     let parts : PartsRefine first second (with_turn sessions transcript sequencer old) w' = called-parts first second old sessions transcript sequencer w c call stands moved.2 moved.3 moved.4 still in
-    goes-steps first second w w' (events.Turn c) true old (with_turn sessions transcript sequencer old) refl refl (nodes-refine stands) (own-runs stands (events.Turn c) refl) stands.serves turns
+    goes-steps first second w w' (events.Turn c) true old (with_turn sessions transcript sequencer old) refl refl (nodes-refine stands) (own-runs stands (events.Turn c) refl) stands.serves refl turns
     (record { done = takes.done; goes = λ did. parts; stays = λ did. absurd (true≢false did) })
 turn-steps first second old sessions transcript sequencer w c false stands takes keeps still =
     let stayed = takes.stays refl in
@@ -403,7 +404,7 @@ seats-steps event enabled change is old sessions transcript sequencer did go fol
     let went = go connections w.primary.calls parts.sessions in
     let follow = follows connections w.primary.calls (list-of w stands.sound) parts.sessions parts.follow in
     let table = sequencer_stands w.primary.calls w.primary.committer.closed parts.sequencer in
-    goes-steps first second w (with_connections (change connections) w) event did old (with_turn sessions transcript sequencer old) refl refl (nodes-refine stands) (own-runs stands event is.own) stands.serves (is.happens w)
+    goes-steps first second w (with_connections (change connections) w) event did old (with_turn sessions transcript sequencer old) refl refl (nodes-refine stands) (own-runs stands event is.own) stands.serves is.plain (is.happens w)
     (goes-map (record { done = went.done ∙ sym (is.may w); goes = went.goes; stays = went.stays })
     (λ stand. seats-parts first second old sessions transcript sequencer (change connections) w parts stand table follow still)
     (λ stand. seats-parts first second old sessions transcript sequencer w.primary.connections w parts stand table follow still))
@@ -418,7 +419,7 @@ pub enter-does : (old : Pair) (sessions : Connections) (transcript : Transcript)
     → transcript.calls ≡ old.transcript.calls → Does old events.Enter result (with_turn sessions transcript sequencer old)
 enter-does old sessions transcript sequencer (Ok did) go follows sequencer_stands still same memory enabled calls =
     record {
-      steps = seats-steps events.Enter may_enter (λ machines. machines ++ new_connection ∷ []) (record { own = refl; may = λ w. refl; happens = λ w. refl }) old sessions transcript sequencer did go follows sequencer_stands still;
+      steps = seats-steps events.Enter may_enter (λ machines. machines ++ new_connection ∷ []) (record { own = refl; plain = refl; may = λ w. refl; happens = λ w. refl }) old sessions transcript sequencer did go follows sequencer_stands still;
       cut = tt;
       calls = none-added _ _ calls;
     }
@@ -440,7 +441,7 @@ pub leave-does : (old : Pair) (sessions : Connections) (sequencer : Sequencing) 
     → Does old (events.Leave c) (Ok did) (with_turn sessions old.transcript sequencer old)
 leave-does old sessions sequencer c did go follows sequencer_stands still =
     record {
-      steps = seats-steps (events.Leave c) (λ machines. is_open_at machines c) (changed_at c left) (record { own = refl; may = λ w. refl; happens = λ w. refl }) old sessions old.transcript sequencer did go
+      steps = seats-steps (events.Leave c) (λ machines. is_open_at machines c) (changed_at c left) (record { own = refl; plain = refl; may = λ w. refl; happens = λ w. refl }) old sessions old.transcript sequencer did go
           (λ machines list is stand follow. follows machines list stand follow) sequencer_stands still;
       cut = tt;
       calls = none-added _ _ refl;

@@ -117,7 +117,7 @@ delta-does old link frame bytes frames given taken text within more =
           (λ whole. All-append (IsOwn epoch) w.wire.frames _ (parts.own whole) (All-cons (IsOwn epoch) (record { epoch = epoch; span = span }) [] refl (All-nil (IsOwn epoch)))))) in
           let happens : w' ≡ sent w =
           ap₂ (λ (e : ℕ) (spans : List Span). with_sent (framed e (take 1 (spans ++ (machine.again ++ machine.waiting)))) (with_link (sent_next spans machine) w)) parts.epoch (sym one.1) in
-          goes-steps first second w w' events.Send true old (with_frames old.handed link old.remote frames old) refl refl (nodes-refine stands) (own-runs stands events.Send refl) stands.serves happens
+          goes-steps first second w w' events.Send true old (with_frames old.handed link old.remote frames old) refl refl (nodes-refine stands) (own-runs stands events.Send refl) stands.serves refl happens
           (record {
             done = sym (ap (λ (spans : List Span). is_nonempty spans || (is_nonempty machine.again || (is_nonempty machine.waiting && nat_lt (length machine.kept) KEPT_GROUPS))) one.1);
             goes = λ did. moved;
@@ -157,7 +157,7 @@ send-does old waiting link index frame bytes frames answers there text within mo
           subst (λ (fs : List (Vec ℕ Global)). PartsRefine first second (with_frames waiting link old.remote fs old) w') (sym more)
           (link-parts first second old waiting link old.remote (old.frames ++ bytes ∷ []) w (sent_next machine.delta machine) (w.wire.frames ++ framed epoch (next_to_send machine)) parts at.epoch_is at.link passed
           (λ whole. subst (λ (spans : List Span). All (IsOwn epoch) (w.wire.frames ++ framed epoch spans)) (sym at.next) (All-append (IsOwn epoch) w.wire.frames _ (parts.own whole) (All-cons (IsOwn epoch) (record { epoch = epoch; span = at.span }) [] refl (All-nil (IsOwn epoch)))))) in
-          goes-steps first second w w' events.Send true old (with_frames waiting link old.remote frames old) refl refl (nodes-refine stands) (own-runs stands events.Send refl) stands.serves
+          goes-steps first second w w' events.Send true old (with_frames waiting link old.remote frames old) refl refl (nodes-refine stands) (own-runs stands events.Send refl) stands.serves refl
           (ap (λ e. with_sent (framed e (next_to_send machine)) (with_link (sent_next machine.delta machine) w)) parts.epoch)
           (record { done = sym at.may; goes = λ did. moved; stays = λ did. absurd (true≢false did) });
       cut = tt;
@@ -171,7 +171,7 @@ send-none old waiting link answers none_before =
       steps = λ first second w stands.
           let none = sends w.primary.calls old.link old.handed old.remote w.primary.link stands.sound.legal stands.parts.link none_before (Ok None) link waiting answers in
           let stayed = link-alone first second old waiting link old.remote w w.primary.link stands.parts none.epoch_is none.link in
-          goes-steps first second w (sent w) events.Send false old (with_frames waiting link old.remote old.frames old) refl refl (nodes-refine stands) (own-runs stands events.Send refl) stands.serves refl
+          goes-steps first second w (sent w) events.Send false old (with_frames waiting link old.remote old.frames old) refl refl (nodes-refine stands) (own-runs stands events.Send refl) stands.serves refl refl
           (record { done = sym none.may; goes = λ did. absurd (true≢false (sym did)); stays = λ did. stayed });
       cut = tt;
       calls = none-added _ _ refl;
@@ -215,7 +215,7 @@ raise-does old known did same is =
           let highest : known ≡ machine.known = same ∙ link.known in
           let raised : (remote : ℕ) → known ≡ remote → PartsRefine first second (with_mark known old) (with_link (record machine { remote = remote }) w) =
           (λ remote at. link-alone first second old old.handed old.link known w (record machine { remote = remote }) parts refl (search (rules, link))) in
-          goes-steps first second w (with_link (raised_remote machine) w) events.RaiseRemote did old (with_mark known old) refl refl (nodes-refine stands) (own-runs stands events.RaiseRemote refl) stands.serves refl
+          goes-steps first second w (with_link (raised_remote machine) w) events.RaiseRemote did old (with_mark known old) refl refl (nodes-refine stands) (own-runs stands events.RaiseRemote refl) stands.serves refl refl
           (record {
             done = is ∙ ap₂ nat_lt link.remote_is highest;
             goes = λ rose. raised machine.known highest;
@@ -309,7 +309,7 @@ ack-does old n bytes ack link opening within found reads learns refuses =
         let highest : link.known ≡ max old.link.known ack.position = ap (λ (s : Stream). s.known) learned.0 in
         let behind : link.known ≤ w.standby.position = omega (arith, highest, below, stands.sound.standby.known, parts.link.known) in
         let tells : PartsRefine first second (with_opening opening old) w = opening-parts first second old link.known opening w behind learned.1 learned.2 parts in
-        goes-steps first second w (with_link machine w) (events.AckDelivered n) true old (with_learned link opening old) refl refl (nodes-refine stands) (own-runs stands (events.AckDelivered n) refl) stands.serves refl
+        goes-steps first second w (with_link machine w) (events.AckDelivered n) true old (with_learned link opening old) refl refl (nodes-refine stands) (own-runs stands (events.AckDelivered n) refl) stands.serves refl refl
         (record {
           done = done w there;
           goes = λ did. link-alone first second (with_opening opening old) old.handed link old.remote w machine tells (ap (λ (s : Stream). s.epoch) learned.0) now;
@@ -330,7 +330,7 @@ ack-does old n bytes ack link opening within found reads learns refuses =
         let now : LinkRefines w.primary.calls old.link old.handed old.remote machine =
         subst (λ (l : MachineLink). LinkRefines w.primary.calls old.link old.handed old.remote l) (sym knows_now) parts.link in
         let steps : Steps first second w (events.AckDelivered n) true old (with_learned old.link old.opening old) =
-        goes-steps first second w (with_link machine w) (events.AckDelivered n) true old (with_learned old.link old.opening old) refl refl (nodes-refine stands) (own-runs stands (events.AckDelivered n) refl) stands.serves refl
+        goes-steps first second w (with_link machine w) (events.AckDelivered n) true old (with_learned old.link old.opening old) refl refl (nodes-refine stands) (own-runs stands (events.AckDelivered n) refl) stands.serves refl refl
         (record {
           done = done w there;
           goes = λ did. link-alone first second old old.handed old.link old.remote w machine parts refl now;

@@ -53,9 +53,6 @@ not-both : (a b : Bool) → b ≡ false → (a && b) ≡ false
 not-both true b e = e
 not-both false b e = refl
 
-pub fail-fence-acts : (old : Pair) (n : Node) (k : ℕ) → Acts old (FailFence n k) (Ok false) old
-fail-fence-acts old n k = stays-acts old (FailFence n k) (λ first second w stands. not-both (nodes_run w (FailFence n k)) w.allowed.failures (ap (λ (a : Allowed). a.failures) stands.lives.allowed_are))
-
 -- a primary that was not fenced is not succeeded
 pub promote-acts : (old : Pair) → has_ended old.primary_condition ≡ false → Acts old Promote (Ok false) old
 promote-acts old unfenced =
@@ -71,8 +68,8 @@ between call is = absurd (true≢false (sym is))
 pub cut-acts : (old : Pair) (n : Node) (call : Cut) (k : ℕ) (picks : Vec ℕ Global) → is_between call ≡ false → Acts old (Crash n call k picks) (Ok false) old
 cut-acts old n call k picks inside =
     stays-acts old (Crash n call k picks) (λ first second w stands.
-    not-both w.allowed.restarts ((is_between call || w.allowed.failures) && may_cut w n call)
-    (ap (λ b. (b || w.allowed.failures) && may_cut w n call) inside ∙ ap (λ (a : Allowed). a.failures && may_cut w n call) stands.lives.allowed_are))
+    not-both w.allowed.restarts ((is_between call || w.allowed.cuts) && may_cut w n call)
+    (ap (λ b. (b || w.allowed.cuts) && may_cut w n call) inside ∙ ap (λ (a : Allowed). a.cuts && may_cut w n call) stands.lives.allowed_are))
 
 -- ---- the primary runs
 

@@ -24,7 +24,7 @@ use Rattle.frames.specs.declared.frame.Frame.{Frame}
 use Rattle.machine.specs.declared.event.Cut.TheVariants as cut
 use Rattle.machine.specs.declared.event.Event.TheVariants.{Promote, Reopen}
 use Rattle.machine.specs.declared.event.Node.TheVariants as node
-use Rattle.machine.specs.Event.{Allowed, Frame as Sent, World, Step, is_enabled, is_retired, is_running, left, promoted}
+use Rattle.machine.specs.Event.{Allowed, Frame as Sent, World, Step, is_enabled, is_retired, is_running, is_stopped, left, promoted}
 use Rattle.machine.specs.Sound.{IsFrameWithin}
 use Rattle.machine.proofs.SoundEvents.{sound-promoted}
 use Rattle.machine.proofs.SureLemmas.{unfailed}
@@ -42,7 +42,7 @@ use Rattle.world.specs.Link.{AreAcksSent, AreFramesRead, AreFramesSent}
 use Rattle.world.specs.Pair.{Acts, AreLives, DownRefine, EitherRefines, HasStandby, IsPromotionCut, NodesRefine, Pair, Promotes, Succeeds, first_device, second_device}
 use Rattle.world.specs.Standby.{Arrived, Node}
 use Rattle.world.proofs.CutLemmas.{IsDown-cut}
-use Rattle.world.proofs.LivesLemmas.{not-over, retired-as, running-as, sure-lives}
+use Rattle.world.proofs.LivesLemmas.{not-over, retired-as, running-as}
 use Rattle.world.proofs.OpenedLemmas.{IsNotOpened, IsOpened, opened-stands}
 use Rattle.world.proofs.PairLemmas.{none-added, sessions-stand, standby-within}
 use Rattle.world.proofs.PairReopen.{Begins, primary-reopens, with_primary_node}
@@ -277,7 +277,7 @@ module _ (old : Pair) (fenced : has_ended old.primary_condition ≡ true) (follo
               let mid = fallen-stands first second w stands in
               let reopens = acts.steps (promoted_holder second) (former_holder second) (promoted w) mid in
               let w' = reopens.world in
-              let opens = unfailed (promoted w) node.Primary cut.Reopen w' (sure-lives mid.lives).primary_sure (reopens.step.happens refl) in
+              let opens = unfailed (promoted w) node.Primary cut.Reopen w' (ap is_stopped reopens.stands.lives.primary) (reopens.step.happens refl) in
               let step : Step w Promote true w' = record {
                 done = sym (promote-enabled stands.lives fenced follows);
                 happens = λ did. inl (record { ended = opens.ended; gaps = opens.gaps; some = omega arith; few = opens.few; now = opens.now });

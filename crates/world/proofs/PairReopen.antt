@@ -27,7 +27,7 @@ use Rattle.wbl_engine.specs.Reopening.{RefusesReopening}
 use Rattle.machine.specs.declared.event.Event.{Event}
 use Rattle.machine.specs.declared.event.Event.TheVariants as events
 use Rattle.machine.specs.declared.event.Node.TheVariants as node
-use Rattle.machine.specs.Event.{Allowed, Committer as MachineCommitter, World, Step, is_crashed, is_enabled, new_disk, new_link, reopened_primary, reopened_standby, with_primary, with_standby}
+use Rattle.machine.specs.Event.{Allowed, Committer as MachineCommitter, World, Step, is_crashed, is_enabled, new_link, reopened_primary, reopened_standby, with_primary, with_standby}
 use Rattle.machine.proofs.SoundEvents.{sound-step}
 use Rattle.world.specs.Cause.{EndsBy, Stretch}
 use Rattle.world.specs.Committing.{Committing, CommittingRefines, IsDown, next_primary, next_standby}
@@ -114,7 +114,7 @@ standby-reopens old node' fallen opened follows own = record { steps = steps; cu
           step = step;
           stands = record {
             sound = sound-step w event true w' step stands.sound;
-            lives = search (rules, lives, lives.primary_disk ∙ ap new_disk (ap (λ b. cond b 1 0) (crashed-not-over old.standby_condition fallen)));
+            lives = search (rules, lives, lives.primary_disk ∙ ap (λ b. cond b 1 0) (crashed-not-over old.standby_condition fallen));
             parts = standby-either first second old old.arrivals node' Running w w'.standby w.wire.acknowledgements (crashed-not-over old.standby_condition fallen) (le_refl p) stands.parts (arrivals-stand stands.parts) refined;
           };
           moves = record {

@@ -17,11 +17,11 @@ use Rattle.standby_stream.specs.Stream.{Stream}
 use Rattle.machine.specs.declared.event.Event.{Event}
 use Rattle.machine.specs.declared.event.Event.TheVariants as events
 use Rattle.model.specs.declared.call.Call.{Call}
-use Rattle.machine.specs.Event.{Happens, World, Standby as MachineStandby, Acknowledgement, Span, Step, due_delta, is_running, nodes_run, may_happen, opened_link, acknowledgement_of, delivered, option_items, told, with_link, with_standby, with_acknowledged}
+use Rattle.machine.specs.Event.{Disk, Happens, World, Standby as MachineStandby, Acknowledgement, Span, Step, due_delta, is_running, nodes_run, may_happen, opened_link, acknowledgement_of, delivered, option_items, told, with_link, with_standby, with_acknowledged, without_first}
 use Rattle.machine.specs.Sound.{Sound}
 use Rattle.machine.proofs.GrowLemmas.{grows-step}
 use Rattle.machine.proofs.SoundEvents.{sound-step}
-use Rattle.world.proofs.LivesLemmas.{Runs, enabled-is, is_plain, lives-step, nodes-refine, not-crashed, not-over, running-as, serving}
+use Rattle.world.proofs.LivesLemmas.{Runs, enabled-is, lives-like, nodes-refine, not-crashed, not-over, running-as, serving, taken-life}
 use Rattle.connections.specs.Going.{Goes}
 use Rattle.world.specs.Cause.{Stretch, Breaks, RestsAtFrameLimit, EndsBy, Resting}
 use Rattle.world.specs.Committing.{NearOnly, Moves, next_standby}
@@ -120,18 +120,17 @@ own-epoch first second old w follows stands = (follower follows stands.parts).ep
 -- ---- which events may come
 
 -- an event of a standby that runs
-standby-runs : {first second : Holder} {pair : Pair} {w : World} → runs pair.standby_condition ≡ true → NodesRefine first second pair w → (event : Event) → (is_running w.standby.life ≡ true → nodes_run w event ≡ true) → is_plain event ≡ true
+standby-runs : {first second : Holder} {pair : Pair} {w : World} → runs pair.standby_condition ≡ true → NodesRefine first second pair w → (event : Event) → (is_running w.standby.life ≡ true → nodes_run w event ≡ true)
     → Runs first second pair.primary_condition pair.standby_condition w event
-standby-runs {first} {second} {pair} {w} follows stands event nodes plain = record {
+standby-runs {first} {second} {pair} {w} follows stands event nodes = record {
   lives = stands.lives;
   nodes = nodes (ap is_running stands.lives.standby ∙ running-as pair.standby_condition ∙ follows);
-  plain = plain;
 }
 
 -- an event of both
 both-run : {first second : Holder} {pair : Pair} {w : World} → runs pair.standby_condition ≡ true → PairRefines first second pair w → Runs first second pair.primary_condition pair.standby_condition w events.OpenLink
 both-run {first} {second} {pair} {w} follows stands =
-    standby-runs follows (nodes-refine stands) events.OpenLink (λ runs. ap (λ b. b && is_running w.standby.life) (ap is_running (serving stands)) ∙ runs) refl
+    standby-runs follows (nodes-refine stands) events.OpenLink (λ runs. ap (λ b. b && is_running w.standby.life) (ap is_running (serving stands)) ∙ runs)
 
 -- the standby told its position
 abbrev pub Acknowledges : Ack → Arrived → Arrived → Type 0
@@ -225,7 +224,7 @@ open-does old arrivals link opening ack follows is acknowledges reopens same =
           } in
           let moved = link-alone first second (with_arrivals arrivals old) old.handed link old.remote w' machine heard (ap (λ (s : Stream). s.epoch) reopened.2)
           (subst (λ (s : Stream). LinkRefines w.primary.calls s old.handed old.remote machine) (sym reopened.2) opened) in
-          goes-steps first second w (with_link machine w') events.OpenLink true old (with_opened arrivals link old.opening old) refl refl (nodes-refine stands) (both-run follows stands) stands.serves refl
+          goes-steps first second w (with_link machine w') events.OpenLink true old (with_opened arrivals link old.opening old) refl refl (nodes-refine stands) (both-run follows stands) stands.serves refl refl
           (record { done = refl; goes = λ did. moved; stays = λ did. absurd (true≢false did) });
       cut = tt;
       calls = none-added _ _ refl;
@@ -275,7 +274,7 @@ deliver-acts old arrivals texts frame piece (Ok did) follows same go memory some
           let calls = w.primary.calls in
           let came = delivered (option_items (slice_get w.wire.frames frame)) w.standby in
           goes-either first second w (with_standby came w) (events.Deliver frame piece) did old (with_arrivals arrivals old) refl refl stands
-          (standby-runs follows stands (events.Deliver frame piece) (λ runs. runs) refl) refl
+          (standby-runs follows stands (events.Deliver frame piece) (λ runs. runs)) refl refl
           (goes-map (go epoch w (arrivals-stand parts) (subst (λ (all : List (Vec ℕ Global)). AreFramesSent epoch calls all w.wire.frames) (sym same) (frames-stand parts)) (owns follows parts))
           (λ moved. standby-either first second old arrivals old.standby old.standby_condition w came w.wire.acknowledgements (not-over old.standby_condition follows) (le_refl w.standby.position) parts moved (standby-refines parts))
           (λ stayed. standby-either first second old arrivals old.standby old.standby_condition w w.standby w.wire.acknowledgements (not-over old.standby_condition follows) (le_refl w.standby.position) parts stayed (standby-refines parts)));
@@ -290,7 +289,7 @@ deliver-acts old arrivals texts frame piece (Err refusal) follows same go memory
           let is : frame < length w.wire.frames = omega (arith, some, ap length same, length-sent old.link.epoch w.primary.calls old.frames w.wire.frames sent) in
           let refused : refusal ≡ Memory = memory old.link.epoch w (subst (λ (all : List (Vec ℕ Global)). AreFramesSent old.link.epoch w.primary.calls all w.wire.frames) (sym same) sent) in
           cut-same first second (events.Deliver frame piece) refusal old (with_arrivals arrivals old) w refl refused refl refl (tells old.transcript) refl
-          (standby-runs follows stands (events.Deliver frame piece) (λ runs. runs) refl) (lt-ltb frame (length w.wire.frames) is) stands;
+          (standby-runs follows stands (events.Deliver frame piece) (λ runs. runs)) (lt-ltb frame (length w.wire.frames) is) stands;
       calls = none-added _ _ refl;
     }
 
@@ -309,7 +308,8 @@ apply-steps first second old arrivals node w true follows stands applies =
     let moved = applies.goes refl in
     let applied = moved.1 in
     let w' = with_acknowledged applied.told (with_standby applied.standby w) in
-    let runs = standby-runs follows stands events.Apply (λ runs. runs) refl in
+    let kept = taken-life applied.frame (without_first w.standby) applied.standby applied.told applied.takes in
+    let runs = standby-runs follows stands events.Apply (λ runs. runs) in
     let happens : Happens w events.Apply w' = inl (record { frame = applied.frame; first = applied.first; standby = applied.standby; told = applied.told; takes = applied.takes; now = refl }) in
     let step : Step w events.Apply true w' = record { done = applies.done ∙ sym (enabled-is runs); happens = λ did. happens; stands = λ did. absurd (true≢false did) } in
     record {
@@ -317,7 +317,7 @@ apply-steps first second old arrivals node w true follows stands applies =
       step = step;
       stands = record {
         sound = sound-step w events.Apply true w' step stands.sound;
-        lives = lives-step runs happens;
+        lives = lives-like (record { allowed = refl; primary_disk = refl; standby_disk = ap (λ (d : Disk). d.number) kept.1; primary = refl; standby = kept.0; epoch = refl }) stands.lives;
         parts = node-either first second old arrivals node w applied.standby (w.wire.acknowledgements ++ applied.told) follows stands.parts (grows-step w events.Apply true w' step stands.sound).safe
             (subst (λ (x : World). ArrivalsRefine old.link.epoch w.primary.calls arrivals x.standby.waiting x.wire.acknowledgements) applied.now moved.2)
             (subst (λ (x : World). StandbyStands second old.link.epoch w.primary.calls x.standby.position node) applied.now moved.3);
@@ -331,7 +331,7 @@ apply-steps first second old arrivals node w false follows stands applies =
     let stayed = applies.stays refl in
     let parts = node-either first second old arrivals node w w.standby w.wire.acknowledgements follows stands.parts (le_refl w.standby.position) stayed.0
     (subst (StandbyStands second old.link.epoch w.primary.calls w.standby.position) (sym stayed.1) (follower follows stands.parts)) in
-    let runs = standby-runs follows stands events.Apply (λ runs. runs) refl in
+    let runs = standby-runs follows stands events.Apply (λ runs. runs) in
     record {
       world = w;
       step = record { done = applies.done ∙ sym (enabled-is runs); happens = λ did. absurd (true≢false (sym did)); stands = λ did. refl };
@@ -389,7 +389,7 @@ apply-acts old arrivals node result follows applies only cuts = go result applie
           cut = λ first second w stands.
               let new = with_node arrivals node old in
               let cut = cuts second w stands.sound (own-epoch first second old w follows stands) (arrive first second w stands) (stand first second w stands) in
-              cut-for first second events.Apply refusal old new w stands (tells old.transcript) refl (enabled-is (standby-runs follows stands events.Apply (λ runs. runs) refl) ∙ cut.0)
+              cut-for first second events.Apply refusal old new w stands (tells old.transcript) refl (enabled-is (standby-runs follows stands events.Apply (λ runs. runs)) ∙ cut.0)
               (ends-apply refusal (λ _ last. last second w.primary.calls w.standby.position (next_standby w) old.standby.device node.device) (Led first second old new w)
               (λ last broken. (rests-primary first second old w stands, λ whole. broken)) cut.1);
           calls = none-added _ _ refl;

@@ -17,10 +17,10 @@ use Rattle.machine.specs.declared.event.Event.TheVariants.{Commit, Free, ClearGa
 use Rattle.machine.specs.declared.event.Node.{Node}
 use Rattle.machine.specs.declared.event.Node.TheVariants as node
 use Rattle.machine.specs.declared.event.Cut.TheVariants as cut
-use Rattle.machine.specs.Event.{Disk, Life, Run, Step, World, IsSure, is_retired, last_world, position_at}
+use Rattle.machine.specs.Event.{Life, Run, Step, World, is_retired, last_world, position_at}
 use Rattle.machine.specs.Promise.{IsPromised, IsReleased, Tells, released_in}
 use Rattle.machine.proofs.GrowLemmas.{released-stays}
-use Rattle.machine.proofs.SureLemmas.{KeepsNodes, retired-still, sure-step, unfailed}
+use Rattle.machine.proofs.SureLemmas.{IsSure, KeepsNodes, retired-still, sure-step, sure-unfailed}
 use Rattle.machine.proofs.CoverLemmas.{covered-run}
 use Rattle.machine.proofs.EveryRun.{promised-told}
 use Rattle.machine.proofs.RunLemmas.{run-push, last_world-push, sound-start}
@@ -73,9 +73,9 @@ not-ended condition.Crashed never = refl
 not-ended condition.Ended never = absurd (never refl)
 
 -- where a promotion left the primary
-has-succeeded : (w new : World) → IsSure w → Step w Promote true new → (new.primary.committer.position ≡ w.standby.position) × (new.primary.calls ≡ cut_at w.primary.calls w.standby.position)
+has-succeeded : (w new : World) → IsSure w new → Step w Promote true new → (new.primary.committer.position ≡ w.standby.position) × (new.primary.calls ≡ cut_at w.primary.calls w.standby.position)
 has-succeeded w new sure step =
-    let opens = unfailed w node.Standby cut.Promote new sure.standby_sure (step.happens refl) in
+    let opens = sure-unfailed w node.Standby cut.Promote new sure (step.happens refl) in
     (ap (λ (x : World). x.primary.committer.position) opens.now, ap (λ (x : World). x.primary.calls) opens.now)
 
 -- an event that was cut sent nothing
@@ -96,7 +96,7 @@ place number ended = if nat_eq (if ended then 1 else 0) number then Some node.Pr
 
 pub placed : {first second : Holder} {pair : Pair} {w : World} → NodesRefine first second pair w → (number : ℕ) → node_on number w ≡ place number (has_ended pair.standby_condition)
 placed {first} {second} {pair} {w} stands number =
-    ap₂ (λ (p s : Disk). if nat_eq p.number number then Some node.Primary else (if nat_eq s.number number then Some node.Standby else None)) stands.lives.primary_disk stands.lives.standby_disk
+    ap₂ (λ (p s : ℕ). if nat_eq p number then Some node.Primary else (if nat_eq s number then Some node.Standby else None)) stands.lives.primary_disk stands.lives.standby_disk
 
 abbrev number_if : Bool → ℕ
 number_if ended = if ended then 1 else 0
@@ -137,7 +137,7 @@ module _ (first_lines second_lines : ℕ) where
     same-epoch = sym next.stands.lives.first_epoch ∙ stands.lives.first_epoch
 
     same-nodes : KeepsNodes w next.world
-    same-nodes = elim (sure-step w event did next.world next.step (sure-lives stands.lives)).nodes [
+    same-nodes = elim (sure-step w event did next.world next.step (sure-lives stands.lives next.stands.lives)) [
       | inl kept ↦ kept
       | inr promoted ↦ absurd (omega (arith, promoted, same-epoch, stands.sound.standby.epoch_is))
     ]
@@ -145,7 +145,7 @@ module _ (first_lines second_lines : ℕ) where
     same-end : has_ended pair'.standby_condition ≡ has_ended pair.standby_condition
     same-end =
         one-number (has_ended pair'.standby_condition) (has_ended pair.standby_condition)
-        (ap (λ (d : Disk). d.number) (sym next.stands.lives.primary_disk ∙ same-nodes.primary_disk ∙ stands.lives.primary_disk))
+        (sym next.stands.lives.primary_disk ∙ same-nodes.primary_disk ∙ stands.lives.primary_disk)
 
     -- nothing happened to a node that was promoted
     former-still : has_ended pair.standby_condition ≡ true → ((touches_standby event && did) ≡ false → pair'.standby.device ≡ pair.standby.device) → pair'.standby.device ≡ pair.standby.device
@@ -216,7 +216,7 @@ module _ (first_lines second_lines : ℕ) where
       let before = stands.stands in
       let began = next.began in
       let ended = next.ended in
-      let at = has-succeeded w next.world (sure-lives before.lives) next.step in
+      let at = has-succeeded w next.world (sure-lives before.lives next.stands.lives) next.step in
       let lines = stands.serving_lines ∙ ap (λ b. if b then second_lines else first_lines) began in
       let here : first_device pair ≡ pair.device = ap (λ b. if b then pair.standby.device else pair.device) began in
       let opens : Opens stands.serving w.primary.calls w.primary.committer.position (first_device pair) =

@@ -17,10 +17,9 @@ use Rattle.machine.specs.declared.event.Event.TheVariants.{Commit, Free, ClearGa
 use Rattle.machine.specs.declared.event.Node.{Node}
 use Rattle.machine.specs.declared.event.Node.TheVariants as node
 use Rattle.machine.specs.declared.event.Cut.TheVariants as cut
-use Rattle.machine.specs.Event.{Disk, Life, Run, Step, World, IsSure, is_retired, last_world, position_at}
+use Rattle.machine.specs.Event.{Run, World, last_world}
 use Rattle.machine.specs.Promise.{IsPromised, IsReleased, Tells, released_in}
 use Rattle.machine.proofs.GrowLemmas.{released-stays}
-use Rattle.machine.proofs.SureLemmas.{KeepsNodes, retired-still, sure-step, unfailed}
 use Rattle.machine.proofs.CoverLemmas.{covered-run}
 use Rattle.machine.proofs.EveryRun.{promised-told}
 use Rattle.machine.proofs.RunLemmas.{run-push, last_world-push, sound-start}
@@ -39,7 +38,6 @@ use Rattle.connections.proofs.SessionLemmas.{released-told}
 use Rattle.world.specs.Condition.{has_ended, life_as}
 use Rattle.world.specs.declared.condition.Condition.{Condition}
 use Rattle.world.specs.declared.condition.Condition.TheVariants as condition
-use Rattle.world.proofs.LivesLemmas.{sure-lives}
 use Rattle.world.proofs.MomentLemmas.{IsFinal, moments-from}
 use Rattle.world.proofs.ReachLemmas.{place, placed, primary-holds, standby-holds}
 

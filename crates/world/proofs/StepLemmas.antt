@@ -4,7 +4,7 @@ use Rattle.std.specs.Vec.{vec_capacity}
 use Rattle.kv_types.specs.declared.refusal.Refusal.{Refusal}
 use Rattle.model.specs.Standing.{Holder}
 use Rattle.machine.specs.declared.event.Event.{Event}
-use Rattle.machine.specs.declared.event.Event.TheVariants.{Apply, Crash, OpenLink, Promote, Reopen, Send, Turn}
+use Rattle.machine.specs.declared.event.Event.TheVariants.{Apply, Crash, FailFence, OpenLink, Promote, Reopen, Send, Turn}
 use Rattle.machine.specs.declared.event.Node.TheVariants as node
 use Rattle.machine.specs.Event.{World}
 use Rattle.std.proofs.lemmas.List.{append-nil}
@@ -60,12 +60,13 @@ happened : (first second : Holder) (w : World) (event : Event) (did : Bool) (old
 happened first second w event did old new stands steps =
     let before = shows first second old w stands in
     let after = shows first second new steps.world steps.stands in
+    let sure = sure-lives stands.lives steps.stands.lives in
     record {
       steps = steps;
       before = before;
       after = after;
-      called = subst (CallsBy w event did) (sym after.calls) (calls-step w event did steps.world (sure-lives stands.lives) steps.step);
-      released = λ c. after.released c ∙ released-step w event did steps.world (sure-lives stands.lives) steps.step c ∙ ap (λ bytes. bytes ++ released_by w event did c) (sym (before.released c));
+      called = subst (CallsBy w event did) (sym after.calls) (calls-step w event did steps.world sure steps.step);
+      released = λ c. after.released c ∙ released-step w event did steps.world sure steps.step c ∙ ap (λ bytes. bytes ++ released_by w event did c) (sym (before.released c));
     }
 
 acted : (old : Pair) (event : Event) (result : Result Bool Refusal) (new : Pair) → Acts old event result new → Leaves event result old new → Acted old event result new
@@ -96,7 +97,7 @@ promoted-is {old} {new} {event} {result} is promotes frames acks = inr (go resul
     succeeded first second w stands succeeds =
         let before = shows first second old w stands in
         let after = shows (promoted_holder second) succeeds.former new succeeds.world succeeds.stands in
-        let sure = sure-lives stands.lives in
+        let sure = sure-lives stands.lives succeeds.stands.lives in
         record {
           succeeds = succeeds;
           before = before;
@@ -133,6 +134,8 @@ acks-still Apply acks = refl
 acks-still event acks = refl
 
 effect-still : (event : Event) (pair : Pair) → Effect event (Ok false) pair pair
+effect-still (FailFence node.Primary n) pair = tt
+effect-still (FailFence node.Standby n) pair = tt
 effect-still (Crash node.Primary call k picks) pair = tt
 effect-still (Crash node.Standby call k picks) pair = tt
 effect-still (Reopen node.Primary) pair = tt

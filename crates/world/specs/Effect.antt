@@ -1,8 +1,10 @@
--- What an event has to do beside its step of the machine: to what has ended and to what tells of it, to a frame, and to an image that crashes or is opened again.
-use Rattle.std.specs.Prelude.{◌≡◌, ◌⊎◌, ℕ, Bool, true, false, List, [], ◌∷◌, ◌++◌, Vec, Result, Ok}
+-- What an event has to do beside its step of the machine: to what has ended and to what tells of it, to a frame, to an image that crashes or is opened again, and to a
+-- device that is asked to fail.
+use Rattle.std.specs.Prelude.{◌≡◌, ◌⊎◌, ℕ, ◌==◌, if◌then◌else◌, Bool, true, false, List, [], ◌∷◌, ◌++◌, Some, None, Vec, Result, Ok}
 use Rattle.std.specs.Global.{Global}
 use Rattle.kv_types.specs.declared.refusal.Refusal.{Refusal}
 use Rattle.pmem.specs.Device.{State, newest_at}
+use Rattle.pmem.specs.Device.Fences.{Sure}
 use Rattle.pmem.specs.Crash.{IsImage, IsSettled, image_of, picked}
 use Rattle.model.specs.declared.work.FreeList.{FreeList}
 use Rattle.model.specs.declared.record.Role.TheVariants as Role
@@ -18,7 +20,7 @@ use Rattle.frames.specs.declared.frame.Frame.{Frame}
 use Rattle.standby.specs.Following.{IsTakenNext, NoGapIsLeft}
 use Rattle.wbl_engine.specs.Restarting.{IsReopened}
 use Rattle.machine.specs.declared.event.Event.{Event}
-use Rattle.machine.specs.declared.event.Event.TheVariants.{AcceptFreed, Apply, ClearGap, CloseGroup, Crash, Free, Reopen}
+use Rattle.machine.specs.declared.event.Event.TheVariants.{AcceptFreed, Apply, ClearGap, CloseGroup, Crash, FailFence, Free, Reopen}
 use Rattle.machine.specs.declared.event.Node.TheVariants as node
 use Rattle.world.specs.Committing.{reached_now}
 use Rattle.world.specs.Pair.{Pair}
@@ -80,9 +82,17 @@ pub record LeavesPicked (picks : List ℕ) (old new : State) : Type 0 where
   pub image : IsImage old.words (image_of new.words)
   pub picked_are : new.starved ≡ false → (word : ℕ) → newest_at new word ≡ picked old.words picks word
 
+-- ---- a fence that is to fail
+
+-- The n-th fence of the device from now was asked to fail, counted from 1, or none where n is 0; and nothing else of it changed.
+abbrev pub asked : ℕ → State → State
+asked n device = record device { fences = Sure (if n == 0 then None else Some n) }
+
 -- ---- any event
 
 abbrev pub Effect : Event → Result Bool Refusal → Pair → Pair → Type 0
+Effect (FailFence node.Primary n) result old new = OnDid result (new.device ≡ asked n old.device)
+Effect (FailFence node.Standby n) result old new = OnDid result (new.standby.device ≡ asked n old.standby.device)
 Effect CloseGroup result old new = OnDid result (ClosesOne old.sequencer old.committing.waiting new.sequencer new.committing.waiting)
 Effect Free result old new = OnDid result (FreesOldest (reached_now old.committing.aside old.committing.waiting.items old.handed.items) old.contents old.notices new.contents new.notices)
 Effect AcceptFreed result old new = OnDid result (TakesOldest old.sequencer old.notices new.sequencer new.notices)

@@ -24,7 +24,7 @@ use Rattle.world.specs.Pair.{HasStandby, Pair, NodesRefine, IsCut, IsPromotionCu
 use Rattle.world.specs.declared.trace.EarlyEnd.{EarlyEnd}
 use Rattle.world.specs.declared.trace.EarlyEnd.TheVariants.{AtFormatting, AtEvent}
 
--- Two nodes that were formatted together, may crash between two events, and of which the primary may be fenced and the standby promoted after that. No fence of a device is
+-- Two nodes that were formatted together, may crash between two events, and of which the primary may be fenced and the standby promoted after that. Fences of their devices may be
 -- asked to fail, and no call is cut.
 abbrev pub start : World
 start = start_with allowed

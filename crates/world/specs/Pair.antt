@@ -14,7 +14,7 @@ use Rattle.redis_core.specs.Sequencing.{Sequencing}
 use Rattle.standby_stream.specs.Stream.{Stream}
 use Rattle.standby_stream.specs.declared.opening.Opening.{Opening}
 use Rattle.machine.specs.declared.event.Event.{Event}
-use Rattle.machine.specs.Event.{Allowed, Primary, World, Step, is_enabled, new_committer, new_disk, new_link}
+use Rattle.machine.specs.Event.{Allowed, Primary, World, Step, is_enabled, new_committer, new_link}
 use Rattle.machine.specs.Row.{are_running, row}
 use Rattle.machine.specs.Promise.{released_in}
 use Rattle.machine.specs.Sound.{Sound}
@@ -126,19 +126,20 @@ pub record FencedRefine (first second : Holder) (pair : Pair) (w : World) : Type
 
 -- ---- lives
 
--- what happens to the nodes of a pair: they crash between two events and are opened again, the primary is fenced, and the standby is promoted after that
+-- what happens to the nodes of a pair: they crash between two events and are opened again, the primary is fenced, and the standby is promoted after that; and fences of
+-- their devices are asked to fail
 abbrev pub allowed : Allowed
-allowed = record { restarts = true; fencing = true; promotions = true; failures = false }
+allowed = record { restarts = true; fencing = true; promotions = true; failures = true; cuts = false }
 
 -- the number of the primary's device, where the standby is in this condition
 abbrev pub primary_number : Condition → ℕ
 primary_number condition = if has_ended condition then 1 else 0
 
--- Each node is in the condition that is said of it; no fence of a device was asked to fail; and the images are those of a primary and a standby of the pair's epoch.
+-- Each node is in the condition that is said of it, over its device; and the images are those of a primary and a standby of the pair's epoch.
 pub record AreLives (first second : Holder) (primary_condition standby_condition : Condition) (w : World) : Type 0 where
   pub allowed_are : w.allowed ≡ allowed
-  pub primary_disk : w.primary.disk ≡ new_disk (primary_number standby_condition)
-  pub standby_disk : w.standby.disk ≡ new_disk 1
+  pub primary_disk : w.primary.disk.number ≡ primary_number standby_condition
+  pub standby_disk : w.standby.disk.number ≡ 1
   pub primary : w.primary.life ≡ life_as primary_condition
   pub standby : w.standby.life ≡ life_as standby_condition
   pub first_role : first.role ≡ Role.Primary

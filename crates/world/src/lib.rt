@@ -5,6 +5,7 @@ mod arrivals;
 mod committing;
 mod condition;
 mod crashing;
+mod failing;
 mod fencing;
 mod form;
 mod history;

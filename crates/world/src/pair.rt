@@ -125,8 +125,7 @@ impl<E: Restarting, K: Keyspace + Drop> Stepper for Pair<E, K> {
             Event::Leave(c) => self.leave(*c),
             Event::Crash(node, cut, _, picks) => self.crash(history, *node, *cut, picks),
             Event::Reopen(node) => self.reopen(*node),
-            // this does not come yet
-            Event::FailFence(_, _) => Ok(false),
+            Event::FailFence(node, n) => Ok(self.fail_fence(*node, *n)),
             Event::Fence => Ok(self.fence()),
             Event::Promote => self.promote(history),
         }

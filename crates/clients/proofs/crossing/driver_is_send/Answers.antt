@@ -21,7 +21,7 @@ returns c =
             c.entrance_is_send.ensures,
             (
               Vec-send _ (option_send _ c.connection_is_send.ensures),
-              (search sendable, (search sendable depth 20, (search sendable depth 20, (Arc-send _ c.shown_is_send.ensures c.shown_is_sync.ensures, tt)))),
+              (search sendable, (search sendable depth 20, (search sendable depth 20, (Arc-send _ c.shown_is_send.ensures c.shown_is_sync.ensures, (search sendable depth 20, tt))))),
             ),
           ),
         ),

@@ -1,12 +1,13 @@
-use Rattle.std.proofs.Common.{◌≡◌, Bor, map, sym, ap, subst, ◌∙◌}
+use Rattle.std.proofs.Common.{◌≡◌, map, sym, ap, subst, ◌∙◌}
 use Rattle.kv_types.specs.declared.record_id.RecordId.{RecordId}
 use Rattle.model.specs.ReadImage.{is_clash}
+use Rattle.heap_layout.specs.declared.tagged.Tagged.{Tagged}
 use Rattle.heap_layout.specs.Versions.{NoTwo, live_ids}
 use Rattle.heap_layout.proofs.NoTwo.{NoTwo-map, NoTwo-unmap}
 use Rattle.heap_layout.proofs.versions.differ.Goals as goal
 
-abbrev read : Bor RecordId → RecordId
-read id = id.now
+abbrev read : Tagged → RecordId
+read tagged = tagged.id.now
 
 pub returns : goal.returns
 returns c =

@@ -12,6 +12,7 @@ loop-init g c =
     record {
       stands = c.requires.stands;
       emptied = c.requires.empty;
+      shown = search rules;
       served = subst (λ (unread : Option (List ℕ)). Served first bytes before first bytes before unread) (sym c.new-decoder.ensures) (Served-begun first bytes before);
     }
 
@@ -33,6 +34,7 @@ loop-preserved g c =
     record {
       stands = c.in_ok-answer_piece.ensures.stands (not_stopped _);
       emptied = c.in_ok-answer_piece.ensures.emptied;
+      shown = search rules;
       served = subst (λ (unread : Option (List ℕ)). Served first bytes before last left after unread) (sym c.in_ok-answer_piece.ensures.unread)
           (Served-more first (held (g.E.Durable.contents c.loop.node.engine) (g.K.Keyspace.table c.loop.node.keyspace)) last bytes before (g.I.Read.remaining c.loop.from) (g.O.Write.contents c.loop.to) left after
           c.loop.decoder c.in-Piece.piece.now done.acks c.loop.invariant.served consumed done.run done.written);
@@ -44,5 +46,6 @@ loop-preserved-in-Nothing g c =
     record {
       stands = c.in_ok-tidy-in-Nothing.ensures.stands (not_stopped _);
       emptied = c.loop.invariant.emptied;
+      shown = search rules;
       served = Served-tidied _ (held (g.E.Durable.contents c.loop.node.engine) (g.K.Keyspace.table c.loop.node.keyspace)) _ _ _ _ _ _ _ c.loop.invariant.served nothing c.in_ok-tidy-in-Nothing.ensures.tidied;
     }

@@ -1,4 +1,5 @@
 use Rattle.std.proofs.Common.{◌≡◌, []}
+use Rattle.placing.specs.Fill.{fill_of}
 use Rattle.standby.specs.Taking.{Stands}
 use Rattle.links.specs.Serving.{Served, held}
 use Rattle.links.proofs.following.answer_until_closed.Given as goal
@@ -7,6 +8,7 @@ abbrev pub invariant-loop : goal.invariant-loop
 invariant-loop g l = record {
   stands : Stands g.E.Durable.device g.E.Durable.contents g.E.Durable.is_faulted g.K.Keyspace.table l.node;
   emptied : l.out.items ≡ [];
+  shown : l.shown ≡ fill_of (g.K.Keyspace.table l.node.keyspace) l.node.heap;
   served : Served (held (g.E.Durable.contents l.initial.node.engine) (g.K.Keyspace.table l.initial.node.keyspace)) (g.I.Read.remaining l.initial.from) (g.O.Write.contents l.initial.to)
       (held (g.E.Durable.contents l.node.engine) (g.K.Keyspace.table l.node.keyspace)) (g.I.Read.remaining l.from) (g.O.Write.contents l.to) l.decoder;
 }

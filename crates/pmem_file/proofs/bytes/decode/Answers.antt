@@ -14,8 +14,8 @@ loop-i-preserved c =
       words =
           ap (λ (k : ℕ). c.push.new.self.items ++ words_in (drop k bytes)) (let e : 8 * (c.loop-i.i + 1) ≡ at + 8 = omega arith in e)
           ∙ ap (λ (xs : List ℕ). xs ++ words_in (drop (at + 8) bytes)) c.in_ok-push.ensures.items
-          ∙ append_assoc words (c.from_le_bytes.result ∷ []) (words_in (drop (at + 8) bytes))
-          ∙ ap (λ (x : ℕ). words ++ x ∷ words_in (drop (at + 8) bytes)) c.from_le_bytes.ensures
+          ∙ append_assoc words (c.word_at.result ∷ []) (words_in (drop (at + 8) bytes))
+          ∙ ap (λ (x : ℕ). words ++ x ∷ words_in (drop (at + 8) bytes)) c.word_at.ensures
           ∙ ap (λ (xs : List ℕ). words ++ xs) (sym (words_in-next bytes at room))
           ∙ c.loop-i.invariant.words;
       count = omega (arith, c.in_ok-push.ensures.len, c.loop-i.invariant.count);

@@ -1,4 +1,5 @@
 use Rattle.std.proofs.Common.{ap, sym, ◌∙◌}
+use Rattle.standby_stream.proofs.FitLemmas.{deltas_fit}
 use Rattle.model.specs.declared.record.Record.{Record}
 use Rattle.model.specs.declared.record.Role.TheVariants as role
 use Rattle.primary.proofs.ClosedLemmas.{consistent-read, laid-read}
@@ -29,6 +30,7 @@ returns g c =
         opened_at = at;
         opening_is = resumed.opening.1 contents lines c.requires.read;
         leads = leads;
+        fits = λ from. deltas_fit contents _ from (resumed.opening.1 contents lines c.requires.read) c.requires.read.lawful c.requires.lines c.requires.size;
         position_is = c.position.ensures;
         epoch_is = epoch;
         keys_are = resumed.keys;

@@ -1,6 +1,6 @@
 use Rattle.std.proofs.Common.{[]}
 use Rattle.primary.proofs.ClosedLemmas.{close-stands}
-use Rattle.primary.proofs.KeptLemmas.{close-keeps}
+use Rattle.primary.proofs.KeptLemmas.{close-at, close-keeps}
 use Rattle.primary.proofs.primary.close.Goals as goal
 
 pub returns-clause-stands : goal.returns-clause-stands
@@ -16,3 +16,8 @@ returns-clause-keeps g c = λ low past over keeps.
     let closed = c.close_next.ensures in
     close-keeps low past (g.E.Durable.contents b.committer.engine) b.work c.close_next.new.work b.committer.aside.items c.args.front.now.sequencer c.close_next.new.sequencer [] over.consistent over.leads keeps
     c.close_next.result closed.closed closed.none closed.refused
+
+pub returns-clause-at : goal.returns-clause-at
+returns-clause-at g c =
+    let closed = c.close_next.ensures in
+    close-at c.args.back.now.work c.close_next.new.work c.args.front.now.sequencer c.close_next.new.sequencer c.close_next.result closed.closed closed.none closed.refused

@@ -10,4 +10,5 @@ returns g c =
       shown-after E.device E.contents came.new.back came.new.marks came.result came.ensures.shown,
       refl,
       came.ensures.steps,
+      came.ensures.past,
     )

@@ -1,11 +1,17 @@
-use Rattle.std.proofs.Common.{rules, Bool, ◌||◌, [], ◌∷◌, ◌++◌, Err, sym, ap, ◌∙◌, arith}
+use Rattle.std.proofs.Common.{rules, Bool, false, ◌||◌, [], ◌∷◌, ◌++◌, Err, Result, sym, ap, subst, ◌∙◌, arith}
 use Rattle.std.proofs.lemmas.Result.{err_from_is_err_and}
+use Rattle.kv_types.specs.declared.refusal.Refusal.{Refusal}
+use Rattle.group_commit.specs.declared.stage.Done.{Done}
+use Rattle.serving.specs.Keeping.{KeepsThrough}
 use Rattle.serving.proofs.EndingLemmas.{ends-here, ends-most, ends-refused, none-yet, one-more}
+use Rattle.serving.proofs.KeepingLemmas.{through-err, through-none, through-ok, through-then}
 use Rattle.serving.proofs.StepsLemmas.{steps-more}
 use Rattle.serving.proofs.committing.take_steps.Goals as goal
 
 pub loop-init : goal.loop-init
-loop-init g c = (c.requires.stands, c.requires.shown, (λ s over. over), ([], (search rules, search rules), none-yet))
+loop-init g c =
+    let E = g.E.Durable in
+    (c.requires.stands, c.requires.shown, (λ s over. over), ([], (search rules, search rules), none-yet), through-none E.device E.contents E.is_faulted c.args.remote c.args.back.now false)
 
 pub returns-in_err-done-clause-steps : goal.returns-in_err-done-clause-steps
 returns-in_err-done-clause-steps g c =
@@ -19,6 +25,29 @@ returns-in_err-done-clause-steps g c =
       ends-refused before.0 c.loop.counter c.loop.any step.0 c.in_err-done.field-0.0 c.from_residual.result before.2 (omega (arith, c.loop-test.true))
           (sym c.in_err-done.was ∙ step.2) (exit.1 ∙ ap Err exit.2),
     )
+
+-- the steps before, and this one
+pub returns-in_err-done-clause-past : goal.returns-in_err-done-clause-past
+returns-in_err-done-clause-past g c =
+    let E = g.E.Durable in
+    let exit = err_from_is_err_and c.from_residual.result c.from_residual.ensures.1 in
+    let past = through-then E.device E.contents E.is_faulted c.args.remote c.args.back.now c.loop.back c.take_step.new.back c.loop.any c.take_step.result c.loop.invariant.2 c.loop.invariant.4
+    c.take_step.ensures.past in
+    through-err E.device E.contents E.is_faulted c.args.remote c.args.back.now c.take_step.new.back c.in_err-done.field-0.0 c.from_residual.result exit.0 exit.1
+    (subst (λ (r : Result Done Refusal). KeepsThrough E.device E.contents E.is_faulted c.args.remote c.args.back.now r c.take_step.new.back) c.in_err-done.was past)
+
+pub returns-then-not-gives_nothing_back-clause-past : goal.returns-then-not-gives_nothing_back-clause-past
+returns-then-not-gives_nothing_back-clause-past g c =
+    let E = g.E.Durable in
+    let past = through-then E.device E.contents E.is_faulted c.args.remote c.args.back.now c.loop.back c.take_step.new.back c.loop.any c.take_step.result c.loop.invariant.2 c.loop.invariant.4
+    c.take_step.ensures.past in
+    through-ok E.device E.contents E.is_faulted c.args.remote c.args.back.now c.take_step.new.back c.in_ok-done.done _
+    (subst (λ (r : Result Done Refusal). KeepsThrough E.device E.contents E.is_faulted c.args.remote c.args.back.now r c.take_step.new.back) c.in_ok-done.was past)
+
+pub returns-clause-past : goal.returns-clause-past
+returns-clause-past g c =
+    let E = g.E.Durable in
+    through-ok E.device E.contents E.is_faulted c.args.remote c.args.back.now c.loop.back c.loop.any _ c.loop.invariant.4
 
 pub returns-then-not-gives_nothing_back-clause-stands : goal.returns-then-not-gives_nothing_back-clause-stands
 returns-then-not-gives_nothing_back-clause-stands g c = λ s over. c.in_ok-done.ensures.stands s (c.loop.invariant.2 s over)
@@ -41,7 +70,9 @@ loop-preserved g c =
     let before = c.loop.invariant.3 in
     let step = c.take_step.ensures.step in
     let led = c.loop.invariant.0 in
-    let nothing = c.gives_nothing_back.ensures.nothing (search rules) in (
+    let nothing = c.gives_nothing_back.ensures.nothing (search rules) in
+    let past = through-then E.device E.contents E.is_faulted c.args.remote c.args.back.now c.loop.back c.take_step.new.back c.loop.any c.take_step.result c.loop.invariant.2 c.loop.invariant.4
+    c.take_step.ensures.past in (
       (led.0, rw nothing at (c.in_ok-done.ensures.stands led.0 led.1)),
       c.in_ok-done.ensures.shown,
       λ s over. rw nothing at (c.in_ok-done.ensures.stands s (c.loop.invariant.2 s over)),
@@ -52,6 +83,8 @@ loop-preserved g c =
         one-more before.0 c.loop.counter c.loop.any _ step.0 c.in_ok-done.done before.2 (sym c.in_ok-done.was ∙ step.2) (sym c.gives_nothing_back.ensures.passed ∙ search rules)
             (ap (λ (b : Bool). c.loop.any || b) c.is_something-any.ensures),
       ),
+      through-ok E.device E.contents E.is_faulted c.args.remote c.args.back.now c.take_step.new.back c.in_ok-done.done _
+          (subst (λ (r : Result Done Refusal). KeepsThrough E.device E.contents E.is_faulted c.args.remote c.args.back.now r c.take_step.new.back) c.in_ok-done.was past),
     )
 
 pub returns-clause-steps : goal.returns-clause-steps

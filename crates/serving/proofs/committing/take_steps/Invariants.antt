@@ -1,9 +1,10 @@
-use Rattle.std.proofs.Common.{[], List, Result}
+use Rattle.std.proofs.Common.{[], Bool, List, Ok, Result}
 use Rattle.kv_types.specs.declared.refusal.Refusal.{Refusal}
 use Rattle.redis_core.specs.Sequencing.{Sequencing}
 use Rattle.group_commit.specs.declared.stage.Done.{Done}
 use Rattle.primary.specs.Standing.{BackStands}
 use Rattle.serving.specs.CommitJob.{AreSteps, IsShown}
+use Rattle.serving.specs.Keeping.{KeepsThrough}
 use Rattle.serving.proofs.EndingLemmas.{GoOn}
 use Rattle.serving.proofs.committing.take_steps.Given as goal
 
@@ -14,3 +15,4 @@ invariant-loop g l =
     × IsShown E.device E.contents l.back l.marks
     × ((s : Sequencing) → BackStands E.device E.contents l.fn.back s [] → BackStands E.device E.contents l.back s [])
     × ((all : List (Result Done Refusal)) × AreSteps E.device E.contents E.is_faulted l.remote l.fn.back l.fn.groups all l.back l.groups × GoOn all l.counter l.any)
+    × KeepsThrough E.device E.contents E.is_faulted {T = Bool} l.remote l.fn.back (Ok l.any) l.back

@@ -1,5 +1,8 @@
-use Rattle.std.proofs.Common.{rules, refl, sym, subst, ap, ◌∙◌}
+use Rattle.std.proofs.Common.{◌≡◌, None, Some, rules, refl, sym, subst, ap, le_refl, ◌∙◌}
 use Rattle.serving.specs.CommitJob.{IsHereOrLent}
+use Rattle.serving.specs.Keeping.{job_of}
+use Rattle.serving.specs.declared.commit_job.CommitJob.{CommitJob}
+use Rattle.serving.proofs.KeepingLemmas.{job-over, job-stands, job-through-then, through-as, through-closed, through-same, through-steps}
 use Rattle.serving.proofs.TendingLemmas.{closes-or-lacks, tends-home}
 use Rattle.serving.proofs.node.commit.Goals as goal
 
@@ -22,7 +25,7 @@ returns-then-not-is_step_due-clause-tends g c =
       ready = record { back = closed.new.back; marks = job.marks; groups = c.is_step_due.new.groups; link = job.link; remote = c.args.remote; came = job.came; step_time = job.step_time };
       between = closed.new.front.sequencer;
       closes = closes-or-lacks c.args.gathering.now closed.new.gathering c.args.remote c.args.is_short c.args.front.now.sequencer closed.new.front.sequencer job.back.work closed.new.back.work closed.result
-          closed.ensures.closes closed.ensures.cause;
+          closed.ensures.closes closed.ensures.cause closed.ensures.lacks;
       committer = closed.ensures.committer;
       by = refl;
       offered = c.is_step_due.ensures.offered;
@@ -40,7 +43,7 @@ returns-then-job-clause-tends g c =
       ready = record { back = closed.new.back; marks = job.marks; groups = c.is_step_due.new.groups; link = job.link; remote = c.args.remote; came = job.came; step_time = job.step_time };
       between = closed.new.front.sequencer;
       closes = closes-or-lacks c.args.gathering.now closed.new.gathering c.args.remote c.args.is_short c.args.front.now.sequencer closed.new.front.sequencer job.back.work closed.new.back.work closed.result
-          closed.ensures.closes closed.ensures.cause;
+          closed.ensures.closes closed.ensures.cause closed.ensures.lacks;
       committer = closed.ensures.committer;
       by = refl;
       offered = c.is_step_due.ensures.offered;
@@ -59,10 +62,61 @@ returns-clause-tends g c =
       ready = record { back = closed.new.back; marks = job.marks; groups = c.is_step_due.new.groups; link = job.link; remote = c.args.remote; came = job.came; step_time = job.step_time };
       between = closed.new.front.sequencer;
       closes = closes-or-lacks c.args.gathering.now closed.new.gathering c.args.remote c.args.is_short c.args.front.now.sequencer closed.new.front.sequencer job.back.work closed.new.back.work closed.result
-          closed.ensures.closes closed.ensures.cause;
+          closed.ensures.closes closed.ensures.cause closed.ensures.lacks;
       committer = closed.ensures.committer;
       by = refl;
       offered = c.is_step_due.ensures.offered;
       times = refl;
       steps = (sym c.is_step_due.ensures.due ∙ search rules, c.if-job.false, c.run_job-job.result, c.replace-2.ensures.after, refl, (c.run_job-job.ensures, told.0, told.1, told.2, told.3));
     })
+
+-- ---- the past
+
+-- the job is away
+pub returns-in_default-clause-past : goal.returns-in_default-clause-past
+returns-in_default-clause-past g c =
+    let E = g.E.Durable in
+    let none : c.args.home.now ≡ None = search rules in
+    through-as E.device E.contents E.is_faulted _ _ _ _ _ _ _ refl
+    (ap (λ home. job_of home c.args.lender.now.value) (c.take.ensures.after ∙ sym none))
+    (through-same E.device E.contents E.is_faulted _ _ _ (job-stands E.device E.contents E.is_faulted c.args.home.now c.args.lender.now.value c.args.front.now.sequencer c.requires.stands))
+
+-- what is due was closed
+pub returns-then-not-is_step_due-clause-past : goal.returns-then-not-is_step_due-clause-past
+returns-then-not-is_step_due-clause-past g c =
+    let E = g.E.Durable in
+    let job = c.in-Some.job in
+    let closed = c.close_due-closed in
+    let home = sym c.take.ensures.value ∙ c.in-Some.is in
+    through-as E.device E.contents E.is_faulted _ _ (Some job) _ _ _ _ (ap (λ home. job_of home c.args.lender.now.value) home)
+    (ap (λ home. job_of home c.args.lender.now.value) c.replace.ensures.after)
+    (through-closed E.device E.contents E.is_faulted c.args.remote job _ _ _ (job-over E.device E.contents E.is_faulted c.args.home.now c.args.lender.now.value c.args.front.now.sequencer job home c.requires.stands)
+    closed.ensures.committer closed.ensures.at closed.ensures.past)
+
+pub returns-then-job-clause-past : goal.returns-then-job-clause-past
+returns-then-job-clause-past g c =
+    let E = g.E.Durable in
+    let job = c.in-Some.job in
+    let closed = c.close_due-closed in
+    let home = sym c.take.ensures.value ∙ c.in-Some.is in
+    through-as E.device E.contents E.is_faulted _ _ (Some job) _ _ _ _ (ap (λ home. job_of home c.args.lender.now.value) home)
+    (ap (λ home. job_of home c.lend.new.self.value) c.take.ensures.after ∙ ap (λ end. end.value) c.lend.ensures)
+    (through-closed E.device E.contents E.is_faulted c.args.remote job _ _ _ (job-over E.device E.contents E.is_faulted c.args.home.now c.args.lender.now.value c.args.front.now.sequencer job home c.requires.stands)
+    closed.ensures.committer closed.ensures.at closed.ensures.past)
+
+-- and the steps were taken
+pub returns-clause-past : goal.returns-clause-past
+returns-clause-past g c =
+    let E = g.E.Durable in
+    let job = c.in-Some.job in
+    let closed = c.close_due-closed in
+    let home = sym c.take.ensures.value ∙ c.in-Some.is in
+    let told = c.in_ok-did.ensures.told in
+    let ready : CommitJob g.row.E.Denot = record { back = closed.new.back; marks = job.marks; groups = c.is_step_due.new.groups; link = job.link; remote = c.args.remote; came = job.came; step_time = job.step_time } in
+    through-as E.device E.contents E.is_faulted _ _ (Some job) _ (Some c.run_job-job.result) _ _ (ap (λ home. job_of home c.args.lender.now.value) home)
+    (ap (λ home. job_of home c.args.lender.now.value) c.replace-2.ensures.after)
+    (job-through-then E.device E.contents E.is_faulted c.args.remote (Some job) (Some ready) (Some c.run_job-job.result) _ closed.new.front.sequencer _
+    (through-closed E.device E.contents E.is_faulted c.args.remote job ready _ _ (job-over E.device E.contents E.is_faulted c.args.home.now c.args.lender.now.value c.args.front.now.sequencer job home c.requires.stands)
+    closed.ensures.committer closed.ensures.at closed.ensures.past)
+    (through-steps E.device E.contents E.is_faulted c.args.remote ready c.run_job-job.result _ _ told.0 (le_refl c.args.remote) closed.ensures.stands told.1 c.settle-did.ensures.at c.run_job-job.ensures.4
+    c.settle-did.ensures.past))

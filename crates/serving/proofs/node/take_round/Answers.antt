@@ -1,7 +1,9 @@
 use Rattle.std.proofs.Common.{◌≡◌, ap, arith, subst, sym}
+use Rattle.serving.specs.Keeping.{JobKeepsThrough, job_of}
 use Rattle.serving.specs.Visiting.{ServesRound}
 use Rattle.serving.specs.declared.open_connections.OpenConnections.{OpenConnections}
 use Rattle.serving.proofs.HereOrLent.{here_or_lent_still}
+use Rattle.serving.proofs.KeepingLemmas.{goes-round, job-stands, job-through-then, through-raised}
 use Rattle.serving.proofs.TendingLemmas.{tends-same}
 use Rattle.serving.proofs.node.take_round.Goals as goal
 
@@ -51,3 +53,26 @@ returns-clause-round g c =
       rises = (first_read.1, omega (arith, serving.read.1, last_read.1));
       is_busy_is = cc;
     }
+
+-- the job was looked for and tended, connections were served, and it was tended again
+pub returns-clause-past : goal.returns-clause-past
+returns-clause-past g c =
+    let E = g.E.Durable in
+    let old = c.args.state.now in
+    let fetched = c.fetch.new in
+    let tended = c.commit_due.new.state in
+    let served = c.serve_connections-served.new.state in
+    let last = c.commit_due-2.new.state in
+    let serving = c.serve_connections-served.ensures in
+    let mark = last.marks.remote in
+    let first_read = c.commit_due.ensures.read in
+    let last_read = c.commit_due-2.ensures.read in
+    let fetching = through-raised E.device E.contents E.is_faulted _ mark _ _ _ _ (omega (arith, c.requires.remote.1, first_read.1, serving.read.1, last_read.1)) c.in_ok-fetched.ensures.past in
+    let tending = through-raised E.device E.contents E.is_faulted _ mark _ _ _ _ (omega (arith, serving.read.1, last_read.1)) c.in_ok-before.ensures.past in
+    let again : JobKeepsThrough E.device E.contents E.is_faulted mark (job_of tended.home tended.lender.value) served.front.sequencer (job_of last.home last.lender.value) last.front.sequencer =
+    rw (serving.home, serving.lender) at c.in_ok-after.ensures.past in
+    goes-round E.device E.contents E.is_faulted mark (job_of old.home old.lender.value) (job_of tended.home tended.lender.value) (job_of last.home last.lender.value)
+    old.front.sequencer tended.front.sequencer served.front.sequencer last.front.sequencer
+    (job-through-then E.device E.contents E.is_faulted mark (job_of old.home old.lender.value) (job_of fetched.home fetched.lender.value) (job_of tended.home tended.lender.value)
+    old.front.sequencer fetched.front.sequencer tended.front.sequencer fetching tending)
+    (job-stands E.device E.contents E.is_faulted tended.home tended.lender.value tended.front.sequencer c.in_ok-before.ensures.stands) serving.serves again

@@ -3,4 +3,4 @@ use Rattle.pmem_file.proofs.device.FilePmem.new.Goals as goal
 
 pub invariant_of-result-clause-holds : goal.invariant_of-result-clause-holds
 invariant_of-result-clause-holds c =
-    rw (c.new-file.ensures.read, c.new-file.ensures.calls, c.opened-history.ensures.words) (Holds-read c.args.words.items c.args.notes)
+    rw (c.new-file.ensures.read, c.new-file.ensures.calls, c.history-history.ensures.words) (Holds-read c.args.words c.args.notes)

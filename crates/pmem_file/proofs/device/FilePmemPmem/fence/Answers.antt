@@ -1,4 +1,4 @@
-use Rattle.std.proofs.Common.{ℕ, List, subst, ◌∙◌}
+use Rattle.std.proofs.Common.{◌∙◌}
 use Rattle.pmem.specs.History.{words_of}
 use Rattle.pmem_file.specs.Call.{Brings, read_of, calls_of}
 use Rattle.pmem_file.specs.Line.{Fixes}
@@ -8,13 +8,13 @@ use Rattle.pmem_file.proofs.device.FilePmemPmem.fence.Goals as goal
 pub invariant_of-self-clause-holds : goal.invariant_of-self-clause-holds
 invariant_of-self-clause-holds c =
     let device = c.args.self.now in
-    let copy = device.words.items in
+    let copy = device.words in
     let notes = c.clear.new.self in
     let before = device.file.calls in
     let after = c.persist.new.self.calls in
     let lines = c.lines.result.now in
-    let brings = subst (λ (ws : List ℕ). Brings ws (calls_of before) (calls_of after)) c.deref.ensures.value c.persist.ensures.within in
-    let fixes = subst (λ (ws : List ℕ). Fixes ws lines (calls_of after)) c.deref.ensures.value (c.persist.ensures.durable c.if-persist.true) in
+    let brings : Brings copy (calls_of before) (calls_of after) = c.persist.ensures.within in
+    let fixes : Fixes copy lines (calls_of after) = c.persist.ensures.durable c.if-persist.true in
     rw (c.fenced.ensures.words, c.persist.ensures.read)
     (Holds-fenced copy device.notes notes lines (read_of before) (calls_of before) (calls_of after) (words_of device.history)
     (λ line. c.lines.ensures.listed line ∙ c.sort.ensures.noted line) brings fixes device.holds)

@@ -8,4 +8,4 @@ invariant_of-self-clause-holds c =
     let device = c.args.self.now in
     let calls = device.file.calls in
     rw c.flushed.ensures.words
-    (Holds-flushed device.words.items device.notes c.add.new.self (read_of calls) (calls_of calls) (words_of device.history) c.args.line c.add.ensures.noted device.holds)
+    (Holds-flushed device.words device.notes c.add.new.self (read_of calls) (calls_of calls) (words_of device.history) c.args.line c.add.ensures.noted device.holds)

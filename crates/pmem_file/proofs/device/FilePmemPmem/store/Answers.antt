@@ -8,6 +8,6 @@ pub invariant_of-self-clause-holds : goal.invariant_of-self-clause-holds
 invariant_of-self-clause-holds c =
     let device = c.args.self.now in
     let calls = device.file.calls in
-    let below : c.args.word < length device.words.items = omega (arith, c.requires, device.sized, device.words.ok.0) in
-    rw c.stored.ensures.words
-    (Holds-stored device.words.items device.notes (read_of calls) (calls_of calls) (words_of device.history) c.args.word c.args.value below device.holds)
+    let below : c.args.word < length device.words = omega (arith, c.requires, device.sized) in
+    rw (c.stored.ensures.words, c.set.ensures)
+    (Holds-stored device.words device.notes (read_of calls) (calls_of calls) (words_of device.history) c.args.word c.args.value below device.holds)

@@ -22,4 +22,4 @@ returns-clause-durable c e =
     ∙ ap (λ (b : Bool). b || not c.measure.result) (sym c.args.self.now.told ∙ c.if-self.false)
     ∙ ap (λ (b : Bool). not b) c.if-not-measure.false in
     rw (c.sync.ensures.calls, e, c.write_lines.ensures.done c.if-not-write_lines.false)
-    (Fixes-synced words lines measured (λ k. (c.type_inv.words k).fits) c.requires.in_range fine)
+    (Fixes-synced words lines measured c.len.ensures.fit c.requires.in_range fine)

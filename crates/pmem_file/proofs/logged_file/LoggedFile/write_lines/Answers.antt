@@ -42,7 +42,7 @@ loop-line-preserved c =
     let last : 8 * line + 8 ≤ length words =
     InRange-later words lines c.in-Some.first.now later c.in-Some.ensures.cases.0 c.requires.in_range c.loop-line.line-index c.loop-line-test.true in
     let writing = rw (at_drop_more (λ (ls : List ℕ). ls) later c.loop-line.line-index 0 c.loop-line-test.true) at c.loop-line.invariant.writing in
-    let fit : Fit words = λ k. (c.type_inv.words k).fits in
+    let fit : Fit words = c.len-words.ensures.fit in
     elim c.if-is_next.branch [
       | then-is_next w ↦
           rw (w.self-is, w.buffer-is, w.run-is)
@@ -76,7 +76,7 @@ returns-else-write_run c =
       done = λ e. absurd (cc);
       failed = ap has_failed asked ∙ ap (λ (b : Bool). b || true) fine;
       within =
-          rw asked (Brings-write words old calls run.first run.count false (λ k. (c.type_inv.words k).fits) c.loop-line.invariant.writing.brings);
+          rw asked (Brings-write words old calls run.first run.count false (c.len-words.ensures.fit) c.loop-line.invariant.writing.brings);
       capacity = omega (arith, c.write_run.ensures.capacity, c.loop-line.invariant.capacity);
     }
 
@@ -97,6 +97,6 @@ returns c =
           (drop_all c.loop-line.line-index later c.loop-line-test.false) c.loop-line.invariant.writing;
       failed = ap has_failed c.write_run-2.ensures.calls ∙ ap (λ (b : Bool). b || not c.write_run-2.result) fine;
       within =
-          rw c.write_run-2.ensures.calls (Brings-write words old calls run.first run.count c.write_run-2.result (λ k. (c.type_inv.words k).fits) c.loop-line.invariant.writing.brings);
+          rw c.write_run-2.ensures.calls (Brings-write words old calls run.first run.count c.write_run-2.result (c.len-words.ensures.fit) c.loop-line.invariant.writing.brings);
       capacity = omega (arith, c.write_run-2.ensures.capacity, c.loop-line.invariant.capacity);
     }

@@ -2,6 +2,7 @@ use Rattle.std.proofs.Common.{nat_lt}
 use Rattle.primary.proofs.KeptImages.{turn-leaves}
 use Rattle.primary.proofs.KeptTurns.{kept-for-all, refused-keeps}
 use Rattle.primary.proofs.LeadsLemmas.{gives-work}
+use Rattle.primary.proofs.SoundTurns.{turn-sound, turn-unmoved}
 use Rattle.primary.proofs.TurnedLemmas.{told-for-all, turn-again, turn-committed, turn-position, turn-rises, turn-stays}
 use Rattle.primary.proofs.back.Back.commit.Goals as goal
 
@@ -70,3 +71,17 @@ returns-clause-leaves g c = λ sound s notices low past passed stands keeps.
     let O = g.O.Outlet in
     turn-leaves E.device E.contents E.is_faulted low past s notices O.offered O.known_room c.args.self.now.committer c.turn.new.self c.args.self.now.work c.turn.new.work c.args.link.now c.turn.new.link
     (nat_lt 0 (O.known_room c.turn.new.link)) c.args.remote c.turn.result passed sound stands keeps c.turn.ensures.takes
+
+pub returns-clause-sound : goal.returns-clause-sound
+returns-clause-sound g c =
+    let E = g.E.Durable in
+    let O = g.O.Outlet in
+    turn-sound E.device E.contents E.is_faulted O.offered O.known_room c.args.self.now.committer c.turn.new.self c.args.self.now.work c.turn.new.work c.args.link.now c.turn.new.link
+    (nat_lt 0 (O.known_room c.turn.new.link)) c.args.remote c.turn.result c.turn.ensures.takes
+
+pub returns-clause-unmoved : goal.returns-clause-unmoved
+returns-clause-unmoved g c =
+    let E = g.E.Durable in
+    let O = g.O.Outlet in
+    turn-unmoved E.device E.contents E.is_faulted O.offered O.known_room c.args.self.now.committer c.turn.new.self c.args.self.now.work c.turn.new.work c.args.link.now c.turn.new.link
+    (nat_lt 0 (O.known_room c.turn.new.link)) c.args.remote c.turn.result c.turn.ensures.takes

@@ -23,4 +23,4 @@ pub returns-clause-serves : goal.returns-clause-serves
 returns-clause-serves g c =
     let connection = c.args.self.now.arrival in
     turn-serves connection.seat c.args.front.now.sequencer c.turn.new.self.sequencer connection.requests.items c.turn.new.inlet connection.replies.replies c.turn.new.outlet c.turn.result
-    c.turn.ensures.keeps (returns-clause-turn g c).1
+    c.turn.ensures.keeps c.turn.ensures.recollects (returns-clause-turn g c).1

@@ -1,8 +1,8 @@
+use Rattle.std.proofs.Common.{ap, sym, ◌∙◌}
 use Rattle.std.proofs.lemmas.Bool.{and_parts}
 use Rattle.world.specs.Condition.{runs}
-use Rattle.machine.specs.declared.event.Event.TheVariants as events
-use Rattle.world.proofs.PairLives.{fail-fence-acts}
-use Rattle.world.proofs.StepLemmas.{acts-is, idle-is, leaves-still, own-is, turn-is}
+use Rattle.world.specs.Pair.{takes_part}
+use Rattle.world.proofs.StepLemmas.{acts-is, idle-is, own-is, turn-is}
 use Rattle.world.proofs.pair.PairStepper.step.Goals as goal
 
 pub returns-then-not-takes_part : goal.returns-then-not-takes_part
@@ -80,8 +80,12 @@ returns-in-Crash g c = acts-is c.in-Crash.is (c.crash.ensures.does c.in-Crash.fi
 pub returns-in-Reopen : goal.returns-in-Reopen
 returns-in-Reopen g c = acts-is c.in-Reopen.is (c.reopen.ensures.does c.args.history.now) (c.reopen.ensures.leaves c.args.history.now)
 
+pub fail_fence-requires : goal.fail_fence-requires
+fail_fence-requires g c =
+    ap (takes_part (runs c.args.self.now.primary_condition) (runs c.args.self.now.standby_condition)) (sym c.in-FailFence.is) ∙ sym c.takes_part.ensures ∙ c.if-not-takes_part.false
+
 pub returns-in-FailFence : goal.returns-in-FailFence
-returns-in-FailFence g c = acts-is c.in-FailFence.is (fail-fence-acts _ c.in-FailFence.field-0 c.in-FailFence.field-1) (leaves-still (events.FailFence c.in-FailFence.field-0 c.in-FailFence.field-1) _)
+returns-in-FailFence g c = acts-is c.in-FailFence.is (c.fail_fence.ensures.does c.args.history.now) (c.fail_fence.ensures.leaves c.args.history.now)
 
 pub returns-in-Fence : goal.returns-in-Fence
 returns-in-Fence g c = acts-is c.in-Fence.is (c.fence.ensures.does c.args.history.now) (c.fence.ensures.leaves c.args.history.now)

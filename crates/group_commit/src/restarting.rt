@@ -1,0 +1,134 @@
+//! A committer whose engine's device crashes under it, and whose image is then opened again.
+ghost use Rattle.std.specs.Prelude.{◌≡◌, ◌⊎◌, ◌<◌, ◌≤◌, ◌+◌, ◌==◌, if◌then◌else◌, [], ℕ, true, false, None, Some, Err, OnOk, OnErr, IfOk, IfErr, IsErrOf};
+ghost use Rattle.kv_types.specs.declared.refusal.Refusal.{Refusal as Cause};
+ghost use Rattle.pmem.specs.Device.{Only, moment, newest_at};
+ghost use Rattle.pmem.specs.Device.Fences.{Sure};
+ghost use Rattle.pmem.specs.Crash.{IsImage, IsSettled, Keeps, MayLeave, image_of, picked, words_to_crash};
+ghost use Rattle.pmem.specs.Runs.{LeavesOnly};
+ghost use Rattle.model.specs.declared.image.TheConstants.{MAX_LINES, MIN_LINES};
+ghost use Rattle.model.specs.declared.record.Record.{Record as CommitRecord};
+ghost use Rattle.heap_layout.specs.Superblock.{super_refusal};
+ghost use Rattle.wbl_engine.specs.Contents.{IsDurable};
+ghost use Rattle.wbl_engine.specs.Lawful.{IsUndamaged};
+ghost use Rattle.wbl_engine.specs.Reopening.{IsShown, RefusesReopening, Reopens, StaysReadable};
+
+use crate::committer::Committer;
+use crate::stage::Stage;
+use kv_types::Refusal;
+use model::{Record, Role};
+use std::alloc::Global;
+use wbl_engine::{Restarting, Versions};
+
+impl<E: Restarting> Committer<E> {
+    /// Crashes the engine's device now, with picks as at `pmem::Crashing::crash`. The engine is faulted until it is restarted. What is in hand, what
+    /// stands aside and the local mark stay until then.
+    pub fn crash(&mut self, picks: &[u64])
+        ensures settled { IsSettled (E.device self.new.engine).words }
+        ensures image { IsImage (E.device self.old.engine).words (image_of (E.device self.new.engine).words) }
+        // where the device had the memory to do so
+        ensures picked { (E.device self.new.engine).starved ≡ false
+            → (word : ℕ) → newest_at (E.device self.new.engine) word ≡ picked (E.device self.old.engine).words picks.now word }
+        ensures lines { (E.device self.new.engine).lines ≡ (E.device self.old.engine).lines }
+        ensures failures { (E.device self.new.engine).failures ≡ (E.device self.old.engine).failures }
+        ensures faulted { E.is_faulted self.new.engine ≡ true }
+        ensures moments { LeavesOnly (E.device self.old.engine) (E.device self.new.engine) (IsImage (E.device self.old.engine).words) }
+        ensures stage { self.new.stage ≡ self.old.stage }
+        ensures local { self.new.local ≡ self.old.local }
+        ensures aside { self.new.aside ≡ self.old.aside }
+    {
+        self.engine.crash(picks);
+    }
+
+    /// Makes the n-th fence of the engine's device from now fail, counted from 1; this replaces an earlier request. With 0 no fence is asked to fail.
+    pub fn fail_at(&mut self, n: u64)
+        ensures asked { E.device self.new.engine ≡ record (E.device self.old.engine) { fences = Sure (if n == 0 then None else Some n) } }
+        ensures contents { E.contents self.new.engine ≡ E.contents self.old.engine }
+        ensures faulted { E.is_faulted self.new.engine ≡ E.is_faulted self.old.engine }
+        ensures stage { self.new.stage ≡ self.old.stage }
+        ensures local { self.new.local ≡ self.old.local }
+        ensures aside { self.new.aside ≡ self.old.aside }
+    {
+        self.engine.fail_at(n);
+    }
+
+    /// Makes the next `crash_kept` pick from the candidates of the engine's device as they will be after `k` more calls of it, if that many are made; this
+    /// replaces an earlier request. If there is no memory for the copy, the device is starved.
+    pub fn keep_at(&mut self, k: u64)
+        ensures keeps { Keeps (E.device self.old.engine) (E.device self.new.engine) (moment (E.device self.old.engine) + k) }
+        ensures contents { E.contents self.new.engine ≡ E.contents self.old.engine }
+        ensures faulted { E.is_faulted self.new.engine ≡ E.is_faulted self.old.engine }
+        ensures stage { self.new.stage ≡ self.old.stage }
+        ensures local { self.new.local ≡ self.old.local }
+        ensures aside { self.new.aside ≡ self.old.aside }
+    {
+        self.engine.keep_at(k);
+    }
+
+    /// Crashes the engine's device as of the moment that it was asked to keep, as `Restarting::crash_kept` does. The engine is faulted until it is
+    /// restarted. What is in hand, what
+    /// stands aside and the local mark stay until then.
+    pub fn crash_kept(&mut self, picks: &[u64])
+        ensures settled { IsSettled (E.device self.new.engine).words }
+        // an image of that moment, or of a later one
+        ensures left { (t : ℕ) → (E.device self.old.engine).kept ≡ Some t → MayLeave (E.device self.old.engine) t (image_of (E.device self.new.engine).words) }
+        ensures unkept { (E.device self.old.engine).kept ≡ None → IsImage (E.device self.old.engine).words (image_of (E.device self.new.engine).words) }
+        // where the device had the memory to do so
+        ensures picked { (E.device self.new.engine).starved ≡ false → (word : ℕ)
+            → newest_at (E.device self.new.engine) word ≡ picked (words_to_crash (E.device self.old.engine) (E.device self.old.engine).kept) picks.now word }
+        ensures lines { (E.device self.new.engine).lines ≡ (E.device self.old.engine).lines }
+        ensures failures { (E.device self.new.engine).failures ≡ (E.device self.old.engine).failures }
+        ensures fences { (E.device self.new.engine).fences ≡ (E.device self.old.engine).fences }
+        ensures forgotten { (E.device self.new.engine).kept ≡ None }
+        ensures faulted { E.is_faulted self.new.engine ≡ true }
+        // what could be left now may be, and then what was
+        ensures moments { LeavesOnly (E.device self.old.engine) (E.device self.new.engine)
+            (λ image. IsImage (E.device self.old.engine).words image ⊎ (image ≡ image_of (E.device self.new.engine).words)) }
+        ensures stage { self.new.stage ≡ self.old.stage }
+        ensures local { self.new.local ≡ self.old.local }
+        ensures aside { self.new.aside ≡ self.old.aside }
+    {
+        self.engine.crash_kept(picks);
+    }
+
+    /// The record of the image, as loads return it; none where the image has none that obeys the rules.
+    pub fn image_record(&self) -> Option<Record>
+        ensures { (r : CommitRecord) → MIN_LINES ≤ (E.device self.now.engine).lines → (E.device self.now.engine).lines ≤ MAX_LINES
+            → IsUndamaged (E.device self.now.engine).lines r (image_of (E.device self.now.engine).words) → result ≡ Some r }
+    {
+        self.engine.image_record()
+    }
+
+    /// Opens the image of the engine's device again in its role, and returns all versions of the image. The committer may take a group then, its
+    /// local mark is at the engine's position, and what was in hand or stood aside is dropped.
+    ///
+    /// # Errors
+    ///
+    /// As at `WblEngine::reopen`. The committer is as it was, but for the engine where a fence failed.
+    pub fn restart(&mut self, alloc: Global, role: Role) -> Result<Versions, Refusal>
+        requires settled { (word : ℕ) → Only ((E.device self.old.engine).words word) (image_of (E.device self.old.engine).words word) }
+        ensures reopens { IfOk result (λ versions. Reopens (E.device self.old.engine).lines (image_of (E.device self.old.engine).words) role
+            (E.contents self.new.engine) versions.counted.items versions.gapped.items) }
+        ensures shown { IfOk result (λ versions.
+            IsShown (E.contents self.new.engine) versions.counted.items versions.gapped.items (image_of (E.device self.new.engine).words)) }
+        ensures durable { OnOk result (IsDurable (E.device self.new.engine) (E.contents self.new.engine)) }
+        ensures sound { OnOk result ((E.is_faulted self.new.engine ≡ false)
+            × ((E.device self.new.engine).failures ≡ (E.device self.old.engine).failures)) }
+        ensures stopped { IsErrOf result Refusal.Fault → E.is_faulted self.new.engine ≡ true }
+        ensures ready { OnOk result ((self.new.stage ≡ Stage.Ready) × (self.new.local ≡ (E.contents self.new.engine).current.position) × (self.new.aside.items ≡ [])) }
+        ensures kept { OnErr result ((self.new.stage ≡ self.old.stage) × (self.new.local ≡ self.old.local) × (self.new.aside ≡ self.old.aside)) }
+        ensures refused { IfErr result (λ refusal. (refusal ≡ Refusal.Fault)
+            ⊎ (RefusesReopening (E.device self.old.engine).lines (image_of (E.device self.old.engine).words) role refusal × (self.new ≡ self.old))) }
+        ensures fault { IsErrOf result Refusal.Fault → (E.device self.old.engine).failures < (E.device self.new.engine).failures }
+        ensures superblock { (refusal : Cause) → super_refusal (E.device self.old.engine).lines (image_of (E.device self.old.engine).words) ≡ Some refusal
+            → result ≡ Err refusal }
+        ensures moments { (r : CommitRecord) → IsUndamaged (E.device self.old.engine).lines r (image_of (E.device self.old.engine).words)
+            → LeavesOnly (E.device self.old.engine) (E.device self.new.engine)
+            (StaysReadable (E.device self.old.engine).lines r (image_of (E.device self.old.engine).words)) }
+    {
+        let versions = self.engine.restart(alloc, role)?;
+        self.stage = Stage::Ready;
+        self.local = self.position();
+        self.aside.clear();
+        Ok(versions)
+    }
+}

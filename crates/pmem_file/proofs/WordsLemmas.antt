@@ -1,0 +1,61 @@
+-- Words of which the last are zeros that are not kept.
+use Rattle.std.proofs.Common.{◌≡◌, ℕ, zero, suc, ◌+◌, ◌-◌, ◌<◌, ◌≤◌, List, [], ◌∷◌, ◌++◌, length, replicate, get_or, refl, sym, ap, ◌∙◌, arith, append_assoc, length-append, Result, Ok, Err, OnOk}
+use Rattle.std.proofs.lemmas.List.{append-nil, replicate-append-replicate, replicate_more, length-replicate}
+
+-- these words, and zeros behind them, so many in all
+abbrev pub whole : List ℕ → ℕ → List ℕ
+whole kept count = kept ++ replicate (count - length kept) 0
+
+pub length-filled : (kept : List ℕ) (count : ℕ) → length (whole kept count) ≡ length kept + (count - length kept)
+length-filled kept count = length-append kept (replicate (count - length kept) 0) ∙ ap (λ n. length kept + n) (length-replicate (count - length kept) 0)
+
+-- zeros may be kept
+pub whole-filled : (kept : List ℕ) (count to : ℕ) → length kept ≤ count → to ≤ count → whole (whole kept to) count ≡ whole kept count
+whole-filled kept count to fit less =
+    let a = to - length kept in
+    let b = count - length (whole kept to) in
+    let sum : a + b ≡ count - length kept = omega (arith, length-filled kept to) in
+    let zeros : replicate a 0 ++ replicate b 0 ≡ replicate (count - length kept) 0 = replicate-append-replicate a b 0 ∙ ap (λ (n : ℕ). replicate n 0) sum in
+    append_assoc kept (replicate a 0) (replicate b 0) ∙ ap (λ (xs : List ℕ). kept ++ xs) zeros
+
+-- zeros behind them
+pub whole-longer : (kept : List ℕ) (count more : ℕ) → length kept ≤ count → whole kept (count + more) ≡ whole kept count ++ replicate more 0
+whole-longer kept count more fit =
+    let a = count - length kept in
+    let sum : count + more - length kept ≡ a + more = omega (arith, fit) in
+    ap (λ n. kept ++ replicate n 0) sum
+    ∙ ap (λ xs. kept ++ xs) (sym (replicate-append-replicate a more 0))
+    ∙ sym (append_assoc kept (replicate a 0) (replicate more 0))
+
+-- all are kept
+pub whole-kept : (kept : List ℕ) → whole kept (length kept) ≡ kept
+whole-kept kept = ap (λ n. kept ++ replicate n 0) (let none : length kept - length kept ≡ 0 = omega arith in none) ∙ append-nil kept
+
+-- ---- zeros in front
+
+pub zeros-more : (n : ℕ) (ws : List ℕ) → replicate n 0 ++ 0 ∷ ws ≡ replicate (n + 1) 0 ++ ws
+zeros-more n ws = sym (append_assoc (replicate n 0) (0 ∷ []) ws) ∙ ap (λ xs. xs ++ ws) (replicate_more n 0)
+
+get_or-behind : (n w : ℕ) (ws : List ℕ) → get_or (replicate n 0 ++ w ∷ ws) n 0 ≡ w
+get_or-behind zero w ws = refl
+get_or-behind (suc n) w ws = get_or-behind n w ws
+
+get_or-zeros : (m k : ℕ) → ◌≡◌ {A = ℕ} (get_or (replicate m 0) k 0) 0
+get_or-zeros zero k = refl
+get_or-zeros (suc m) zero = refl
+get_or-zeros (suc m) (suc k) = get_or-zeros m k
+
+-- what stands behind zeros, where there are zeros alone, is one
+pub zero-behind : (n m w : ℕ) (ws : List ℕ) → replicate n 0 ++ w ∷ ws ≡ replicate m 0 → w ≡ 0
+zero-behind n m w ws e = sym (get_or-behind n w ws) ∙ ap (λ xs. get_or xs n 0) e ∙ get_or-zeros m n
+
+-- what is so whatever came of a call
+pub always : {X E : Type 0} {P : Type 0} (result : Result X E) → P → OnOk result P
+always (Ok x) p = p
+always (Err e) p = tt
+
+-- zeros behind words are words
+pub fit-front : (xs : List ℕ) (n most : ℕ) → 0 < most → ((k : ℕ) → get_or xs k 0 < most) → (k : ℕ) → get_or (xs ++ replicate n 0) k 0 < most
+fit-front [] n most some fits k = rw (get_or-zeros n k) some
+fit-front (x ∷ xs) n most some fits zero = fits 0
+fit-front (x ∷ xs) n most some fits (suc k) = fit-front xs n most some (λ j. fits (suc j)) k

@@ -1,0 +1,224 @@
+-- What the committer's job keeps of the past, step after step and round after round.
+use Rattle.std.proofs.Common.{◌≡◌, ◌⊎◌, ℕ, ◌≤◌, Bool, false, List, [], Option, Some, None, Result, Ok, Err, OnOk, inl, inr, refl, sym, ap, subst, ◌∙◌, arith, le_refl}
+use Rattle.pmem.specs.Device.{State}
+use Rattle.pmem.specs.Runs.{LeavesOnly}
+use Rattle.pmem.proofs.Leaving.{LeavesOnly-then, LeavesOnly-weaken, none_leaves}
+use Rattle.kv_types.specs.declared.refusal.Refusal.{Refusal}
+use Rattle.model.specs.Group.{Contents}
+use Rattle.model.specs.Image.{Image}
+use Rattle.redis_core.specs.Sequencing.{Sequencing}
+use Rattle.group_commit.specs.declared.committer.Committer.{Committer}
+use Rattle.primary.specs.declared.back.Back.{Back}
+use Rattle.primary.specs.Recalling.{AgreeUpTo, AreKeyspaces, BackKeeps, ImageRecalls, Past}
+use Rattle.primary.specs.Standing.{BackStands}
+use Rattle.primary.proofs.KeptImages.{crash-recalls}
+use Rattle.serving.specs.CommitJob.{IsHereOrLent}
+use Rattle.serving.specs.Keeping.{JobKeeps, JobKeepsThrough, JobLeaves, KeepsThrough, PastGoesOn, RunGoesOn, job_of}
+use Rattle.serving.specs.Serving.{Serves}
+use Rattle.serving.specs.declared.commit_job.CommitJob.{CommitJob}
+use Rattle.serving.specs.declared.committing.Stepped.{Stepped}
+
+module _ {E : Type 0} (device : E → State) (contents : E → Contents) (is_faulted : E → Bool) where
+  abbrev Over : Back E → Sequencing → Type 0
+  Over back s = BackStands device contents back s []
+
+  -- ---- steps
+
+  -- now
+  back-leaves : (back : Back E) (s : Sequencing) (low : ℕ) (past : Past) → Over back s → BackKeeps contents low past back s
+      → LeavesOnly (device back.committer.engine) (device back.committer.engine) (ImageRecalls low past)
+  back-leaves back s low past over kept =
+      none_leaves (device back.committer.engine) (ImageRecalls low past)
+      (λ image is. crash-recalls low past (device back.committer.engine) (contents back.committer.engine) back.work.items back.committer.aside.items s [] image over kept is)
+
+  module _ (remote : ℕ) where
+    pub through-none : {T : Type 0} (back : Back E) (x : T) → KeepsThrough device contents is_faulted {T = T} remote back (Ok x) back
+    through-none {T} back x = record {
+      kept = λ s low past passed over kept. kept;
+      sound = λ sound. sound;
+      leaves = λ sound s low past passed over kept. back-leaves back s low past over kept;
+    }
+
+    pub through-then : {T U : Type 0} (old between new : Back E) (x : T) (came : Result U Refusal) → ((s : Sequencing) → Over old s → Over between s)
+        → KeepsThrough device contents is_faulted {T = T} remote old (Ok x) between → KeepsThrough device contents is_faulted remote between came new
+        → KeepsThrough device contents is_faulted remote old came new
+    through-then {T} {U} old between new x came stands one other = record {
+      kept = λ s low past passed over kept. other.kept s low past passed (stands s over) (one.kept s low past passed over kept);
+      sound = λ sound. other.sound (one.sound sound);
+      leaves = λ sound s low past passed over kept.
+          LeavesOnly-then (one.leaves sound s low past passed over kept)
+          (other.leaves (one.sound sound) s low past passed (stands s over) (one.kept s low past passed over kept));
+    }
+
+    -- whatever is answered
+    pub through-ok : {T U : Type 0} (old new : Back E) (x : T) (y : U) → KeepsThrough device contents is_faulted {T = T} remote old (Ok x) new → KeepsThrough device contents is_faulted {T = U} remote old (Ok y) new
+    through-ok {T} {U} old new x y one = record { kept = one.kept; sound = one.sound; leaves = one.leaves }
+
+    pub through-err : {T U : Type 0} (old new : Back E) (x : Refusal) (came : Result U Refusal) (y : Refusal) → came ≡ Err y → KeepsThrough device contents is_faulted {T = T} remote old (Err x) new
+        → KeepsThrough device contents is_faulted remote old came new
+    through-err {T} {U} old new x came y is one =
+        subst (λ (r : Result U Refusal). KeepsThrough device contents is_faulted remote old r new) (sym is) (record { kept = λ s low past passed over kept. tt; sound = λ sound. tt; leaves = one.leaves })
+
+  -- ---- a job, wherever it is
+
+  abbrev Jobs : Type 0
+  Jobs = Option (CommitJob E)
+
+  abbrev Through : ℕ → Jobs → Sequencing → Jobs → Sequencing → Type 0
+  Through = JobKeepsThrough device contents is_faulted
+
+  -- the sequencer is ahead of it
+  abbrev pub JobStands : Jobs → Sequencing → Type 0
+  JobStands (Some job) s = Over job.back s
+  JobStands None s = ⊥
+
+  pub job-stands : (home lent : Jobs) (s : Sequencing) → IsHereOrLent device contents home lent s → JobStands (job_of home lent) s
+  job-stands (Some own) lent s is = is.1
+  job-stands None lent s is = subst (λ (job : Jobs). JobStands job s) (sym is.1) is.2
+
+  -- of one that is here
+  pub job-over : (home lent : Jobs) (s : Sequencing) (job : CommitJob E) → home ≡ Some job → IsHereOrLent device contents home lent s → Over job.back s
+  job-over home lent s job here is = (subst (λ (at : Jobs). IsHereOrLent device contents at lent s) here is).1
+
+  leaves-then : (P : Image → Type 0) (first second third : Jobs) → JobLeaves device contents is_faulted P first second → JobLeaves device contents is_faulted P second third
+      → JobLeaves device contents is_faulted P first third
+  leaves-then P (Some a) (Some b) (Some c) one other = LeavesOnly-then one other
+  leaves-then P (Some a) (Some b) None one other = absurd other
+  leaves-then P (Some a) None third one other = absurd one
+  leaves-then P None second third one other = absurd one
+
+  leaves-wider : (P Q : Image → Type 0) (first second : Jobs) → ((image : Image) → P image → Q image) → JobLeaves device contents is_faulted P first second → JobLeaves device contents is_faulted Q first second
+  leaves-wider P Q (Some a) (Some b) wider one = LeavesOnly-weaken Q wider one
+  leaves-wider P Q (Some a) None wider one = absurd one
+  leaves-wider P Q None second wider one = absurd one
+
+  -- ---- between calls
+
+  pub through-same : (remote : ℕ) (job : Jobs) (s : Sequencing) → JobStands job s → Through remote job s job s
+  through-same remote (Some job) s over = record {
+    at = refl;
+    kept = λ low past passed kept. kept;
+    sound = λ sound. sound;
+    leaves = λ sound low past passed kept. back-leaves job.back s low past over kept;
+  }
+  through-same remote None s over = absurd over
+
+  pub through-raised : (remote higher : ℕ) (job job' : Jobs) (s s' : Sequencing) → remote ≤ higher → Through remote job s job' s' → Through higher job s job' s'
+  through-raised remote higher job job' s s' rises one = record {
+    at = one.at;
+    kept = λ low past passed kept. one.kept low past (omega (arith, rises, passed)) kept;
+    sound = one.sound;
+    leaves = λ sound low past passed kept. one.leaves sound low past (omega (arith, rises, passed)) kept;
+  }
+
+  pub job-through-then : (remote : ℕ) (first second third : Jobs) (s between s' : Sequencing) → Through remote first s second between → Through remote second between third s' → Through remote first s third s'
+  job-through-then remote first second third s between s' one other = record {
+    at = other.at ∙ one.at;
+    kept = λ low past passed kept. other.kept low past passed (one.kept low past passed kept);
+    sound = λ sound. other.sound (one.sound sound);
+    leaves = λ sound low past passed kept.
+        leaves-then (ImageRecalls low past) first second third (one.leaves sound low past passed kept)
+        (other.leaves (one.sound sound) low past passed (one.kept low past passed kept));
+  }
+
+  -- the same, by other names
+  pub through-as : (remote : ℕ) (job named job' named' : Jobs) (s s' : Sequencing) → job ≡ named → job' ≡ named' → Through remote named s named' s' → Through remote job s job' s'
+  through-as remote job named job' named' s s' same same' one = rw (same, same') one
+
+  -- what waited was closed, and nothing else was done to the job
+  pub through-closed : (remote : ℕ) (job job' : CommitJob E) (s s' : Sequencing) → Over job.back s → job'.back.committer ≡ job.back.committer → s'.position ≡ s.position
+      → ((low : ℕ) (past : Past) → BackKeeps contents low past job.back s → BackKeeps contents low past job'.back s') → Through remote (Some job) s (Some job') s'
+  through-closed remote job job' s s' over committer at keeps =
+      let engine : job'.back.committer.engine ≡ job.back.committer.engine = ap (λ (c : Committer E). c.engine) committer in
+      record {
+        at = at;
+        kept = λ low past passed kept. keeps low past kept;
+        sound = λ sound. ap is_faulted engine ∙ sound;
+        leaves = λ sound low past passed kept.
+            subst (λ (e : E). LeavesOnly (device job.back.committer.engine) (device e) (ImageRecalls low past)) (sym engine) (back-leaves job.back s low past over kept);
+      }
+
+  -- its steps were taken, and the front was told of what they gave back
+  pub through-steps : (remote : ℕ) (job job' : CommitJob E) (s s' : Sequencing) (stepped : Stepped) → job.remote ≤ remote → Over job.back s → job'.came ≡ Ok stepped → s'.position ≡ s.position
+      → KeepsThrough device contents is_faulted job.remote job.back job'.came job'.back → ((low : ℕ) (past : Past) → BackKeeps contents low past job'.back s → BackKeeps contents low past job'.back s')
+      → Through remote (Some job) s (Some job') s'
+  through-steps remote job job' s s' stepped goes_by over came at steps told =
+      let did = subst (λ (r : Result Stepped Refusal). KeepsThrough device contents is_faulted job.remote job.back r job'.back) came steps in
+      record {
+        at = at;
+        kept = λ low past passed kept. told low past (did.kept s low past (omega (arith, goes_by, passed)) over kept);
+        sound = did.sound;
+        leaves = λ sound low past passed kept. did.leaves sound s low past (omega (arith, goes_by, passed)) over kept;
+      }
+
+  -- ---- while calls are made
+
+  job-goes-on : (job : Jobs) (s s' : Sequencing) → JobStands job s → Serves s s' → (low : ℕ) (past : Past) → AreKeyspaces past → JobKeeps device contents is_faulted low past job s
+      → (later : Past) × AreKeyspaces later × AgreeUpTo s.position past later × JobKeeps device contents is_faulted low later job s'
+  job-goes-on (Some job) s s' over serves low past keyspaces kept =
+      serves.goes_on low past (contents job.back.committer.engine) job.back.work.items job.back.committer.aside.items over.leads keyspaces kept
+  job-goes-on None s s' over serves low past keyspaces kept = absurd over
+
+  -- a round: connections are served between two looks at the job
+  pub goes-round : (remote : ℕ) (first second third : Jobs) (s tended served s' : Sequencing) → Through remote first s second tended → JobStands second tended → Serves tended served
+      → Through remote second served third s' → PastGoesOn device contents is_faulted remote first s third s'
+  goes-round remote first second third s tended served s' one over serves other = record {
+    rises = omega (arith, one.at, serves.rises, other.at);
+    sound = λ sound. other.sound (one.sound sound);
+    goes_on = λ low past passed keyspaces kept.
+        let later = job-goes-on second tended served over serves low past keyspaces (one.kept low past passed kept) in (
+          later.0,
+          later.1,
+          (λ p within. later.2 p (omega (arith, within, one.at))),
+          other.kept low later.0 passed later.3,
+          λ sound.
+              leaves-then _ first second third (leaves-wider (ImageRecalls low past) _ first second (λ image was. inl was) (one.leaves sound low past passed kept))
+              (leaves-wider (ImageRecalls low later.0) _ second third (λ image is. inr is) (other.leaves (one.sound sound) low later.0 passed later.3)),
+        );
+  }
+
+  -- ---- round after round
+
+  abbrev Run : ℕ → Jobs → Sequencing → Jobs → Sequencing → Type 0
+  Run = RunGoesOn device contents is_faulted
+
+  pub run-none : (remote : ℕ) (job : Jobs) (s : Sequencing) → JobStands job s → Run remote job s job s
+  run-none remote job s over =
+      let same = through-same remote job s over in
+      record {
+        rises = le_refl s.position;
+        sound = λ sound. sound;
+        goes_on = λ low past passed keyspaces kept. (
+          past,
+          keyspaces,
+          (λ p within. refl),
+          kept,
+          λ sound. leaves-wider (ImageRecalls low past) _ job job (λ image is. (past, (λ p within. refl), is)) (same.leaves sound low past passed kept),
+        );
+      }
+
+  pub run-raised : (remote higher : ℕ) (job job' : Jobs) (s s' : Sequencing) → remote ≤ higher → Run remote job s job' s' → Run higher job s job' s'
+  run-raised remote higher job job' s s' rises one = record {
+    rises = one.rises;
+    sound = one.sound;
+    goes_on = λ low past passed keyspaces kept. one.goes_on low past (omega (arith, rises, passed)) keyspaces kept;
+  }
+
+  pub run-more : (remote : ℕ) (first second third : Jobs) (s between s' : Sequencing) → Run remote first s second between → PastGoesOn device contents is_faulted remote second between third s'
+      → Run remote first s third s'
+  run-more remote first second third s between s' one other = record {
+    rises = omega (arith, one.rises, other.rises);
+    sound = λ sound. other.sound (one.sound sound);
+    goes_on = λ low past passed keyspaces kept.
+        let before = one.goes_on low past passed keyspaces kept in
+        let after = other.goes_on low before.0 passed before.1 before.3 in
+        let agrees : AgreeUpTo s.position past after.0 = λ p within. after.2 p (omega (arith, within, one.rises)) ∙ before.2 p within in (
+          after.0,
+          after.1,
+          agrees,
+          after.3,
+          λ sound.
+              leaves-then _ first second third (before.4 sound)
+              (leaves-wider _ _ second third (λ image either. elim either [ inl was ↦ (before.0, before.2, was) | inr is ↦ (after.0, agrees, is) ]) (after.4 (one.sound sound))),
+        );
+  }

@@ -1,0 +1,69 @@
+-- What the committer's job keeps of the keyspaces at which a standby may stand, wherever the job is.
+use Rattle.std.specs.Prelude.{◌≡◌, ◌⊎◌, ℕ, ◌≤◌, Bool, false, List, [], Option, Some, None, Result, OnOk}
+use Rattle.pmem.specs.Device.{State}
+use Rattle.pmem.specs.Runs.{LeavesOnly}
+use Rattle.kv_types.specs.declared.refusal.Refusal.{Refusal}
+use Rattle.model.specs.Group.{Contents}
+use Rattle.model.specs.Image.{Image}
+use Rattle.redis_core.specs.Sequencing.{Sequencing}
+use Rattle.primary.specs.declared.back.Back.{Back}
+use Rattle.primary.specs.Recalling.{AgreeUpTo, AreKeyspaces, BackKeeps, ImageRecalls, Past}
+use Rattle.primary.specs.Standing.{BackStands}
+use Rattle.serving.specs.declared.commit_job.CommitJob.{CommitJob}
+
+-- the job that is here, or else the one that is lent, as it was lent
+abbrev pub job_of : {E : Type 0} → Option (CommitJob E) → Option (CommitJob E) → Option (CommitJob E)
+job_of (Some job) lent = Some job
+job_of None lent = lent
+
+-- by what is known of an engine
+module _ {E : Type 0} (device : E → State) (contents : E → Contents) (is_faulted : E → Bool) where
+  -- Steps were taken by this remote mark, and came to this. Where the standby has passed that mark, each past that was kept of what was in hand is kept, and
+  -- at any moment a crash leaves an image that recalls it.
+  pub record KeepsThrough {T : Type 0} (remote : ℕ) (old : Back E) (came : Result T Refusal) (new : Back E) : Type 0 where
+    pub kept : (s : Sequencing) (low : ℕ) (past : Past) → remote ≤ low → BackStands device contents old s [] → BackKeeps contents low past old s
+        → OnOk came (BackKeeps contents low past new s)
+    pub sound : is_faulted old.committer.engine ≡ false → OnOk came (is_faulted new.committer.engine ≡ false)
+    pub leaves : is_faulted old.committer.engine ≡ false → (s : Sequencing) (low : ℕ) (past : Past) → remote ≤ low → BackStands device contents old s []
+        → BackKeeps contents low past old s → LeavesOnly (device old.committer.engine) (device new.committer.engine) (ImageRecalls low past)
+
+  -- ---- a job, wherever it is
+
+  -- no fence of its device had failed
+  abbrev pub IsSound : Option (CommitJob E) → Type 0
+  IsSound (Some job) = is_faulted job.back.committer.engine ≡ false
+  IsSound None = ⊥
+
+  -- what it has in hand keeps the past, with this sequencer
+  abbrev pub JobKeeps : ℕ → Past → Option (CommitJob E) → Sequencing → Type 0
+  JobKeeps low past (Some job) s = BackKeeps contents low past job.back s
+  JobKeeps low past None s = ⊥
+
+  -- at any moment from the first to the second a crash left only such images
+  abbrev pub JobLeaves : (Image → Type 0) → Option (CommitJob E) → Option (CommitJob E) → Type 0
+  JobLeaves P (Some old) (Some new) = LeavesOnly (device old.back.committer.engine) (device new.back.committer.engine) P
+  JobLeaves P _ _ = ⊥
+
+  -- Of a job that goes by no higher remote mark than this, while nothing is called: what it kept of the past it keeps, and at any moment a crash leaves an
+  -- image that recalls it.
+  pub record JobKeepsThrough (remote : ℕ) (job : Option (CommitJob E)) (old : Sequencing) (job' : Option (CommitJob E)) (new : Sequencing) : Type 0 where
+    pub at : new.position ≡ old.position
+    pub kept : (low : ℕ) (past : Past) → remote ≤ low → JobKeeps low past job old → JobKeeps low past job' new
+    pub sound : IsSound job → IsSound job'
+    pub leaves : IsSound job → (low : ℕ) (past : Past) → remote ≤ low → JobKeeps low past job old → JobLeaves (ImageRecalls low past) job job'
+
+  -- The same where calls were made too: the past goes on, and the image recalls it as it was or as it is.
+  pub record PastGoesOn (remote : ℕ) (job : Option (CommitJob E)) (old : Sequencing) (job' : Option (CommitJob E)) (new : Sequencing) : Type 0 where
+    pub goes_on : (low : ℕ) (past : Past) → remote ≤ low → AreKeyspaces past → JobKeeps low past job old
+        → (later : Past) × AreKeyspaces later × AgreeUpTo old.position past later × JobKeeps low later job' new
+        × (IsSound job → JobLeaves (λ image. ImageRecalls low past image ⊎ ImageRecalls low later image) job job')
+    pub rises : old.position ≤ new.position
+    pub sound : IsSound job → IsSound job'
+
+  -- The same over any number of rounds: at any moment the image recalls a past that goes on from the first.
+  pub record RunGoesOn (remote : ℕ) (job : Option (CommitJob E)) (old : Sequencing) (job' : Option (CommitJob E)) (new : Sequencing) : Type 0 where
+    pub goes_on : (low : ℕ) (past : Past) → remote ≤ low → AreKeyspaces past → JobKeeps low past job old
+        → (later : Past) × AreKeyspaces later × AgreeUpTo old.position past later × JobKeeps low later job' new
+        × (IsSound job → JobLeaves (λ image. (between : Past) × AgreeUpTo old.position past between × ImageRecalls low between image) job job')
+    pub rises : old.position ≤ new.position
+    pub sound : IsSound job → IsSound job'

@@ -1,0 +1,197 @@
+//! Histories that are drawn.
+use crate::dice::Dice;
+use crate::step_kinds::Step;
+use crate::witness::Witness;
+use machine::{Cut, Event, Node};
+use std::alloc::{AllocError, Global};
+use std::collections::VecDeque;
+use world::History;
+
+/// The fewest events of a history, but for those of its end; it has less than twice as many.
+const LEAST_EVENTS: u64 = 150;
+
+/// After so many calls to a device a crash in the middle of an event comes, at most.
+const MOST_CALLS: u64 = 40;
+
+/// Which fence from now is to fail, at most.
+const MOST_FENCES: u64 = 6;
+
+/// The bytes that many replies have.
+const REPLY_BYTES: [u64; 4] = [1, 4, 5, 7];
+
+/// Draws one history, event by event.
+#[derive(Drop)]
+pub struct Drawing {
+    pub alloc: Global,
+    pub dice: Dice,
+    /// What was drawn and did not happen yet.
+    steps: VecDeque<Step>,
+    /// How many connections entered so far.
+    pub entered: u64,
+    /// How many events are left.
+    left: u64,
+    /// With so many events left the primary is fenced; 0: never.
+    failover: u64,
+    /// Both nodes crash, and then it is over.
+    is_ending: bool,
+}
+
+impl Drawing {
+    /// A new history, which begins with two connections.
+    pub fn new(alloc: Global, seed: u64) -> Result<Drawing, AllocError> {
+        let mut dice = Dice::new(seed);
+        let left = LEAST_EVENTS + dice.below(LEAST_EVENTS);
+        let failover = if dice.is_one_of(2) {
+            dice.below(LEAST_EVENTS)
+        } else {
+            0
+        };
+        let mut drawing = Drawing {
+            alloc,
+            dice,
+            steps: VecDeque::new(alloc),
+            entered: 0,
+            left,
+            failover,
+            is_ending: false,
+        };
+        drawing.add(Step::Enter)?;
+        drawing.add(Step::Enter)?;
+        Ok(drawing)
+    }
+
+    /// The next event, or `None` where the history is over.
+    pub fn next(
+        &mut self,
+        history: &History,
+        witness: &Witness,
+    ) -> Result<Option<Event>, AllocError> {
+        self.entered = history.transcript.released.len() as u64;
+        self.come_on()?;
+        match self.steps.pop_front() {
+            Some(step) => Ok(Some(self.event_of(step, history, witness)?)),
+            None => Ok(None),
+        }
+    }
+
+    /// What comes once a fence failed and ended the run: both devices crash.
+    pub fn end(&mut self) -> Result<(), AllocError> {
+        self.is_ending = true;
+        self.steps.clear();
+        self.add(Step::Crash(Node::Primary, Cut::Between))?;
+        self.add(Step::Crash(Node::Standby, Cut::Between))
+    }
+
+    /// Draws what comes next, where nothing is left of what was drawn.
+    fn come_on(&mut self) -> Result<(), AllocError> {
+        if self.is_ending {
+            return Ok(());
+        }
+        if self.left == 0 {
+            return self.end();
+        }
+        self.left = self.left.saturating_sub(1);
+        if !self.steps.is_empty() {
+            return Ok(());
+        }
+        if self.left < self.failover {
+            self.failover = 0;
+            return self.fail_over();
+        }
+        self.act()
+    }
+
+    /// Adds a step to what comes.
+    pub fn add(&mut self, step: Step) -> Result<(), AllocError> {
+        self.steps.push_back(step)?;
+        Ok(())
+    }
+
+    /// A connection: mostly one of the newest.
+    pub fn connection(&mut self) -> u64 {
+        let newest = self.entered.saturating_sub(1);
+        if self.dice.is_one_of(30) {
+            return self.dice.below(newest.saturating_add(3));
+        }
+        newest.saturating_sub(self.dice.below(3))
+    }
+
+    /// The event of a step, whose numbers are drawn now.
+    fn event_of(
+        &mut self,
+        step: Step,
+        history: &History,
+        witness: &Witness,
+    ) -> Result<Event, AllocError> {
+        let frames = history.frames.len() as u64;
+        let acknowledgements = history.acknowledgements.len() as u64;
+        Ok(match step {
+            Step::Enter => Event::Enter,
+            Step::Feed(connection, piece) => Event::Feed(connection, piece),
+            Step::Offer(connection) => Event::Offer(connection),
+            Step::Turn(connection) => Event::Turn(connection),
+            Step::CloseGroup => Event::CloseGroup,
+            Step::Commit => Event::Commit,
+            Step::RaiseLocal => Event::RaiseLocal,
+            Step::Hand => Event::Hand,
+            Step::Free => Event::Free,
+            Step::AcceptFreed => Event::AcceptFreed,
+            Step::ClearGap => Event::ClearGap,
+            Step::OpenLink => Event::OpenLink,
+            Step::Send => Event::Send,
+            Step::DeliverLast => Event::Deliver(frames.saturating_sub(1), self.piece()),
+            Step::DeliverAny => Event::Deliver(self.up_to(frames), self.piece()),
+            Step::Apply => Event::Apply,
+            Step::AckLast => Event::AckDelivered(acknowledgements.saturating_sub(1)),
+            Step::AckAny => Event::AckDelivered(self.up_to(acknowledgements)),
+            Step::RaiseRemote => Event::RaiseRemote,
+            Step::Hold(connection) => Event::Hold(connection),
+            Step::Read(connection, mark) => Event::Read(connection, mark),
+            Step::Release(connection) => Event::Release(connection),
+            Step::Write(connection) => Event::Write(connection, self.bytes(connection, witness)),
+            Step::Leave(connection) => Event::Leave(connection),
+            Step::FailFence(node) => Event::FailFence(node, self.up_to(MOST_FENCES)),
+            Step::Crash(node, cut) => self.crash(node, cut)?,
+            Step::Reopen(node) => Event::Reopen(node),
+            Step::Fence => Event::Fence,
+            Step::Promote => Event::Promote,
+        })
+    }
+
+    /// A number up to this one, which is below 2^64 - 1.
+    fn up_to(&mut self, most: u64) -> u64 {
+        self.dice.below(most.saturating_add(1).max(1))
+    }
+
+    /// In pieces of how many bytes a frame comes; 0: whole.
+    fn piece(&mut self) -> u64 {
+        if self.dice.is_one_of(4) {
+            self.dice.below(20)
+        } else {
+            0
+        }
+    }
+
+    /// How many bytes are written to a connection: mostly all that there may be.
+    fn bytes(&mut self, connection: u64, witness: &Witness) -> u64 {
+        if self.dice.is_one_of(3) {
+            self.dice.one_of(&REPLY_BYTES).copied().unwrap_or(1)
+        } else {
+            witness.unreleased(connection) as u64
+        }
+    }
+
+    /// A crash of this node, with one to three picks.
+    fn crash(&mut self, node: Node, cut: Cut) -> Result<Event, AllocError> {
+        let after = if cut.is_between() {
+            0
+        } else {
+            self.dice.below(MOST_CALLS)
+        };
+        let mut picks = vec![in self.alloc; self.dice.below(4)]?;
+        for _more in 0..self.dice.below(3) {
+            picks.push(self.dice.below(4))?;
+        }
+        Ok(Event::Crash(node, cut, after, picks))
+    }
+}

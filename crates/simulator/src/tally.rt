@@ -1,0 +1,59 @@
+//! How much was explored.
+use std::fmt;
+
+/// How much was explored.
+#[derive(Clone, Copy, Debug, PartialEq, Eq)]
+pub struct Tally {
+    pub events: u64,
+    pub histories: u64,
+    pub crashes: u64,
+    pub promotions: u64,
+    /// Runs that a fence ended which failed.
+    pub faults: u64,
+    /// Replies that were compared with those of a plain Redis.
+    pub replies: u64,
+}
+
+impl Tally {
+    pub fn new() -> Tally {
+        Tally {
+            events: 0,
+            histories: 0,
+            crashes: 0,
+            promotions: 0,
+            faults: 0,
+            replies: 0,
+        }
+    }
+
+    /// One history more, of so many events.
+    pub fn count_history(&mut self, events: usize) {
+        self.histories = self.histories.saturating_add(1);
+        self.events = self.events.saturating_add(events as u64);
+    }
+
+    /// What was counted of one history.
+    pub fn add(&mut self, more: Tally) {
+        self.crashes = self.crashes.saturating_add(more.crashes);
+        self.promotions = self.promotions.saturating_add(more.promotions);
+        self.faults = self.faults.saturating_add(more.faults);
+        self.replies = self.replies.saturating_add(more.replies);
+    }
+}
+
+impl fmt::Display for Tally {
+    fn fmt<W: fmt::Write>(&self, f: &mut fmt::Formatter<W>) -> fmt::Result {
+        let Tally {
+            events,
+            histories,
+            crashes,
+            promotions,
+            faults,
+            replies,
+        } = *self;
+        write!(
+            f,
+            "events {events}, histories {histories}, crashes {crashes}, failed fences {faults}, promotions {promotions}, replies {replies}"
+        )
+    }
+}

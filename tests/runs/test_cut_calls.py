@@ -1,0 +1,219 @@
+"""Calls that a crash cuts after each of their stores, flushes and fences, and runs that go on after a fence that failed, on the plain machine alone: no program does
+this yet. What is looked at is what a cut may leave (docs/promises.md): the image from before the call, or the one after it, whole."""
+
+import common
+import draws
+import plain_image
+import plain_keyspace
+import spelling
+from plain_machine import Machine
+from simulation import Schedule
+
+PROGRAMS = []
+
+SET_A, SET_A_2, SET_B = spelling.spell("SET", "a", "1"), spelling.spell("SET", "a", "2"), spelling.spell("SET", "b", 100 * "2")
+
+# At a crash all words get their oldest candidate, all their newest, or the two in turn.
+MANY = 200
+PICKS = {"oldest": MANY * "0 ", "newest": MANY * "1 ", "oldest first": MANY * "0 1 ", "newest first": MANY * "1 0 "}
+
+
+def drawn_picks(seed):
+    numbers = draws.numbers(f"cut {seed}")
+    return " ".join(str(numbers.randrange(3)) for _ in range(MANY))
+
+
+def served():
+    """Events after which a SET is everywhere, one that replaces it waits for the committer, and the frame of one between them at the standby."""
+    schedule = Schedule(1)
+    schedule.serve_to_end(0, 0, SET_A)
+    schedule.group(0, SET_A_2)
+    schedule.add("send", "deliver 1")
+    schedule.feed(0, SET_B)
+    schedule.add("offer 0", "turn 0", "close-group")
+    return schedule.events
+
+
+def freeing():
+    """Events after which a version that ended may be freed, and, where that is done, a gap cleared."""
+    schedule = Schedule()
+    schedule.add("crash primary 0", "reopen primary", "enter")
+    for number, request in enumerate([SET_A, SET_A_2]):
+        schedule.group(0, request)
+        schedule.replicate(number)
+    schedule.add("close-group")
+    return schedule.events
+
+
+# By the name of each call the node that makes it, and events after which it may be made.
+CALLS = {
+    "commit": ("primary", served()),
+    "apply": ("standby", served()),
+    "free": ("primary", freeing()),
+    "clear-gap": ("primary", [*freeing(), "free"]),
+    "reopen": ("primary", [*served(), "crash primary 0"]),
+    "promote": ("standby", [*served(), "fence"]),
+}
+
+
+class CutCalls(common.Cases):
+    """Each call, cut after each of its device calls until it ends."""
+
+    def check_image(self, machine, node):
+        """The image is whole, and holds the keyspace of the list at its position. Returns the position."""
+        given = machine.given[node]
+        image = plain_image.read_image(plain_image.Words(given.image.lines, given.image.words))
+        wanted = plain_keyspace.keyspace_after(machine.parts_of(node)[:image.record.position])
+        self.assertEqual(image.map, dict(wanted.records()))
+        return image.record.position
+
+    def played(self, events, *more):
+        machine = Machine(goes_on=True).play(events)
+        changes = list(machine.redis.parts)
+        machine.play(more)
+        # what a crash cut off the list is still what an image may not hold half of
+        machine.redis.parts = changes
+        return machine
+
+    def cuts(self, call):
+        """Of each pick the machines after cuts at 0, 1, 2 .. device calls, until the call has ended before; each with the position of the image."""
+        node, events = CALLS[call]
+        for name, picks in {**PICKS, "drawn": drawn_picks(call)}.items():
+            count, left = 0, []
+            whole = Machine(goes_on=True).play(events)
+            before = whole.given[node].device.fences
+            whole.play([f"reopen {node}" if call == "reopen" else call])
+            self.assertTrue(whole.done[-1])
+            self.assertGreater(whole.given[node].device.fences, before)
+            while count == 0 or not self.has_ended(left[-1], whole, node):
+                machine = self.played(events, f"crash {node} {call} {count} {picks}")
+                self.assertTrue(machine.done[-1])
+                left.append(machine)
+                count += 1
+                self.assertLess(count, 300)
+            yield name, left
+
+    def has_ended(self, machine, whole, node):
+        return machine.given[node].image.words == whole.given[node].image.words
+
+    def test_each_call_is_cut_everywhere(self):
+        for call, (node, events) in CALLS.items():
+            before = Machine(goes_on=True).play(events)
+            at = self.check_image(before, node)
+            moves = {"commit": 1, "apply": 1}.get(call, 0)
+            for name, left in self.cuts(call):
+                with self.case(call, picks=name):
+                    positions = [self.check_image(machine, node) for machine in left]
+                    self.assertEqual((positions[0], positions[-1]), (at, at + moves))
+                    self.assertLessEqual(set(positions), {at, at + moves})
+                    # a free makes no record
+                    self.assertGreater(len(left), 1 if call == "free" else 20)
+
+    def test_a_cut_promotion_leaves_a_standby_or_a_primary(self):
+        found = set()
+        for name, left in self.cuts("promote"):
+            for machine in left:
+                role, epoch = machine.given["standby"].image.role, machine.given["standby"].image.record.epoch
+                self.assertIn((role, epoch), [(plain_image.STANDBY, 1), (plain_image.PRIMARY, 2)])
+                self.assertEqual(machine.epoch, epoch)
+                found.add(role)
+                with self.case("goes on", picks=name):
+                    events = ["reopen standby", "promote"] if role == plain_image.STANDBY else ["reopen primary"]
+                    self.assertTrue(all(machine.play(events).done[-len(events):]))
+                    self.assertEqual((machine.epoch, self.check_image(machine, "standby")), (2, 1))
+        self.assertEqual(len(found), 2)
+
+    def test_reopenings_are_cut_again_and_again(self):
+        node, events = CALLS["commit"]
+        for picks in (PICKS["newest"], PICKS["oldest first"], drawn_picks("again")):
+            for count in range(0, 60, 6):
+                with self.case("count", count=count, picks=picks[:3]):
+                    machine = self.played(events, f"crash {node} commit {count} {picks}")
+                    at = self.check_image(machine, node)
+                    for again in (count % 40, (7 * count) % 40):
+                        self.assertTrue(machine.play([f"crash {node} reopen {again} {picks}"]).done[-1])
+                        self.assertEqual(self.check_image(machine, node), at)
+                    self.assertTrue(machine.play(["reopen primary"]).done[-1])
+                    self.assertEqual(self.check_image(machine, node), at)
+
+    def test_entries_in_a_gap_come_back_once_it_is_cleared(self):
+        node, events = CALLS["commit"]
+        # all of the group's versions are there, and the record is not
+        machine = Machine(goes_on=True).play([*events, f"crash primary commit 40 {PICKS['newest']}", "reopen primary", "enter"])
+        image = machine.primary.image
+        self.assertEqual((image.record.position, len(image.record.gaps), image.gapped), (2, 1, [2]))
+        self.assertNotIn(2, image.room.entries)
+        machine.play(["clear-gap", "accept-freed"])
+        self.assertEqual(machine.done[-2:], [True, True])
+        self.assertEqual((image.gapped, image.record.gaps), ([], ()))
+        self.assertIn(2, image.room.entries)
+
+
+class FailingFences(common.Cases):
+    """The call that meets the fence stops the node, and the run goes on."""
+
+    def record(self, machine, node="primary"):
+        return machine.given[node].image.record
+
+    def committing(self, fence):
+        schedule = Schedule(1)
+        schedule.add(f"fail-fence primary {fence}")
+        schedule.group(0, SET_A)
+        return schedule.events
+
+    def test_a_commit_that_meets_it(self):
+        for fence, picks, at in [(1, "1", 0), (2, "0", 0), (2, "1", 0), (3, "0", 0), (3, "1", 1)]:
+            with self.case("fence", fence=fence, picks=picks):
+                machine = Machine(goes_on=True).play(self.committing(fence))
+                # the commit is said to be done, and nothing comes after it
+                self.assertEqual(machine.done[-4:], [True, True, False, False])
+                self.assertTrue(machine.primary.has_stopped)
+                machine.play([f"crash primary {MANY * (picks + ' ')}", "reopen primary"])
+                self.assertEqual(machine.done[-2:], [True, True])
+                record = self.record(machine)
+                if at == 0:
+                    self.assertEqual((record.position, record.number, record.gaps, record.cp, record.cd), (0, 2, ((1, 4_096),), 4_097, 8_194))
+                else:
+                    self.assertEqual((record.position, record.gaps, record.cp, record.cd), (1, ((2, 4_097),), 4_098, 8_195))
+                self.assertEqual([connection.released for connection in machine.connections], [b""])
+
+    def test_only_a_crash_or_the_fence_of_the_primary_comes_next(self):
+        events = ["enter", "feed 0 SET a 2", "offer 0", "turn 0", "close-group", "commit", "raise-local", "hand", "free", "accept-freed", "clear-gap",
+                  "open-link", "send", "ack-delivered 0", "raise-remote", "hold 0", "read 0 local", "release 0", "write 0 0", "leave 0",
+                  "fail-fence primary 0", "reopen primary", "crash primary commit 1 0", "crash primary reopen 1 0"]
+        machine = Machine(goes_on=True).play([*self.committing(1), *events])
+        self.assertEqual(machine.done[-len(events):], len(events) * [False])
+        self.assertTrue(machine.play(["fence"]).done[-1])
+        self.assertEqual(machine.play(["crash primary 0", "reopen primary"]).done[-2:], [False, False])
+
+    def test_a_reopening_and_a_promotion_that_meet_it(self):
+        schedule = Schedule(1)
+        schedule.serve_to_end(0, 0, SET_A)
+        for fence in (1, 2):
+            with self.case("reopening", fence=fence):
+                machine = Machine(goes_on=True).play([*schedule.events, f"fail-fence primary {fence}", "crash primary 0", "reopen primary"])
+                self.assertTrue(machine.primary.has_stopped)
+                self.assertEqual(machine.play(["reopen primary", "crash primary 1 1", "reopen primary"]).done[-3:], [False, True, True])
+                self.assertEqual(self.record(machine).position, 1)
+        for fence, picks, epoch in [(1, "1", 1), (2, "0", 1), (2, "1", 2), (3, "0", 2), (4, "1", 2)]:
+            with self.case("promotion", fence=fence, picks=picks):
+                machine = Machine(goes_on=True).play([*schedule.events, f"fail-fence standby {fence}", "fence", "promote"])
+                self.assertTrue(machine.standby.has_stopped)
+                machine.play([f"crash standby {MANY * (picks + ' ')}"])
+                self.assertEqual((machine.done[-1], machine.epoch), (True, epoch))
+                machine.play(["reopen standby", "promote"] if epoch == 1 else ["reopen primary"])
+                self.assertEqual((machine.done[-1], machine.epoch, self.record(machine, "standby").position), (True, 2, 1))
+
+    def test_eight_gaps_and_a_ninth(self):
+        machine = Machine(goes_on=True).play(8 * ["crash primary 0", "reopen primary"])
+        record = self.record(machine)
+        self.assertEqual((record.number, len(record.gaps), record.cp, record.cd), (9, 8, 32_776, 36_873))
+        machine.play(["crash primary 0", "reopen primary"])
+        record = self.record(machine)
+        self.assertEqual((record.number, len(record.gaps), record.gaps[0], record.cp, record.cd), (11, 8, (4_098, 8_193), 36_873, 40_970))
+
+    def test_where_the_run_does_not_go_on(self):
+        machine = Machine().play([*served(), "crash primary commit 3 0", "commit"])
+        self.assertEqual(machine.done[-2:], [False, True])
+        events = ["fail-fence primary 1", *served()]
+        self.assertEqual(Machine().play(events).ended, events.index("commit"))
