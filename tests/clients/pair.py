@@ -23,8 +23,6 @@ LINES = 65_536
 HOST = "127.0.0.1"
 # What is waited for comes within this time; else the test has failed.
 PATIENCE = 60 * common.BUSY
-# A test that takes longer has failed, and all that it started is ended.
-MOST_SECONDS = 240 * common.BUSY
 # Where images are memory-backed files, whose syncs take no time, if the machine has such a folder.
 MEMORY = "/dev/shm"
 # Ports below those that the system gives to sockets that name none.
@@ -372,10 +370,12 @@ class PairCases(common.Cases):
 
     # Whether images are on disk; otherwise they are where a busy disk delays nothing.
     ON_DISK = False
+    # A test that takes longer has failed, and all that it started is ended.
+    MOST_SECONDS = 600 * common.BUSY
 
     def setUp(self):
         # (the long part has so many times as many cases)
-        most = MOST_SECONDS * (common.SHORT_SHARE if common.IS_LONG else 1)
+        most = self.MOST_SECONDS * (common.SHORT_SHARE if common.IS_LONG else 1)
 
         def stop(*_):
             raise TakesTooLong(f"the test: more than {most} seconds")

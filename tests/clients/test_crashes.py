@@ -8,7 +8,6 @@ import random
 import time
 
 import common
-import pair
 from load import WRITERS, Load
 from pair import PairCases, run
 
@@ -25,10 +24,10 @@ class Crashes(PairCases):
     """Rounds of load and kills over one pair, whose images are opened again each time."""
 
     ON_DISK = True
+    # (more rounds take longer)
+    MOST_SECONDS = max(PairCases.MOST_SECONDS, 30 * ROUNDS)
 
     def setUp(self):
-        # (more rounds take longer)
-        pair.MOST_SECONDS = max(pair.MOST_SECONDS, 30 * ROUNDS)
         super().setUp()
         self.nodes = self.pair()
         self.load = Load(self.nodes)

@@ -8,7 +8,6 @@ import socket
 import threading
 import time
 
-import pair
 from load import WRITERS, Load
 from pair import HOST, PairCases, Port, wait_until
 from plain_replies import OK
@@ -83,9 +82,10 @@ def shut(end):
 
 
 class CutLinks(PairCases):
+    # (more rounds take longer)
+    MOST_SECONDS = max(PairCases.MOST_SECONDS, 60 * ROUNDS)
+
     def setUp(self):
-        # (more rounds take longer)
-        pair.MOST_SECONDS = max(pair.MOST_SECONDS, 60 * ROUNDS)
         super().setUp()
         self.nodes = self.pair()
         self.between = CuttingLink(self.nodes.link.number, random.Random(f"cuts {time.time()}"))

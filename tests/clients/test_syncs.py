@@ -19,7 +19,6 @@ import time
 
 import common
 import noted_calls
-import pair
 from load import WRITERS, Load
 from noted_calls import Call, Noting, mixed
 from pair import PATIENCE, Ended, PairCases, wait_until
@@ -172,10 +171,10 @@ class PowerCuts(NotedCases):
     stays."""
 
     ON_DISK = True
+    # (more rounds take longer)
+    MOST_SECONDS = max(PairCases.MOST_SECONDS, 30 * ROUNDS)
 
     def setUp(self):
-        # (more rounds take longer)
-        pair.MOST_SECONDS = max(pair.MOST_SECONDS, 30 * ROUNDS)
         super().setUp()
         if self.loaded:
             self.nodes = self.pair()
