@@ -116,6 +116,7 @@ pub fn promote_image<E: Durable, K: Keyspace>(
         → (E.is_faulted standby.old.engine ≡ true) ⊎ ((E.device standby.old.engine).failures < (E.device standby.new.engine).failures) }
     ensures stopped { IsErrOf result Fault → E.is_faulted standby.new.engine ≡ true }
     ensures stays { OnErr result (Same (E.contents standby.old.engine) (E.contents standby.new.engine)) }
+    ensures asked_moment { (E.device standby.new.engine).kept ≡ (E.device standby.old.engine).kept }
     // at any moment of the call
     ensures moments { fenced ≡ (E.contents standby.old.engine).current.epoch → E.is_faulted standby.old.engine ≡ false
         → LeavesOnly (E.device standby.old.engine) (E.device standby.new.engine) (IsBeforeOrPromoted (E.contents standby.old.engine)) }

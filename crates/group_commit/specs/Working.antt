@@ -61,6 +61,7 @@ module _ {E : Type 0} (device : E → State) (contents : E → Contents) (is_fau
     pub memory : IsErrOf result Memory → new.engine ≡ old.engine
     pub fault : IsErrOf result Fault → (is_faulted old.engine ≡ true) ⊎ ((device old.engine).failures < (device new.engine).failures)
     pub stopped : IsErrOf result Fault → is_faulted new.engine ≡ true
+    pub lines : (contents new.engine).lines ≡ (contents old.engine).lines
     pub stage : new.stage ≡ Ready
     pub local : new.local ≡ old.local
     pub moments : is_faulted old.engine ≡ false → LeavesOnly (device old.engine) (device new.engine) (KeepsWithoutSome list.entries.items (contents old.engine))
@@ -77,6 +78,7 @@ module _ {E : Type 0} (device : E → State) (contents : E → Contents) (is_fau
     pub exhausts : is_faulted old.engine ≡ false → COUNTER_LIMIT ≤ (contents old.engine).current.number + 1 → result ≡ Err Exhausted
     pub fault : IsErrOf result Fault → (is_faulted old.engine ≡ true) ⊎ ((device old.engine).failures < (device new.engine).failures)
     pub stopped : IsErrOf result Fault → is_faulted new.engine ≡ true
+    pub lines : (contents new.engine).lines ≡ (contents old.engine).lines
     pub aside : new.aside.items ≡ []
     pub stage : new.stage ≡ Ready
     pub local : new.local ≡ old.local

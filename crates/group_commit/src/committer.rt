@@ -162,6 +162,7 @@ impl<E: Durable> Committer<E> {
             Takes E.device E.contents E.is_faulted O.offered O.known_room (due_now E.contents self.old work.old has_room remote) has_room remote
             self.old work.old link.old result self.new work.new link.new }
         ensures same { O.is_same link.old link.new }
+        ensures asked_moment { (E.device self.new.engine).kept ≡ (E.device self.old.engine).kept }
     {
         match std::mem::replace(&mut self.stage, Stage::Ready) {
             Stage::Ready => self.do_next(alloc, work, link, remote),
@@ -184,6 +185,7 @@ impl<E: Durable> Committer<E> {
             Takes E.device E.contents E.is_faulted O.offered O.known_room (due_now E.contents self.old work.old has_room remote) has_room remote
             self.old work.old link.old result self.new work.new link.new }
         ensures same { O.is_same link.old link.new }
+        ensures asked_moment { (E.device self.new.engine).kept ≡ (E.device self.old.engine).kept }
     {
         let has_room = link.room() > 0;
         match self.due(work, has_room, remote) {
@@ -199,8 +201,9 @@ impl<E: Durable> Committer<E> {
         requires ready { self.old.stage ≡ Stage.Ready }
         requires lawful { IsLawful (E.contents self.old.engine) self.old.aside.items work.old.items }
         requires some { has_group work.old.items ≡ true }
-        ensures { TakesGroup E.device E.contents E.is_faulted self.old work.old result self.new work.new
+        ensures takes { TakesGroup E.device E.contents E.is_faulted self.old work.old result self.new work.new
             ⊎ LacksRoom E.device E.contents E.is_faulted self.old work.old result self.new work.new }
+        ensures asked_moment { (E.device self.new.engine).kept ≡ (E.device self.old.engine).kept }
     {
         match set_aside(&mut self.aside, work)? {
             Some(group) => self.commit(group),
@@ -214,6 +217,7 @@ impl<E: Durable> Committer<E> {
         requires lawful { IsGroup (E.contents self.old.engine) group }
         ensures commits { Commits E.device E.contents E.is_faulted self.old group result self.new }
         ensures aside { self.new.aside ≡ self.old.aside }
+        ensures asked_moment { (E.device self.new.engine).kept ≡ (E.device self.old.engine).kept }
     {
         let committed = self.engine.commit(&group)?;
         self.stage = Stage::Durable(group);
@@ -230,9 +234,10 @@ impl<E: Durable> Committer<E> {
         requires ready { self.old.stage ≡ Stage.Ready }
         requires lawful { IsLawful (E.contents self.old.engine) self.old.aside.items work.old.items }
         requires none { has_room ≡ true → has_group work.old.items ≡ false }
-        ensures { (list : FreeList) (rest : List FreeList) → reached_by has_room self.old.aside.items work.old.items ≡ list ∷ rest
+        ensures frees { (list : FreeList) (rest : List FreeList) → reached_by has_room self.old.aside.items work.old.items ≡ list ∷ rest
             → ((work.new.items ≡ left_by has_room work.old.items) × FreesFirst E.device E.contents E.is_faulted self.old list rest result self.new)
             ⊎ LacksRoom E.device E.contents E.is_faulted self.old work.old result self.new work.new }
+        ensures asked_moment { (E.device self.new.engine).kept ≡ (E.device self.old.engine).kept }
     {
         if !has_room {
             return self.free_first(alloc);
@@ -245,7 +250,8 @@ impl<E: Durable> Committer<E> {
     fn free_first(&mut self, alloc: Global) -> Result<Done, Refusal>
         requires ready { self.old.stage ≡ Stage.Ready }
         requires lawful { AreEnded (E.contents self.old.engine) (entries_of_lists self.old.aside.items) }
-        ensures { (list : FreeList) (rest : List FreeList) → self.old.aside.items ≡ list ∷ rest → FreesFirst E.device E.contents E.is_faulted self.old list rest result self.new }
+        ensures frees { (list : FreeList) (rest : List FreeList) → self.old.aside.items ≡ list ∷ rest → FreesFirst E.device E.contents E.is_faulted self.old list rest result self.new }
+        ensures asked_moment { (E.device self.new.engine).kept ≡ (E.device self.old.engine).kept }
     {
         let Some(list) = self.aside.front() else {
             return Ok(Done::Idle);
@@ -260,7 +266,8 @@ impl<E: Durable> Committer<E> {
         requires ready { self.old.stage ≡ Stage.Ready }
         requires alone { self.old.aside.items ≡ [] }
         requires some { 0 < length (E.contents self.old.engine).current.gaps.items }
-        ensures { ClearsGap E.device E.contents E.is_faulted self.old result self.new }
+        ensures clears { ClearsGap E.device E.contents E.is_faulted self.old result self.new }
+        ensures asked_moment { (E.device self.new.engine).kept ≡ (E.device self.old.engine).kept }
     {
         let cleared = self.engine.clear_gap(alloc)?;
         Ok(Done::Cleared(cleared))

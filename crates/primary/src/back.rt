@@ -112,6 +112,7 @@ impl<E: Durable> Back<E> {
             → BackKeeps E.contents low past self.old s → BackKeeps E.contents low past self.new s) }
         ensures still { IsErrOf result Refusal.Memory → (s : Sequencing) (notices : List Freed) (low : ℕ) (past : Past) → remote ≤ low
             → BackStands E.device E.contents self.old s notices → BackKeeps E.contents low past self.old s → BackKeeps E.contents low past self.new s }
+        ensures asked_moment { (E.device self.new.committer.engine).kept ≡ (E.device self.old.committer.engine).kept }
         // and at any moment of the step a crash leaves an image that recalls it, whatever it comes to
         ensures leaves { E.is_faulted self.old.committer.engine ≡ false → (s : Sequencing) (notices : List Freed) (low : ℕ) (past : Past) → remote ≤ low
             → BackStands E.device E.contents self.old s notices → BackKeeps E.contents low past self.old s

@@ -59,6 +59,8 @@ impl<E: Restarting, K: Keyspace + Drop> Primary<E, K> {
             ⊎ (RefusesReopening (E.device self.old.back.committer.engine).lines (image_of (E.device self.old.back.committer.engine).words) Role.Primary refusal
             × (E.device self.new.back.committer.engine ≡ E.device self.old.back.committer.engine)))) }
         ensures fault { IsErrOf result Refusal.Fault → (E.device self.old.back.committer.engine).failures < (E.device self.new.back.committer.engine).failures }
+        ensures lines { (E.device self.new.back.committer.engine).lines ≡ (E.device self.old.back.committer.engine).lines }
+        ensures asked_moment { (E.device self.new.back.committer.engine).kept ≡ (E.device self.old.back.committer.engine).kept }
         ensures moments { (r : CommitRecord) → IsUndamaged (E.device self.old.back.committer.engine).lines r (image_of (E.device self.old.back.committer.engine).words)
             → LeavesOnly (E.device self.old.back.committer.engine) (E.device self.new.back.committer.engine)
             (StaysReadable (E.device self.old.back.committer.engine).lines r (image_of (E.device self.old.back.committer.engine).words)) }

@@ -130,6 +130,7 @@ module _ {E K D : Type 0} (device : E → State) (contents : E → Contents) (is
     sound = λ _. (stands.sound, refl);
     durable = λ _. stands.durable;
     fault = λ is. cc;
+    asked_moment = refl;
     moments = none_leaves (device node.engine) (HoldsRearranged (contents node.engine)) (λ image is. HoldsRearranged-keeps (contents node.engine) image (stands.durable image is));
   }
 
@@ -147,6 +148,7 @@ module _ {E K D : Type 0} (device : E → State) (contents : E → Contents) (is
     sound = λ _. (stands.sound, refl);
     durable = λ _. stands.durable;
     fault = λ is. cc;
+    asked_moment = refl;
     moments = none_leaves (device node.engine) (HoldsRearranged (contents node.engine)) (λ image is. HoldsRearranged-keeps (contents node.engine) image (stands.durable image is));
   }
 
@@ -163,6 +165,7 @@ module _ {E K D : Type 0} (device : E → State) (contents : E → Contents) (is
     durable = is.durable;
     fault = is.fault;
     counters = counters;
+    asked_moment = is.asked_moment;
     moments = is.moments;
   }
 
@@ -195,9 +198,10 @@ module _ {E K D : Type 0} (device : E → State) (contents : E → Contents) (is
     pub Tidies-cleared : (engine : E) (entries : List EntryNo) (room' : Room) (new : Standby E K D) → new.engine ≡ engine → new.keyspace ≡ old.keyspace → new.heap ≡ room' → new.ended ≡ old.ended
         → 0 < length (contents old.engine).current.gaps.items → Clears (contents old.engine) entries (contents engine) → GivesAll old.heap entries [] room'
         → IsDurable (device engine) (contents engine) → (is_faulted engine ≡ false) × ((device engine).failures ≡ (device old.engine).failures)
+        → (device engine).kept ≡ (device old.engine).kept
         → LeavesOnly (device old.engine) (device engine) (λ image. Keeps (contents old.engine) image ⊎ Keeps (cleared_contents (contents old.engine)) image)
         → Tidies device contents is_faulted table old (Ok true) new
-    Tidies-cleared engine entries room' new engine_is keyspace_is heap_is ended_is some clears given durable sound moments =
+    Tidies-cleared engine entries room' new engine_is keyspace_is heap_is ended_is some clears given durable sound asked_moment moments =
         let now = Follows-cleared (contents old.engine) (contents engine) (table old.keyspace) old.heap follows entries clears room' given in
         let none : new.ended.items ≡ [] = ap (λ ended. ended.items) ended_is ∙ nothing in
         let current = clears.current in
@@ -214,6 +218,7 @@ module _ {E K D : Type 0} (device : E → State) (contents : E → Contents) (is
           sound = λ _. rw engine_is sound;
           durable = λ _. rw engine_is durable;
           fault = λ is. cc;
+          asked_moment = rw engine_is asked_moment;
           moments = rw engine_is (run (device engine) moments);
         }
 
@@ -226,9 +231,10 @@ module _ {E K D : Type 0} (device : E → State) (contents : E → Contents) (is
     pub Tidies-uncleared : (engine : E) (refusal : Refusal) (new : Standby E K D) → new.engine ≡ engine → new.keyspace ≡ old.keyspace → new.heap ≡ old.heap → new.ended ≡ old.ended
         → (refusal ≡ Fault) ⊎ ((refusal ≡ Exhausted) ⊎ (refusal ≡ Memory)) → (refusal ≡ Exhausted → COUNTER_LIMIT ≤ (contents old.engine).current.number + 1) → (refusal ≡ Memory → engine ≡ old.engine)
         → (refusal ≡ Fault → KeepsVersions (contents old.engine) (contents engine)) → (refusal ≡ Fault → (is_faulted engine ≡ true) × ((device old.engine).failures < (device engine).failures))
+        → (device engine).kept ≡ (device old.engine).kept
         → LeavesOnly (device old.engine) (device engine) (λ image. Keeps (contents old.engine) image ⊎ Keeps (cleared_contents (contents old.engine)) image)
         → Tidies device contents is_faulted table old (Err refusal) new
-    Tidies-uncleared engine refusal new engine_is keyspace_is heap_is ended_is causes limit memory stays fault moments =
+    Tidies-uncleared engine refusal new engine_is keyspace_is heap_is ended_is causes limit memory stays fault asked_moment moments =
         elim (three refusal causes (λ exhausted. let reached = limit exhausted in omega (arith, reached, below))) [
           | inl is_memory ↦
               let same : new ≡ old = λ p. record { engine = (engine_is ∙ memory is_memory) p; keyspace = keyspace_is p; heap = heap_is p; ended = ended_is p } in
@@ -250,6 +256,7 @@ module _ {E K D : Type 0} (device : E → State) (contents : E → Contents) (is
                 sound = λ sound. absurd (sound (ap Err is_fault));
                 durable = λ sound. absurd (sound (ap Err is_fault));
                 fault = λ _. rw engine_is told;
+                asked_moment = rw engine_is asked_moment;
                 moments = rw engine_is (run (device engine) moments);
               }
         ]

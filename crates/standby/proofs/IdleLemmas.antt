@@ -38,6 +38,7 @@ module _ {E K D : Type 0} (device : E → State) (contents : E → Contents) (is
         sound = λ sound. let now = then.sound sound in (now.0, now.1 ∙ before);
         durable = then.durable;
         fault = λ is. let told = then.fault is in (told.0, omega (arith, told.1, before));
+        asked_moment = then.asked_moment ∙ frees.asked_moment;
         moments =
             LeavesOnly-then (LeavesOnly-without (contents old.engine) old.ended.items (device old.engine) (device mid.engine) stands.follows.listed frees.moments)
             (LeavesOnly-rearranged (contents old.engine) (contents mid.engine) (device mid.engine) (device new.engine) first (frees.still (λ is. cc)).consistent then.moments);
@@ -59,6 +60,7 @@ module _ {E K D : Type 0} (device : E → State) (contents : E → Contents) (is
       sound = λ sound. absurd (sound (ap Err fault));
       durable = λ sound. absurd (sound (ap Err fault));
       fault = λ _. frees.fault (ap Err fault);
+      asked_moment = frees.asked_moment;
       moments = LeavesOnly-without (contents old.engine) old.ended.items (device old.engine) (device mid.engine) stands.follows.listed frees.moments;
     }
   ]

@@ -55,6 +55,7 @@ module _ {E K D : Type 0} (device : E → State) (contents : E → Contents) (is
         durable = λ _. rw engine_is ready.durable;
         fault = λ is. cc;
         counters = λ _. rw engine_is ready.counters;
+        asked_moment = rw engine_is refl;
         moments = rw engine_is (none_leaves (device old.engine) (HoldsRearranged (contents old.engine)) (λ image is. HoldsRearranged-keeps (contents old.engine) image (ready.durable image is)));
       }
 
@@ -95,9 +96,10 @@ module _ {E K D : Type 0} (device : E → State) (contents : E → Contents) (is
     pub Rearranges-unmoved : (engine : E) (refusal : Refusal) (new : Standby E K D) → new.engine ≡ engine → new.keyspace ≡ mid.keyspace
         → (refusal ≡ Fault) ⊎ (refusal ≡ Exhausted) → (refusal ≡ Exhausted → ExhaustsRelocation (contents old.engine).current) → Same (contents old.engine) (contents engine)
         → (refusal ≡ Fault → (is_faulted engine ≡ true) × ((device old.engine).failures < (device engine).failures))
+        → (device engine).kept ≡ (device old.engine).kept
         → LeavesOnly (device old.engine) (device engine) (λ image. Keeps (contents old.engine) image ⊎ Keeps (after_relocation (contents old.engine) part) image)
         → Rearranges device contents is_faulted table {X = Bool} frame old (Err refusal) new
-    Rearranges-unmoved engine refusal new engine_is keyspace_is causes limit stays fault moments =
+    Rearranges-unmoved engine refusal new engine_is keyspace_is causes limit stays fault asked_moment moments =
         let is_fault = only_fault refusal causes limit in
         let told = fault is_fault in
         record {
@@ -110,6 +112,7 @@ module _ {E K D : Type 0} (device : E → State) (contents : E → Contents) (is
           durable = λ sound. absurd (sound (ap Err is_fault));
           fault = λ _. rw engine_is told;
           counters = λ sound. absurd (sound (ap Err is_fault));
+          asked_moment = rw engine_is asked_moment;
           moments = rw engine_is (run (device engine) moments);
         }
 
@@ -117,6 +120,7 @@ module _ {E K D : Type 0} (device : E → State) (contents : E → Contents) (is
     module _ (moved : Standby E K D) (keyspace_is : moved.keyspace ≡ mid.keyspace) (heap_is : moved.heap ≡ mid.heap) (ended_is : moved.ended ≡ part.ended)
         (same : Same (after_relocation (contents old.engine) part) (contents moved.engine)) (durable : IsDurable (device moved.engine) (contents moved.engine))
         (sound : (is_faulted moved.engine ≡ false) × ((device moved.engine).failures ≡ (device old.engine).failures))
+        (asked_moment : (device moved.engine).kept ≡ (device old.engine).kept)
         (moments : LeavesOnly (device old.engine) (device moved.engine) (λ image. Keeps (contents old.engine) image ⊎ Keeps (after_relocation (contents old.engine) part) image)) where
       follows : Follows (contents moved.engine) (table moved.keyspace) moved.heap moved.ended.items
       follows =
@@ -167,6 +171,7 @@ module _ {E K D : Type 0} (device : E → State) (contents : E → Contents) (is
             durable = λ _. frees.durable (λ is. cc);
             fault = λ is. cc;
             counters = λ _. rw freed.current counters;
+            asked_moment = frees.asked_moment ∙ asked_moment;
             moments = freeing new (Ok done) frees;
           }
 
@@ -191,6 +196,7 @@ module _ {E K D : Type 0} (device : E → State) (contents : E → Contents) (is
               durable = λ _. durable;
               fault = λ is. cc;
               counters = λ _. counters;
+              asked_moment = asked_moment;
               moments = so_far;
             })
         | inr is_fault ↦
@@ -208,6 +214,7 @@ module _ {E K D : Type 0} (device : E → State) (contents : E → Contents) (is
               durable = λ goes_on. absurd (goes_on (ap Err is_fault));
               fault = λ _. (told.0, more);
               counters = λ goes_on. absurd (goes_on (ap Err is_fault));
+              asked_moment = frees.asked_moment ∙ asked_moment;
               moments = freeing new (Err refusal) frees;
             }
       ]

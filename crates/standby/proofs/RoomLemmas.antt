@@ -39,6 +39,7 @@ module _ {E K D : Type 0} (device : E → State) (contents : E → Contents) (is
     durable = λ _. ready.durable;
     fault = λ is. cc;
     counters = λ _. ready.counters;
+    asked_moment = refl;
     moments = none_leaves (device node.engine) (HoldsRearranged (contents node.engine)) (λ image is. HoldsRearranged-keeps (contents node.engine) image (ready.durable image is));
   }
 
@@ -53,6 +54,7 @@ module _ {E K D : Type 0} (device : E → State) (contents : E → Contents) (is
     durable = λ _. ready.durable;
     fault = λ is. cc;
     counters = λ _. ready.counters;
+    asked_moment = refl;
     moments = none_leaves (device node.engine) (HoldsRearranged (contents node.engine)) (λ image is. HoldsRearranged-keeps (contents node.engine) image (ready.durable image is));
   }
 
@@ -81,6 +83,7 @@ module _ {E K D : Type 0} (device : E → State) (contents : E → Contents) (is
         durable = second.durable;
         fault = λ is. let told = second.fault is in (told.0, omega (arith, told.1, before));
         counters = second.counters;
+        asked_moment = second.asked_moment ∙ first.asked_moment;
         moments =
             LeavesOnly-then first.moments
             (LeavesOnly-rearranged (contents old.engine) (contents mid.engine) (device mid.engine) (device new.engine) first.rearranged (first.still (λ is. cc)).consistent second.moments);
@@ -101,6 +104,7 @@ module _ {E K D : Type 0} (device : E → State) (contents : E → Contents) (is
         durable = λ sound. is.durable (λ fault. sound (ap Err (same_cause {T = X} refusal Fault fault)));
         fault = λ fault. is.fault (other fault);
         counters = λ sound. is.counters (λ fault. sound (ap Err (same_cause {T = X} refusal Fault fault)));
+        asked_moment = is.asked_moment;
         moments = is.moments;
       }
 
@@ -117,6 +121,7 @@ module _ {E K D : Type 0} (device : E → State) (contents : E → Contents) (is
     durable = λ _. is.durable (λ fault. cc);
     fault = λ fault. cc;
     counters = λ _. is.counters (λ fault. cc);
+    asked_moment = is.asked_moment;
     moments = is.moments;
   }
 

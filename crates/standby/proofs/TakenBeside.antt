@@ -31,6 +31,7 @@ module _ {E K D : Type 0} (device : E → State) (contents : E → Contents) (is
     pub durable : OnOk result (IsDurable (device new.engine) (contents new.engine))
     pub lawful : AreLawful (contents old.engine) → OnOk result (AreLawful (contents new.engine))
     pub stays : IsErrOf result Fault → Same (after_free old.ended.items (contents old.engine)) (contents new.engine)
+    pub asked_moment : (device new.engine).kept ≡ (device old.engine).kept
     pub moments : LeavesOnly (device old.engine) (device new.engine) (IsUnmovedOrWhole frame old.ended.items (contents old.engine) (table old.keyspace))
 
   module _ (frame : Frame) (old : Standby E K D) (stands : Stands device contents is_faulted table old) (due : IsDue (contents old.engine).current frame) where
@@ -52,6 +53,7 @@ module _ {E K D : Type 0} (device : E → State) (contents : E → Contents) (is
             rearranged = rw engine (IsRearranged-refl (contents old.engine));
             stands = record { follows = rw (engine, keyspace, heap, ended) stands.follows; sound = rw engine stands.sound; durable = rw engine stands.durable };
             failures = ap (λ (e : E). (device e).failures) engine;
+            asked_moment = ap (λ (e : E). (device e).kept) engine;
             moments = rw engine (LeavesOnly-without (contents old.engine) old.ended.items (device old.engine) (device old.engine) stands.follows.listed still_there);
             unmoved = λ has. rw engine still_there;
           }));
@@ -83,6 +85,7 @@ module _ {E K D : Type 0} (device : E → State) (contents : E → Contents) (is
               faulted = told.0;
               failures = told.1;
               ends = inl (IsRearranged-freed (contents old.engine) (contents new.engine) old.ended.items stands.follows.listed (commits.stays (ap Err fault)));
+              asked_moment = commits.asked_moment;
               moments = passes new commits.moments;
               unmoved = λ has. commits.moments;
             }));
@@ -102,6 +105,7 @@ module _ {E K D : Type 0} (device : E → State) (contents : E → Contents) (is
           stands = record { follows = commits.still; sound = commits.sound.0; durable = commits.durable };
           failures = commits.sound.1;
           lawful = commits.lawful;
+          asked_moment = commits.asked_moment;
           moments = passes new commits.moments;
           unmoved = λ has. commits.moments;
         }))

@@ -38,6 +38,7 @@ module _ {E K D : Type 0} (device : E → State) (contents : E → Contents) (is
     pub sound : ¬ IsErrOf result Fault → (is_faulted new.engine ≡ false) × ((device new.engine).failures ≡ (device old.engine).failures)
     pub durable : ¬ IsErrOf result Fault → IsDurable (device new.engine) (contents new.engine)
     pub lawful : AreLawful (contents old.engine) → ¬ IsErrOf result Fault → AreLawful (contents new.engine)
+    pub asked_moment : (device new.engine).kept ≡ (device old.engine).kept
     pub moments : LeavesOnly (device old.engine) (device new.engine) (KeepsWithoutSome old.ended.items (contents old.engine))
 
   -- what making the changes of a frame comes to, where nothing that has ended is left
@@ -54,6 +55,7 @@ module _ {E K D : Type 0} (device : E → State) (contents : E → Contents) (is
     pub durable : ¬ IsErrOf result Fault → IsDurable (device new.engine) (contents new.engine)
     pub lawful : AreLawful (contents old.engine) → ¬ IsErrOf result Fault → AreLawful (contents new.engine)
     pub stays : OnErr result (Same (contents old.engine) (contents new.engine))
+    pub asked_moment : (device new.engine).kept ≡ (device old.engine).kept
     pub moments : LeavesOnly (device old.engine) (device new.engine) (IsUnmovedOrWhole frame [] (contents old.engine) (table old.keyspace))
 
   -- what making room for a frame comes to
@@ -112,6 +114,7 @@ module _ {E K D : Type 0} (device : E → State) (contents : E → Contents) (is
             rearranged = IsRearranged-refl (contents old.engine);
             stands = stands;
             failures = refl;
+            asked_moment = refl;
             moments = freeing old run;
             unmoved = λ has. run;
           } in
@@ -124,6 +127,7 @@ module _ {E K D : Type 0} (device : E → State) (contents : E → Contents) (is
             faulted = told.0;
             failures = told.1;
             ends = inl (IsRearranged-freed (contents old.engine) (contents mid.engine) old.ended.items stands.follows.listed (frees.stays (ap Err fault)));
+            asked_moment = frees.asked_moment;
             moments = resting mid (freeing mid frees.moments);
             unmoved = λ has. resting_unmoved mid frees.moments;
           })
@@ -169,6 +173,9 @@ module _ {E K D : Type 0} (device : E → State) (contents : E → Contents) (is
         roomy_failures : ¬ IsErrOf made Fault → (device roomy.engine).failures ≡ (device old.engine).failures
         roomy_failures sound = (rearranges.sound sound).1 ∙ freed_sound.1
 
+        roomy_moment : (device roomy.engine).kept ≡ (device old.engine).kept
+        roomy_moment = rearranges.asked_moment ∙ frees.asked_moment
+
         stands_roomy : ¬ IsErrOf made Fault → Stands device contents is_faulted table roomy
         stands_roomy sound = record { follows = rearranges.still sound; sound = (rearranges.sound sound).0; durable = rearranges.durable sound }
 
@@ -184,6 +191,7 @@ module _ {E K D : Type 0} (device : E → State) (contents : E → Contents) (is
                   rearranged = second (Err refusal) makes;
                   stands = stands_roomy (Err refusal) makes (λ is. cc);
                   failures = roomy_failures (Err refusal) makes (λ is. cc);
+                  asked_moment = roomy_moment (Err refusal) makes;
                   moments = rests (Err refusal) makes;
                   unmoved = rests_unmoved (Err refusal) makes;
                 })
@@ -197,6 +205,7 @@ module _ {E K D : Type 0} (device : E → State) (contents : E → Contents) (is
                   faulted = told_fault.0;
                   failures = more;
                   ends = inl (second (Err refusal) makes);
+                  asked_moment = roomy_moment (Err refusal) makes;
                   moments = resting roomy (rests (Err refusal) makes);
                   unmoved = λ has. resting_unmoved roomy (rests_unmoved (Err refusal) makes has);
                 })
@@ -253,6 +262,7 @@ module _ {E K D : Type 0} (device : E → State) (contents : E → Contents) (is
               rearranged = rw same.0 now;
               stands = record { follows = rw (same.0, same.1, same.2, ended) roomy_still; sound = (commits.sound sound).0; durable = commits.durable sound };
               failures = (commits.sound sound).1 ∙ roomy_sound.1;
+              asked_moment = commits.asked_moment ∙ roomy_moment (Ok made) makes;
               moments = rw same.0 (rests (Ok made) makes);
               unmoved = λ has. rw same.0 (rests_unmoved (Ok made) makes has);
             })
@@ -281,6 +291,7 @@ module _ {E K D : Type 0} (device : E → State) (contents : E → Contents) (is
                 faulted = told.0;
                 failures = more;
                 ends = inl (subst (IsRearranged (contents old.engine)) (sym (Same-is (contents roomy.engine) (contents new.engine) commits.stays)) now);
+                asked_moment = commits.asked_moment ∙ roomy_moment (Ok made) makes;
                 moments = passes (Err refusal) commits;
                 unmoved = passes_unmoved (Err refusal) commits;
               })
@@ -312,6 +323,7 @@ module _ {E K D : Type 0} (device : E → State) (contents : E → Contents) (is
               stands = record { follows = commits.still; sound = sound.0; durable = commits.durable (λ is. cc) };
               failures = sound.1 ∙ roomy_sound.1;
               lawful = λ are. commits.lawful (now.lawful are) (λ is. cc);
+              asked_moment = commits.asked_moment ∙ roomy_moment (Ok made) makes;
               moments = passes (Ok taken) commits;
               unmoved = passes_unmoved (Ok taken) commits;
             }))
@@ -368,6 +380,7 @@ module _ {E K D : Type 0} (device : E → State) (contents : E → Contents) (is
           faulted = told.0;
           failures = more;
           ends = inr (rw (Same-is (after_free mid.ended.items (contents mid.engine)) (contents new.engine) left) (whole_without (λ i. is_listed i mid.ended.items) (λ i is. is)));
+          asked_moment = frees.asked_moment ∙ took.asked_moment;
           moments = moments freed frees;
           unmoved = unmoved_moments freed frees;
         }
@@ -396,6 +409,7 @@ module _ {E K D : Type 0} (device : E → State) (contents : E → Contents) (is
           stands = record { follows = frees.still sound; sound = now.0; durable = frees.durable sound };
           failures = now.1 ∙ took.failures;
           lawful = λ are. frees.lawful (took.lawful are) sound;
+          asked_moment = frees.asked_moment ∙ took.asked_moment;
           moments = moments (Ok done) frees;
           unmoved = unmoved_moments (Ok done) frees;
         }

@@ -50,6 +50,7 @@ module _ {E K D : Type 0} (device : E → State) (contents : E → Contents) (is
     pub stands : Stands new
     pub failures : (device new.engine).failures ≡ (device old.engine).failures
     pub lawful : AreLawful (contents old.engine) → AreLawful (contents new.engine)
+    pub asked_moment : (device new.engine).kept ≡ (device old.engine).kept
     -- at any moment of the call, and where there is room with nothing moved, once what had ended is freed
     pub moments : LeavesOnly (device old.engine) (device new.engine) (IsBeforeOrWhole frame (contents old.engine) (table old.keyspace))
     pub unmoved : HasRoomOnceFreed old.heap old.ended.items (contents old.engine) frame
@@ -75,6 +76,7 @@ module _ {E K D : Type 0} (device : E → State) (contents : E → Contents) (is
     pub rearranged : IsRearranged (contents old.engine) (contents new.engine)
     pub stands : Stands new
     pub failures : (device new.engine).failures ≡ (device old.engine).failures
+    pub asked_moment : (device new.engine).kept ≡ (device old.engine).kept
     -- at any moment of the call there is nothing of the frame; and nothing moves where it has room with nothing moved
     pub moments : LeavesOnly (device old.engine) (device new.engine) (HoldsRearranged (contents old.engine))
     pub unmoved : HasRoomOnceFreed old.heap old.ended.items (contents old.engine) frame
@@ -87,6 +89,7 @@ module _ {E K D : Type 0} (device : E → State) (contents : E → Contents) (is
     pub faulted : is_faulted new.engine ≡ true
     pub failures : (device old.engine).failures < (device new.engine).failures
     pub ends : EndsAs frame (contents old.engine) (table old.keyspace) (contents new.engine)
+    pub asked_moment : (device new.engine).kept ≡ (device old.engine).kept
     -- at any moment of the call, and where there is room with nothing moved, once what had ended is freed
     pub moments : LeavesOnly (device old.engine) (device new.engine) (IsBeforeOrWhole frame (contents old.engine) (table old.keyspace))
     pub unmoved : HasRoomOnceFreed old.heap old.ended.items (contents old.engine) frame
@@ -113,6 +116,7 @@ module _ {E K D : Type 0} (device : E → State) (contents : E → Contents) (is
     pub durable : ¬ IsErrOf result Fault → IsDurable (device new.engine) (contents new.engine)
     pub fault : IsErrOf result Fault → (is_faulted new.engine ≡ true) × ((device old.engine).failures < (device new.engine).failures)
     pub counters : ¬ IsErrOf result Fault → ¬ WouldExhaust (contents new.engine).current frame
+    pub asked_moment : (device new.engine).kept ≡ (device old.engine).kept
     -- at any moment of the call
     pub moments : LeavesOnly (device old.engine) (device new.engine) (HoldsRearranged (contents old.engine))
 
@@ -130,5 +134,6 @@ module _ {E K D : Type 0} (device : E → State) (contents : E → Contents) (is
     pub sound : ¬ IsErrOf result Fault → (is_faulted new.engine ≡ false) × ((device new.engine).failures ≡ (device old.engine).failures)
     pub durable : ¬ IsErrOf result Fault → IsDurable (device new.engine) (contents new.engine)
     pub fault : IsErrOf result Fault → (is_faulted new.engine ≡ true) × ((device old.engine).failures < (device new.engine).failures)
+    pub asked_moment : (device new.engine).kept ≡ (device old.engine).kept
     -- at any moment of the call
     pub moments : LeavesOnly (device old.engine) (device new.engine) (HoldsRearranged (contents old.engine))

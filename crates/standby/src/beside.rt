@@ -78,6 +78,7 @@ impl<E: Durable, K: Keyspace> Standby<E, K> {
         ensures durable { OnOk result (IsDurable (E.device self.new.engine) (E.contents self.new.engine)) }
         ensures lawful { AreLawful (E.contents self.old.engine) → OnOk result (AreLawful (E.contents self.new.engine)) }
         ensures stays { IsErrOf result Fault → Same (after_free self.old.ended.items (E.contents self.old.engine)) (E.contents self.new.engine) }
+        ensures asked_moment { (E.device self.new.engine).kept ≡ (E.device self.old.engine).kept }
         ensures moments { LeavesOnly (E.device self.old.engine) (E.device self.new.engine)
             (IsUnmovedOrWhole frame self.old.ended.items (E.contents self.old.engine) (K.table self.old.keyspace)) }
     {

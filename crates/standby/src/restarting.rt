@@ -123,6 +123,8 @@ impl<E: Restarting, K: Keyspace + Drop> Standby<E, K> {
         ensures fault { IsErrOf result Refusal.Fault → (E.device self.old.engine).failures < (E.device self.new.engine).failures }
         ensures superblock { (refusal : Cause) → super_refusal (E.device self.old.engine).lines (image_of (E.device self.old.engine).words) ≡ Some refusal
             → result ≡ Err refusal }
+        ensures lines { (E.device self.new.engine).lines ≡ (E.device self.old.engine).lines }
+        ensures asked_moment { (E.device self.new.engine).kept ≡ (E.device self.old.engine).kept }
         ensures moments { (r : CommitRecord) → IsUndamaged (E.device self.old.engine).lines r (image_of (E.device self.old.engine).words)
             → LeavesOnly (E.device self.old.engine) (E.device self.new.engine)
             (StaysReadable (E.device self.old.engine).lines r (image_of (E.device self.old.engine).words)) }

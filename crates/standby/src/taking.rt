@@ -97,6 +97,7 @@ impl<E: Durable, K: Keyspace> Standby<E, K> {
             → (E.is_faulted self.new.engine ≡ false) × ((E.device self.new.engine).failures ≡ (E.device self.old.engine).failures) }
         ensures durable { ¬ IsErrOf result Fault → IsDurable (E.device self.new.engine) (E.contents self.new.engine) }
         ensures lawful { AreLawful (E.contents self.old.engine) → ¬ IsErrOf result Fault → AreLawful (E.contents self.new.engine) }
+        ensures asked_moment { (E.device self.new.engine).kept ≡ (E.device self.old.engine).kept }
         ensures moments { LeavesOnly (E.device self.old.engine) (E.device self.new.engine)
             (KeepsWithoutSome self.old.ended.items (E.contents self.old.engine)) }
     {
@@ -135,6 +136,7 @@ impl<E: Durable, K: Keyspace> Standby<E, K> {
         ensures stays { OnErr result (Same (E.contents self.old.engine) (E.contents self.new.engine)) }
         ensures own_epoch { frame.epoch ≡ (E.contents self.old.engine).current.epoch
             → (E.contents self.new.engine).current.epoch ≡ (E.contents self.old.engine).current.epoch }
+        ensures asked_moment { (E.device self.new.engine).kept ≡ (E.device self.old.engine).kept }
         ensures moments { LeavesOnly (E.device self.old.engine) (E.device self.new.engine)
             (IsUnmovedOrWhole frame [] (E.contents self.old.engine) (K.table self.old.keyspace)) }
     {

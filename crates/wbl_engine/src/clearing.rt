@@ -104,6 +104,7 @@ pub fn clear_oldest<P: Pmem>(
     ensures fault { OnErr result ((P.state device.old).failures < (P.state device.new).failures) }
     ensures stays { OnErr result
         (KeepsVersions (contents_of current.now (P.state device.old)) (contents_of current.now (P.state device.new))) }
+    ensures asked_moment { (P.state device.new).kept ≡ (P.state device.old).kept }
     ensures moments { LeavesOnly (P.state device.old) (P.state device.new) (λ image.
         Keeps (contents_of current.now (P.state device.old)) image
         ⊎ Keeps (cleared_contents (contents_of current.now (P.state device.old))) image) }

@@ -39,6 +39,7 @@ pub(crate) fn commit_and_erase<P: Pmem>(
     ensures sound { OnOk result ((P.state device.new).failures ≡ (P.state device.old).failures) }
     ensures stays { OnErr result (Same (after_free entries.now (contents_of current.now (P.state device.old))) (contents_of current.now (P.state device.new))) }
     ensures fault { OnErr result ((P.state device.old).failures < (P.state device.new).failures) }
+    ensures asked_moment { (P.state device.new).kept ≡ (P.state device.old).kept }
     ensures moments { LeavesOnly (P.state device.old) (P.state device.new)
         (KeepsFreedOr entries.now (contents_of current.now (P.state device.old))
         (after_group (after_free entries.now (contents_of current.now (P.state device.old))) group.now)) }
@@ -67,6 +68,7 @@ fn commit_parts_and_erase<P: Pmem>(
     ensures sound { OnOk result ((P.state device.new).failures ≡ (P.state device.old).failures) }
     ensures stays { OnErr result (Same (after_free entries.now (contents_of current.now (P.state device.old))) (contents_of current.now (P.state device.new))) }
     ensures fault { OnErr result ((P.state device.old).failures < (P.state device.new).failures) }
+    ensures asked_moment { (P.state device.new).kept ≡ (P.state device.old).kept }
     ensures moments { LeavesOnly (P.state device.old) (P.state device.new)
         (KeepsFreedOr entries.now (contents_of current.now (P.state device.old))
         (after_parts (after_free entries.now (contents_of current.now (P.state device.old))) parts.now next.now.position next.now.epoch)) }

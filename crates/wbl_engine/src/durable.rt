@@ -18,7 +18,8 @@ use model::{Group, Part, Record};
 use pmem::Pmem;
 use std::alloc::{AllocError, Global};
 
-/// An engine: its contents change by whole groups, and each crash leaves the contents before a call or those after it.
+/// An engine: its contents change by whole groups, and each crash leaves the contents before a call or those after it. No call changes the moment that its device was
+/// asked to keep.
 pub trait Durable {
     type Device: Pmem;
 
@@ -46,6 +47,7 @@ pub trait Durable {
         ensures exhausts { is_faulted self.old ≡ false → Exhausts (contents self.old) group.now → result ≡ Err Refusal.Exhausted }
         ensures stays { OnErr result (Same (contents self.old) (contents self.new)) }
         ensures faulted { is_faulted self.old ≡ true → (result ≡ Err Refusal.Fault) × (self.new ≡ self.old) }
+        ensures asked_moment { (device self.new).kept ≡ (device self.old).kept }
         // whole or not at all, at any moment of the call
         ensures moments { is_faulted self.old ≡ false → LeavesOnly (device self.old) (device self.new)
             (λ image. Keeps (contents self.old) image ⊎ Keeps (after_group (contents self.old) group.now) image) };
@@ -73,6 +75,7 @@ pub trait Durable {
         ensures exhausted { IsErrOf result Refusal.Exhausted → Exhausts (contents self.old) group.now × (self.new ≡ self.old) }
         ensures exhausts { is_faulted self.old ≡ false → Exhausts (contents self.old) group.now → result ≡ Err Refusal.Exhausted }
         ensures faulted { is_faulted self.old ≡ true → (result ≡ Err Refusal.Fault) × (self.new ≡ self.old) }
+        ensures asked_moment { (device self.new).kept ≡ (device self.old).kept }
         ensures moments { is_faulted self.old ≡ false → LeavesOnly (device self.old) (device self.new)
             (KeepsFreedOr entries.now (contents self.old) (after_group (after_free entries.now (contents self.old)) group.now)) };
 
@@ -93,6 +96,7 @@ pub trait Durable {
         ensures exhausts { is_faulted self.old ≡ false → ExhaustsRelocation (contents self.old).current → result ≡ Err Refusal.Exhausted }
         ensures stays { OnErr result (Same (contents self.old) (contents self.new)) }
         ensures faulted { is_faulted self.old ≡ true → (result ≡ Err Refusal.Fault) × (self.new ≡ self.old) }
+        ensures asked_moment { (device self.new).kept ≡ (device self.old).kept }
         // the version lies in its old place or in the new one, at any moment of the call
         ensures moments { is_faulted self.old ≡ false → LeavesOnly (device self.old) (device self.new)
             (λ image. Keeps (contents self.old) image ⊎ Keeps (after_relocation (contents self.old) part.now) image) };
@@ -117,6 +121,7 @@ pub trait Durable {
             → Same (after_free entries.now (contents self.old)) (contents self.new) }
         ensures memory { IsErrOf result Refusal.Memory → self.new ≡ self.old }
         ensures faulted { is_faulted self.old ≡ true → (result ≡ Err Refusal.Fault) × (self.new ≡ self.old) }
+        ensures asked_moment { (device self.new).kept ≡ (device self.old).kept }
         ensures moments { is_faulted self.old ≡ false
             → LeavesOnly (device self.old) (device self.new) (KeepsWithoutSome entries.now (contents self.old)) };
 
@@ -141,6 +146,7 @@ pub trait Durable {
         ensures exhausts { is_faulted self.old ≡ false → 0 < length (contents self.old).current.gaps.items
             → COUNTER_LIMIT ≤ (contents self.old).current.number + 1 → result ≡ Err Refusal.Exhausted }
         ensures faulted { is_faulted self.old ≡ true → (result ≡ Err Refusal.Fault) × (self.new ≡ self.old) }
+        ensures asked_moment { (device self.new).kept ≡ (device self.old).kept }
         // the versions stay, at any moment of the call
         ensures moments { is_faulted self.old ≡ false → LeavesOnly (device self.old) (device self.new)
             (λ image. Keeps (contents self.old) image ⊎ Keeps (cleared_contents (contents self.old)) image) };
@@ -159,6 +165,7 @@ pub trait Durable {
         ensures exhausts { is_faulted self.old ≡ false → ExhaustsPromotion (contents self.old).current → result ≡ Err Refusal.Exhausted }
         ensures stays { OnErr result (Same (contents self.old) (contents self.new)) }
         ensures faulted { is_faulted self.old ≡ true → (result ≡ Err Refusal.Fault) × (self.new ≡ self.old) }
+        ensures asked_moment { (device self.new).kept ≡ (device self.old).kept }
         // the standby's image before or the primary's after, at any moment of the call
         ensures moments { is_faulted self.old ≡ false → LeavesOnly (device self.old) (device self.new)
             (λ image. Keeps (contents self.old) image ⊎ Keeps (promoted (contents self.old)) image) };

@@ -46,6 +46,7 @@ pub fn write_promoted<P: Pmem>(device: &mut P, current: &Record, next: &Record) 
     ensures sound { OnOk result ((P.state device.new).failures ≡ (P.state device.old).failures) }
     ensures stays { OnErr result (Same (contents_of current.now (P.state device.old)) (contents_of current.now (P.state device.new))) }
     ensures fault { OnErr result ((P.state device.old).failures < (P.state device.new).failures) }
+    ensures asked_moment { (P.state device.new).kept ≡ (P.state device.old).kept }
     ensures moments { LeavesOnly (P.state device.old) (P.state device.new) (λ image.
         Keeps (contents_of current.now (P.state device.old)) image
         ⊎ Keeps (promoted (contents_of current.now (P.state device.old))) image) }

@@ -52,6 +52,8 @@ pub fn reopen_device<P: Pmem>(
     ensures fault { IsErrOf result Refusal.Fault → (P.state device.old).failures < (P.state device.new).failures }
     ensures superblock { (refusal : Cause) → super_refusal (P.state device.old).lines (image_of (P.state device.old).words) ≡ Some refusal
         → result ≡ Err refusal }
+    ensures lines { (P.state device.new).lines ≡ (P.state device.old).lines }
+    ensures asked_moment { (P.state device.new).kept ≡ (P.state device.old).kept }
     ensures moments { (r : CommitRecord) → IsUndamaged (P.state device.old).lines r (image_of (P.state device.old).words)
         → LeavesOnly (P.state device.old) (P.state device.new) (StaysReadable (P.state device.old).lines r (image_of (P.state device.old).words)) }
 {
@@ -162,11 +164,12 @@ fn write_reopened<P: Pmem>(
     ensures readable { OnOk result (IsReadable (reopened current) (P.state device.new)) }
     ensures cleared { OnOk result (AreCleared (P.state device.old).lines (is_cleared current)
         (image_of (P.state device.old).words) (image_of (P.state device.new).words)) }
-    ensures lines { OnOk result ((P.state device.new).lines ≡ (P.state device.old).lines) }
+    ensures lines { (P.state device.new).lines ≡ (P.state device.old).lines }
     ensures sound { OnOk result ((P.state device.new).failures ≡ (P.state device.old).failures) }
     ensures causes { IfErr result (λ refusal. (refusal ≡ Refusal.Fault) ⊎ (refusal ≡ Refusal.Memory)) }
     ensures memory { IsErrOf result Refusal.Memory → device.new ≡ device.old }
     ensures fault { IsErrOf result Refusal.Fault → (P.state device.old).failures < (P.state device.new).failures }
+    ensures asked_moment { (P.state device.new).kept ≡ (P.state device.old).kept }
     ensures moments { LeavesOnly (P.state device.old) (P.state device.new)
         (StaysReadable (P.state device.old).lines current (image_of (P.state device.old).words)) }
 {
@@ -189,11 +192,12 @@ fn make_room<P: Pmem>(alloc: Global, device: &mut P, current: Record) -> Result<
     ensures readable { OnOk result (IsReadable (with_room current) (P.state device.new)) }
     ensures cleared { OnOk result (AreCleared (P.state device.old).lines (is_cleared current)
         (image_of (P.state device.old).words) (image_of (P.state device.new).words)) }
-    ensures lines { OnOk result ((P.state device.new).lines ≡ (P.state device.old).lines) }
+    ensures lines { (P.state device.new).lines ≡ (P.state device.old).lines }
     ensures sound { OnOk result ((P.state device.new).failures ≡ (P.state device.old).failures) }
     ensures causes { IfErr result (λ refusal. (refusal ≡ Refusal.Fault) ⊎ (refusal ≡ Refusal.Memory)) }
     ensures memory { IsErrOf result Refusal.Memory → device.new ≡ device.old }
     ensures fault { IsErrOf result Refusal.Fault → (P.state device.old).failures < (P.state device.new).failures }
+    ensures asked_moment { (P.state device.new).kept ≡ (P.state device.old).kept }
     ensures moments { LeavesOnly (P.state device.old) (P.state device.new)
         (StaysReadable (P.state device.old).lines current (image_of (P.state device.old).words)) }
 {
@@ -212,11 +216,12 @@ fn clear_oldest<P: Pmem>(alloc: Global, device: &mut P, current: Record) -> Resu
     ensures readable { OnOk result (IsReadable (record_after_clearing current) (P.state device.new)) }
     ensures cleared { OnOk result (AreCleared (P.state device.old).lines (λ stamp. is_in_gap stamp (oldest_gap current))
         (image_of (P.state device.old).words) (image_of (P.state device.new).words)) }
-    ensures lines { OnOk result ((P.state device.new).lines ≡ (P.state device.old).lines) }
+    ensures lines { (P.state device.new).lines ≡ (P.state device.old).lines }
     ensures sound { OnOk result ((P.state device.new).failures ≡ (P.state device.old).failures) }
     ensures causes { IfErr result (λ refusal. (refusal ≡ Refusal.Fault) ⊎ (refusal ≡ Refusal.Memory)) }
     ensures memory { IsErrOf result Refusal.Memory → device.new ≡ device.old }
     ensures fault { IsErrOf result Refusal.Fault → (P.state device.old).failures < (P.state device.new).failures }
+    ensures asked_moment { (P.state device.new).kept ≡ (P.state device.old).kept }
     ensures moments { LeavesOnly (P.state device.old) (P.state device.new)
         (StaysReadable (P.state device.old).lines current (image_of (P.state device.old).words)) }
 {
@@ -235,11 +240,12 @@ fn erase_gap<P: Pmem>(alloc: Global, device: &mut P, current: &Record) -> Result
     ensures readable { OnOk result (IsReadable current.now (P.state device.new)) }
     ensures cleared { OnOk result (AreCleared (P.state device.old).lines (λ stamp. is_in_gap stamp (oldest_gap current.now))
         (image_of (P.state device.old).words) (image_of (P.state device.new).words)) }
-    ensures lines { OnOk result ((P.state device.new).lines ≡ (P.state device.old).lines) }
+    ensures lines { (P.state device.new).lines ≡ (P.state device.old).lines }
     ensures sound { OnOk result ((P.state device.new).failures ≡ (P.state device.old).failures) }
     ensures causes { IfErr result (λ refusal. (refusal ≡ Refusal.Fault) ⊎ (refusal ≡ Refusal.Memory)) }
     ensures memory { IsErrOf result Refusal.Memory → device.new ≡ device.old }
     ensures fault { IsErrOf result Refusal.Fault → (P.state device.old).failures < (P.state device.new).failures }
+    ensures asked_moment { (P.state device.new).kept ≡ (P.state device.old).kept }
     ensures moments { LeavesOnly (P.state device.old) (P.state device.new)
         (StaysReadable (P.state device.old).lines current.now (image_of (P.state device.old).words)) }
 {
@@ -260,9 +266,10 @@ fn add_open_gap<P: Pmem>(device: &mut P, current: Record) -> Result<Record, Faul
     ensures readable { OnOk result (IsReadable (with_open_gap current) (P.state device.new)) }
     ensures beside { OnOk result ((word : ℕ) → IsBesideRecords (P.state device.old).lines word
         → image_of (P.state device.new).words word ≡ image_of (P.state device.old).words word) }
-    ensures lines { OnOk result ((P.state device.new).lines ≡ (P.state device.old).lines) }
+    ensures lines { (P.state device.new).lines ≡ (P.state device.old).lines }
     ensures sound { OnOk result ((P.state device.new).failures ≡ (P.state device.old).failures) }
     ensures fault { OnErr result ((P.state device.old).failures < (P.state device.new).failures) }
+    ensures asked_moment { (P.state device.new).kept ≡ (P.state device.old).kept }
     ensures moments { LeavesOnly (P.state device.old) (P.state device.new)
         (StaysReadable (P.state device.old).lines current (image_of (P.state device.old).words)) }
 {

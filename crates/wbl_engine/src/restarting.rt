@@ -89,6 +89,8 @@ pub trait Restarting: Durable {
         ensures fault { IsErrOf result Refusal.Fault → (Self.device self.old).failures < (Self.device self.new).failures }
         ensures superblock { (refusal : Cause) → super_refusal (Self.device self.old).lines (image_of (Self.device self.old).words) ≡ Some refusal
             → result ≡ Err refusal }
+        ensures lines { (Self.device self.new).lines ≡ (Self.device self.old).lines }
+        ensures asked_moment { (Self.device self.new).kept ≡ (Self.device self.old).kept }
         ensures moments { (r : CommitRecord) → IsUndamaged (Self.device self.old).lines r (image_of (Self.device self.old).words)
             → LeavesOnly (Self.device self.old) (Self.device self.new) (StaysReadable (Self.device self.old).lines r (image_of (Self.device self.old).words)) };
 }

@@ -1,8 +1,8 @@
 use Rattle.std.proofs.Common.{refl}
 use Rattle.group_commit.proofs.committer.Committer.clear_gap.Goals as goal
 
-pub returns : goal.returns
-returns g c =
+pub returns-clause-clears : goal.returns-clause-clears
+returns-clause-clears g c =
     let engine = c.in_ok-cleared.ensures in
     record {
       some = c.requires.some;
@@ -15,6 +15,7 @@ returns g c =
       exhausts = λ sound reached. let told = engine.exhausts sound c.requires.some reached in cc;
       fault = λ of. cc;
       stopped = λ of. cc;
+      lines = (engine.clears c.requires.some).lines_are;
       aside = c.requires.alone;
       stage = c.requires.ready;
       local = refl;

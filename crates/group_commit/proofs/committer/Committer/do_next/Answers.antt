@@ -16,7 +16,7 @@ returns-in-Free-clause-takes g c =
     takes-step E.device E.contents E.is_faulted O.offered O.known_room c.args.self.now c.free_reached.new.self c.args.work.now c.free_reached.new.work c.args.link.now c.room-has_room.new.self c.args.remote
     c.free_reached.result due.Free c.room-has_room.result c.room-has_room.ensures.value is (
       record { offered_is = c.room-has_room.ensures.unchanged; room = c.room-has_room.ensures.kept },
-      elim (c.free_reached.ensures so.list so.rest so.reached) [
+      elim (c.free_reached.ensures.frees so.list so.rest so.reached) [
         | inl frees ↦ inl (record {
           list = so.list;
           rest = so.rest;

@@ -16,13 +16,13 @@ free-requires g c =
     let items = c.args.self.now.aside.items in
     rw c.deref.ensures.value (first-ended (g.E.Durable.contents c.args.self.now.engine) items c.in-Some.list.now (drop 1 items) (first g (goal.at.free-requires g c).In-Some) c.requires.lawful)
 
-pub returns : goal.returns
-returns g c = λ list rest is.
+pub returns-clause-frees : goal.returns-clause-frees
+returns-clause-frees g c = λ list rest is.
     let E = g.E.Durable in
     let items = c.args.self.now.aside.items in
     let old = c.args.self.now in
     let engine = rw c.deref.ensures.value at c.in_ok-freed.ensures in
-    let same = sym (first g (goal.at.returns g c).In-Some) ∙ is in
+    let same = sym (first g (goal.at.returns-clause-frees g c).In-Some) ∙ is in
     let new : Committer g.row.E.Denot = record old { engine = c.free.new.self; aside = c.pop_front.new.self } in
     let first_is : c.in-Some.list.now ≡ list = cc in
     let rest_is : drop 1 items ≡ rest = cc in
@@ -37,6 +37,7 @@ returns g c = λ list rest is.
       memory = λ of. cc;
       fault = λ of. cc;
       stopped = λ of. cc;
+      lines = engine.moved.lines;
       stage = c.requires.ready;
       local = refl;
       moments = engine.moments;

@@ -22,10 +22,10 @@ free_first-requires-2-clause-lawful g c =
     subst (λ (lists : List FreeList). AreEnded contents (entries_of_lists lists)) (all g (goal.at.free_first-requires-2-clause-lawful g c).In_ok-set_aside).reached
     (reached-ended contents true c.args.self.now.aside.items c.args.work.now.items (λ room. c.requires.none c.if-not-has_room.false) c.requires.lawful)
 
-pub returns : goal.returns
-returns g c =
+pub returns-clause-frees : goal.returns-clause-frees
+returns-clause-frees g c =
     let E = g.E.Durable in
     rw c.if-not-has_room.false
     (λ list rest reached.
     inl (freed-from E.device E.contents E.is_faulted c.args.self.now c.set_aside.new.aside c.args.work.now c.set_aside.new.work list rest c.free_first-2.result c.free_first-2.new.self
-    (all g (goal.at.returns g c).In_ok-set_aside) reached c.free_first-2.ensures))
+    (all g (goal.at.returns-clause-frees g c).In_ok-set_aside) reached c.free_first-2.ensures.frees))
