@@ -30,7 +30,7 @@ class Crashes:
 
     def crash(self, node, *words):
         if words[0] in CUT_CALLS or words[0] == "reopen":
-            return self.goes_on and self._crash_in(node, *words)
+            return self._crash_in(node, *words)
         if not getattr(self, node).crash(map(int, words)):
             return False
         self._after_crash(node)
@@ -69,7 +69,8 @@ class Crashes:
         return (lambda: self._take(self.arrived[0])) if self.arrived else None
 
     def _cut_promote(self):
-        return self.standby.promote if self.primary.is_over else None
+        """The opening that follows the promotion of the image is cut as a reopening."""
+        return self.standby.image.promote if self.primary.is_over else None
 
     def _after_crash(self, node):
         """A standby that crashed in its promotion may have become the primary, which is to be opened."""

@@ -28,8 +28,7 @@ class Machine(Crashes):
     """A run. `done` says of each event whether it did its step, `calls` has each call as (connection, item, reply,
     position), and `ended` names the event at which a fence failed, "formatting", or None. `told` has the positions that the standby acknowledged in
     the run that this one is compared with: a standby that has to make room takes a frame where that one did. Where there is none it takes it where lines
-    and entries are enough. `goes_on` where it goes on after a fence that was told to fail, and calls may be cut: otherwise the call that meets such a
-    fence ends it, and no call is cut."""
+    and entries are enough. `goes_on` where it goes on after a fence that was told to fail: otherwise the call that meets such a fence ends it."""
 
     def __init__(self, lines=DEFAULT_LINES, fail=(0, 0), told=None, goes_on=False):
         self.told = told

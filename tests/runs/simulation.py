@@ -325,7 +325,9 @@ class Runs(common.Cases):
         self.assertEqual(image.map, dict(plain_keyspace.keyspace_after(parts[:record.position]).records()))
         self.assertEqual(trace.records[node], sorted(image.map.items()))
         versions = plain_image.read_versions(words, record)
-        self.assertEqual(versions.gapped, [])
+        # (a call that was cut may have begun versions, which no record has made count)
+        wanted = plain_image.read_versions(plain_image.Words(lines, writer.words), writer.record)
+        self.assertEqual(len(versions.gapped), len(wanted.gapped))
         if writer.places_may_differ:
             self.assertEqual(record.told(), writer.record.told())
             self.assertEqual(sorted(plain_image.versions_on(words)), sorted(plain_image.versions_on(plain_image.Words(lines, writer.words))))

@@ -1,5 +1,6 @@
-"""Calls that a crash cuts after each of their stores, flushes and fences, and runs that go on after a fence that failed, on the plain machine alone: no program does
-this yet. What is looked at is what a cut may leave (docs/promises.md): the image from before the call, or the one after it, whole."""
+"""Calls that a crash cuts after each of their stores, flushes and fences: on the plain machine, of which it is looked at what a cut may leave (docs/promises.md), the
+image from before the call, or the one after it, whole; and in runs, each of which is compared with that machine, word for word of both images. And runs that go on after
+a fence that failed, on the plain machine alone: no program does this yet."""
 
 import common
 import draws
@@ -7,11 +8,16 @@ import plain_image
 import plain_keyspace
 import spelling
 from plain_machine import Machine
-from simulation import Schedule
+from simulation import Runs, Schedule
 
-PROGRAMS = []
+PROGRAMS = ["simulator"]
+IS_SLOW = True
+QUICK = ["CutRuns.test_where_it_is_not_enabled", "CutRuns.test_a_standbys_reopening"]
 
 SET_A, SET_A_2, SET_B = spelling.spell("SET", "a", "1"), spelling.spell("SET", "a", "2"), spelling.spell("SET", "b", 100 * "2")
+
+# No call makes as many calls of its device.
+MOST_CALLS = 300
 
 # At a crash all words get their oldest candidate, all their newest, or the two in turn.
 MANY = 200
@@ -42,6 +48,15 @@ def freeing():
         schedule.group(0, request)
         schedule.replicate(number)
     schedule.add("close-group")
+    return schedule.events
+
+
+def serving_on():
+    """Events in which a new connection's SET is committed, as far as nodes run."""
+    schedule = Schedule()
+    schedule.add("enter", "open-link", "send", "deliver 2", "apply")
+    schedule.group(1, SET_B)
+    schedule.add("send", "free", "accept-freed", "clear-gap", "accept-freed")
     return schedule.events
 
 
@@ -82,7 +97,7 @@ class CutCalls(common.Cases):
             count, left = 0, []
             whole = Machine(goes_on=True).play(events)
             before = whole.given[node].device.fences
-            whole.play([f"reopen {node}" if call == "reopen" else call])
+            whole.play([f"crash {node} {call} {MOST_CALLS} 0"])
             self.assertTrue(whole.done[-1])
             self.assertGreater(whole.given[node].device.fences, before)
             while count == 0 or not self.has_ended(left[-1], whole, node):
@@ -90,7 +105,7 @@ class CutCalls(common.Cases):
                 self.assertTrue(machine.done[-1])
                 left.append(machine)
                 count += 1
-                self.assertLess(count, 300)
+                self.assertLess(count, MOST_CALLS)
             yield name, left
 
     def has_ended(self, machine, whole, node):
@@ -147,6 +162,70 @@ class CutCalls(common.Cases):
         self.assertEqual(machine.done[-2:], [True, True])
         self.assertEqual((image.gapped, image.record.gaps), ([], ()))
         self.assertIn(2, image.room.entries)
+
+
+class CutRuns(Runs):
+    """The same in runs: each is that of the plain machine."""
+
+    def cut_everywhere(self, events, node, call, picks, *more):
+        """Plays these events, a crash in this call after each count of its device calls, and then more."""
+        last = Machine().play([*events, f"crash {node} {call} {MOST_CALLS} 0"]).given[node].image.words
+        for count in range(MOST_CALLS):
+            schedule = Schedule()
+            schedule.add(*events, f"crash {node} {call} {count} {picks}", *more)
+            trace = self.play(schedule)
+            self.assertTrue(trace.done[len(events)])
+            machine = Machine().play(schedule.events[:len(events) + 1])
+            if machine.given[node].image.words == last:
+                return count
+        self.fail(f"{call} makes {MOST_CALLS} calls of its device or more")
+
+    def test_each_call_is_cut_everywhere(self):
+        for call, (node, events) in CALLS.items():
+            for name, picks in {**PICKS, "drawn": drawn_picks(call)}.items():
+                with self.case(call, picks=name):
+                    self.cut_everywhere(events, node, call, picks)
+
+    def test_it_goes_on(self):
+        """What was cut is opened, and serves again."""
+        after = ["enter", *serving_on()]
+        for call, (node, events) in CALLS.items():
+            opens = ["reopen standby", "promote", "reopen primary"] if call == "promote" else [f"reopen {node}"]
+            for name in ("oldest", "newest", "newest first"):
+                with self.case(call, picks=name):
+                    self.cut_everywhere(events, node, call, PICKS[name], *opens, *after)
+
+    def test_reopenings_are_cut_again_and_again(self):
+        node, events = CALLS["commit"]
+        for name, picks in {**PICKS, "drawn": drawn_picks("again")}.items():
+            for count in (0, 25, 37, 45, 60):
+                with self.case(name, count=count):
+                    begun = [*events, f"crash primary commit {count} {picks}"]
+                    self.cut_everywhere(begun, "primary", "reopen", picks, f"crash primary reopen {count} {picks}", "reopen primary", *serving_on())
+
+    def test_a_standbys_reopening(self):
+        node, events = CALLS["apply"]
+        for name, picks in PICKS.items():
+            with self.case(name):
+                self.cut_everywhere([*events, "crash standby 0"], "standby", "reopen", picks, "reopen standby", *serving_on())
+
+    def test_a_fence_that_fails_in_it(self):
+        for call, (node, events) in CALLS.items():
+            if call == "reopen":
+                continue
+            for fence in (1, 2, 3):
+                with self.case(call, fence=fence):
+                    self.cut_everywhere([*events, f"fail-fence {node} {fence}"], node, call, PICKS["newest"])
+
+    def test_where_it_is_not_enabled(self):
+        for events, more in [([], ["crash primary commit 1 0", "crash primary free 1 0", "crash primary clear-gap 1 0", "crash primary reopen 1 0",
+                                   "crash standby apply 1 0", "crash standby reopen 1 0", "crash standby promote 1 0"]),
+                             (served(), ["crash standby commit 1 0", "crash primary apply 1 0", "crash primary promote 1 0", "crash standby promote 1 0"]),
+                             ([*served(), "fence"], ["crash primary commit 1 0", "crash primary reopen 1 0"])]:
+            with self.case("events", events=len(events)):
+                schedule = Schedule()
+                schedule.add(*events, *more)
+                self.assertEqual(self.play(schedule).done[len(events):], len(more) * [False])
 
 
 class FailingFences(common.Cases):
@@ -213,7 +292,5 @@ class FailingFences(common.Cases):
         self.assertEqual((record.number, len(record.gaps), record.gaps[0], record.cp, record.cd), (11, 8, (4_098, 8_193), 36_873, 40_970))
 
     def test_where_the_run_does_not_go_on(self):
-        machine = Machine().play([*served(), "crash primary commit 3 0", "commit"])
-        self.assertEqual(machine.done[-2:], [False, True])
         events = ["fail-fence primary 1", *served()]
         self.assertEqual(Machine().play(events).ended, events.index("commit"))

@@ -1,7 +1,6 @@
--- An event after which no node is stopped met no fence that failed. Where no call is cut either, a crash leaves the image as it was; and but for a promotion the
--- epoch stays.
+-- An event after which no node is stopped met no fence that failed; and but for a promotion, or one that is cut, the epoch stays.
 use Rattle.std.proofs.Common.{◌≡◌, ◌+◌, ◌⊎◌, Bool, true, false, ◌&&◌, ◌||◌, List, [], ◌∷◌, ◌++◌, Option, slice_get, refl, sym, ap, subst, ◌∙◌, inl, inr, true≢false}
-use Rattle.std.specs.Prelude.{Contains}
+use Rattle.std.specs.Prelude.{All, Contains}
 use Rattle.std.proofs.lemmas.List.Elements.{All-cons, All-contains, All-nil}
 use Rattle.machine.specs.declared.event.Cut.{Cut}
 use Rattle.machine.specs.declared.event.Cut.TheVariants as cut
@@ -9,14 +8,12 @@ use Rattle.machine.specs.declared.event.Event.{Event}
 use Rattle.machine.specs.declared.event.Event.TheVariants.{Turn, CloseGroup, Commit, Free, ClearGap, Apply, AckDelivered, FailFence, Crash, Reopen, Fence, Promote}
 use Rattle.machine.specs.declared.event.Node.{Node}
 use Rattle.machine.specs.declared.event.Node.TheVariants as nodes
-use Rattle.machine.specs.Event.{Acknowledgement, Disk, Frame, Life, Running, Stopped, Crashed, Retired, Remains, At, Standby, World, Fails, Happens, Step, Takes, crashed, is_between, is_crashed, is_enabled, is_retired, is_running, is_stopped, left_by, life_of, may_cut, may_happen, may_remain, nodes_run, position_at, told, torn, with_link, without_first}
+use Rattle.machine.specs.Event.{Acknowledgement, Disk, Frame, Life, Running, Stopped, Crashed, Retired, Remains, At, AsPrimary, Standby, World, Fails, Happens, Step, Takes, crashed, is_between, is_crashed, is_enabled, is_retired, is_running, is_stopped, left_by, life_of, may_cut, may_happen, may_remain, next_primary, next_standby, position_at, promoted, told, torn, with_link, without_first}
 use Rattle.machine.specs.Row.{touches}
 use Rattle.model.specs.Call.{is_nonempty}
-use Rattle.machine.proofs.SoundConnection.{both}
 
--- no node has stopped, before the event or after it, and no call is cut
+-- no node has stopped, before the event or after it
 pub record IsSure (w new : World) : Type 0 where
-  pub cuts : w.allowed.cuts ≡ false
   pub primary_whole : torn w.primary.life ≡ []
   pub standby_whole : torn w.standby.life ≡ []
   pub primary_goes : is_stopped new.primary.life ≡ false
@@ -41,33 +38,47 @@ unfailed w node call new on happens = elim happens [
 pub sure-unfailed : {P : Type 0} (w : World) (node : Node) (call : Cut) (new : World) → IsSure w new → P ⊎ Fails w node call new → P
 sure-unfailed w node call new sure = unfailed w node call new (goes w new node sure)
 
--- a call that no crash cuts
-uncut : (b : Bool) (call : Cut) (c : Bool) → b ≡ false → ((is_between call || b) && c) ≡ true → call ≡ cut.Between
-uncut b cut.Between c off enabled = refl
-uncut b call c off enabled = absurd (true≢false (sym enabled ∙ ap (λ x. x && c) off))
-
-pub between : (w new : World) (node : Node) (call : Cut) → IsSure w new → (w.allowed.restarts && ((is_between call || w.allowed.cuts) && may_cut w node call)) ≡ true → call ≡ cut.Between
-between w new node call sure enabled = uncut w.allowed.cuts call (may_cut w node call) sure.cuts (both w.allowed.restarts _ enabled).1
-
 whole : (w new : World) (node : Node) → IsSure w new → torn (life_of w node) ≡ []
 whole w new nodes.Primary sure = sure.primary_whole
 whole w new nodes.Standby sure = sure.standby_whole
 
--- a crash leaves its image as it was
-pub remains : (w new : World) (node : Node) (call : Cut) (remain : Remains) → IsSure w new → call ≡ cut.Between → Contains (may_remain w node call) remain → remain ≡ At (position_at w node)
-remains w new node call remain sure is one =
-    let same : (x : Remains) → x ≡ At (position_at w node) → x ≡ At (position_at w node) = λ x e. e in
-    All-contains (λ (x : Remains). x ≡ At (position_at w node)) (At (position_at w node) ∷ []) remain (All-cons (λ (x : Remains). x ≡ At (position_at w node)) (At (position_at w node)) [] refl (All-nil _)) (only node call is one)
-  where
-    none : (node : Node) → left_by w node cut.Between ≡ []
-    none nodes.Primary = refl
-    none nodes.Standby = refl
+-- a crash leaves its image as it was, or what the call leaves that is cut
+may_remain-whole : (w new : World) (node : Node) (call : Cut) → IsSure w new → may_remain w node call ≡ At (position_at w node) ∷ left_by w node call
+may_remain-whole w new node call sure = ap (λ (xs : List Remains). At (position_at w node) ∷ (xs ++ left_by w node call)) (whole w new node sure)
 
-    only : (node : Node) (call : Cut) → call ≡ cut.Between → Contains (may_remain w node call) remain → Contains (At (position_at w node) ∷ []) remain
-    only node call is one =
-        subst (λ (xs : List Remains). Contains (At (position_at w node) ∷ xs) remain) (none node)
-        (subst (λ (xs : List Remains). Contains (At (position_at w node) ∷ (xs ++ left_by w node cut.Between)) remain) (whole w new node sure)
-        (subst (λ (c : Cut). Contains (may_remain w node c) remain) is one))
+-- the image of such a node as it was
+abbrev pub IsAt : Remains → Type 0
+IsAt (At position) = Unit {0}
+IsAt AsPrimary = ⊥
+
+-- where the call leaves no other
+pub remains-at : (w new : World) (node : Node) (call : Cut) (remain : Remains) → IsSure w new → All IsAt (left_by w node call) → Contains (may_remain w node call) remain → IsAt remain
+remains-at w new node call remain sure left one =
+    All-contains IsAt (may_remain w node call) remain
+    (subst (All IsAt) (sym (may_remain-whole w new node call sure)) (All-cons IsAt (At (position_at w node)) (left_by w node call) tt left)) one
+
+left-primary : (w : World) (call : Cut) → All IsAt (left_by w nodes.Primary call)
+left-primary w cut.Commit = All-cons IsAt (At (next_primary w)) [] tt (All-nil IsAt)
+left-primary w call = All-nil IsAt
+
+-- of a primary each call does
+pub remains-primary : (w new : World) (call : Cut) (remain : Remains) → IsSure w new → Contains (may_remain w nodes.Primary call) remain → IsAt remain
+remains-primary w new call remain sure = remains-at w new nodes.Primary call remain sure (left-primary w call)
+
+-- of a standby all but that in which it is promoted
+abbrev pub promotes : Cut → Bool
+promotes cut.Promote = true
+promotes call = false
+
+pub remains-standby : (w new : World) (call : Cut) (remain : Remains) → IsSure w new → promotes call ≡ false → Contains (may_remain w nodes.Standby call) remain → IsAt remain
+remains-standby w new cut.Promote remain sure other one = absurd (true≢false other)
+remains-standby w new cut.Apply remain sure other one = remains-at w new nodes.Standby cut.Apply remain sure (All-cons IsAt (At (next_standby w)) [] tt (All-nil IsAt)) one
+remains-standby w new call remain sure other one = remains-at w new nodes.Standby call remain sure (All-nil IsAt) one
+
+-- a crash of the standby after which the primary has another device left the image of a primary
+pub crashed-ahead : (w new : World) (remain : Remains) → new ≡ crashed nodes.Standby remain w → (new.primary.disk.number ≡ w.primary.disk.number → ⊥) → new ≡ promoted w
+crashed-ahead w new (At position) now other = absurd (other (ap (λ (x : World). x.primary.disk.number) now))
+crashed-ahead w new AsPrimary now other = now
 
 -- ---- an event
 
@@ -77,7 +88,7 @@ pub record KeepsNodes (w new : World) : Type 0 where
   pub standby_disk : new.standby.disk.number ≡ w.standby.disk.number
   pub epoch : new.primary.epoch ≡ w.primary.epoch
 
--- the nodes are the same, unless the standby was promoted
+-- the nodes are the same, unless the standby was promoted, or its image was
 abbrev pub Stays : World → World → Type 0
 Stays w new = KeepsNodes w new ⊎ (new.primary.epoch ≡ w.standby.epoch + 1)
 
@@ -103,36 +114,38 @@ taken frame old new told takes =
     by : new ≡ old → new.disk ≡ old.disk
     by same = ap (λ (x : Standby). x.disk) same
 
-after-crash : (w : World) (node : Node) (remain : Remains) → remain ≡ At (position_at w node) → Stays w (crashed node remain w)
-after-crash w nodes.Primary remain is = subst (λ (x : Remains). Stays w (crashed nodes.Primary x w)) (sym is) (like w _ refl refl refl)
-after-crash w nodes.Standby remain is = subst (λ (x : Remains). Stays w (crashed nodes.Standby x w)) (sym is) (like w _ refl refl refl)
+after-crash : (w : World) (node : Node) (remain : Remains) → Stays w (crashed node remain w)
+after-crash w nodes.Primary (At position) = like w _ refl refl refl
+after-crash w nodes.Primary AsPrimary = like w _ refl refl refl
+after-crash w nodes.Standby (At position) = like w _ refl refl refl
+after-crash w nodes.Standby AsPrimary = inr refl
 
-pub sure-happens : (w : World) (event : Event) (new : World) → may_happen w event ≡ true → IsSure w new → Happens w event new → Stays w new
-sure-happens w (Turn c) new may sure h = of w _ new h.now (like w _ refl refl refl)
-sure-happens w CloseGroup new may sure h =
+pub sure-happens : (w : World) (event : Event) (new : World) → IsSure w new → Happens w event new → Stays w new
+sure-happens w (Turn c) new sure h = of w _ new h.now (like w _ refl refl refl)
+sure-happens w CloseGroup new sure h =
     elim h [
       | inl group ↦ of w _ new group.1.now (like w _ refl refl refl)
       | inr list ↦ of w _ new list.1 (like w _ refl refl refl)
     ]
-sure-happens w Commit new may sure h = of w _ new (sure-unfailed w nodes.Primary cut.Commit new sure h) (like w _ refl refl refl)
-sure-happens w Free new may sure h = of w _ new (sure-unfailed w nodes.Primary cut.Free new sure h) (like w _ refl refl refl)
-sure-happens w ClearGap new may sure h = of w _ new (sure-unfailed w nodes.Primary cut.ClearGap new sure h) (like w _ refl refl refl)
-sure-happens w Apply new may sure h =
+sure-happens w Commit new sure h = of w _ new (sure-unfailed w nodes.Primary cut.Commit new sure h) (like w _ refl refl refl)
+sure-happens w Free new sure h = of w _ new (sure-unfailed w nodes.Primary cut.Free new sure h) (like w _ refl refl refl)
+sure-happens w ClearGap new sure h = of w _ new (sure-unfailed w nodes.Primary cut.ClearGap new sure h) (like w _ refl refl refl)
+sure-happens w Apply new sure h =
     let applies = sure-unfailed w nodes.Standby cut.Apply new sure h in
     of w _ new applies.now (like w _ refl (ap (λ (d : Disk). d.number) (taken applies.frame (without_first w.standby) applies.standby applies.told applies.takes)) refl)
-sure-happens w (AckDelivered a) new may sure h = of w _ new h (as-told w (slice_get w.wire.acknowledgements a))
-sure-happens w (FailFence nodes.Primary n) new may sure h = of w _ new h (like w _ refl refl refl)
-sure-happens w (FailFence nodes.Standby n) new may sure h = of w _ new h (like w _ refl refl refl)
-sure-happens w (Crash node call k picks) new may sure h =
-    of w _ new h.now (after-crash w node h.remain (remains w new node call h.remain sure (between w new node call sure may) h.one))
-sure-happens w (Reopen nodes.Primary) new may sure h = of w _ new (sure-unfailed w nodes.Primary cut.Reopen new sure h).now (like w _ refl refl refl)
-sure-happens w (Reopen nodes.Standby) new may sure h = of w _ new (sure-unfailed w nodes.Standby cut.Reopen new sure h) (like w _ refl refl refl)
-sure-happens w Fence new may sure h = of w _ new h (like w _ refl refl refl)
-sure-happens w Promote new may sure h = of w _ new (sure-unfailed w nodes.Standby cut.Promote new sure h).now (inr refl)
-sure-happens w event new may sure h = of w _ new h (like w _ refl refl refl)
+sure-happens w (AckDelivered a) new sure h = of w _ new h (as-told w (slice_get w.wire.acknowledgements a))
+sure-happens w (FailFence nodes.Primary n) new sure h = of w _ new h (like w _ refl refl refl)
+sure-happens w (FailFence nodes.Standby n) new sure h = of w _ new h (like w _ refl refl refl)
+sure-happens w (Crash node call k picks) new sure h =
+    of w _ new h.now (after-crash w node h.remain)
+sure-happens w (Reopen nodes.Primary) new sure h = of w _ new (sure-unfailed w nodes.Primary cut.Reopen new sure h).now (like w _ refl refl refl)
+sure-happens w (Reopen nodes.Standby) new sure h = of w _ new (sure-unfailed w nodes.Standby cut.Reopen new sure h) (like w _ refl refl refl)
+sure-happens w Fence new sure h = of w _ new h (like w _ refl refl refl)
+sure-happens w Promote new sure h = of w _ new (sure-unfailed w nodes.Standby cut.Promote new sure h).now (inr refl)
+sure-happens w event new sure h = of w _ new h (like w _ refl refl refl)
 
 pub sure-step : (w : World) (event : Event) (did : Bool) (new : World) → Step w event did new → IsSure w new → Stays w new
-sure-step w event true new step sure = sure-happens w event new (both (nodes_run w event) (may_happen w event) (sym step.done)).1 sure (step.happens refl)
+sure-step w event true new step sure = sure-happens w event new sure (step.happens refl)
 sure-step w event false new step sure = of w w new (step.stands refl) (like w w refl refl refl)
 
 -- ---- a standby that was promoted

@@ -93,6 +93,13 @@ impl Link {
         self.epoch
     }
 
+    /// Those that it sends from now on are of this epoch.
+    pub(crate) fn set_epoch(&mut self, epoch: u64)
+        ensures { self.new ≡ record self.old { epoch = epoch } }
+    {
+        self.epoch = epoch;
+    }
+
     /// The frame that is sent next, by its index for `frame`: of those that are to be sent again the oldest, or else that of the next group. It
     /// answers `None`, and nothing changed, where all 256 frames that it may keep were sent and none is acknowledged, or where no group waits.
     ///

@@ -49,6 +49,14 @@ impl Outgoing {
         self.link.epoch()
     }
 
+    /// Its frames are of this epoch from now on: of a primary that is crashed, and has sent none in it.
+    pub fn set_epoch(&mut self, epoch: u64)
+        ensures link { self.new.link ≡ record (self.old.link) { epoch = epoch } }
+        ensures opening { self.new.opening ≡ self.old.opening }
+    {
+        self.link.set_epoch(epoch);
+    }
+
     /// The highest position that was acknowledged, 0 before the first.
     pub fn known(&self) -> u64
         ensures { result ≡ (self.now.link).known }

@@ -14,6 +14,7 @@ use Rattle.model.specs.declared.image.TheConstants.{COUNTER_LIMIT, STAMP_WINDOW}
 use Rattle.model.specs.declared.work.FreeList.{FreeList}
 use Rattle.model.specs.declared.work.Work.{Work}
 use Rattle.model.specs.declared.work.Work.TheVariants as work
+use Rattle.model.specs.Call.{position_of}
 use Rattle.model.specs.Image.{Image}
 use Rattle.model.proofs.RecordLemmas.{HasRecord-lines}
 use Rattle.model.specs.Group.{AreParts, Contents, IsConsistent, IsGroup, Versions, after_group, last_position, part_versions}
@@ -208,6 +209,24 @@ commit-moments holder w old lists group new device device' contents is_faulted t
     either image (inr keeps) =
         inr (keeps-opens holder w.primary.calls (next_primary w) (after_group contents group) image (subst (λ p. AreContentsAt holder w.primary.calls p (after_group contents group)) (sym ends) next.after)
         (group_lawful contents group engine.lawful takes.lawful (fits engine.sound)) keeps)
+
+-- where the primary stands once the first group that waits has committed, with these contents
+pub record Lands (holder : Holder) (w : World) (contents : Contents) : Type 0 where
+  pub rises : w.primary.committer.position ≤ next_primary w
+  pub within : next_primary w ≤ position_of w.primary.calls
+  pub after : AreContentsAt holder w.primary.calls (next_primary w) contents
+
+pub commit-lands : (holder : Holder) (w : World) (old : Committing) (lists : List FreeList) (group : Group) (new : Committing) (contents : Contents) → TakesLawful contents old lists group new
+    → CommittingRefines w.primary.calls old w.primary.committer → AreContentsAt holder w.primary.calls w.primary.committer.position contents → Lands holder w (after_group contents group)
+commit-lands holder w old lists group new contents takes stands at =
+    let next = next-group holder w.primary.calls w.primary.committer.position contents old lists group new w.primary.committer at takes stands in
+    let ends : next_primary w ≡ next.firsts.first.after = ap (λ works. (committed_first works w.primary.committer).position) next.firsts.from in
+    let lies = next.firsts.is.span_within in
+    record {
+      rises = omega (arith, ends, next.begins, lies.rising);
+      within = omega (arith, ends, lies.within);
+      after = subst (λ p. AreContentsAt holder w.primary.calls p (after_group contents group)) (sym ends) next.after;
+    }
 
 -- positions rise by at least one per part
 parts-rise : (before : ℕ) (versions : Versions) (parts : List Part) → AreParts before versions parts → before + length parts ≤ last_position before parts

@@ -32,7 +32,7 @@ use Rattle.world.specs.Condition as condition
 -- ---- the engine
 
 -- the contents are as they were at their position, without some versions that have ended
-contents-without : (holder : Holder) (calls : List Call) (p : ℕ) (contents : Contents) (gone : ℕ → Bool) → AllEnded gone contents.versions → AreContentsAt holder calls p contents
+pub contents-without : (holder : Holder) (calls : List Call) (p : ℕ) (contents : Contents) (gone : ℕ → Bool) → AllEnded gone contents.versions → AreContentsAt holder calls p contents
     → AreContentsAt holder calls p (without gone contents)
 contents-without holder calls p contents gone ended are =
     let map = IsMapOf-contents_without contents gone _ ended are.map in
@@ -98,14 +98,20 @@ clears-none contents = record {
   once = tt;
 }
 
+-- the contents are at their position without it, and obey the rules
+pub contents-cleared : (holder : Holder) (calls : List Call) (p : ℕ) (contents : Contents) → AreContentsAt holder calls p contents → AreContentsAt holder calls p (cleared_contents contents)
+contents-cleared holder calls p contents are = search (rules, are, are.consistent)
+
+pub lawful-cleared : (contents : Contents) → contents.current.number + 1 < COUNTER_LIMIT → AreLawful contents → AreLawful (cleared_contents contents)
+lawful-cleared contents room lawful = lawful_cleared contents (cleared_contents contents) [] (clears-none contents) room lawful
+
 pub cleared-moments : (holder : Holder) (calls : List Call) (p : ℕ) (device device' : State) (contents : Contents) → AreContentsAt holder calls p contents → AreLawful contents
     → contents.current.number + 1 < COUNTER_LIMIT → LeavesOnly device device' (λ image. Keeps contents image ⊎ Keeps (cleared_contents contents) image) → LeavesOnly device device' (OpensAt holder calls p)
 cleared-moments holder calls p device device' contents are lawful room moments =
     LeavesOnly-weaken (OpensAt holder calls p)
     (λ image either. elim either [
       | inl keeps ↦ keeps-opens holder calls p contents image are lawful keeps
-      | inr keeps ↦ keeps-opens holder calls p (cleared_contents contents) image (search (rules, are, are.consistent))
-          (lawful_cleared contents (cleared_contents contents) [] (clears-none contents) room lawful) keeps
+      | inr keeps ↦ keeps-opens holder calls p (cleared_contents contents) image (contents-cleared holder calls p contents are) (lawful-cleared contents room lawful) keeps
     ]) moments
 
 -- ---- an event of it

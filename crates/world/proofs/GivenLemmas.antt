@@ -1,21 +1,23 @@
 -- What one event of the machine gives: to the list of calls, and to each connection.
-use Rattle.std.proofs.Common.{◌≡◌, ℕ, zero, suc, Bool, true, false, cond, nat_eq, eqb-true, List, [], ◌∷◌, ◌++◌, take, Option, slice_get, refl, sym, ap, subst, ◌∙◌, inl, inr, true≢false}
+use Rattle.std.proofs.Common.{◌≡◌, ◌⊎◌, ℕ, zero, suc, Bool, true, false, cond, nat_eq, eqb-true, List, [], ◌∷◌, ◌++◌, take, Option, Vec, Global, slice_get, refl, sym, ap, subst, ◌∙◌, inl, inr, true≢false}
+use Rattle.std.specs.Prelude.{Contains}
 use Rattle.std.proofs.lemmas.Bool.{eq-eqb}
 use Rattle.std.proofs.lemmas.List.{append-nil}
 use Rattle.model.specs.declared.call.Call.{Call}
-use Rattle.model.specs.Call.{position_of}
+use Rattle.model.specs.Call.{cut_at, position_of}
 use Rattle.machine.specs.declared.event.Event.{Event}
 use Rattle.machine.specs.declared.event.Event.TheVariants.{Enter, Feed, Offer, Turn, CloseGroup, Commit, Free, ClearGap, Apply, AckDelivered, Hold, Read, Release, Write, Leave, FailFence, Crash, Reopen, Fence, Promote}
+use Rattle.machine.specs.declared.event.Cut.{Cut}
 use Rattle.machine.specs.declared.event.Cut.TheVariants as cut
 use Rattle.machine.specs.declared.event.Mark.{Mark}
 use Rattle.machine.specs.declared.event.Mark.TheVariants.{Local, Remote}
+use Rattle.machine.specs.declared.event.Node.{Node}
 use Rattle.machine.specs.declared.event.Node.TheVariants as node
-use Rattle.machine.specs.Event.{Acknowledgement, Remains, Connection, Inbound, Outbound, Step, World, Happens, called, changed_at, connection_of, crashed, may_happen, nodes_run, fed_with, get_connection, having_read, having_released, held_first, left, offered_next, on_inbound, on_outbound, taken_first, told, with_call, with_inbound, with_link, with_made, with_outbound, written}
+use Rattle.machine.specs.Event.{Acknowledgement, Remains, At, AsPrimary, Connection, Inbound, Outbound, Step, World, Crashes, Happens, called, changed_at, connection_of, crashed, may_remain, fed_with, get_connection, having_read, having_released, held_first, left, offered_next, on_inbound, on_outbound, taken_first, told, with_call, with_inbound, with_link, with_made, with_outbound, written}
 use Rattle.machine.specs.Promise.{released_in}
 use Rattle.machine.proofs.ConnectionLemmas.{get-changed_other, get-entered}
 use Rattle.machine.proofs.CrashLemmas.{get-over}
-use Rattle.machine.proofs.SoundConnection.{both}
-use Rattle.machine.proofs.SureLemmas.{IsSure, between, remains, sure-unfailed}
+use Rattle.machine.proofs.SureLemmas.{IsAt, IsSure, remains-primary, remains-standby, sure-unfailed}
 use Rattle.world.specs.Step.{CallsBy, released_by}
 
 -- ---- calls
@@ -26,43 +28,58 @@ told-calls w ack = refl
 of_calls : (w then new : World) → new ≡ then → then.primary.calls ≡ w.primary.calls → new.primary.calls ≡ w.primary.calls
 of_calls w then new e same = ap (λ (x : World). x.primary.calls) e ∙ same
 
-calls-happen : (w : World) (event : Event) (new : World) → IsSure w new → may_happen w event ≡ true → Happens w event new → CallsBy w event true new.primary.calls
-calls-happen w (Turn c) new sure may h = (h.call, h.connection, h.first, h.reply, ap (λ (x : World). x.primary.calls) h.now)
-calls-happen w (FailFence node.Primary k) new sure may h = of_calls w _ new h refl
-calls-happen w (FailFence node.Standby k) new sure may h = of_calls w _ new h refl
-calls-happen w (Crash node.Primary call k picks) new sure may h =
-    ap (λ (x : World). x.primary.calls) (h.now ∙ ap (λ (r : Remains). crashed node.Primary r w) (remains w new node.Primary call h.remain sure (between w new node.Primary call sure may) h.one))
-calls-happen w (Crash node.Standby call k picks) new sure may h =
-    of_calls w _ new (h.now ∙ ap (λ (r : Remains). crashed node.Standby r w) (remains w new node.Standby call h.remain sure (between w new node.Standby call sure may) h.one)) refl
-calls-happen w (Reopen node.Primary) new sure may h = of_calls w _ new (sure-unfailed w node.Primary cut.Reopen new sure h).now refl
-calls-happen w (Reopen node.Standby) new sure may h = of_calls w _ new (sure-unfailed w node.Standby cut.Reopen new sure h) refl
-calls-happen w Promote new sure may h = ap (λ (x : World). x.primary.calls) (sure-unfailed w node.Standby cut.Promote new sure h).now
-calls-happen w Commit new sure may h = of_calls w _ new (sure-unfailed w node.Primary cut.Commit new sure h) refl
-calls-happen w Free new sure may h = of_calls w _ new (sure-unfailed w node.Primary cut.Free new sure h) refl
-calls-happen w ClearGap new sure may h = of_calls w _ new (sure-unfailed w node.Primary cut.ClearGap new sure h) refl
-calls-happen w Apply new sure may h = of_calls w _ new (sure-unfailed w node.Standby cut.Apply new sure h).now refl
-calls-happen w CloseGroup new sure may h =
+-- a crash of the primary cuts the list where its image stands
+calls-primary : (w new : World) (call : Cut) (remain : Remains) → IsAt remain → Contains (may_remain w node.Primary call) remain → new ≡ crashed node.Primary remain w
+    → (p : ℕ) × Contains (may_remain w node.Primary call) (At p) × (new.primary.calls ≡ cut_at w.primary.calls p)
+calls-primary w new call (At p) at one now = (p, one, ap (λ (x : World). x.primary.calls) now)
+calls-primary w new call AsPrimary at one now = absurd at
+
+-- one of the standby leaves it, unless its image is that of a primary
+calls-standby : (w new : World) (remain : Remains) → IsAt remain → new ≡ crashed node.Standby remain w → new.primary.calls ≡ w.primary.calls
+calls-standby w new (At p) at now = of_calls w _ new now refl
+calls-standby w new AsPrimary at now = absurd at
+
+calls-either : (w new : World) (remain : Remains) → new ≡ crashed node.Standby remain w → (new.primary.calls ≡ w.primary.calls) ⊎ (new.primary.calls ≡ cut_at w.primary.calls w.standby.position)
+calls-either w new (At p) now = inl (of_calls w _ new now refl)
+calls-either w new AsPrimary now = inr (ap (λ (x : World). x.primary.calls) now)
+
+calls-crashed : (w new : World) (call : Cut) (k : ℕ) (picks : Vec ℕ Global) → IsSure w new → Crashes w node.Standby call new → CallsBy w (Crash node.Standby call k picks) true new.primary.calls
+calls-crashed w new cut.Promote k picks sure h = calls-either w new h.remain h.now
+calls-crashed w new call k picks sure h = calls-standby w new h.remain (remains-standby w new call h.remain sure refl h.one) h.now
+
+calls-happen : (w : World) (event : Event) (new : World) → IsSure w new → Happens w event new → CallsBy w event true new.primary.calls
+calls-happen w (Turn c) new sure h = (h.call, h.connection, h.first, h.reply, ap (λ (x : World). x.primary.calls) h.now)
+calls-happen w (FailFence node.Primary k) new sure h = of_calls w _ new h refl
+calls-happen w (FailFence node.Standby k) new sure h = of_calls w _ new h refl
+calls-happen w (Crash node.Primary call k picks) new sure h =
+    calls-primary w new call h.remain (remains-primary w new call h.remain sure h.one) h.one h.now
+calls-happen w (Crash node.Standby call k picks) new sure h = calls-crashed w new call k picks sure h
+calls-happen w (Reopen node.Primary) new sure h = of_calls w _ new (sure-unfailed w node.Primary cut.Reopen new sure h).now refl
+calls-happen w (Reopen node.Standby) new sure h = of_calls w _ new (sure-unfailed w node.Standby cut.Reopen new sure h) refl
+calls-happen w Promote new sure h = ap (λ (x : World). x.primary.calls) (sure-unfailed w node.Standby cut.Promote new sure h).now
+calls-happen w Commit new sure h = of_calls w _ new (sure-unfailed w node.Primary cut.Commit new sure h) refl
+calls-happen w Free new sure h = of_calls w _ new (sure-unfailed w node.Primary cut.Free new sure h) refl
+calls-happen w ClearGap new sure h = of_calls w _ new (sure-unfailed w node.Primary cut.ClearGap new sure h) refl
+calls-happen w Apply new sure h = of_calls w _ new (sure-unfailed w node.Standby cut.Apply new sure h).now refl
+calls-happen w CloseGroup new sure h =
     elim h [
       | inl group ↦ of_calls w _ new group.1.now refl
       | inr list ↦ of_calls w _ new list.1 refl
     ]
-calls-happen w (AckDelivered a) new sure may h = of_calls w _ new h (told-calls w (slice_get w.wire.acknowledgements a))
-calls-happen w event new sure may h = of_calls w _ new h refl
+calls-happen w (AckDelivered a) new sure h = of_calls w _ new h (told-calls w (slice_get w.wire.acknowledgements a))
+calls-happen w event new sure h = of_calls w _ new h refl
 
 -- nothing is called where the event was not enabled
 calls-stay : (w : World) (event : Event) (calls : List Call) → calls ≡ w.primary.calls → CallsBy w event false calls
 calls-stay w (Turn c) calls same = same
 calls-stay w (Crash node.Primary call k picks) calls same = same
+calls-stay w (Crash node.Standby cut.Promote k picks) calls same = same
 calls-stay w (Crash node.Standby call k picks) calls same = same
 calls-stay w Promote calls same = same
 calls-stay w event calls same = same
 
--- what was done was enabled
-may-step : (w : World) (event : Event) (new : World) → Step w event true new → may_happen w event ≡ true
-may-step w event new step = (both (nodes_run w event) (may_happen w event) (sym step.done)).1
-
 pub calls-step : (w : World) (event : Event) (did : Bool) (new : World) → IsSure w new → Step w event did new → CallsBy w event did new.primary.calls
-calls-step w event true new sure step = calls-happen w event new sure (may-step w event new step) (step.happens refl)
+calls-step w event true new sure step = calls-happen w event new sure (step.happens refl)
 calls-step w event false new sure step = calls-stay w event new.primary.calls (ap (λ (x : World). x.primary.calls) (step.stands refl))
 
 -- ---- released bytes
@@ -121,38 +138,41 @@ none w c = refl
 told-silent : (w : World) (ack : Option Acknowledgement) → Silent w (with_link (told w.primary.epoch w.primary.committer.position ack w.primary.link) w)
 told-silent w ack c = refl
 
-released-happens : (w : World) (event : Event) (new : World) → IsSure w new → may_happen w event ≡ true → Happens w event new → (c : ℕ) → released_in new c ≡ released_in w c ++ released_by w event true c
-released-happens w Enter new sure may h = quiet w _ new h (get-entered (λ connection. connection.outbound.released) refl w.primary.connections)
-released-happens w (Feed d piece) new sure may h = quiet w _ new h (silent-inbound w d (fed_with piece))
-released-happens w (Offer d) new sure may h = quiet w _ new h (silent-inbound w d offered_next)
-released-happens w (Turn d) new sure may h = quiet w _ new h.now (silent-called w d h.call)
-released-happens w CloseGroup new sure may h =
+-- nor does a crash release anything
+silent-crashed : (w : World) (n : Node) (remain : Remains) → Silent w (crashed n remain w)
+silent-crashed w node.Primary (At p) c = ap (λ (x : Connection). x.outbound.released) (get-over w.primary.connections c)
+silent-crashed w node.Primary AsPrimary c = refl
+silent-crashed w node.Standby (At p) c = refl
+silent-crashed w node.Standby AsPrimary c = ap (λ (x : Connection). x.outbound.released) (get-over w.primary.connections c)
+
+released-happens : (w : World) (event : Event) (new : World) → IsSure w new → Happens w event new → (c : ℕ) → released_in new c ≡ released_in w c ++ released_by w event true c
+released-happens w Enter new sure h = quiet w _ new h (get-entered (λ connection. connection.outbound.released) refl w.primary.connections)
+released-happens w (Feed d piece) new sure h = quiet w _ new h (silent-inbound w d (fed_with piece))
+released-happens w (Offer d) new sure h = quiet w _ new h (silent-inbound w d offered_next)
+released-happens w (Turn d) new sure h = quiet w _ new h.now (silent-called w d h.call)
+released-happens w CloseGroup new sure h =
     elim h [
       | inl group ↦ quiet w _ new group.1.now (λ c. refl)
       | inr list ↦ quiet w _ new list.1 (λ c. refl)
     ]
-released-happens w Commit new sure may h = quiet w _ new (sure-unfailed w node.Primary cut.Commit new sure h) (λ c. refl)
-released-happens w Free new sure may h = quiet w _ new (sure-unfailed w node.Primary cut.Free new sure h) (λ c. refl)
-released-happens w ClearGap new sure may h = quiet w _ new (sure-unfailed w node.Primary cut.ClearGap new sure h) (λ c. refl)
-released-happens w Apply new sure may h = quiet w _ new (sure-unfailed w node.Standby cut.Apply new sure h).now (λ c. refl)
-released-happens w (AckDelivered a) new sure may h = quiet w _ new h (told-silent w (slice_get w.wire.acknowledgements a))
-released-happens w (Hold d) new sure may h = quiet w _ new h (silent-outbound w d held_first (λ outbound. refl))
-released-happens w (Read d mark) new sure may h = quiet w _ new h (silent-outbound w d (having_read mark w) (silent-read w mark))
-released-happens w (Release d) new sure may h = quiet w _ new h (silent-outbound w d having_released (λ outbound. refl))
-released-happens w (Write d n) new sure may h = λ c. ap (λ (x : World). released_in x c) h ∙ written-at w d n c
-released-happens w (Leave d) new sure may h = quiet w _ new h (silent-changed d left w.primary.connections (λ connection. refl))
-released-happens w (FailFence node.Primary k) new sure may h = quiet w _ new h (λ c. refl)
-released-happens w (FailFence node.Standby k) new sure may h = quiet w _ new h (λ c. refl)
-released-happens w (Crash node.Primary call k picks) new sure may h =
-    quiet w _ new (h.now ∙ ap (λ (r : Remains). crashed node.Primary r w) (remains w new node.Primary call h.remain sure (between w new node.Primary call sure may) h.one))
-    (λ c. ap (λ (x : Connection). x.outbound.released) (get-over w.primary.connections c))
-released-happens w (Crash node.Standby call k picks) new sure may h =
-    quiet w _ new (h.now ∙ ap (λ (r : Remains). crashed node.Standby r w) (remains w new node.Standby call h.remain sure (between w new node.Standby call sure may) h.one)) (λ c. refl)
-released-happens w (Reopen node.Primary) new sure may h = quiet w _ new (sure-unfailed w node.Primary cut.Reopen new sure h).now (λ c. refl)
-released-happens w (Reopen node.Standby) new sure may h = quiet w _ new (sure-unfailed w node.Standby cut.Reopen new sure h) (λ c. refl)
-released-happens w Promote new sure may h =
+released-happens w Commit new sure h = quiet w _ new (sure-unfailed w node.Primary cut.Commit new sure h) (λ c. refl)
+released-happens w Free new sure h = quiet w _ new (sure-unfailed w node.Primary cut.Free new sure h) (λ c. refl)
+released-happens w ClearGap new sure h = quiet w _ new (sure-unfailed w node.Primary cut.ClearGap new sure h) (λ c. refl)
+released-happens w Apply new sure h = quiet w _ new (sure-unfailed w node.Standby cut.Apply new sure h).now (λ c. refl)
+released-happens w (AckDelivered a) new sure h = quiet w _ new h (told-silent w (slice_get w.wire.acknowledgements a))
+released-happens w (Hold d) new sure h = quiet w _ new h (silent-outbound w d held_first (λ outbound. refl))
+released-happens w (Read d mark) new sure h = quiet w _ new h (silent-outbound w d (having_read mark w) (silent-read w mark))
+released-happens w (Release d) new sure h = quiet w _ new h (silent-outbound w d having_released (λ outbound. refl))
+released-happens w (Write d n) new sure h = λ c. ap (λ (x : World). released_in x c) h ∙ written-at w d n c
+released-happens w (Leave d) new sure h = quiet w _ new h (silent-changed d left w.primary.connections (λ connection. refl))
+released-happens w (FailFence node.Primary k) new sure h = quiet w _ new h (λ c. refl)
+released-happens w (FailFence node.Standby k) new sure h = quiet w _ new h (λ c. refl)
+released-happens w (Crash n call k picks) new sure h = quiet w _ new h.now (silent-crashed w n h.remain)
+released-happens w (Reopen node.Primary) new sure h = quiet w _ new (sure-unfailed w node.Primary cut.Reopen new sure h).now (λ c. refl)
+released-happens w (Reopen node.Standby) new sure h = quiet w _ new (sure-unfailed w node.Standby cut.Reopen new sure h) (λ c. refl)
+released-happens w Promote new sure h =
     quiet w _ new (sure-unfailed w node.Standby cut.Promote new sure h).now (λ c. ap (λ (x : Connection). x.outbound.released) (get-over w.primary.connections c))
-released-happens w event new sure may h = quiet w _ new h (λ c. refl)
+released-happens w event new sure h = quiet w _ new h (λ c. refl)
 
 -- nothing is released where the event was not enabled
 released-stays : (w : World) (event : Event) (c : ℕ) → released_by w event false c ≡ []
@@ -160,6 +180,6 @@ released-stays w (Write d n) c = refl
 released-stays w event c = refl
 
 pub released-step : (w : World) (event : Event) (did : Bool) (new : World) → IsSure w new → Step w event did new → (c : ℕ) → released_in new c ≡ released_in w c ++ released_by w event did c
-released-step w event true new sure step = released-happens w event new sure (may-step w event new step) (step.happens refl)
+released-step w event true new sure step = released-happens w event new sure (step.happens refl)
 released-step w event false new sure step = λ c.
     ap (λ (x : World). released_in x c) (step.stands refl) ∙ sym (append-nil (released_in w c)) ∙ ap (λ xs. released_in w c ++ xs) (sym (released-stays w event c))

@@ -4,7 +4,7 @@ use Rattle.model.specs.Standing.{Holder}
 use Rattle.machine.specs.declared.event.Event.{Event}
 use Rattle.machine.specs.declared.event.Event.TheVariants.{Turn, CloseGroup, Commit, Free, ClearGap, OpenLink, Deliver, Apply, AckDelivered, FailFence, Crash, Reopen, Fence, Promote}
 use Rattle.machine.specs.World as machine
-use Rattle.machine.specs.Event.{Acknowledgement, Allowed, Frame, Standby, World, Happens, Takes, is_enabled, is_retired, is_running, is_stopped, may_happen, nodes_run, told, torn, with_link}
+use Rattle.machine.specs.Event.{Acknowledgement, Frame, Standby, World, Happens, Takes, is_enabled, is_retired, is_running, is_stopped, may_happen, nodes_run, told, torn, with_link}
 use Rattle.machine.proofs.SureLemmas.{IsSure}
 use Rattle.world.specs.Pair.{AreLives, NodesRefine, Pair, PairRefines}
 use Rattle.world.specs.Condition.{has_crashed, has_ended, life_as, runs}
@@ -125,7 +125,6 @@ stopped_as Ended = refl
 
 pub sure-lives : {first second first' second' : Holder} {serves follows serves' follows' : Condition} {w w' : World} → AreLives first second serves follows w → AreLives first' second' serves' follows' w' → IsSure w w'
 sure-lives {first} {second} {first'} {second'} {serves} {follows} {serves'} {follows'} {w} {w'} lives lives' = record {
-  cuts = ap (λ (a : Allowed). a.cuts) lives.allowed_are;
   primary_whole = ap torn lives.primary ∙ torn_as serves;
   standby_whole = ap torn lives.standby ∙ torn_as follows;
   primary_goes = ap is_stopped lives'.primary ∙ stopped_as serves';

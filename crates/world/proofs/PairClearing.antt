@@ -7,7 +7,7 @@ use Rattle.kv_types.specs.declared.refusal.Refusal.TheVariants.{Memory, Exhauste
 use Rattle.pmem.specs.Device.{State}
 use Rattle.pmem.specs.Crash.{IsImage}
 use Rattle.pmem.specs.Runs.{LeavesOnly}
-use Rattle.pmem.proofs.Leaving.{none_leaves}
+use Rattle.pmem.proofs.Leaving.{LeavesOnly-weaken, none_leaves}
 use Rattle.model.specs.declared.group.Group.{Group}
 use Rattle.model.specs.declared.image.TheConstants.{COUNTER_LIMIT}
 use Rattle.model.specs.declared.record.Record.{Record}
@@ -17,6 +17,7 @@ use Rattle.model.specs.Image.{Image}
 use Rattle.model.proofs.RecordLemmas.{HasRecord-lines}
 use Rattle.model.specs.Standing.{Holder}
 use Rattle.wbl_engine.specs.declared.freeing.Freed.{Freed}
+use Rattle.wbl_engine.specs.Freeing.{cleared_contents}
 use Rattle.pipes.specs.Waiting.{Waiting}
 use Rattle.redis_core.specs.Sequencing.{Sequencing}
 use Rattle.standby_stream.specs.declared.opening.Opening.{Opening}
@@ -28,6 +29,7 @@ use Rattle.group_commit.specs.declared.due.Due.TheVariants as due
 use Rattle.group_commit.specs.declared.stage.Done.{Done}
 use Rattle.group_commit.specs.declared.stage.Stage.{Stage}
 use Rattle.group_commit.proofs.DueLemmas.{ClearIsDue, clear-now}
+use Rattle.machine.specs.declared.event.Cut.TheVariants as cut
 use Rattle.machine.specs.declared.event.Event.TheVariants as events
 use Rattle.machine.specs.Event.{World, may_happen}
 use Rattle.machine.specs.Event as machine
@@ -37,7 +39,7 @@ use Rattle.world.specs.GroupSpan.{AreWorkOf, positions_of_lists}
 use Rattle.world.specs.Pair.{Does, FreeingRefines, IsCut, Pair, PairRefines, PartsRefine}
 use Rattle.world.specs.Effect.{ClearsOldest}
 use Rattle.primary.specs.Recalling.{Remembers}
-use Rattle.primary.proofs.RecallLemmas.{remembers-same}
+use Rattle.primary.proofs.RecallLemmas.{recalls-each, remembers-same}
 use Rattle.world.specs.Recalling.{past_of}
 use Rattle.world.specs.Standby.{Arrived, Node}
 use Rattle.connections.specs.declared.connections.Connections.{Connections}
@@ -49,7 +51,8 @@ use Rattle.world.proofs.LivesLemmas.{enabled-is, nodes-refine, own-runs}
 use Rattle.world.proofs.PairLemmas.{Led, cut-for, none-added, rests-primary, rests-standby, stays-does, tells}
 use Rattle.world.proofs.QueueLemmas.{clear-disabled, clear-enabled}
 use Rattle.world.proofs.PairTurns.{Took, Waiting-same}
-use Rattle.world.proofs.FreeingLemmas.{engine-cleared, cleared-moments, primary-steps}
+use Rattle.world.proofs.FreeingLemmas.{cleared-moments, contents-cleared, engine-cleared, lawful-cleared, primary-steps}
+use Rattle.world.proofs.LeftLemmas.{LeftBy, left-running, left-still, left-there}
 use Rattle.world.proofs.PairFreeing.{fault-does, pair_with, refused-does}
 use Rattle.world.specs.declared.condition.Condition.{Condition}
 
@@ -196,6 +199,24 @@ module _ {E : Type 0} (device : E → State) (contents : E → Contents) (is_fau
       clear-ends handed' refusal (offered, queue, clears) =
           subst (λ (h : Waiting Group). Does from events.ClearGap (Err refusal) (cleared_with after waiting' notices h)) (Waiting-same handed handed' (sym offered.offered_is))
           (cut-clear refusal (clears-one after waiting' (Err refusal) queue clears))
+
+      -- at any moment of it a crash leaves what one that cuts it may leave
+      pub clear-left : (handed' : Waiting Group) (result : Result Done Refusal) → Took device contents is_faulted due.Clear (link_has_room handed.items) remote before waiting handed result after waiting' handed'
+          → (first second : Holder) (w : World) → PairRefines first second from w → LeavesOnly (device before.engine) (device after.engine) (LeftBy first w cut.ClearGap)
+      clear-left handed' result (offered, queue, clears) first second w stands =
+          let parts = stands.parts in
+          let calls = w.primary.calls in
+          let p = w.primary.committer.position in
+          elim (cases_lt (from.contents.current.number + 1) COUNTER_LIMIT) [
+            | inl below ↦ LeavesOnly-weaken (LeftBy first w cut.ClearGap)
+                (λ image either. elim either [
+                  | inl keeps ↦ left-running first second from w cut.ClearGap image stands.sound parts keeps
+                  | inr keeps ↦ left-there first w cut.ClearGap (cleared_contents from.contents) image stands.sound (contents-cleared first calls p from.contents parts.engine.contents_at)
+                      (lawful-cleared from.contents below parts.engine.lawful)
+                      (recalls-each w.standby.position p (past_of calls) from.contents waiting.items before.aside.items sequencer parts.remembers) keeps
+                ]) (clears.moments parts.engine.sound)
+            | inr over ↦ left-still first second from w cut.ClearGap (device after.engine) stands.sound parts (ap device (clears.exhausted (clears.exhausts parts.engine.sound over)).1)
+          ]
 
   -- room for the notice was refused
   pub clear-roomless : (before : Committer E) (waiting : Waiting Work) (notices notices' : List Freed) (handed : Waiting Group) (refusal : Refusal) → refusal ≡ Memory

@@ -74,7 +74,7 @@ abbrev pub with_crashed_primary : Connections → Transcript → Committing → 
 with_crashed_primary sessions transcript committing device contents is_faulted pair =
     record pair { sessions = sessions; transcript = transcript; committing = committing; device = device; contents = contents; is_faulted = is_faulted; primary_condition = Crashed }
 
-StandbyRefines-cut : (holder : Holder) (epoch : ℕ) (calls : List Call) (p n : ℕ) (node : Node) (condition : Condition) → p ≤ n → StandbyRefines holder epoch calls p node condition
+pub StandbyRefines-cut : (holder : Holder) (epoch : ℕ) (calls : List Call) (p n : ℕ) (node : Node) (condition : Condition) → p ≤ n → StandbyRefines holder epoch calls p node condition
     → StandbyRefines holder epoch (cut_at calls n) p node condition
 StandbyRefines-cut holder epoch calls p n node condition le refines = record {
   stands = λ up. StandbyStands-cut holder epoch calls n p node le (refines.stands up);

@@ -10,9 +10,12 @@ use Rattle.model.specs.declared.group.Group.{Group}
 use Rattle.model.specs.declared.record.Record.{Record}
 use Rattle.model.specs.declared.work.FreeList.{FreeList}
 use Rattle.model.specs.declared.work.Work.{Work}
-use Rattle.model.specs.Group.{AreEnded, Contents, after_free}
+use Rattle.model.specs.Group.{AreEnded, Contents, after_free, without}
+use Rattle.model.specs.Image.{Image}
 use Rattle.model.specs.Standing.{Holder}
 use Rattle.wbl_engine.specs.declared.freeing.Freed.{Freed}
+use Rattle.wbl_engine.specs.Freeing.{KeepsWithoutSome}
+use Rattle.wbl_engine.proofs.WithoutLemmas.{AllEnded, lawful_without}
 use Rattle.pipes.specs.Waiting.{Waiting}
 use Rattle.redis_core.specs.Sequencing.{Sequencing}
 use Rattle.standby_stream.specs.declared.opening.Opening.{Opening}
@@ -24,8 +27,9 @@ use Rattle.group_commit.specs.declared.due.Due.TheVariants as due
 use Rattle.group_commit.specs.declared.stage.Done.{Done}
 use Rattle.group_commit.specs.declared.stage.Stage.{Stage}
 use Rattle.group_commit.proofs.DueLemmas.{FreeIsDue, free-now}
-use Rattle.group_commit.proofs.FreedLemmas.{AreEnded-first}
+use Rattle.group_commit.proofs.FreedLemmas.{AllEnded-listed, AreEnded-first}
 use Rattle.group_commit.proofs.GroupsLemmas.{Same-is}
+use Rattle.machine.specs.declared.event.Cut.TheVariants as cut
 use Rattle.machine.specs.declared.event.Event.{Event}
 use Rattle.machine.specs.declared.event.Event.TheVariants as events
 use Rattle.machine.specs.Event.{Work as MachineWork, World, has_room, may_happen, reached_lists}
@@ -37,7 +41,8 @@ use Rattle.world.specs.Pair.{Does, FreeingRefines, IsCut, Pair, PairRefines, Par
 use Rattle.world.specs.Effect.{FreesOldest}
 use Rattle.primary.specs.Recalling.{Remembers}
 use Rattle.primary.proofs.KeptTurns.{remembers-reached}
-use Rattle.primary.proofs.RecallLemmas.{remembers-freed}
+use Rattle.primary.proofs.RecallLemmas.{recalls-without, remembers-freed}
+use Rattle.primary.proofs.RecallParts.{recalls-more}
 use Rattle.world.specs.Recalling.{past_of}
 use Rattle.world.specs.Standby.{Arrived, Node}
 use Rattle.connections.specs.declared.connections.Connections.{Connections}
@@ -51,7 +56,8 @@ use Rattle.world.proofs.LivesLemmas.{enabled-is, is_own, nodes-refine, own-runs}
 use Rattle.world.proofs.PairLemmas.{Led, cut-for, cut-same, none-added, rests-standby, stays-does, tells}
 use Rattle.world.proofs.QueueLemmas.{free-disabled, free-enabled, reached-positions, room-link}
 use Rattle.world.proofs.PairTurns.{Took, Waiting-same, pair_of}
-use Rattle.world.proofs.FreeingLemmas.{engine-freed, freed-moments, primary-steps}
+use Rattle.world.proofs.FreeingLemmas.{contents-without, engine-freed, freed-moments, primary-steps}
+use Rattle.world.proofs.LeftLemmas.{LeftBy, left-still, left-there}
 use Rattle.world.specs.declared.condition.Condition.{Condition}
 
 -- ---- what a turn reaches
@@ -253,6 +259,33 @@ module _ {E : Type 0} (device : E → State) (contents : E → Contents) (is_fau
             | inl frees ↦ broke-does refusal frees
             | inr lacks ↦ refused-does events.Free refl refl before after waiting waiting' notices notices handed handed refusal (let is = lacks.answer in cc) lacks.engine free_may
           ])
+
+      -- at any moment of it a crash leaves what one that cuts it may leave
+      pub free-left : (handed' : Waiting Group) (result : Result Done Refusal) → Took device contents is_faulted due.Free (link_has_room handed.items) remote before waiting handed result after waiting' handed'
+          → (first second : Holder) (w : World) → PairRefines first second old w → LeavesOnly (device before.engine) (device after.engine) (LeftBy first w cut.Free)
+      free-left handed' result (offered, came) first second w stands =
+          elim came [
+            | inl frees ↦ LeavesOnly-weaken (LeftBy first w cut.Free) (some frees) (frees.frees.moments stands.parts.engine.sound)
+            | inr lacks ↦ left-still first second old w cut.Free (device after.engine) stands.sound stands.parts (ap device lacks.engine)
+          ]
+        where
+          some : (frees : Frees after waiting' result) (image : Image) → KeepsWithoutSome frees.list.entries.items old.contents image → LeftBy first w cut.Free image
+          some frees image (gone, listed, held) =
+              let parts = stands.parts in
+              let calls = w.primary.calls in
+              let low = w.standby.position in
+              let p = w.primary.committer.position in
+              let ended = ended-then result frees first second w parts in
+              let all : AllEnded gone old.contents.versions = λ i is. AllEnded-listed old.contents frees.list.entries.items ended i (listed i is) in
+              let remembers : Remembers low p (past_of calls) old.contents waiting'.items (frees.list ∷ frees.rest) sequencer =
+              rw frees.left
+              (subst (λ (xs : List FreeList). Remembers low p (past_of calls) old.contents (left_by (link_has_room handed.items) waiting.items) xs sequencer) frees.reached
+              (remembers-reached (link_has_room handed.items) low p (past_of calls) old.contents waiting.items before.aside.items sequencer may.none parts.remembers)) in
+              left-there first w cut.Free (without gone old.contents) image stands.sound (contents-without first calls p old.contents gone all parts.engine.contents_at)
+              (lawful_without old.contents gone all parts.engine.lawful)
+              (λ q from below.
+              recalls-more (without gone old.contents).versions _ (λ i. Unit {0}) q (past_of calls q) (λ i held. tt)
+              (recalls-without low p (past_of calls) old.contents waiting'.items frees.list frees.rest sequencer (passed-then result frees first second w stands) ended remembers gone listed q from below)) held
 
   -- room for the notice was refused
   pub free-roomless : (before : Committer E) (waiting : Waiting Work) (notices notices' : List Freed) (handed : Waiting Group) (refusal : Refusal) → refusal ≡ Memory

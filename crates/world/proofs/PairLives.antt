@@ -1,14 +1,13 @@
 -- What an event does to any pair: where its nodes do not take part, and where its primary runs.
-use Rattle.std.proofs.Common.{◌≡◌, ◌&&◌, ◌||◌, not, ℕ, Vec, Global, Bool, true, false, Result, Ok, Err, refl, sym, ap, subst, ◌∙◌, true≢false}
+use Rattle.std.proofs.Common.{◌≡◌, ◌&&◌, not, Bool, true, false, Result, Ok, Err, refl, sym, ap, subst, ◌∙◌, true≢false}
 use Rattle.kv_types.specs.declared.refusal.Refusal.{Refusal}
 use Rattle.model.specs.Standing.{Holder}
 use Rattle.machine.specs.declared.event.Event.{Event}
 use Rattle.machine.specs.declared.event.Event.TheVariants.{Apply, Crash, Deliver, FailFence, Fence, OpenLink, Promote, Reopen}
 use Rattle.machine.specs.declared.event.Cut.{Cut}
 use Rattle.machine.specs.declared.event.Cut.TheVariants as cut
-use Rattle.machine.specs.declared.event.Node.{Node}
 use Rattle.machine.specs.declared.event.Node.TheVariants as node_of
-use Rattle.machine.specs.Event.{Allowed, World, is_between, is_enabled, is_retired, is_running, may_cut, may_happen, nodes_run}
+use Rattle.machine.specs.Event.{World, is_between, is_enabled, is_retired, is_running, may_happen, nodes_run}
 use Rattle.world.specs.Pair.{Acts, AreLives, Does, NodesRefine, Pair, takes_part}
 use Rattle.world.proofs.LivesLemmas.{retired-as, running-as, serves-as}
 use Rattle.world.proofs.PairLemmas.{none-added, untouched}
@@ -63,13 +62,6 @@ promote-acts old unfenced =
 pub between : (call : Cut) → is_between call ≡ true → call ≡ cut.Between
 between cut.Between is = refl
 between call is = absurd (true≢false (sym is))
-
--- a crash inside a call
-pub cut-acts : (old : Pair) (n : Node) (call : Cut) (k : ℕ) (picks : Vec ℕ Global) → is_between call ≡ false → Acts old (Crash n call k picks) (Ok false) old
-cut-acts old n call k picks inside =
-    stays-acts old (Crash n call k picks) (λ first second w stands.
-    not-both w.allowed.restarts ((is_between call || w.allowed.cuts) && may_cut w n call)
-    (ap (λ b. (b || w.allowed.cuts) && may_cut w n call) inside ∙ ap (λ (a : Allowed). a.cuts && may_cut w n call) stands.lives.allowed_are))
 
 -- ---- the primary runs
 

@@ -52,7 +52,7 @@ use Rattle.world.proofs.PromotionLemmas.{OpensAt-uncut, PromotesUnder, WasNotPro
 -- ---- the wire
 
 -- what an earlier primary sent tells nothing of this list
-frames-earlier : (epoch later n : ℕ) (calls calls' : List Call) (texts : List (Vec ℕ Global)) (sent : List Sent) → epoch < later → All (IsFrameWithin epoch n) sent → AreFramesSent epoch calls texts sent → AreFramesSent later calls' texts sent
+pub frames-earlier : (epoch later n : ℕ) (calls calls' : List Call) (texts : List (Vec ℕ Global)) (sent : List Sent) → epoch < later → All (IsFrameWithin epoch n) sent → AreFramesSent epoch calls texts sent → AreFramesSent later calls' texts sent
 frames-earlier epoch later n calls calls' [] [] less within are = tt
 frames-earlier epoch later n calls calls' (bytes ∷ texts) (one ∷ sent) less within are = (
   record {
@@ -80,7 +80,7 @@ left_with sessions transcript device link arrivals node pair =
     record pair { sessions = sessions; transcript = transcript; device = device; link = link; arrivals = arrivals; standby = node; primary_condition = Crashed; standby_condition = Ended }
 
 -- the holder of the former primary's device, of which nothing is said
-abbrev former_holder : Holder → Holder
+abbrev pub former_holder : Holder → Holder
 former_holder second = record { lines = second.lines; role = role.Standby; epoch = second.epoch + 1 }
 
 -- the list of calls and the released bytes are those of the world

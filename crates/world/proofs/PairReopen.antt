@@ -30,7 +30,7 @@ use Rattle.machine.specs.declared.event.Node.TheVariants as node
 use Rattle.machine.specs.Event.{Allowed, Committer as MachineCommitter, World, Step, is_crashed, is_enabled, new_link, reopened_primary, reopened_standby, with_primary, with_standby}
 use Rattle.machine.proofs.SoundEvents.{sound-step}
 use Rattle.world.specs.Cause.{EndsBy, Stretch}
-use Rattle.world.specs.Committing.{Committing, CommittingRefines, IsDown, next_primary, next_standby}
+use Rattle.world.specs.Committing.{Committing, CommittingRefines, next_primary, next_standby}
 use Rattle.world.specs.GroupSpan.{AreGroupsOf}
 use Rattle.world.specs.Link.{AreFramesSent, IsOwn, LinkRefines}
 use Rattle.primary.specs.Recalling.{AreKeyspaces, DeltaLeads, RecallsEach, Remembers}
@@ -56,7 +56,7 @@ use Rattle.world.specs.declared.condition.Condition.TheVariants.{Running, Crashe
 
 -- ---- a node that runs
 
-crashed_as : (condition : Condition) → is_crashed (life_as condition) ≡ has_crashed condition
+pub crashed_as : (condition : Condition) → is_crashed (life_as condition) ≡ has_crashed condition
 crashed_as Running = refl
 crashed_as Crashed = refl
 crashed_as Ended = refl
@@ -167,6 +167,14 @@ standby-reopening-cut old node' result refusal is fallen refused =
 
 -- ---- the primary
 
+-- one that is crashed is its image
+pub fallen-parts : {first second : Holder} {w : World} (old : Pair) → has_crashed old.primary_condition ≡ true → EitherRefines first second old w → DownRefine first second old w
+fallen-parts old fallen parts = elim parts [
+  | inl up ↦ absurd (not-crashed old.primary_condition up.0 fallen)
+  | inr (inl down) ↦ down.1
+  | inr (inr fenced) ↦ absurd (fenced-not-crashed old.primary_condition fenced.0 fallen)
+]
+
 abbrev pub with_primary_node : Sequencing → Committing → List Freed → State → Contents → Bool → Waiting Group → Stream → Opening → ℕ → Condition → Pair → Pair
 with_primary_node sequencer committing notices device contents is_faulted handed link opening remote condition pair =
     record pair {
@@ -206,20 +214,13 @@ primary-reopens old sequencer committing notices device contents is_faulted hand
     new : Pair
     new = with_primary_node sequencer committing notices device contents is_faulted handed link opening 0 Running old
 
-    fallen-parts : {first second : Holder} {w : World} → EitherRefines first second old w → DownRefine first second old w
-    fallen-parts parts = elim parts [
-      | inl up ↦ absurd (not-crashed old.primary_condition up.0 fallen)
-      | inr (inl down) ↦ down.1
-      | inr (inr fenced) ↦ absurd (fenced-not-crashed old.primary_condition fenced.0 fallen)
-    ]
-
     steps : (first second : Holder) (w : World) → NodesRefine first second old w → Steps first second w (events.Reopen node.Primary) true old new
     steps first second w stands =
         let event = events.Reopen node.Primary in
         let calls = w.primary.calls in
         let p = w.primary.committer.position in
         let lives = stands.lives in
-        let lost = fallen-parts stands.parts in
+        let lost = fallen-parts old fallen stands.parts in
         let mine : IsOpened first.role old.device device contents is_faulted = subst (λ r. IsOpened r old.device device contents is_faulted) (sym lives.first_role) opened in
         let engine = opened-stands first calls p old.device device contents is_faulted lost.image mine in
         let at = engine.contents_at in
@@ -326,20 +327,13 @@ primary-reopening-cut old sequencer committing device' contents is_faulted resul
     event : Event
     event = events.Reopen node.Primary
 
-    image : {first second : Holder} {w : World} → EitherRefines first second old w → IsDown first w.primary.calls w.primary.committer.position old.device
-    image parts = elim parts [
-      | inl up ↦ absurd (not-crashed old.primary_condition up.0 fallen)
-      | inr (inl down) ↦ down.1.image
-      | inr (inr fenced) ↦ absurd (fenced-not-crashed old.primary_condition fenced.0 fallen)
-    ]
-
     cut : (first second : Holder) (w : World) → NodesRefine first second old w → IsCut first second event refusal old new w
     cut first second w stands =
         let calls = w.primary.calls in
         let p = w.primary.committer.position in
         let next = next_primary w in
         let device = old.device in
-        let down = image stands.parts in
+        let down = (fallen-parts old fallen stands.parts).image in
         let there = rests-standby first second old w stands in
         let memory : refusal ≡ Memory → device'.failures ≡ device.failures → EndsBy refusal event (Led first second old new w) =
         λ is same. subst (λ (r : Refusal). EndsBy r event (Led first second old new w)) (sym is) (refl, (opened-rests first calls p device device' down refused.moments same, there)) in

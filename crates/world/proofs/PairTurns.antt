@@ -3,6 +3,8 @@ use Rattle.std.proofs.Common.{◌≡◌, ◌⊎◌, ◌-◌, ◌≤◌, ℕ, Boo
 use Rattle.std.proofs.lemmas.Bool.{cases_lt, le-ltb, lt-ltb}
 use Rattle.std.specs.Coded.{le_prop}
 use Rattle.pmem.specs.Device.{State}
+use Rattle.pmem.specs.Runs.{LeavesOnly}
+use Rattle.pmem.proofs.Leaving.{LeavesOnly-weaken}
 use Rattle.kv_types.specs.declared.refusal.Refusal.{Refusal}
 use Rattle.kv_types.specs.declared.refusal.Refusal.TheVariants.{Memory}
 use Rattle.pipes.specs.Waiting.{Waiting}
@@ -11,9 +13,10 @@ use Rattle.model.specs.declared.group.Group.{Group}
 use Rattle.model.specs.declared.record.Record.{Record}
 use Rattle.model.specs.declared.work.FreeList.{FreeList}
 use Rattle.model.specs.declared.work.Work.{Work}
-use Rattle.model.specs.Group.{Contents}
+use Rattle.model.specs.Group.{Contents, after_group}
 use Rattle.model.specs.Standing.{Holder}
-use Rattle.wbl_engine.specs.Contents.{Exhausts}
+use Rattle.wbl_engine.specs.Contents.{Exhausts, Same}
+use Rattle.wbl_engine.proofs.LawfulLemmas.{group_lawful}
 use Rattle.wbl_engine.specs.declared.freeing.Freed.{Freed}
 use Rattle.redis_core.specs.Sequencing.{Sequencing}
 use Rattle.standby_stream.specs.declared.opening.Opening.{Opening}
@@ -28,20 +31,23 @@ use Rattle.group_commit.specs.declared.stage.Done.{Done}
 use Rattle.group_commit.specs.declared.stage.Done.TheVariants.{Handed, Idle}
 use Rattle.group_commit.specs.declared.stage.Stage.TheVariants.{Ready, Durable, Shown}
 use Rattle.group_commit.proofs.DueLemmas.{hand-now, raise-now}
+use Rattle.machine.specs.declared.event.Cut.TheVariants as cut
 use Rattle.machine.specs.declared.event.TheConstants.{PIPE_ITEMS}
 use Rattle.machine.specs.declared.event.Event.{Event}
 use Rattle.machine.specs.declared.event.Event.TheVariants as events
 use Rattle.machine.specs.Event.{World, Committer as MachineCommitter, committed_first, from_group, may_happen, with_committer}
 use Rattle.world.specs.Committing.{EngineStands, CommittingRefines, link_has_room, next_primary}
 use Rattle.primary.specs.Recalling.{Remembers}
+use Rattle.primary.proofs.RecallLemmas.{recalls-each}
 use Rattle.world.specs.Recalling.{past_of}
 use Rattle.connections.specs.Session.{SequencerRefines}
 use Rattle.world.specs.Standby.{Arrived, Node}
 use Rattle.world.specs.Pair.{Pair, PartsRefine, PairRefines, Steps, Does}
 use Rattle.connections.specs.declared.connections.Connections.{Connections}
 use Rattle.connections.specs.declared.transcript.Transcript.{Transcript}
-use Rattle.world.proofs.CommittingLemmas.{Leads-committed, Remembers-committed, TakesLawful, commit-ends, commit-goes, commit-moments, hand-goes, hand-none, hand-room, raise-goes, raise-none, takes-lawful}
-use Rattle.world.proofs.LivesLemmas.{enabled-is, nodes-refine, own-runs}
+use Rattle.world.proofs.CommittingLemmas.{Leads-committed, Remembers-committed, TakesLawful, commit-ends, commit-goes, commit-lands, commit-moments, hand-goes, hand-none, hand-room, raise-goes, raise-none, takes-lawful}
+use Rattle.world.proofs.LeftLemmas.{LeftBy, left-next, left-running, left-still}
+use Rattle.world.proofs.LivesLemmas.{enabled-is, nodes-refine, own-runs, serving}
 use Rattle.world.proofs.PairLemmas.{Led, cut-for, cut-same, none-added, rests-standby, stays-does, tells}
 use Rattle.world.proofs.PairCommitting.{commit-steps, ends-commit, hand-does, raise-does, same_closed}
 use Rattle.world.proofs.QueueLemmas.{commit-disabled, commit-enabled}
@@ -280,6 +286,48 @@ module _ {E : Type 0} (device : E → State) (contents : E → Contents) (is_fau
       stays-does (pair_of before works handed) events.Commit refl
       (λ first second w stands.
       commit-disabled w (pair_of before works handed).committing handed.items stands.parts.committing stands.parts.link.waiting remote (length (contents before.engine).current.gaps.items) never)
+
+  -- at any moment of it a crash leaves what one that cuts it may leave
+  pub commit-left : (before after : Committer E) (works works' : Waiting Work) (handed handed' : Waiting Group) (result : Result Done Refusal)
+      → Took device contents is_faulted due.Commit (link_has_room handed.items) remote before works handed result after works' handed'
+      → (first second : Holder) (w : World) → PairRefines first second (pair_of before works handed) w → LeavesOnly (device before.engine) (device after.engine) (LeftBy first w cut.Commit)
+  commit-left before after works works' handed handed' result (offered, came) first second w stands =
+      elim came [
+        | inl took ↦ by result took
+        | inr lacking ↦ still lacking.engine
+      ]
+    where
+      old : Pair
+      old = pair_of before works handed
+
+      new : Pair
+      new = pair_of after works' handed
+
+      still : after.engine ≡ before.engine → LeavesOnly (device before.engine) (device after.engine) (LeftBy first w cut.Commit)
+      still same = left-still first second old w cut.Commit (device after.engine) stands.sound stands.parts (ap device same)
+
+      whole : (result : Result Done Refusal) (took : TakesGroup device contents is_faulted before works result after works') → (Exhausts (contents before.engine) took.group → ⊥)
+          → LeavesOnly (device before.engine) (device after.engine) (LeftBy first w cut.Commit)
+      whole result took fits =
+          let parts = stands.parts in
+          let then = after_group old.contents took.group in
+          let takes = takes-first before after works works' handed result took first second w parts in
+          let lands = commit-lands first w old.committing took.lists took.group new.committing old.contents takes parts.committing parts.engine.contents_at in
+          let same : Same then then = record { current = refl; lines = refl; versions = λ i. refl; is_free = λ i. refl } in
+          let remembers = Remembers-committed first w old.committing took.lists took.group new.committing old.contents then sequencer takes same parts.committing parts.engine.contents_at parts.remembers in
+          LeavesOnly-weaken (LeftBy first w cut.Commit)
+          (λ image either. elim either [
+            | inl keeps ↦ left-running first second old w cut.Commit image stands.sound parts keeps
+            | inr keeps ↦ left-next first w then image (serving stands) lands.rises lands.within lands.after (group_lawful old.contents took.group parts.engine.lawful takes.lawful fits)
+                (recalls-each w.standby.position (next_primary w) (past_of w.primary.calls) then new.committing.waiting.items new.committing.aside sequencer remembers) keeps
+          ]) (took.commits.moments parts.engine.sound)
+
+      by : (result : Result Done Refusal) → TakesGroup device contents is_faulted before works result after works' → LeavesOnly (device before.engine) (device after.engine) (LeftBy first w cut.Commit)
+      by (Ok done) took = whole (Ok done) took (λ would. committed_not_refused (took.commits.exhausts stands.parts.engine.sound would))
+      by (Err refusal) took = elim took.commits.causes [
+        | inl fault ↦ whole (Err refusal) took (λ would. let told = took.commits.exhausts stands.parts.engine.sound would in cc)
+        | inr exhausted ↦ still (took.commits.exhausted (ap Err exhausted)).1
+      ]
 
   -- what a turn does to a pair for which the local mark is due
   pub raise-does-so : (before after : Committer E) (works works' : Waiting Work) (waiting waiting' : Waiting Group) (result : Result Done Refusal)

@@ -4,10 +4,12 @@ use Rattle.std.proofs.lemmas.Bool.{cases_lt}
 use Rattle.kv_types.specs.declared.refusal.Refusal.{Refusal}
 use Rattle.kv_types.specs.declared.refusal.Refusal.TheVariants.{WrongEpoch, PositionGap, Full, Memory, Fault, Exhausted}
 use Rattle.kv_types.specs.Keyspace.{play_all}
+use Rattle.kv_types.specs.declared.place.EntryNo.{EntryNo}
+use Rattle.extent_heap.specs.Room.{Room}
 use Rattle.pmem.specs.Device.{State}
-use Rattle.pmem.specs.Crash.{IsImage}
+use Rattle.pmem.specs.Crash.{IsImage, Keeps}
 use Rattle.pmem.specs.Runs.{LeavesOnly}
-use Rattle.pmem.proofs.Leaving.{LeavesOnly-weaken}
+use Rattle.pmem.proofs.Leaving.{LeavesOnly-weaken, none_leaves}
 use Rattle.model.specs.declared.call.Call.{Call}
 use Rattle.model.specs.declared.image.TheConstants.{COUNTER_LIMIT, STAMP_WINDOW}
 use Rattle.model.specs.Call.{keyspace_after, cut_at, position_of}
@@ -28,10 +30,11 @@ use Rattle.standby.specs.declared.standby.Standby.{Standby}
 use Rattle.standby.specs.Following.{Follows, HoldsRearranged, HoldsWhole, IsHeld, IsNext, IsRearranged, IsTakenNext, HasTaken, IsBeforeOrWhole, WouldExhaust}
 use Rattle.standby.specs.Taking.{IsFull, TakesFrame}
 use Rattle.world.specs.Cause.{IsAtLimit, EndsBy}
-use Rattle.world.specs.Committing.{AreContentsAt, Moves, NearOnly, OpensAt, OpensAtEither, Rests, next_from}
+use Rattle.world.specs.Committing.{AreContentsAt, EngineStands, Moves, NearOnly, OpensAt, OpensAtEither, Rests, next_from}
 use Rattle.world.specs.Link.{IsFrameOf}
 use Rattle.world.specs.Standby.{Node, StandbyStands, node_at, told_by}
-use Rattle.world.proofs.EngineLemmas.{Opens-engine, keeps-opens, moves-same, near-still, rests-same, EngineStands-grows}
+use Rattle.world.proofs.KeptLemmas.{EngineStands-kept, KeepsAt, engine-keeps, kept-opens}
+use Rattle.world.proofs.EngineLemmas.{Opens-engine, moves-same, near-still, rests-same, EngineStands-grows}
 
 -- nothing happened to the standby
 pub StandbyStands-still : (holder : Holder) (epoch : ℕ) (calls : List Call) (p q : ℕ) (node : Node) → StandbyStands holder epoch calls p node → NearOnly holder calls p q node.device node.device
@@ -80,6 +83,33 @@ stops_full refusal goes stops = absurd (grind (arith, goes, stops))
 abbrev pub node_of : {E K D : Type 0} → (E → State) → (E → Contents) → (E → Bool) → (K → Table) → Standby E K D → Node
 node_of device contents is_faulted table standby =
     node_at (device standby.engine) (contents standby.engine) (is_faulted standby.engine) (table standby.keyspace) standby.heap standby.ended.items
+
+-- ---- what no answer changes
+
+-- its image has as many lines as before
+pub frame-lines : {E K D : Type 0} (device : E → State) (contents : E → Contents) (is_faulted : E → Bool) (table : K → Table) (frame : Frame) (first last : Standby E K D) (result : Result Ack Refusal)
+    → TakesFrame device contents is_faulted table frame first result last → (contents last.engine).lines ≡ (contents first.engine).lines
+frame-lines {E} {K} {D} device contents is_faulted table frame first last result (inl again) = ap (λ (standby : Standby E K D). (contents standby.engine).lines) again.same
+frame-lines {E} {K} {D} device contents is_faulted table frame first last result (inr (inl whole)) = whole.taken.lines
+frame-lines {E} {K} {D} device contents is_faulted table frame first last result (inr (inr refuses)) = elim refuses.state [
+  | inl once ↦ ap (λ (standby : Standby E K D). (contents standby.engine).lines) once.same
+  | inr (inl left) ↦ left.rearranged.line_count
+  | inr (inr broken) ↦ elim broken.ends [
+    | inl before ↦ before.line_count
+    | inr whole ↦ whole.line_count
+  ]
+]
+
+-- nor the moment that its device was asked to keep
+pub frame-asked : {E K D : Type 0} (device : E → State) (contents : E → Contents) (is_faulted : E → Bool) (table : K → Table) (frame : Frame) (first last : Standby E K D) (result : Result Ack Refusal)
+    → TakesFrame device contents is_faulted table frame first result last → (device last.engine).kept ≡ (device first.engine).kept
+frame-asked {E} {K} {D} device contents is_faulted table frame first last result (inl again) = ap (λ (standby : Standby E K D). (device standby.engine).kept) again.same
+frame-asked {E} {K} {D} device contents is_faulted table frame first last result (inr (inl whole)) = whole.asked_moment
+frame-asked {E} {K} {D} device contents is_faulted table frame first last result (inr (inr refuses)) = elim refuses.state [
+  | inl once ↦ ap (λ (standby : Standby E K D). (device standby.engine).kept) once.same
+  | inr (inl left) ↦ left.asked_moment
+  | inr (inr broken) ↦ broken.asked_moment
+]
 
 -- a frame that came next, and was refused by one that goes on, has no room
 pub refused-full : {E K D : Type 0} (device : E → State) (contents : E → Contents) (is_faulted : E → Bool) (table : K → Table) (frame : Frame) (first last : Standby E K D) (refusal : Refusal)
@@ -180,19 +210,26 @@ module _ {E K D : Type 0} (device : E → State) (contents : E → Contents) (is
       new_stands machine.position (kept.position ∙ at) kept.role kept.epoch kept.line_count (kept.map ∙ stands.table)
 
   -- an image of the same map stands where the standby stood
-  before_opens : (image : Image) → HoldsRearranged old.contents image → OpensAt holder calls machine.position image
-  before_opens image held =
+  before_keeps : (image : Image) → HoldsRearranged old.contents image → KeepsAt holder calls machine.position image
+  before_keeps image held =
       let is = held.rearranged in
       let was = stands.engine.contents_at in
-      let contents_at : AreContentsAt holder calls machine.position held.after = record {
-        at = is.position ∙ was.at;
-        role_is = is.role ∙ was.role_is;
-        epoch_is = is.epoch ∙ was.epoch_is;
-        lines_are = is.line_count ∙ was.lines_are;
-        consistent = held.consistent was.consistent;
-        map = is.map (keyspace_after (cut_at calls machine.position)) (IsKeyspace-keyspace_after (cut_at calls machine.position)) was.map;
-      } in
-      keeps-opens holder calls machine.position held.after image contents_at (is.lawful stands.engine.lawful) held.keeps
+      record {
+        contents = held.after;
+        contents_at = record {
+          at = is.position ∙ was.at;
+          role_is = is.role ∙ was.role_is;
+          epoch_is = is.epoch ∙ was.epoch_is;
+          lines_are = is.line_count ∙ was.lines_are;
+          consistent = held.consistent was.consistent;
+          map = is.map (keyspace_after (cut_at calls machine.position)) (IsKeyspace-keyspace_after (cut_at calls machine.position)) was.map;
+        };
+        lawful = is.lawful stands.engine.lawful;
+        keeps = held.keeps;
+      }
+
+  before_opens : (image : Image) → HoldsRearranged old.contents image → OpensAt holder calls machine.position image
+  before_opens image held = kept-opens holder calls machine.position image (before_keeps image held)
 
   -- a frame was refused, and no fence failed
   refused_rests : LeavesOnly old.device new.device (HoldsRearranged old.contents) → new.device.failures ≡ old.device.failures → Rests holder calls machine.position old.device new.device
@@ -211,18 +248,25 @@ module _ {E K D : Type 0} (device : E → State) (contents : E → Contents) (is
   rests p same now = moves-same holder calls machine.position p old.device new.device same (Opens-engine _ _ _ _ _ _ now.engine)
 
   -- an image that holds the whole frame stands at its end
-  whole_opens : (image : Image) → span.before ≡ machine.position → HoldsWhole frame old.contents old.table image → OpensAt holder calls span.after image
-  whole_opens image e held =
+  whole_keeps : (image : Image) → span.before ≡ machine.position → HoldsWhole frame old.contents old.table image → KeepsAt holder calls span.after image
+  whole_keeps image e held =
       let after = held.after in
-      let contents_at : AreContentsAt holder calls span.after after = record {
-        at = held.whole.position ∙ is.after;
-        role_is = held.whole.role ∙ stands.engine.contents_at.role_is;
-        epoch_is = held.whole.epoch ∙ is.epoch_is ∙ stands.epoch_held;
-        lines_are = held.whole.line_count ∙ stands.engine.contents_at.lines_are;
-        consistent = held.whole.consistent;
-        map = subst (IsMapOf after.versions (entries_of_lines after.lines)) (keyspace_next e) held.whole.map;
-      } in
-      keeps-opens holder calls span.after after image contents_at (held.whole.lawful stands.engine.lawful) held.keeps
+      record {
+        contents = after;
+        contents_at = record {
+          at = held.whole.position ∙ is.after;
+          role_is = held.whole.role ∙ stands.engine.contents_at.role_is;
+          epoch_is = held.whole.epoch ∙ is.epoch_is ∙ stands.epoch_held;
+          lines_are = held.whole.line_count ∙ stands.engine.contents_at.lines_are;
+          consistent = held.whole.consistent;
+          map = subst (IsMapOf after.versions (entries_of_lines after.lines)) (keyspace_next e) held.whole.map;
+        };
+        lawful = held.whole.lawful stands.engine.lawful;
+        keeps = held.keeps;
+      }
+
+  whole_opens : (image : Image) → span.before ≡ machine.position → HoldsWhole frame old.contents old.table image → OpensAt holder calls span.after image
+  whole_opens image e held = kept-opens holder calls span.after image (whole_keeps image e held)
 
   -- the whole frame was taken: at any moment a crash leaves what was before it or all of it
   taken_moves : span.before ≡ machine.position → LeavesOnly old.device new.device (IsBeforeOrWhole frame old.contents old.table) → new.device.failures ≡ old.device.failures
@@ -336,6 +380,33 @@ module _ {E K D : Type 0} (device : E → State) (contents : E → Contents) (is
     | inr (inr broken) ↦ joins broken.due.next.next broken.moments
   ]
 
+  -- so each image then holds contents where the standby stood, or where it stands next
+  abbrev KeepsNear : Image → Type 0
+  KeepsNear image = KeepsAt holder calls machine.position image ⊎ KeepsAt holder calls next image
+
+  still_keeps : new ≡ old → LeavesOnly old.device new.device KeepsNear
+  still_keeps same =
+      subst (λ (node : Node). LeavesOnly old.device node.device KeepsNear) (sym same)
+      (none_leaves old.device KeepsNear (λ image is. inl (engine-keeps holder calls machine.position old.device old.contents old.is_faulted stands.engine image is)))
+
+  joins_keeps : IsNext old.contents.current.position frame → LeavesOnly old.device new.device (IsBeforeOrWhole frame old.contents old.table) → LeavesOnly old.device new.device KeepsNear
+  joins_keeps is_next only = LeavesOnly-weaken KeepsNear either only
+    where
+      either : (image : Image) → IsBeforeOrWhole frame old.contents old.table image → KeepsNear image
+      either image (inl before) = inl (before_keeps image before)
+      either image (inr held) =
+          let e = is_joined is_next in
+          inr (subst (λ p. KeepsAt holder calls p image) (sym (next-joined e)) (whole_keeps image e held))
+
+  pub frame-keeps : (result : Result Ack Refusal) → Answered result → LeavesOnly old.device new.device (λ image. KeepsAt holder calls machine.position image ⊎ KeepsAt holder calls next image)
+  frame-keeps result (inl again) = still_keeps (ap (node_of device contents is_faulted table) again.same)
+  frame-keeps result (inr (inl whole)) = joins_keeps whole.due.next.next whole.moments
+  frame-keeps result (inr (inr refuses)) = elim refuses.state [
+    | inl once ↦ still_keeps (ap (node_of device contents is_faulted table) once.same)
+    | inr (inl left) ↦ LeavesOnly-weaken KeepsNear (λ image before. inl (before_keeps image before)) left.moments
+    | inr (inr broken) ↦ joins_keeps broken.due.next.next broken.moments
+  ]
+
   -- a frame that would take a counter to the limit: it takes one stamp
   frame-limit : machine.position < span.after → span.before ≡ machine.position → WouldExhaust old.contents.current frame → (image : Image) → IsImage old.device.words image → IsAtLimit holder.lines 1 (next - machine.position) image
   frame-limit lt e would image at_image =
@@ -381,6 +452,23 @@ module _ {E K D : Type 0} (device : E → State) (contents : E → Contents) (is
 
       goes : ¬ GoesOn refuses.refusal
       goes goes_on = stops (subst GoesOn (sym (same_err refl refuses.answer)) goes_on)
+
+-- ---- a moment is asked for
+
+pub StandbyStands-kept : {t : ℕ} (holder : Holder) (epoch : ℕ) (calls : List Call) (p : ℕ) (old new : Node) → Keeps old.device new.device t → new.contents ≡ old.contents → new.is_faulted ≡ old.is_faulted
+    → new.table ≡ old.table → new.room ≡ old.room → new.ended ≡ old.ended → new.epoch ≡ old.epoch → StandbyStands holder epoch calls p old → StandbyStands holder epoch calls p new
+StandbyStands-kept holder epoch calls p old new keeps contents faulted table room ended own stands =
+    record {
+      engine = subst (λ (c : Contents). EngineStands holder calls p new.device c new.is_faulted) (sym contents)
+          (subst (EngineStands holder calls p new.device old.contents) (sym faulted) (EngineStands-kept holder calls p old.contents old.is_faulted keeps stands.engine));
+      follows = subst (λ (c : Contents). Follows c new.table new.room new.ended) (sym contents)
+          (subst (λ (t : Table). Follows old.contents t new.room new.ended) (sym table)
+          (subst (λ (r : Room). Follows old.contents old.table r new.ended) (sym room)
+          (subst (λ (entries : List EntryNo). Follows old.contents old.table old.room entries) (sym ended) stands.follows)));
+      table = ap records table ∙ stands.table;
+      epoch_is = own ∙ stands.epoch_is;
+      epoch_held = stands.epoch_held;
+    }
 
 -- ---- the list of calls grows
 

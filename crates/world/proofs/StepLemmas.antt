@@ -1,12 +1,12 @@
 -- From what an event did to a pair to what can be told of it.
-use Rattle.std.proofs.Common.{◌≡◌, ◌⊎◌, ℕ, ◌<◌, Vec, Global, ◌++◌, Bool, true, false, List, Result, Ok, Err, length, map, refl, sym, ap, subst, ◌∙◌, arith, inl, inr, rules}
+use Rattle.std.proofs.Common.{◌≡◌, ◌⊎◌, ℕ, ◌<◌, Vec, Global, ◌++◌, Bool, true, false, true≢false, List, [], Result, Ok, Err, length, map, refl, sym, ap, subst, ◌∙◌, arith, inl, inr, rules}
 use Rattle.std.specs.Vec.{vec_capacity}
 use Rattle.kv_types.specs.declared.refusal.Refusal.{Refusal}
 use Rattle.model.specs.Standing.{Holder}
 use Rattle.machine.specs.declared.event.Event.{Event}
-use Rattle.machine.specs.declared.event.Event.TheVariants.{Apply, Crash, FailFence, OpenLink, Promote, Reopen, Send, Turn}
+use Rattle.machine.specs.declared.event.Event.TheVariants.{Apply, Crash, FailFence, OpenLink, Promote, Reopen, Send, Turn, Write}
 use Rattle.machine.specs.declared.event.Node.TheVariants as node
-use Rattle.machine.specs.Event.{World}
+use Rattle.machine.specs.Event.{Step, World}
 use Rattle.std.proofs.lemmas.List.{append-nil}
 use Rattle.machine.specs.Promise.{released_in}
 use Rattle.machine.proofs.PromiseLemmas.{released-held}
@@ -17,8 +17,9 @@ use Rattle.connections.proofs.SessionLemmas.{released-told}
 use Rattle.world.specs.Headline.{start}
 use Rattle.world.specs.Link.{AreAcksSent, AreFramesSent}
 use Rattle.world.specs.Pair.{Acts, Does, EitherRefines, HasRoom, HasWorld, IsCut, NodesRefine, Pair, PairRefines, Promotes, Steps, Succeeds, takes_part}
+use Rattle.world.specs.Cutting.{CutsShort, is_cut}
 use Rattle.world.specs.Effect.{Effect}
-use Rattle.world.specs.Step.{Acted, AcksBy, CallsBy, FramesBy, Happened, IsRoomier, IsStep, LacksRoom, Leaves, Shows, Succeeded, Turns, WasCut, WasPromoted, released_by}
+use Rattle.world.specs.Step.{Acted, AcksBy, CallsBy, CutsOrStays, FramesBy, Happened, IsRoomier, IsStep, LacksRoom, Leaves, Shows, Succeeded, Turns, WasCut, WasInterrupted, WasPromoted, released_by, released_to}
 use Rattle.world.proofs.GivenLemmas.{calls-step, released-step}
 use Rattle.world.proofs.LivesLemmas.{nodes-refine, serves-as, sure-lives}
 use Rattle.world.proofs.PairLemmas.{primary-stands, roomier-stands, sessions-stand, standby-stands}
@@ -91,7 +92,7 @@ is-step old event result new acts leaves = inl (acted old event result new acts 
 -- what a promotion did can be told
 pub promoted-is : {old new : Pair} {event : Event} {result : Result Bool Refusal} → event ≡ Promote → Promotes old result new → new.frames ≡ old.frames
     → new.arrivals.acknowledgements.items ≡ old.arrivals.acknowledgements.items → IsStep old event result new
-promoted-is {old} {new} {event} {result} is promotes frames acks = inr (go result promotes)
+promoted-is {old} {new} {event} {result} is promotes frames acks = inr (inl (go result promotes))
   where
     succeeded : (first second : Holder) (w : World) → NodesRefine first second old w → Succeeds second w old new → Succeeded first second w old new
     succeeded first second w stands succeeds =
@@ -162,6 +163,54 @@ own-is {old} {new} {event} {event'} {result} {took} is takes took_part own does 
 pub acts-is : {old new : Pair} {event event' : Event} {result : Result Bool Refusal} → event ≡ event' → Acts old event' result new → Leaves event' result old new → IsStep old event result new
 acts-is {old} {new} {event} {event'} {result} is acts leaves = subst (λ (e : Event). IsStep old e result new) (sym is) (is-step old event' result new acts leaves)
 
+-- ---- a crash inside a call
+
+-- the world after it, for which the pair stands, whosever image it is then
+record StandsNext (w : World) (event : Event) (new : Pair) : Type 0 where
+  pub first : Holder
+  pub second : Holder
+  pub world : World
+  pub step : Step w event true world
+  pub stands : NodesRefine first second new world
+
+stands-next : (first second : Holder) (w : World) (event : Event) (old new : Pair) → CutsShort first second w event old new → StandsNext w event new
+stands-next first second w (Crash node.Primary call k picks) old new cuts = record { first = first; second = second; world = cuts.world; step = cuts.step; stands = cuts.stands }
+stands-next first second w (Crash node.Standby call k picks) old new cuts = elim cuts.goes [
+  | inl behind ↦ record { first = first; second = second; world = cuts.world; step = cuts.step; stands = behind.stands }
+  | inr ahead ↦ record { first = promoted_holder second; second = ahead.former; world = cuts.world; step = cuts.step; stands = ahead.stands }
+]
+stands-next first second w event old new cuts = absurd cuts
+
+-- it releases nothing
+releases-none : (w : World) (event : Event) (c : ℕ) → is_cut event ≡ true → released_by w event true c ≡ []
+releases-none w (Write d n) c is = absurd (true≢false (sym is))
+releases-none w event c is = refl
+
+interrupted : (old : Pair) (event : Event) (did : Bool) (new : Pair) → CutsOrStays old event did new → IsStep old event (Ok did) new
+interrupted old event false new stays = is-step old event (Ok false) new stays.0 stays.1
+interrupted old event true new cuts = inr (inr (record { cuts = cuts; before = λ first second w stands. shows first second old w stands; after = λ first second w stands. shows first second new w stands; called = called; released = released }))
+  where
+    next : (first second : Holder) (w : World) → NodesRefine first second old w → StandsNext w event new
+    next first second w stands = stands-next first second w event old new (cuts.shortened first second w stands)
+
+    called : (first second : Holder) (w : World) → NodesRefine first second old w → CallsBy w event true new.transcript.calls.items
+    called first second w stands =
+        let to = next first second w stands in
+        let after = shows to.first to.second new to.world to.stands in
+        subst (CallsBy w event true) (sym after.calls) (calls-step w event true to.world (sure-lives stands.lives to.stands.lives) to.step)
+
+    released : (first second : Holder) (w : World) → NodesRefine first second old w → (c : ℕ) → released_to new c ≡ released_to old c
+    released first second w stands c =
+        let to = next first second w stands in
+        let before = shows first second old w stands in
+        let after = shows to.first to.second new to.world to.stands in
+        after.released c ∙ released-step w event true to.world (sure-lives stands.lives to.stands.lives) to.step c
+        ∙ ap (λ bytes. released_in w c ++ bytes) (releases-none w event c cuts.is_cut_short) ∙ append-nil (released_in w c) ∙ sym (before.released c)
+
+-- a crash came inside a call, or the node was in no such call
+pub interrupted-is : {old new : Pair} {event event' : Event} {did : Bool} → event ≡ event' → CutsOrStays old event' did new → IsStep old event (Ok did) new
+interrupted-is {old} {new} {event} {event'} {did} is cuts = subst (λ (e : Event). IsStep old e (Ok did) new) (sym is) (interrupted old event' did new cuts)
+
 -- ---- a turn
 
 abbrev roomy : Transcript → Pair → Pair
@@ -229,13 +278,16 @@ cut-for-room old event refusal new room (inr lacks) first second w stands = absu
 
 -- and a pair to which an event happened stands for a world again
 pub goes-on : {old new : Pair} {event : Event} {did : Bool} → HasWorld old → IsStep old event (Ok did) new → HasWorld new
-goes-on has is = elim is [
+goes-on {old} {new} {event} {did} has is = elim is [
   | inl acted ↦
       let steps = (acted.happened has.first has.second has.world has.stands).steps in
       record { first = has.first; second = has.second; world = steps.world; stands = steps.stands }
-  | inr promoted ↦
+  | inr (inl promoted) ↦
       let next = (promoted.succeeded.1 has.first has.second has.world has.stands).succeeds in
       record { first = promoted_holder has.second; second = next.former; world = next.world; stands = next.stands }
+  | inr (inr cut) ↦
+      let next = stands-next has.first has.second has.world event old new (cut.cuts.shortened has.first has.second has.world has.stands) in
+      record { first = next.first; second = next.second; world = next.world; stands = next.stands }
 ]
 
 -- as a new one does

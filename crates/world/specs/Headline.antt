@@ -10,7 +10,8 @@ use Rattle.model.specs.Call.{cut_at, position_of}
 use Rattle.model.specs.Image.{Image}
 use Rattle.model.specs.Standing.{Holder}
 use Rattle.machine.specs.declared.event.Event.{Event}
-use Rattle.machine.specs.declared.event.Event.TheVariants.{Promote}
+use Rattle.machine.specs.declared.event.Cut.TheVariants as cut
+use Rattle.machine.specs.declared.event.Event.TheVariants.{Crash, Promote}
 use Rattle.machine.specs.declared.event.Node.{Node}
 use Rattle.machine.specs.declared.event.Node.TheVariants as node
 use Rattle.machine.specs.Event.{Run, World, is_enabled, start_with, last_world, position_at}
@@ -19,13 +20,14 @@ use Rattle.machine.specs.Promise.{IsPromised, IsReleased, released_in}
 use Rattle.world.specs.Committing.{OpensAt, FormattingOnly, next_primary, next_standby, promoted_holder}
 use Rattle.world.specs.Cause.{Stretch, Promoting, Resting, UnformedBy, EndsBy}
 use Rattle.world.specs.Condition.{has_ended}
+use Rattle.world.specs.Cutting.{OpensAsOne, cut_short, is_cut}
 use Rattle.world.specs.Link.{AreAcksSent, AreFramesSent}
 use Rattle.world.specs.Pair.{HasStandby, Pair, NodesRefine, IsCut, IsPromotionCut, allowed, first_device, second_device}
 use Rattle.world.specs.declared.trace.EarlyEnd.{EarlyEnd}
 use Rattle.world.specs.declared.trace.EarlyEnd.TheVariants.{AtFormatting, AtEvent}
 
--- Two nodes that were formatted together, may crash between two events, and of which the primary may be fenced and the standby promoted after that. Fences of their devices may be
--- asked to fail, and no call is cut.
+-- Two nodes that were formatted together, may crash between two events or inside a call, and of which the primary may be fenced and the standby promoted after that. Fences of their
+-- devices may be asked to fail.
 abbrev pub start : World
 start = start_with allowed
 
@@ -88,30 +90,38 @@ OpensFrom holder calls position image = (p : ℕ) × (position ≤ p) × OpensAt
 abbrev pub OpensFromEither : Opening
 OpensFromEither holder calls position image = OpensFrom holder calls position image ⊎ OpensFrom (promoted_holder holder) calls position image
 
--- the image opens in one of these worlds, as that of the node whose device it is, at this position of its list or at a later one; in the last of them as is said of it
-abbrev pub OpensIn : (Node → Opening) → ℕ → ℕ → ℕ → World → List World → Image → Type 0
-OpensIn final number lines position w [] image = OfSomeNode (node_on number w) (λ n. final n (holder_at lines w n) w.primary.calls position image)
-OpensIn final number lines position w (w' ∷ worlds) image =
-    OfSomeNode (node_on number w) (λ n. OpensFrom (holder_at lines w n) w.primary.calls position image) ⊎ OpensIn final number lines position w' worlds image
+-- in this event: a standby whose promotion is cut may have the image of a primary
+abbrev pub opens_during : Event → Node → Opening
+opens_during (Crash node.Standby cut.Promote k picks) node.Standby = OpensFromEither
+opens_during event n = OpensFrom
+
+-- the image opens in one of these worlds, each but the last with the event that came next, as that of the node whose device it is, at this position of its list or at a later one; in the last of
+-- them as is said of it
+abbrev pub OpensIn : (Node → Opening) → ℕ → ℕ → ℕ → World → List Event → List World → Image → Type 0
+OpensIn final number lines position w [] [] image = OfSomeNode (node_on number w) (λ n. final n (holder_at lines w n) w.primary.calls position image)
+OpensIn final number lines position w (event ∷ events) (w' ∷ worlds) image =
+    OfSomeNode (node_on number w) (λ n. opens_during event n (holder_at lines w n) w.primary.calls position image) ⊎ OpensIn final number lines position w' events worlds image
+OpensIn final number lines position w events worlds image = ⊥
 
 -- Each crash between these two states of a device leaves an image that opens in this world or a later one, and in which no call is missing that was released in
 -- this world. (So while the device is that of a node.)
-abbrev pub KeepsReleased : (Node → Opening) → ℕ → ℕ → World → List World → State → State → Type 0
-KeepsReleased final number lines w worlds old new =
+abbrev pub KeepsReleased : (Node → Opening) → ℕ → ℕ → World → List Event → List World → State → State → Type 0
+KeepsReleased final number lines w events worlds old new =
     OfNode (node_on number w) (λ n. (prefix : List Call) (call : Call) → IsReleased w.primary.calls (released_in w) prefix call
-    → LeavesOnly old new (OpensIn final number lines (position_of (prefix ++ call ∷ [])) w worlds))
+    → LeavesOnly old new (OpensIn final number lines (position_of (prefix ++ call ∷ [])) w events worlds))
 
 -- Each crash between these two states leaves an image that opens, over the list of the first world, where the node stands in that world, or where the node stands in the second one
--- whose device it is then; and no fence failed.
-pub record MovesOn (lines : ℕ) (w w' : World) (before : Node) (after : Option Node) (old new : State) : Type 0 where
+-- whose device it is then, or as a call that the event cut would have left it; and no fence failed, but perhaps in such a call.
+pub record MovesOn (lines : ℕ) (w : World) (event : Event) (w' : World) (before : Node) (after : Option Node) (old new : State) : Type 0 where
   pub leaves : LeavesOnly old new (λ image. OpensAt (holder_at lines w before) w.primary.calls (position_at w before) image
-      ⊎ OfSomeNode after (λ n. OpensAt (holder_at lines w' n) w.primary.calls (position_at w' n) image))
-  pub failures : new.failures ≡ old.failures
+      ⊎ OfSomeNode after (λ n. OpensAt (holder_at lines w' n) w.primary.calls (position_at w' n) image)
+      ⊎ OpensAsOne (holder_at lines w before) w.primary.calls (position_at w before) (cut_short w event before) image)
+  pub failures : is_cut event ≡ false → new.failures ≡ old.failures
 
 -- what an event does to a device; one that is no node's stays as it is, with all that it has gone through
-abbrev pub MovesBy : ℕ → World → World → Option Node → Option Node → State → State → Type 0
-MovesBy lines w w' None after old new = new ≡ old
-MovesBy lines w w' (Some before) after old new = MovesOn lines w w' before after old new
+abbrev pub MovesBy : ℕ → World → Event → World → Option Node → Option Node → State → State → Type 0
+MovesBy lines w event w' None after old new = new ≡ old
+MovesBy lines w event w' (Some before) after old new = MovesOn lines w event w' before after old new
 
 -- what comes after the last event
 abbrev pub EndsAs : (Node → Stretch) → ℕ → World → Option Node → State → State → Type 0
@@ -120,12 +130,12 @@ EndsAs last lines w (Some n) old new = last n (holder_at lines w n) w.primary.ca
 
 -- The moments of the device with this number and this many lines, cut by the events of a run from this world on, at states that the device passed in this order. A crash during an
 -- event leaves an image that opens, over the list of the world before it, where its node stood before the event or where it stands after it: the standby's, where
--- that is promoted, as a primary's. An event that does not touch the device, or was not enabled, leaves it as it was, with all that it has gone through. What comes after
+-- that is promoted, as a primary's; or, where a crash cut a call, where that would have brought it. An event that does not touch the device, or was not enabled, leaves it as it was, with all that it has gone through. What comes after
 -- the last event is a stretch of its own. And from each cut on, up to the end, each crash keeps what was released by then.
 abbrev pub AreMoments : (Node → Opening) → (Node → Stretch) → ℕ → ℕ → World → List Event → List Bool → List World → State → State → Type 0
-AreMoments final last number lines w [] [] [] old new = KeepsReleased final number lines w [] old new × EndsAs last lines w (node_on number w) old new
+AreMoments final last number lines w [] [] [] old new = KeepsReleased final number lines w [] [] old new × EndsAs last lines w (node_on number w) old new
 AreMoments final last number lines w (event ∷ events) (did ∷ done) (w' ∷ worlds) old new =
-    (between : State) × KeepsReleased final number lines w (w' ∷ worlds) old new × MovesBy lines w w' (node_on number w) (node_on number w') old between
+    (between : State) × KeepsReleased final number lines w (event ∷ events) (w' ∷ worlds) old new × MovesBy lines w event w' (node_on number w) (node_on number w') old between
     × ((touches_on (node_on number w) event && did) ≡ false → between ≡ old) × AreMoments final last number lines w' events done worlds between new
 AreMoments final last number lines w events done worlds old new = ⊥
 
@@ -220,7 +230,7 @@ Passes w w' (Some node.Standby) after =
 abbrev pub AreMoves : ℕ → ℕ → World → List Event → List Bool → List World → State → State → Type 0
 AreMoves number lines w [] [] [] old new = old ≡ new
 AreMoves number lines w (event ∷ events) (did ∷ done) (w' ∷ worlds) old new =
-    (next : State) × Passes w w' (node_on number w) (node_on number w') × MovesBy lines w w' (node_on number w) (node_on number w') old next
+    (next : State) × Passes w w' (node_on number w) (node_on number w') × MovesBy lines w event w' (node_on number w) (node_on number w') old next
     × ((touches_on (node_on number w) event && did) ≡ false → next ≡ old) × AreMoves number lines w' events done worlds next new
 AreMoves number lines w events done worlds old new = ⊥
 

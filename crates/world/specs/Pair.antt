@@ -126,10 +126,10 @@ pub record FencedRefine (first second : Holder) (pair : Pair) (w : World) : Type
 
 -- ---- lives
 
--- what happens to the nodes of a pair: they crash between two events and are opened again, the primary is fenced, and the standby is promoted after that; and fences of
--- their devices are asked to fail
+-- what happens to the nodes of a pair: they crash, between two events or inside a call, and are opened again, the primary is fenced, and the standby is promoted after that;
+-- and fences of their devices are asked to fail
 abbrev pub allowed : Allowed
-allowed = record { restarts = true; fencing = true; promotions = true; failures = true; cuts = false }
+allowed = record { restarts = true; fencing = true; promotions = true; failures = true; cuts = true }
 
 -- the number of the primary's device, where the standby is in this condition
 abbrev pub primary_number : Condition → ℕ

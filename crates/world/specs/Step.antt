@@ -1,5 +1,5 @@
 -- What one event does to a pair of nodes: one step of the machine, with both devices before it and after it, and all that it gave to anyone.
-use Rattle.std.specs.Prelude.{◌≡◌, ◌⊎◌, ℕ, ◌<◌, ◌≤◌, ◌&&◌, nat_eq, if◌then◌else◌, Bool, true, false, List, [], ◌∷◌, ◌++◌, take, slice_index_or, Vec, vec_len, vec_capacity, Result, Ok, Err, IfOk, IfErr}
+use Rattle.std.specs.Prelude.{◌≡◌, ◌⊎◌, ℕ, ◌<◌, ◌≤◌, ◌&&◌, nat_eq, Contains, if◌then◌else◌, Bool, true, false, List, [], ◌∷◌, ◌++◌, take, slice_index_or, Vec, vec_len, vec_capacity, Result, Ok, Err, IfOk, IfErr}
 use Rattle.std.specs.Global.{Global}
 use Rattle.kv_types.specs.declared.refusal.Refusal.{Refusal}
 use Rattle.kv_types.specs.declared.refusal.Refusal.TheVariants.{Memory}
@@ -8,17 +8,19 @@ use Rattle.model.specs.Call.{MayReply, cut_at, position_of, state_after}
 use Rattle.model.specs.Standing.{Holder}
 use Rattle.machine.specs.declared.event.Event.{Event}
 use Rattle.machine.specs.declared.event.Event.TheVariants.{Apply, ClearGap, Commit, Crash, Free, OpenLink, Promote, Reopen, Send, Turn, Write}
+use Rattle.machine.specs.declared.event.Cut.TheVariants as cut
 use Rattle.machine.specs.declared.event.Node.TheVariants as node
-use Rattle.machine.specs.Event.{Connection, World, connection_of}
+use Rattle.machine.specs.Event.{At, Connection, World, connection_of, may_remain}
 use Rattle.machine.specs.Promise.{IsReleased, released_in}
 use Rattle.machine.specs.Row.{touches}
 use Rattle.connections.specs.Session.{AddsOne, TranscriptRefines, released_of}
 use Rattle.connections.specs.declared.transcript.Transcript.{Transcript}
 use Rattle.world.specs.Committing.{Opens, promoted_holder}
 pub use Rattle.world.specs.Effect.{AddsMessage}
+use Rattle.world.specs.Cutting.{Cuts}
 use Rattle.world.specs.Effect.{Effect}
 use Rattle.world.specs.Link.{AreAcksSent, AreFramesSent}
-use Rattle.world.specs.Pair.{Does, HasRoom, HasStandby, IsCut, IsPromotionCut, NodesRefine, Pair, Steps, Succeeds}
+use Rattle.world.specs.Pair.{Acts, Does, HasRoom, HasStandby, IsCut, IsPromotionCut, NodesRefine, Pair, Steps, Succeeds}
 
 -- ---- what an event leaves as it was
 
@@ -76,11 +78,12 @@ pub record Shows (first second : Holder) (w : World) (pair : Pair) : Type 0 wher
 -- ---- what an event gave
 
 -- The list of calls after an event: a turn adds the call of the connection's first waiting item, a crash of the primary drops the calls that its image does not hold,
--- and a promotion those that the standby's does not.
+-- and a promotion those that the standby's does not, as one does that was cut and left the image of a primary.
 abbrev pub CallsBy : World → Event → Bool → List Call → Type 0
 CallsBy w (Turn c) true new =
     (call : Call) × (call.connection ≡ c) × (take 1 (connection_of w c).inbound.waiting ≡ call.item ∷ []) × MayReply (state_after w.primary.calls) call × (new ≡ w.primary.calls ++ call ∷ [])
-CallsBy w (Crash node.Primary call k picks) true new = new ≡ cut_at w.primary.calls w.primary.committer.position
+CallsBy w (Crash node.Primary call k picks) true new = (p : ℕ) × Contains (may_remain w node.Primary call) (At p) × (new ≡ cut_at w.primary.calls p)
+CallsBy w (Crash node.Standby cut.Promote k picks) true new = (new ≡ w.primary.calls) ⊎ (new ≡ cut_at w.primary.calls w.standby.position)
 CallsBy w Promote true new = new ≡ cut_at w.primary.calls w.standby.position
 CallsBy w event did new = new ≡ w.primary.calls
 
@@ -141,9 +144,23 @@ pub record WasPromoted (old : Pair) (event : Event) (result : Result Bool Refusa
   pub acknowledgements : new.arrivals.acknowledgements.items ≡ old.arrivals.acknowledgements.items
   pub room : HasRoom old → AddsOne old.transcript.calls new.transcript.calls
 
+-- What a crash inside a call did to a pair, of all worlds that it stood for: the machine's step, what was seen of the pair before it and after it, and what the list is then. Nothing was
+-- released.
+pub record WasInterrupted (old : Pair) (event : Event) (result : Result Bool Refusal) (new : Pair) : Type 0 where
+  pub cuts : Cuts old event result new
+  pub before : (first second : Holder) (w : World) → NodesRefine first second old w → Shows first second w old
+  pub after : (first second : Holder) (w : World) → NodesRefine first second new w → Shows first second w new
+  pub called : (first second : Holder) (w : World) → NodesRefine first second old w → CallsBy w event true new.transcript.calls.items
+  pub released : (first second : Holder) (w : World) → NodesRefine first second old w → (c : ℕ) → released_to new c ≡ released_to old c
+
+-- a crash inside a call came, or the node was in no such call
+abbrev pub CutsOrStays : Pair → Event → Bool → Pair → Type 0
+CutsOrStays old event true new = Cuts old event (Ok true) new
+CutsOrStays old event false new = Acts old event (Ok false) new × Leaves event (Ok false) old new
+
 -- what an event did to a pair
 abbrev pub IsStep : Pair → Event → Result Bool Refusal → Pair → Type 0
-IsStep old event result new = Acted old event result new ⊎ WasPromoted old event result new
+IsStep old event result new = Acted old event result new ⊎ WasPromoted old event result new ⊎ WasInterrupted old event result new
 
 -- ---- a turn
 

@@ -40,7 +40,7 @@ impl<E: Restarting, K: Keyspace + Drop> Pair<E, K> {
     }
 
     /// Whether this step of the committer is due.
-    fn is_due(&self, step: Due) -> bool
+    pub(crate) fn is_due(&self, step: Due) -> bool
         ensures { result ≡ true ↔ (due_now E.contents self.now.primary.back.committer self.now.primary.back.work (link_has_room self.now.handed.items) self.now.remote ≡ step) }
     {
         self.primary

@@ -12,7 +12,7 @@ use crate::condition::Condition;
 use crate::history::History;
 use crate::pair::{Pair, Stepper};
 use kv_types::Refusal;
-use machine::{Cut, Node};
+use machine::Node;
 use model::Group;
 use mv_keyspace::Keyspace;
 use pipes::LocalPipe;
@@ -21,21 +21,17 @@ use std::alloc::Global;
 use wbl_engine::Restarting;
 
 impl<E: Restarting, K: Keyspace + Drop> Pair<E, K> {
-    /// Between two events. One inside a call does not come.
+    /// Between two events.
     pub(crate) fn crash(
         &mut self,
         history: &mut History,
         node: Node,
-        cut: Cut,
         picks: &Vec<u64>,
     ) -> Result<bool, Refusal>
         requires { HasWorld (⟦<Pair<E, K> as Stepper>⟧.parts self.old history.old) }
-        ensures does { (after : ℕ) → Acts (⟦<Pair<E, K> as Stepper>⟧.parts self.old history.old) (events.Crash node cut after picks.now) result (⟦<Pair<E, K> as Stepper>⟧.parts self.new history.new) }
-        ensures leaves { (after : ℕ) → Leaves (events.Crash node cut after picks.now) result (⟦<Pair<E, K> as Stepper>⟧.parts self.old history.old) (⟦<Pair<E, K> as Stepper>⟧.parts self.new history.new) }
+        ensures does { (after : ℕ) → Acts (⟦<Pair<E, K> as Stepper>⟧.parts self.old history.old) (events.Crash node cuts.Between after picks.now) result (⟦<Pair<E, K> as Stepper>⟧.parts self.new history.new) }
+        ensures leaves { (after : ℕ) → Leaves (events.Crash node cuts.Between after picks.now) result (⟦<Pair<E, K> as Stepper>⟧.parts self.old history.old) (⟦<Pair<E, K> as Stepper>⟧.parts self.new history.new) }
     {
-        if !cut.is_between() {
-            return Ok(false);
-        }
         match node {
             Node::Primary => Ok(self.crash_primary(history, picks)),
             Node::Standby => Ok(self.crash_standby(picks)),

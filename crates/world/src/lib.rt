@@ -5,6 +5,8 @@ mod arrivals;
 mod committing;
 mod condition;
 mod crashing;
+mod cutting;
+mod cutting_standby;
 mod failing;
 mod fencing;
 mod form;

@@ -16,7 +16,7 @@ use bytes::Bytes;
 use connections::Connections;
 use group_commit::Due;
 use kv_types::{Refusal, Seen};
-use machine::{Event, Mark};
+use machine::{Cut, Event, Mark, Node};
 use model::Group;
 use mv_keyspace::Keyspace;
 use pipes::LocalPipe;
@@ -40,7 +40,8 @@ pub trait Stepper {
     /// For every world of the machine that the pair stands for, it is one step of the machine, and the pair stands for the world after it. The calls, the
     /// released bytes and the messages are those of that world, before the event and after it, so what this very event gave to anyone is what is
     /// new in them. A device that the event does not touch is as it was, with all that it has gone through; at any moment of the event
-    /// a crash leaves of the other an image that opens where its node stood before the event or where it stands after it.
+    /// a crash leaves of the other an image that opens where its node stood before the event or where it stands after it; or, where a crash cut a call, where that would
+    /// have brought it.
     ///
     /// # Errors
     ///
@@ -123,7 +124,7 @@ impl<E: Restarting, K: Keyspace + Drop> Stepper for Pair<E, K> {
             Event::Release(c) => self.release(*c),
             Event::Write(c, n) => self.write(history, *c, *n),
             Event::Leave(c) => self.leave(*c),
-            Event::Crash(node, cut, _, picks) => self.crash(history, *node, *cut, picks),
+            Event::Crash(node, call, k, picks) => self.crash_in(history, *node, *call, *k, picks),
             Event::Reopen(node) => self.reopen(*node),
             Event::FailFence(node, n) => Ok(self.fail_fence(*node, *n)),
             Event::Fence => Ok(self.fence()),
@@ -141,6 +142,24 @@ impl<E: Restarting, K: Keyspace + Drop> Pair<E, K> {
             self.primary_condition.is_running(),
             self.standby_condition.is_running(),
         )
+    }
+
+    /// A node crashes between two events, or inside a call.
+    fn crash_in(
+        &mut self,
+        history: &mut History,
+        node: Node,
+        call: Cut,
+        k: u64,
+        picks: &Vec<u64>,
+    ) -> Result<bool, Refusal>
+        requires world { HasWorld (⟦<Pair<E, K> as Stepper>⟧.parts self.old history.old) }
+        ensures { IsStep (⟦<Pair<E, K> as Stepper>⟧.parts self.old history.old) (events.Crash node call k picks.now) result (⟦<Pair<E, K> as Stepper>⟧.parts self.new history.new) }
+    {
+        if call.is_between() {
+            return self.crash(history, node, picks);
+        }
+        Ok(self.cut(history, node, call, k, picks))
     }
 
     fn enter(&mut self, history: &mut History) -> Result<bool, Refusal>

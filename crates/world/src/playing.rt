@@ -25,8 +25,8 @@ use wbl_engine::WblEngine;
 ///
 /// This is the promise of the whole server, for any devices and any list of events: one sequential Redis answers the list of calls, which takes each
 /// connection's requests in order; the bytes released to each connection begin its replies; each released call was covered, and is in what both
-/// images hold; a crash during an event leaves either image where its node stood in the list before the event or after it, with each call that was
-/// released by then; and the frames and acknowledgements are just those that were sent and made. A fenced primary may be succeeded by its standby, which keeps of the list
+/// images hold; a crash during an event, or one that is an event and cuts a call, leaves either image where its node stood in the list before or where the event brings it, with
+/// each call that was released by then; and the frames and acknowledgements are just those that were sent and made. A fenced primary may be succeeded by its standby, which keeps of the list
 /// and of all replies what was released; of the device of the former nothing is said from then on but that it stays as it is.
 ///
 /// Watched keys are hashed with `hash_builder`. Nothing of this depends on it.

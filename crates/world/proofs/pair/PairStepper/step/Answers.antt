@@ -75,7 +75,7 @@ pub returns-in-Apply : goal.returns-in-Apply
 returns-in-Apply g c = acts-is c.in-Apply.is c.apply.ensures.does c.apply.ensures.leaves
 
 pub returns-in-Crash : goal.returns-in-Crash
-returns-in-Crash g c = acts-is c.in-Crash.is (c.crash.ensures.does c.in-Crash.field-2) (c.crash.ensures.leaves c.in-Crash.field-2)
+returns-in-Crash g c = rw c.in-Crash.is c.crash_in.ensures
 
 pub returns-in-Reopen : goal.returns-in-Reopen
 returns-in-Reopen g c = acts-is c.in-Reopen.is (c.reopen.ensures.does c.args.history.now) (c.reopen.ensures.leaves c.args.history.now)

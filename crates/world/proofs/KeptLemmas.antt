@@ -1,0 +1,155 @@
+-- A device that was asked to keep a moment, went through a call, and crashed as of that moment, or of the call's end: what is left of it, and of its node.
+use Rattle.std.proofs.Common.{◌≡◌, ◌⊎◌, inl, inr, ℕ, ◌+◌, ◌≤◌, Bool, false, List, [], ◌∷◌, ◌++◌, Some, length, refl, sym, ap, ap₂, subst, ◌∙◌, arith}
+use Rattle.pmem.specs.Device.{State, Word, moment, newest_at}
+use Rattle.pmem.specs.Crash.{HadImage, IsImage, IsSettled, MayLeave, image_of, picked, words_to_crash}
+use Rattle.pmem.specs.Crash as crash
+use Rattle.pmem.specs.Runs.{LeavesOnly}
+use Rattle.pmem.proofs.Leaving.{LeavesOnly-then, LeavesOnly-weaken}
+use Rattle.model.specs.declared.call.Call.{Call}
+use Rattle.model.specs.Group.{Contents}
+use Rattle.model.specs.Image.{Image}
+use Rattle.model.specs.Standing.{Holder}
+use Rattle.wbl_engine.specs.Contents.{Keeps}
+use Rattle.wbl_engine.specs.Lawful.{AreLawful}
+use Rattle.wbl_engine.specs.Reopening.{StaysReadable}
+use Rattle.wbl_engine.proofs.LawfulLemmas.{lawful_from, lawful_undamaged}
+use Rattle.wbl_engine.specs.Lawful.{IsUndamaged}
+use Rattle.world.specs.Committing.{AreContentsAt, EngineStands, IsDown, OpensAt}
+use Rattle.world.specs.Cutting.{LeavesCut}
+use Rattle.world.proofs.EngineLemmas.{keeps-opens}
+use Rattle.world.proofs.OpenedLemmas.{StaysSo}
+
+-- ---- the device
+
+-- what a crash leaves since a moment, it leaves since an earlier one
+HadImage-since : (past : List (ℕ → Word)) (s t : ℕ) (image : Image) → s ≤ t → HadImage past t image → HadImage past s image
+HadImage-since [] s t image le had = had
+HadImage-since (words ∷ past) s t image le (inl now) = inl (omega (arith, le, now.0), now.1)
+HadImage-since (words ∷ past) s t image le (inr had) = inr (HadImage-since past s t image le had)
+
+pub MayLeave-since : (d : State) (s t : ℕ) (image : Image) → s ≤ t → MayLeave d t image → MayLeave d s image
+MayLeave-since d s t image le (inl now) = inl now
+MayLeave-since d s t image le (inr had) = inr (HadImage-since d.past s t image le had)
+
+-- the device was asked to keep a moment, went through a call, and crashed as of it
+pub record CrashedIn (k : ℕ) (picks : List ℕ) (old kept mid new : State) : Type 0 where
+  pub keeps : crash.Keeps old kept (moment old + k)
+  pub asked : mid.kept ≡ kept.kept
+  pub settled : IsSettled new.words
+  pub left : (t : ℕ) → mid.kept ≡ Some t → MayLeave mid t (image_of new.words)
+  pub picked_are : new.starved ≡ false → (word : ℕ) → newest_at new word ≡ picked (words_to_crash mid mid.kept) picks word
+  pub lines_are : new.lines ≡ mid.lines
+  pub moments : LeavesOnly mid new (λ image. IsImage mid.words image ⊎ (image ≡ image_of new.words))
+
+-- a call since the moment was asked for is one since before
+pub LeavesOnly-kept : {t : ℕ} {old kept mid : State} {P : Image → Type 0} → crash.Keeps old kept t → LeavesOnly kept mid P → LeavesOnly old mid P
+LeavesOnly-kept {t} {old} {kept} {mid} {P} keeps run = record {
+  passed = record {
+    more = run.passed.more;
+    goes_on = run.passed.goes_on ∙ ap₂ (λ (now : ℕ → Word) (past : List (ℕ → Word)). run.passed.more ++ now ∷ past) keeps.words keeps.past;
+  };
+  each = λ image may. run.each image (subst (λ n. MayLeave mid n image) (ap (λ (past : List (ℕ → Word)). length past) (sym keeps.past)) may);
+}
+
+module _ {k : ℕ} {picks : List ℕ} {old kept mid new : State} (is : CrashedIn k picks old kept mid new) {P : Image → Type 0} (only : LeavesOnly kept mid P) where
+  run : LeavesOnly old mid P
+  run = LeavesOnly-kept is.keeps only
+
+  -- what the crash left is of a moment of the call
+  pub left-is : P (image_of new.words)
+  left-is = run.each (image_of new.words) (MayLeave-since mid (moment old) (moment old + k) (image_of new.words) (omega arith) (is.left (moment old + k) (is.asked ∙ is.keeps.kept)))
+
+  pub crash-leaves : LeavesOnly old new P
+  crash-leaves =
+      LeavesOnly-then run (LeavesOnly-weaken P (λ image either. elim either [
+        | inl now ↦ run.each image (inl now)
+        | inr last ↦ subst P (sym last) left-is
+      ]) is.moments)
+
+  pub leaves-cut : LeavesCut k picks old new
+  leaves-cut = record {
+    settled = is.settled;
+    last = mid;
+    went = run.passed;
+    picked_are = λ fed word. is.picked_are fed word ∙ ap (λ t. picked (words_to_crash mid t) picks word) (is.asked ∙ is.keeps.kept);
+  }
+
+-- ---- its node
+
+-- the image holds contents of the list at this position, which obey the rules
+pub record KeepsAt (holder : Holder) (calls : List Call) (position : ℕ) (image : Image) : Type 0 where
+  pub contents : Contents
+  pub contents_at : AreContentsAt holder calls position contents
+  pub lawful : AreLawful contents
+  pub keeps : Keeps contents image
+
+pub kept-opens : (holder : Holder) (calls : List Call) (p : ℕ) (image : Image) → KeepsAt holder calls p image → OpensAt holder calls p image
+kept-opens holder calls p image held = keeps-opens holder calls p held.contents image held.contents_at held.lawful held.keeps
+
+-- once it is all that is left of its node
+pub kept-down : (holder : Holder) (calls : List Call) (p : ℕ) (device : State) → KeepsAt holder calls p (image_of device.words) → IsSettled device.words → holder.lines ≡ device.lines → IsDown holder calls p device
+kept-down holder calls p device held settled lines = record {
+  contents = held.contents;
+  contents_at = held.contents_at;
+  lawful = held.lawful;
+  keeps = held.keeps;
+  settled = settled;
+  sized = held.contents_at.lines_are ∙ lines;
+}
+
+pub engine-keeps : (holder : Holder) (calls : List Call) (p : ℕ) (device : State) (contents : Contents) (is_faulted : Bool) → EngineStands holder calls p device contents is_faulted
+    → (image : Image) → IsImage device.words image → KeepsAt holder calls p image
+engine-keeps holder calls p device contents is_faulted stands image is = record { contents = contents; contents_at = stands.contents_at; lawful = stands.lawful; keeps = stands.durable image is }
+
+-- an engine whose device was asked to keep a moment stands as before
+pub EngineStands-kept : {t : ℕ} {old kept : State} (holder : Holder) (calls : List Call) (p : ℕ) (contents : Contents) (is_faulted : Bool) → crash.Keeps old kept t
+    → EngineStands holder calls p old contents is_faulted → EngineStands holder calls p kept contents is_faulted
+EngineStands-kept holder calls p contents is_faulted keeps stands = record {
+  contents_at = stands.contents_at;
+  lawful = stands.lawful;
+  sound = stands.sound;
+  durable = λ image is. stands.durable image (subst (λ (words : ℕ → Word). IsImage words image) keeps.words is);
+}
+
+pub IsDown-kept : {t : ℕ} {old kept : State} (holder : Holder) (calls : List Call) (p : ℕ) → crash.Keeps old kept t → IsDown holder calls p old → IsDown holder calls p kept
+IsDown-kept {t} {old} {kept} holder calls p keeps down = record {
+  contents = down.contents;
+  contents_at = down.contents_at;
+  lawful = down.lawful;
+  keeps = subst (λ (words : ℕ → Word). Keeps down.contents (image_of words)) (sym keeps.words) down.keeps;
+  settled = subst (λ (words : ℕ → Word). IsSettled words) (sym keeps.words) down.settled;
+  sized = down.sized ∙ sym keeps.lines;
+}
+
+-- an image that its opening may leave holds the contents under a record of the same place
+readable-keeps : (holder : Holder) (calls : List Call) (p : ℕ) (contents : Contents) (image image' : Image) → AreContentsAt holder calls p contents → AreLawful contents → Keeps contents image
+    → StaysReadable contents.lines contents.current image image' → KeepsAt holder calls p image'
+readable-keeps holder calls p contents image image' are lawful keeps stays =
+    let after : Contents = record { current = stays.current; lines = contents.lines; versions = contents.versions; is_free = contents.is_free } in
+    record {
+      contents = after;
+      contents_at = record {
+        at = stays.position ∙ are.at;
+        role_is = stays.role ∙ are.role_is;
+        epoch_is = stays.epoch ∙ are.epoch_is;
+        lines_are = are.lines_are;
+        consistent = record { free = are.consistent.free; beyond = are.consistent.beyond };
+        map = are.map;
+      };
+      lawful = lawful_from contents after stays.undamaged.current.lawful refl (λ i. refl) lawful;
+      keeps = record {
+        superblock = stays.undamaged.superblock;
+        has_record = stays.undamaged.current.has_record;
+        versions = λ i within. stays.versions i within ∙ keeps.versions i within;
+        entries = stays.undamaged.versions.entries;
+      };
+    }
+
+-- at any moment of its opening a crash leaves such an image
+pub restart-keeps : (holder : Holder) (calls : List Call) (p : ℕ) (old new : State) → IsDown holder calls p old → StaysSo old new → LeavesOnly old new (KeepsAt holder calls p)
+restart-keeps holder calls p old new down moments =
+    let image = image_of old.words in
+    let contents = down.contents in
+    LeavesOnly-weaken (KeepsAt holder calls p)
+    (λ image' stays. readable-keeps holder calls p contents image image' down.contents_at down.lawful down.keeps (subst (λ n. StaysReadable n contents.current image image') (sym down.sized) stays))
+    (moments contents.current (subst (λ n. IsUndamaged n contents.current image) down.sized (lawful_undamaged contents image down.lawful down.keeps)))

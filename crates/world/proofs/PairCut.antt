@@ -1,0 +1,257 @@
+-- What a crash inside a call of the primary does to the pair.
+use Rattle.std.proofs.Common.{rules, ◌≡◌, ℕ, ◌≤◌, Bool, true, false, not, ◌&&◌, ◌||◌, List, map, Ok, Vec, Global, All, inl, inr, refl, sym, ap, subst, ◌∙◌, arith, true≢false}
+use Rattle.pmem.specs.Device.{IsOlder, Older, Only, State, Word}
+use Rattle.pmem.specs.Crash.{IsSettled, image_of}
+use Rattle.pmem.specs.Crash as crash
+use Rattle.pmem.specs.Runs.{LeavesOnly}
+use Rattle.pmem.proofs.Leaving.{LeavesOnly-weaken}
+use Rattle.model.specs.declared.call.Call.{Call}
+use Rattle.model.specs.declared.image.TheConstants.{MAX_LINES, MIN_LINES}
+use Rattle.model.specs.declared.record.Record.{Record}
+use Rattle.model.specs.Call.{cut_at}
+use Rattle.model.proofs.CallsLemmas.{position_of-cut_at}
+use Rattle.model.specs.declared.group.Group.{Group}
+use Rattle.model.specs.Group.{Contents}
+use Rattle.model.specs.Standing.{Holder}
+use Rattle.wbl_engine.specs.Contents.{Keeps}
+use Rattle.wbl_engine.specs.Lawful.{IsUndamaged}
+use Rattle.wbl_engine.specs.Reopening.{StaysReadable}
+use Rattle.wbl_engine.proofs.LawfulLemmas.{lawful_from, lawful_undamaged}
+use Rattle.pipes.specs.Waiting.{Waiting}
+use Rattle.redis_core.specs.Sequencing.{Sequencing}
+use Rattle.machine.specs.declared.event.Cut.{Cut}
+use Rattle.machine.specs.declared.event.Cut.TheVariants as cut
+use Rattle.machine.specs.declared.event.Event.TheVariants as events
+use Rattle.machine.specs.declared.event.Node.{Node}
+use Rattle.machine.specs.declared.event.Node.TheVariants as node
+use Rattle.machine.specs.Event.{Allowed, At, Connection, Step, World, crashed, is_between, is_crashed, is_enabled, left, left_by, may_cut}
+use Rattle.machine.specs.Sound.{IsFrameWithin, Sound}
+use Rattle.machine.proofs.GroupLemmas.{chain-le, frames_within-weaker}
+use Rattle.machine.proofs.SoundEvents.{sound-step}
+use Rattle.standby_stream.specs.Delta.{Recalls}
+use Rattle.primary.specs.Recalling.{RecallsEach}
+use Rattle.connections.specs.Session.{AddsOne, HasSeat, SessionsRefine, seats_of}
+use Rattle.connections.specs.declared.connections.Connections.{Connections}
+use Rattle.connections.specs.declared.transcript.Transcript.{Transcript}
+use Rattle.world.specs.Committing.{AreContentsAt, Committing, IsDown}
+use Rattle.world.specs.Condition.{has_crashed}
+use Rattle.world.specs.Cutting.{CutsPrimary, OpensNear}
+use Rattle.world.specs.Pair.{AreLives, DownRefine, EitherRefines, HasWorld, NodesRefine, Pair}
+use Rattle.world.specs.Recalling.{past_of}
+use Rattle.world.specs.Step.{CutsOrStays, Leaves}
+use Rattle.world.specs.declared.condition.Condition.{Condition}
+use Rattle.world.specs.declared.condition.Condition.TheVariants.{Crashed}
+use Rattle.world.proofs.CutLemmas.{AreFramesSent-cut, ArrivalsRefine-cut, IsDown-cut, keyspace_after-cut_at-cut}
+use Rattle.world.proofs.KeptLemmas.{CrashedIn, crash-leaves, leaves-cut, left-is}
+use Rattle.world.proofs.LeftLemmas.{LeftBy, left-there}
+use Rattle.world.proofs.OpenedLemmas.{StaysSo}
+use Rattle.world.proofs.PairCrash.{StandbyRefines-cut}
+use Rattle.world.proofs.PairLemmas.{sessions-stand, standby-refines}
+use Rattle.world.proofs.PairLives.{stays-acts}
+use Rattle.world.proofs.PairReopen.{crashed_as, fallen-parts}
+use Rattle.world.proofs.PairStandby.{arrivals-stand, frames-stand, link-epoch, own-frames}
+
+-- ---- a node that is in no such call
+
+-- a crash inside a call is enabled where the node is in it
+pub cut-enabled : {first second : Holder} {serves follows : Condition} {w : World} (n : Node) (call : Cut) (k : ℕ) (picks : Vec ℕ Global) → is_between call ≡ false → AreLives first second serves follows w
+    → is_enabled w (events.Crash n call k picks) ≡ may_cut w n call
+cut-enabled {first} {second} {serves} {follows} {w} n call k picks inside lives =
+    ap (λ (a : Allowed). a.restarts && ((is_between call || a.cuts) && may_cut w n call)) lives.allowed_are ∙ ap (λ b. (b || true) && may_cut w n call) inside
+
+crash-still : (n : Node) (call : Cut) (k : ℕ) (picks : Vec ℕ Global) (pair : Pair) → Leaves (events.Crash n call k picks) (Ok false) pair pair
+crash-still node.Primary call k picks pair = record { primary = λ idle. refl; standby = λ idle. refl; frames = refl; acknowledgements = refl; effect = tt }
+crash-still node.Standby call k picks pair = record { primary = λ idle. refl; standby = λ idle. refl; frames = refl; acknowledgements = refl; effect = tt }
+
+pub cut-stays : (old : Pair) (n : Node) (call : Cut) (k : ℕ) (picks : Vec ℕ Global) → is_between call ≡ false → ((first second : Holder) (w : World) → NodesRefine first second old w → may_cut w n call ≡ false)
+    → CutsOrStays old (events.Crash n call k picks) false old
+cut-stays old n call k picks inside never = (
+  stays-acts old (events.Crash n call k picks) (λ first second w stands. cut-enabled n call k picks inside stands.lives ∙ never first second w stands),
+  crash-still n call k picks old,
+)
+
+-- the node has no such call
+pub no-call : (old : Pair) (n : Node) (call : Cut) (k : ℕ) (picks : Vec ℕ Global) → is_between call ≡ false → ((w : World) → may_cut w n call ≡ false) → CutsOrStays old (events.Crash n call k picks) false old
+no-call old n call k picks inside never = cut-stays old n call k picks inside (λ first second w stands. never w)
+
+-- it is none
+pub none-between : (call : Cut) → is_between call ≡ false → call ≡ cut.Between → ⊥
+none-between call inside is = true≢false (ap is_between (sym is) ∙ inside)
+
+-- ---- the primary
+
+-- what it has once a call of it was cut
+abbrev pub with_cut_primary : Connections → Transcript → Sequencing → Committing → State → Contents → Bool → Waiting Group → Pair → Pair
+with_cut_primary sessions transcript sequencer committing device contents is_faulted handed pair =
+    record pair {
+      sessions = sessions;
+      transcript = transcript;
+      sequencer = sequencer;
+      committing = committing;
+      device = device;
+      contents = contents;
+      is_faulted = is_faulted;
+      handed = handed;
+      primary_condition = Crashed;
+    }
+
+-- The sessions ended, and the list keeps the calls up to where the image stands.
+abbrev pub EndsThere : State → Connections → Transcript → Connections → Transcript → Type 0
+EndsThere device old transcript new transcript' =
+    (r : Record) → MIN_LINES ≤ device.lines → device.lines ≤ MAX_LINES → IsUndamaged device.lines r (image_of device.words) → (machines : List Connection) (list : List Call) → SessionsRefine old transcript machines list
+    → SessionsRefine new transcript' (map left machines) (cut_at list r.position)
+
+-- In this world the call has something to do, and a crash at any moment of it leaves what one that cuts it may leave.
+pub record CutIn (first : Holder) (w : World) (call : Cut) (lines : ℕ) (kept last : State) : Type 0 where
+  pub may : may_cut w node.Primary call ≡ true
+  pub lines_are : first.lines ≡ lines
+  pub leaves : LeavesOnly kept last (LeftBy first w call)
+
+module _ (old : Pair) (call : Cut) (k : ℕ) (picks : Vec ℕ Global) (kept last : State)
+    (sessions : Connections) (transcript : Transcript) (sequencer : Sequencing) (committing : Committing) (device : State) (contents : Contents) (is_faulted : Bool) (handed : Waiting Group)
+    (inside : is_between call ≡ false) (off : CrashedIn k picks.items old.device kept last device) (lines : last.lines ≡ kept.lines)
+    (cut-in : (first second : Holder) (w : World) → NodesRefine first second old w → CutIn first w call old.device.lines kept last)
+    (ends : EndsThere device old.sessions old.transcript sessions transcript)
+    (unseated : (c seat : ℕ) → ¬ HasSeat (seats_of sessions.connections.items) c seat) where
+  abbrev new : Pair
+  new = with_cut_primary sessions transcript sequencer committing device contents is_faulted handed old
+
+  shortens : (first second : Holder) (w : World) → NodesRefine first second old w → CutsPrimary first second w call k picks old new
+  shortens first second w stands =
+      let event = events.Crash node.Primary call k picks in
+      let it = cut-in first second w stands in
+      let image = image_of device.words in
+      let left-it = left-is off it.leaves in
+      let sound = stands.sound in
+      let calls = w.primary.calls in
+      let p = left-it.position in
+      let w' = crashed node.Primary (At p) w in
+      let step : Step w event true w' =
+      record {
+        done = sym (cut-enabled node.Primary call k picks inside stands.lives ∙ it.may);
+        happens = λ did. record { remain = At p; one = left-it.one; now = refl };
+        stands = λ did. absurd (true≢false did);
+      } in
+      let sized : left-it.contents.lines ≡ device.lines =
+      left-it.contents_at.lines_are ∙ it.lines_are ∙ sym (off.lines_are ∙ lines ∙ off.keeps.lines) in
+      let down : IsDown first calls p device =
+      record { contents = left-it.contents; contents_at = left-it.contents_at; lawful = left-it.lawful; keeps = left-it.keeps; settled = off.settled; sized = sized } in
+      let undamaged : IsUndamaged device.lines left-it.contents.current image =
+      subst (λ n. IsUndamaged n left-it.contents.current image) sized (lawful_undamaged left-it.contents image left-it.lawful left-it.keeps) in
+      let ended : SessionsRefine sessions transcript (map left w.primary.connections) (cut_at calls left-it.contents.current.position) =
+      ends left-it.contents.current (omega (arith, sized, left-it.lawful.many)) (omega (arith, sized, left-it.lawful.few)) undamaged w.primary.connections calls (sessions-stand stands.parts) in
+      let behind : sound.sent ≤ p = omega (arith, chain-le _ _ _ sound.link.waiting, left-it.rises) in
+      let epoch = link-epoch stands.parts in
+      let parts : DownRefine first second new w' =
+      record {
+        sessions = subst (λ n. SessionsRefine sessions transcript (map left w.primary.connections) (cut_at calls n)) left-it.contents_at.at ended;
+        unseated = unseated;
+        committer = refl;
+        link = refl;
+        ends = omega (arith, position_of-cut_at calls p, left-it.within);
+        newest = refl;
+        none_told = refl;
+        image = IsDown-cut first calls p p device (omega arith) down;
+        opened = refl;
+        recalls = λ q from below. subst (Recalls left-it.contents.versions (λ i. Unit {0}) q) (sym (keyspace_after-cut_at-cut calls p q (omega (arith, below)))) (left-it.recalls q from below);
+        epoch = epoch;
+        own = own-frames stands.parts;
+        frames = AreFramesSent-cut old.link.epoch calls p old.frames w.wire.frames
+            (subst (λ e. All (IsFrameWithin e p) w.wire.frames) (sym epoch) (frames_within-weaker w.primary.epoch sound.sent p w.wire.frames behind sound.wire.frames)) (frames-stand stands.parts);
+        arrivals = ArrivalsRefine-cut old.link.epoch calls p old.arrivals w.standby.waiting w.wire.acknowledgements
+            (subst (λ e. All (IsFrameWithin e p) w.standby.waiting) (sym epoch) (frames_within-weaker w.primary.epoch sound.sent p w.standby.waiting behind sound.standby.frames)) (arrivals-stand stands.parts);
+        standby = StandbyRefines-cut second old.link.epoch calls w.standby.position p old.standby old.standby_condition (omega (arith, sound.standby.behind, behind)) (standby-refines stands.parts);
+      } in
+      let refines : EitherRefines first second new w' = inr (inl (refl, parts)) in
+      record {
+        world = w';
+        step = step;
+        stands = record { sound = sound-step w event true w' step sound; lives = search (rules, stands.lives); parts = refines };
+        leaves = LeavesOnly-weaken (OpensNear first calls w.primary.committer.position (left_by w node.Primary call)) (λ image one. one.opens) (crash-leaves off it.leaves);
+        same_standby = (refl, refl);
+      }
+
+  pub primary-cut : HasWorld old → AddsOne old.transcript.calls transcript.calls → CutsOrStays old (events.Crash node.Primary call k picks) true new
+  primary-cut has added = record {
+    is_cut_short = ap not inside;
+    did = refl;
+    shortened = shortens;
+    left = leaves-cut off (cut-in has.first has.second has.world has.stands).leaves;
+    frames = refl;
+    acknowledgements = refl;
+    calls = added;
+  }
+
+-- ---- while it is opened
+
+-- at any moment of the opening of its image a crash leaves an image with the same versions
+opening-left : (holder : Holder) (w : World) (device device' : State) → Sound w → (down : IsDown holder w.primary.calls w.primary.committer.position device)
+    → RecallsEach w.standby.position w.primary.committer.position (past_of w.primary.calls) down.contents → StaysSo device device' → LeavesOnly device device' (LeftBy holder w cut.Reopen)
+opening-left holder w device device' sound down recalls stays =
+    let calls = w.primary.calls in
+    let p = w.primary.committer.position in
+    let c = down.contents in
+    let are = down.contents_at in
+    LeavesOnly-weaken (LeftBy holder w cut.Reopen)
+    (λ image other.
+    let it : StaysReadable c.lines c.current (image_of device.words) image = subst (λ n. StaysReadable n c.current (image_of device.words) image) (sym down.sized) other in
+    let now : Contents = record { current = it.current; lines = c.lines; versions = c.versions; is_free = c.is_free } in
+    let there : AreContentsAt holder calls p now =
+    record {
+      at = it.position ∙ are.at;
+      role_is = it.role ∙ are.role_is;
+      epoch_is = it.epoch ∙ are.epoch_is;
+      lines_are = are.lines_are;
+      consistent = record { free = are.consistent.free; beyond = are.consistent.beyond };
+      map = are.map;
+    } in
+    let keeps : Keeps now image =
+    record {
+      superblock = it.undamaged.superblock;
+      has_record = it.undamaged.current.has_record;
+      versions = λ i within. it.versions i within ∙ down.keeps.versions i within;
+      entries = it.undamaged.versions.entries;
+    } in
+    left-there holder w cut.Reopen now image sound there (lawful_from c now it.undamaged.current.lawful refl (λ i. refl) down.lawful) recalls keeps)
+    (stays c.current (subst (λ n. IsUndamaged n c.current (image_of device.words)) down.sized (lawful_undamaged c (image_of device.words) down.lawful down.keeps)))
+
+opens-cut : {first second : Holder} {serves follows : Condition} {w : World} → AreLives first second serves follows w → may_cut w node.Primary cut.Reopen ≡ has_crashed serves
+opens-cut {first} {second} {serves} {follows} {w} lives = ap is_crashed lives.primary ∙ crashed_as serves
+
+pub opening-stays : (old : Pair) (k : ℕ) (picks : Vec ℕ Global) → has_crashed old.primary_condition ≡ false → CutsOrStays old (events.Crash node.Primary cut.Reopen k picks) false old
+opening-stays old k picks whole = cut-stays old node.Primary cut.Reopen k picks refl (λ first second w stands. opens-cut stands.lives ∙ whole)
+
+settled-only : (words : ℕ → Word) → IsSettled words → (word : ℕ) → Only (words word) (image_of words word)
+settled-only words settled word = record {
+  only = λ y may. elim may [
+    | inl is ↦ is
+    | inr older ↦ absurd (subst (λ (all : List Older). IsOlder all y) (settled word) older)
+  ];
+}
+
+-- the device from whose image it is opened, which was asked to keep a moment
+module _ (old : Pair) (t : ℕ) (kept : State) (fallen : has_crashed old.primary_condition ≡ true) (keeps : crash.Keeps old.device kept t) where
+  -- with the contents that its image had
+  abbrev kept-down : {first second : Holder} {w : World} → NodesRefine first second old w → IsDown first w.primary.calls w.primary.committer.position kept
+  kept-down stands =
+      let down = (fallen-parts old fallen stands.parts).image in
+      record {
+        contents = down.contents;
+        contents_at = down.contents_at;
+        lawful = down.lawful;
+        keeps = subst (λ (words : ℕ → Word). Keeps down.contents (image_of words)) (sym keeps.words) down.keeps;
+        settled = subst IsSettled (sym keeps.words) down.settled;
+        sized = down.sized ∙ sym keeps.lines;
+      }
+
+  pub asked-settled : HasWorld old → (word : ℕ) → Only (kept.words word) (image_of kept.words word)
+  asked-settled has = settled-only kept.words (kept-down has.stands).settled
+
+  pub opening-cut-in : (last : State) → StaysSo kept last → (first second : Holder) (w : World) → NodesRefine first second old w → CutIn first w cut.Reopen old.device.lines kept last
+  opening-cut-in last stays first second w stands =
+      let lost = fallen-parts old fallen stands.parts in
+      record {
+        may = opens-cut stands.lives ∙ fallen;
+        lines_are = sym lost.image.contents_at.lines_are ∙ lost.image.sized;
+        leaves = opening-left first w kept last stands.sound (kept-down stands) lost.recalls stays;
+      }

@@ -1,0 +1,47 @@
+use Rattle.std.proofs.Common.{ℕ, List, map, ap, refl, subst, sym, ◌∙◌}
+use Rattle.pmem.specs.Crash.{picked, words_to_crash}
+use Rattle.model.specs.Call.{cut_at}
+use Rattle.machine.specs.declared.event.Cut.TheVariants as cut
+use Rattle.machine.specs.Event.{left}
+use Rattle.connections.specs.Session.{SessionsRefine}
+use Rattle.world.proofs.KeptLemmas.{CrashedIn}
+use Rattle.world.proofs.PairCut.{asked-settled, opening-cut-in, opening-stays, primary-cut}
+use Rattle.world.proofs.pair.Pair.cut_opening.Goals as goal
+
+pub returns-then-not-has_crashed : goal.returns-then-not-has_crashed
+returns-then-not-has_crashed g c = opening-stays _ c.args.k c.args.picks.now (sym c.has_crashed.ensures ∙ c.if-not-has_crashed.true)
+
+pub restart-requires : goal.restart-requires
+restart-requires g c = record {
+  settled = asked-settled _ _ (g.E.Durable.device c.keep_at.new.self.committer.engine) (sym c.has_crashed.ensures ∙ c.if-not-has_crashed.false) c.keep_at.ensures.keeps c.requires.world;
+}
+
+pub returns : goal.returns
+returns g c =
+    let E = g.E.Durable in
+    let pair = c.args.self.now in
+    let before = E.device pair.primary.back.committer.engine in
+    let asked = c.keep_at.ensures in
+    let kept = E.device c.keep_at.new.self.committer.engine in
+    let came = c.restart.ensures in
+    let last = E.device c.restart.new.self.back.committer.engine in
+    let crashed = c.crash_kept.ensures in
+    let left_ = c.crash_kept.new.self in
+    let ended = c.crash.ensures in
+    let off : CrashedIn c.args.k c.args.picks.now.items before kept last (E.device left_.committer.engine) =
+    record {
+      keeps = asked.keeps;
+      asked = came.asked_moment;
+      settled = crashed.settled;
+      left = crashed.left;
+      picked_are = λ fed word. crashed.picked fed word ∙ ap (λ (picks : List ℕ). picked (words_to_crash last last.kept) picks word) c.as_slice.ensures.value;
+      lines_are = crashed.lines;
+      moments = crashed.moments;
+    } in
+    primary-cut _ cut.Reopen c.args.k c.args.picks.now kept last c.crash.new.self c.crash.new.transcript c.restart.new.self.front.sequencer
+    (record { waiting = left_.work; aside = left_.committer.aside.items; stage = left_.committer.stage; local = left_.committer.local }) (E.device left_.committer.engine) (E.contents left_.committer.engine)
+    (E.is_faulted left_.committer.engine) pair.handed refl off came.lines
+    (opening-cut-in _ _ kept (sym c.has_crashed.ensures ∙ c.if-not-has_crashed.false) asked.keeps last came.moments)
+    (λ r many few undamaged machines list stand.
+    subst (λ n. SessionsRefine c.crash.new.self c.crash.new.transcript (map left machines) (cut_at list n)) (c.image_position-position.ensures r many few undamaged) (ended.goes machines list stand))
+    ended.unseated c.requires.world ended.calls

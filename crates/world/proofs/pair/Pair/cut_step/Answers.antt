@@ -1,0 +1,74 @@
+use Rattle.std.proofs.Common.{ℕ, List, map, ap, subst, sym, ◌∙◌, true≢false}
+use Rattle.pmem.specs.Crash.{picked, words_to_crash}
+use Rattle.model.specs.Call.{cut_at}
+use Rattle.machine.specs.Event.{left}
+use Rattle.connections.specs.Session.{SessionsRefine}
+use Rattle.world.specs.Standby.{arrived_with, node_at}
+use Rattle.world.proofs.KeptLemmas.{CrashedIn}
+use Rattle.world.proofs.PairCutStep.{OnlyKeeps, asked-stands, cut-down, cut-not-due, step-cut}
+use Rattle.world.proofs.pair.Pair.cut_step.Goals as goal
+
+pub returns-then-not-is_running : goal.returns-then-not-is_running
+returns-then-not-is_running g c = cut-down _ c.args.step c.args.k c.args.picks.now c.requires.inside (sym c.is_running.ensures ∙ c.if-not-is_running.true)
+
+pub returns-then-not-is_due : goal.returns-then-not-is_due
+returns-then-not-is_due g c =
+    cut-not-due _ c.args.step c.args.k c.args.picks.now c.requires.inside (sym c.is_running.ensures ∙ c.if-not-is_running.false)
+    (λ is. absurd (true≢false (sym (c.is_due.ensures.1 is) ∙ c.if-not-is_due.true)))
+
+pub commit-requires-clause-stands : goal.commit-requires-clause-stands
+commit-requires-clause-stands g c =
+    let E = g.E.Durable in
+    let pair = c.args.self.now in
+    let history = c.args.history.now in
+    let standby = node_at (E.device pair.standby.engine) (E.contents pair.standby.engine) (E.is_faulted pair.standby.engine) (g.K.Keyspace.table pair.standby.keyspace) pair.standby.heap pair.standby.ended.items in
+    let asked = c.keep_at.ensures in
+    let kept = c.keep_at.new.self in
+    let only : OnlyKeeps E.device E.contents E.is_faulted c.args.k pair.primary.back.committer kept.committer =
+    record { keeps = asked.keeps; contents_are = asked.contents; faulted = asked.faulted; stage = asked.stage; local = asked.local; aside = asked.aside } in (
+      pair.primary.front.sequencer,
+      pair.notices.items,
+      asked-stands E.device E.contents E.is_faulted pair.sessions history.transcript pair.primary.front.sequencer pair.notices.items pair.outgoing.link pair.outgoing.opening pair.remote history.frames.items
+          (arrived_with pair.arrivals history.acknowledgements) standby pair.primary_condition pair.standby_condition c.args.k pair.primary.back.committer kept.committer pair.primary.back.work kept.work pair.handed only asked.work
+          (sym c.is_running.ensures ∙ c.if-not-is_running.false) c.requires.world,
+    )
+
+pub returns : goal.returns
+returns g c =
+    let E = g.E.Durable in
+    let sized = g.met.E.Durable.sized in
+    let pair = c.args.self.now in
+    let history = c.args.history.now in
+    let standby = node_at (E.device pair.standby.engine) (E.contents pair.standby.engine) (E.is_faulted pair.standby.engine) (g.K.Keyspace.table pair.standby.keyspace) pair.standby.heap pair.standby.ended.items in
+    let before = pair.primary.back.committer in
+    let asked = c.keep_at.ensures in
+    let kept = c.keep_at.new.self in
+    let came = c.commit.ensures in
+    let after = c.commit.new.self in
+    let crashed = c.crash_kept.ensures in
+    let left_ = c.crash_kept.new.self in
+    let ended = c.crash.ensures in
+    let up = sym c.is_running.ensures ∙ c.if-not-is_running.false in
+    let is = c.is_due.ensures.0 c.if-not-is_due.false in
+    let only : OnlyKeeps E.device E.contents E.is_faulted c.args.k before kept.committer =
+    record { keeps = asked.keeps; contents_are = asked.contents; faulted = asked.faulted; stage = asked.stage; local = asked.local; aside = asked.aside } in
+    let off : CrashedIn c.args.k c.args.picks.now.items (E.device before.engine) (E.device kept.committer.engine) (E.device after.committer.engine) (E.device left_.committer.engine) =
+    record {
+      keeps = asked.keeps;
+      asked = came.asked_moment;
+      settled = crashed.settled;
+      left = crashed.left;
+      picked_are = λ fed word.
+          crashed.picked fed word
+          ∙ ap (λ (picks : List ℕ). picked (words_to_crash (E.device after.committer.engine) (E.device after.committer.engine).kept) picks word) c.as_slice.ensures.value;
+      lines_are = crashed.lines;
+      moments = crashed.moments;
+    } in
+    step-cut E.device E.contents E.is_faulted pair.sessions history.transcript pair.primary.front.sequencer pair.notices.items pair.outgoing.link pair.outgoing.opening pair.remote history.frames.items
+    (arrived_with pair.arrivals history.acknowledgements) standby pair.primary_condition pair.standby_condition c.args.k before kept.committer pair.primary.back.work kept.work pair.handed only asked.work
+    after.committer after.work c.commit.new.link c.commit.result c.args.step c.args.picks.now (E.device left_.committer.engine) c.crash.new.self c.crash.new.transcript
+    (record { waiting = left_.work; aside = left_.committer.aside.items; stage = left_.committer.stage; local = left_.committer.local }) (E.contents left_.committer.engine) (E.is_faulted left_.committer.engine)
+    c.requires.inside up is came.takes sized off
+    (λ r many few undamaged machines list stand.
+    subst (λ n. SessionsRefine c.crash.new.self c.crash.new.transcript (map left machines) (cut_at list n)) (c.image_position-position.ensures r many few undamaged) (ended.goes machines list stand))
+    ended.unseated c.requires.world ended.calls

@@ -1,0 +1,118 @@
+-- A crash inside a call: what it leaves of the node whose call it is, and of the pair.
+use Rattle.std.specs.Prelude.{◌≡◌, ◌⊎◌, ℕ, ◌+◌, Bool, true, false, not, List, [], ◌∷◌, Some, Vec, Result, Ok}
+use Rattle.std.specs.Global.{Global}
+use Rattle.pmem.specs.Crash.{IsSettled, picked, words_to_crash}
+use Rattle.pmem.specs.Device.{State, moment, newest_at}
+use Rattle.pmem.specs.Runs.{HasPassed, LeavesOnly}
+use Rattle.kv_types.specs.declared.refusal.Refusal.{Refusal}
+use Rattle.model.specs.declared.call.Call.{Call}
+use Rattle.model.specs.Image.{Image}
+use Rattle.model.specs.Standing.{Holder}
+use Rattle.group_commit.specs.declared.due.Due.{Due}
+use Rattle.group_commit.specs.declared.due.Due.TheVariants as due
+use Rattle.machine.specs.declared.event.Cut.{Cut}
+use Rattle.machine.specs.declared.event.Cut.TheVariants as cut
+use Rattle.machine.specs.declared.event.Event.{Event}
+use Rattle.machine.specs.declared.event.Event.TheVariants.{Crash}
+use Rattle.machine.specs.declared.event.Node.{Node}
+use Rattle.machine.specs.declared.event.Node.TheVariants as node
+use Rattle.machine.specs.Event.{At, AsPrimary, Remains, Step, World, is_between, left_by}
+use Rattle.connections.specs.Session.{AddsOne}
+use Rattle.world.specs.Committing.{OpensAt, promoted_holder}
+use Rattle.world.specs.Condition.{has_ended}
+use Rattle.world.specs.Pair.{HasStandby, NodesRefine, Pair, first_device, second_device}
+
+-- ---- what a cut call leaves
+
+-- The image opens as what a cut call leaves: at a position of the list; or where the standby stands, as that of the primary which it becomes.
+abbrev pub OpensAs : Holder → List Call → ℕ → Image → Remains → Type 0
+OpensAs holder calls position image (At p) = OpensAt holder calls p image
+OpensAs holder calls position image AsPrimary = OpensAt (promoted_holder holder) calls position image
+
+-- as one of these
+abbrev pub OpensAsOne : Holder → List Call → ℕ → List Remains → Image → Type 0
+OpensAsOne holder calls position [] image = ⊥
+OpensAsOne holder calls position (one ∷ others) image = OpensAs holder calls position image one ⊎ OpensAsOne holder calls position others image
+
+-- the image opens where its node stood before the call, or as one of these
+abbrev pub OpensNear : Holder → List Call → ℕ → List Remains → Image → Type 0
+OpensNear holder calls position others image = OpensAt holder calls position image ⊎ OpensAsOne holder calls position others image
+
+-- the call in which the committer takes this step; the others write to no device
+abbrev pub cut_of : Due → Cut
+cut_of due.Commit = cut.Commit
+cut_of due.Free = cut.Free
+cut_of due.Clear = cut.ClearGap
+cut_of step = cut.Between
+
+-- what a crash in this event may leave of this node, where it comes inside a call, besides the image from before the call
+abbrev pub cut_short : World → Event → Node → List Remains
+cut_short w (Crash node.Primary call k picks) node.Primary = left_by w node.Primary call
+cut_short w (Crash node.Standby call k picks) node.Standby = left_by w node.Standby call
+cut_short w event n = []
+
+-- the event is a crash inside a call
+abbrev pub is_cut : Event → Bool
+is_cut (Crash n call k picks) = not (is_between call)
+is_cut event = false
+
+-- ---- the device
+
+-- The device went on from `old`, and crashed as of k calls of it after that: each word has the candidate of that moment that the picks name, where the device had the memory to do so.
+-- Where fewer calls were made it crashed at the end of them.
+pub record LeavesCut (k : ℕ) (picks : List ℕ) (old new : State) : Type 0 where
+  pub settled : IsSettled new.words
+  pub last : State
+  pub went : HasPassed old last
+  pub picked_are : new.starved ≡ false → (word : ℕ) → newest_at new word ≡ picked (words_to_crash last (Some (moment old + k))) picks word
+
+-- ---- the pair
+
+-- A call of the primary was cut by a crash: the machine's step, and the pair refines the world after it. The standby and its device are as they were.
+pub record CutsPrimary (first second : Holder) (w : World) (call : Cut) (k : ℕ) (picks : Vec ℕ Global) (old new : Pair) : Type 0 where
+  pub world : World
+  pub step : Step w (Crash node.Primary call k picks) true world
+  pub stands : NodesRefine first second new world
+  pub leaves : LeavesOnly old.device new.device (OpensNear first w.primary.calls w.primary.committer.position (left_by w node.Primary call))
+  pub same_standby : (new.standby ≡ old.standby) × (new.standby_condition ≡ old.standby_condition)
+
+-- The standby stays the standby, or its image is that of a primary, which is crashed: the standby's place is that of the former one then, of whose holder nothing is said.
+pub record StaysBehind (first second : Holder) (new : Pair) (world : World) : Type 0 where
+  pub stands : NodesRefine first second new world
+  pub whole : HasStandby new
+
+pub record GoesAhead (second : Holder) (new : Pair) (world : World) : Type 0 where
+  pub former : Holder
+  pub stands : NodesRefine (promoted_holder second) former new world
+  pub ended : has_ended new.standby_condition ≡ true
+
+-- A call of the standby was cut by a crash: the machine's step, and the pair refines the world after it. The device of the primary, or of the former one, is as it was.
+pub record CutsStandby (first second : Holder) (w : World) (call : Cut) (k : ℕ) (picks : Vec ℕ Global) (old new : Pair) : Type 0 where
+  pub world : World
+  pub step : Step w (Crash node.Standby call k picks) true world
+  pub began : HasStandby old
+  pub goes : StaysBehind first second new world ⊎ GoesAhead second new world
+  pub leaves : LeavesOnly (second_device old) (second_device new) (OpensNear second w.primary.calls w.standby.position (left_by w node.Standby call))
+  pub first_stays : first_device new ≡ first_device old
+
+-- whichever node's it was
+abbrev pub CutsShort : Holder → Holder → World → Event → Pair → Pair → Type 0
+CutsShort first second w (Crash node.Primary call k picks) old new = CutsPrimary first second w call k picks old new
+CutsShort first second w (Crash node.Standby call k picks) old new = CutsStandby first second w call k picks old new
+CutsShort first second w event old new = ⊥
+
+-- what was left of the device whose call it was
+abbrev pub LeftCut : Event → Pair → Pair → Type 0
+LeftCut (Crash node.Primary call k picks) old new = LeavesCut k picks.items old.device new.device
+LeftCut (Crash node.Standby call k picks) old new = LeavesCut k picks.items (second_device old) (second_device new)
+LeftCut event old new = ⊥
+
+-- A crash inside a call happened to a pair: of all worlds that it stood for. No message was made.
+pub record Cuts (old : Pair) (event : Event) (result : Result Bool Refusal) (new : Pair) : Type 0 where
+  pub is_cut_short : is_cut event ≡ true
+  pub did : result ≡ Ok true
+  pub shortened : (first second : Holder) (w : World) → NodesRefine first second old w → CutsShort first second w event old new
+  pub left : LeftCut event old new
+  pub frames : new.frames ≡ old.frames
+  pub acknowledgements : new.arrivals.acknowledgements.items ≡ old.arrivals.acknowledgements.items
+  pub calls : AddsOne old.transcript.calls new.transcript.calls

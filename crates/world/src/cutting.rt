@@ -1,0 +1,128 @@
+//! Crashes inside a call of a pair's nodes.
+ghost use Rattle.std.specs.Prelude.{◌≡◌, ◌≤◌, ◌↔◌, ◌&&◌, true, false};
+ghost use Rattle.pmem.specs.Crash.{image_of};
+ghost use Rattle.model.specs.declared.image.TheConstants.{MAX_LINES, MIN_LINES};
+ghost use Rattle.model.specs.declared.record.Record.{Record as CommitRecord};
+ghost use Rattle.wbl_engine.specs.Lawful.{IsUndamaged};
+ghost use Rattle.machine.specs.declared.event.Cut.TheVariants as cuts;
+ghost use Rattle.machine.specs.declared.event.Event.TheVariants as events;
+ghost use Rattle.machine.specs.declared.event.Node.TheVariants as nodes;
+ghost use Rattle.machine.specs.Event.{is_between};
+ghost use Rattle.world.specs.Cutting.{cut_of};
+ghost use Rattle.world.specs.Pair.{HasWorld};
+ghost use Rattle.world.specs.Step.{CutsOrStays};
+ghost use Rattle.world.specs.declared.history.History.{History};
+
+use crate::condition::Condition;
+use crate::history::History;
+use crate::pair::{Pair, Stepper};
+use group_commit::Due;
+use machine::{Cut, Node};
+use mv_keyspace::Keyspace;
+use wbl_engine::Restarting;
+
+impl<E: Restarting, K: Keyspace + Drop> Pair<E, K> {
+    /// Crashes a node inside this call, after `k` calls of its device, or at the call's end where it makes fewer. What the call answers is lost with the node. Answers
+    /// whether the node was in such a call: whether it had something to do.
+    pub(crate) fn cut(
+        &mut self,
+        history: &mut History,
+        node: Node,
+        call: Cut,
+        k: u64,
+        picks: &Vec<u64>,
+    ) -> bool
+        requires inside { is_between call ≡ false }
+        requires world { HasWorld (⟦<Pair<E, K> as Stepper>⟧.parts self.old history.old) }
+        ensures { CutsOrStays (⟦<Pair<E, K> as Stepper>⟧.parts self.old history.old) (events.Crash node call k picks.now) result (⟦<Pair<E, K> as Stepper>⟧.parts self.new history.new) }
+    {
+        match node {
+            Node::Primary => self.cut_primary(history, call, k, picks),
+            Node::Standby => self.cut_standby(history, call, k, picks),
+        }
+    }
+
+    fn cut_primary(&mut self, history: &mut History, call: Cut, k: u64, picks: &Vec<u64>) -> bool
+        requires inside { is_between call ≡ false }
+        requires world { HasWorld (⟦<Pair<E, K> as Stepper>⟧.parts self.old history.old) }
+        ensures { CutsOrStays (⟦<Pair<E, K> as Stepper>⟧.parts self.old history.old) (events.Crash nodes.Primary call k picks.now) result (⟦<Pair<E, K> as Stepper>⟧.parts self.new history.new) }
+    {
+        match call {
+            Cut::Commit => self.cut_step(history, Due::Commit, k, picks),
+            Cut::Free => self.cut_step(history, Due::Free, k, picks),
+            Cut::ClearGap => self.cut_step(history, Due::Clear, k, picks),
+            Cut::Reopen => self.cut_opening(history, k, picks),
+            Cut::Between => false,
+            Cut::Apply => false,
+            Cut::Promote => false,
+        }
+    }
+
+    fn cut_standby(&mut self, history: &mut History, call: Cut, k: u64, picks: &Vec<u64>) -> bool
+        requires inside { is_between call ≡ false }
+        requires world { HasWorld (⟦<Pair<E, K> as Stepper>⟧.parts self.old history.old) }
+        ensures { CutsOrStays (⟦<Pair<E, K> as Stepper>⟧.parts self.old history.old) (events.Crash nodes.Standby call k picks.now) result (⟦<Pair<E, K> as Stepper>⟧.parts self.new history.new) }
+    {
+        match call {
+            Cut::Apply => self.cut_frame(history, k, picks),
+            Cut::Reopen => self.cut_standby_opening(history, k, picks),
+            Cut::Promote => self.cut_promotion(history, k, picks),
+            Cut::Between => false,
+            Cut::Commit => false,
+            Cut::Free => false,
+            Cut::ClearGap => false,
+        }
+    }
+
+    /// The primary crashes in this step of its committer, if it runs and the step is due.
+    fn cut_step(&mut self, history: &mut History, step: Due, k: u64, picks: &Vec<u64>) -> bool
+        requires inside { is_between (cut_of step) ≡ false }
+        requires world { HasWorld (⟦<Pair<E, K> as Stepper>⟧.parts self.old history.old) }
+        ensures { CutsOrStays (⟦<Pair<E, K> as Stepper>⟧.parts self.old history.old) (events.Crash nodes.Primary (cut_of step) k picks.now) result (⟦<Pair<E, K> as Stepper>⟧.parts self.new history.new) }
+    {
+        if !self.primary_condition.is_running() {
+            return false;
+        }
+        if !self.is_due(step) {
+            return false;
+        }
+        self.primary.back.keep_at(k);
+        let _ = self
+            .primary
+            .back
+            .commit(self.alloc, &mut self.handed, self.remote);
+        self.primary.back.crash_kept(picks.as_slice());
+        let position = self.image_position();
+        self.sessions.crash(&mut history.transcript, position);
+        self.primary_condition = Condition::Crashed;
+        true
+    }
+
+    /// The primary crashes while its image is opened.
+    fn cut_opening(&mut self, history: &mut History, k: u64, picks: &Vec<u64>) -> bool
+        requires world { HasWorld (⟦<Pair<E, K> as Stepper>⟧.parts self.old history.old) }
+        ensures { CutsOrStays (⟦<Pair<E, K> as Stepper>⟧.parts self.old history.old) (events.Crash nodes.Primary cuts.Reopen k picks.now) result (⟦<Pair<E, K> as Stepper>⟧.parts self.new history.new) }
+    {
+        if !self.primary_condition.has_crashed() {
+            return false;
+        }
+        self.primary.back.keep_at(k);
+        let _ = self.primary.restart(self.alloc, self.hash_builder);
+        self.primary.back.crash_kept(picks.as_slice());
+        let position = self.image_position();
+        self.sessions.crash(&mut history.transcript, position);
+        self.primary_condition = Condition::Crashed;
+        true
+    }
+
+    /// Where the primary's image stands, up to which the list keeps the calls.
+    fn image_position(&self) -> u64
+        ensures { (r : CommitRecord) → MIN_LINES ≤ (E.device self.now.primary.back.committer.engine).lines → (E.device self.now.primary.back.committer.engine).lines ≤ MAX_LINES
+            → IsUndamaged (E.device self.now.primary.back.committer.engine).lines r (image_of (E.device self.now.primary.back.committer.engine).words) → result ≡ r.position }
+    {
+        match self.primary.back.image_record() {
+            Some(record) => record.position,
+            None => self.primary.back.position(),
+        }
+    }
+}

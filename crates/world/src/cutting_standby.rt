@@ -1,0 +1,130 @@
+//! Crashes inside a call of a pair's standby.
+ghost use Rattle.std.specs.Prelude.{◌≡◌, ◌↔◌, ℕ, [], List, map, IsTrue};
+ghost use Rattle.connections.specs.Session.{AddsOne, HasSeat, SessionsRefine, seats_of};
+ghost use Rattle.machine.specs.Event.{Connection as Machine, left};
+ghost use Rattle.machine.specs.declared.event.Cut.TheVariants as cuts;
+ghost use Rattle.machine.specs.declared.event.Event.TheVariants as events;
+ghost use Rattle.machine.specs.declared.event.Node.TheVariants as nodes;
+ghost use Rattle.model.specs.Call.{cut_at};
+ghost use Rattle.model.specs.declared.call.Call.{Call};
+ghost use Rattle.model.specs.declared.record.Role.TheVariants as roles;
+ghost use Rattle.world.specs.Pair.{HasWorld};
+ghost use Rattle.world.specs.Step.{CutsOrStays};
+ghost use Rattle.world.specs.declared.condition.Condition.TheVariants as conditions;
+ghost use Rattle.world.specs.declared.history.History.{History};
+
+use crate::condition::Condition;
+use crate::history::History;
+use crate::pair::{Pair, Stepper};
+use failover::{operator_fence, promote_image};
+use model::{Record, Role};
+use mv_keyspace::Keyspace;
+use wbl_engine::Restarting;
+
+impl<E: Restarting, K: Keyspace + Drop> Pair<E, K> {
+    /// The standby crashes while it takes the first frame that came.
+    pub(crate) fn cut_frame(&mut self, history: &History, k: u64, picks: &Vec<u64>) -> bool
+        requires world { HasWorld (⟦<Pair<E, K> as Stepper>⟧.parts self.old history.now) }
+        ensures { CutsOrStays (⟦<Pair<E, K> as Stepper>⟧.parts self.old history.now) (events.Crash nodes.Standby cuts.Apply k picks.now) result (⟦<Pair<E, K> as Stepper>⟧.parts self.new history.now) }
+    {
+        if !self.standby_condition.is_running() {
+            return false;
+        }
+        if self.arrivals.delivered.is_empty() {
+            return false;
+        }
+        let frame = self.arrivals.delivered.pop_front().unwrap();
+        self.standby.keep_at(k);
+        let _ = self.standby.on_frame(self.alloc, frame);
+        self.standby.crash_kept(picks.as_slice());
+        self.fall_behind();
+        true
+    }
+
+    /// The standby crashes while its image is opened.
+    pub(crate) fn cut_standby_opening(
+        &mut self,
+        history: &History,
+        k: u64,
+        picks: &Vec<u64>,
+    ) -> bool
+        requires world { HasWorld (⟦<Pair<E, K> as Stepper>⟧.parts self.old history.now) }
+        ensures { CutsOrStays (⟦<Pair<E, K> as Stepper>⟧.parts self.old history.now) (events.Crash nodes.Standby cuts.Reopen k picks.now) result (⟦<Pair<E, K> as Stepper>⟧.parts self.new history.now) }
+    {
+        if !self.standby_condition.has_crashed() {
+            return false;
+        }
+        self.standby.keep_at(k);
+        let _ = self.standby.restart(self.alloc);
+        self.standby.crash_kept(picks.as_slice());
+        self.fall_behind();
+        true
+    }
+
+    /// The standby crashes while its image is promoted: that is a standby's still, or a primary's, which is to be opened. The opening that follows in a promotion is cut as
+    /// that of a primary.
+    pub(crate) fn cut_promotion(&mut self, history: &mut History, k: u64, picks: &Vec<u64>) -> bool
+        requires world { HasWorld (⟦<Pair<E, K> as Stepper>⟧.parts self.old history.old) }
+        ensures { CutsOrStays (⟦<Pair<E, K> as Stepper>⟧.parts self.old history.old) (events.Crash nodes.Standby cuts.Promote k picks.now) result (⟦<Pair<E, K> as Stepper>⟧.parts self.new history.new) }
+    {
+        if !self.primary_condition.has_ended() {
+            return false;
+        }
+        if !self.standby_condition.is_running() {
+            return false;
+        }
+        let fenced = operator_fence(self.outgoing.epoch());
+        self.standby.keep_at(k);
+        let _ = promote_image(&mut self.standby, fenced);
+        self.standby.crash_kept(picks.as_slice());
+        let Some(found) = self.standby.image_record() else {
+            self.fall_behind();
+            return true;
+        };
+        if !is_of_primary(&found) {
+            self.fall_behind();
+            return true;
+        }
+        self.succeed(history, found.position, found.epoch);
+        true
+    }
+
+    /// Of the standby there is its image from now on. What was delivered to it is lost.
+    fn fall_behind(&mut self)
+        ensures lost { self.new.arrivals.delivered.items ≡ [] }
+        ensures falls { self.new ≡ record self.old { arrivals = self.new.arrivals; standby_condition = conditions.Crashed } }
+    {
+        self.arrivals.crash();
+        self.standby_condition = Condition::Crashed;
+    }
+
+    /// The standby's image is that of a primary, which is crashed: the primary has the standby's engine from now on, and the standby's place that of the former primary.
+    fn succeed(&mut self, history: &mut History, position: u64, epoch: u64)
+        ensures taken { self.new.primary.back.committer.engine ≡ self.old.standby.engine }
+        ensures given { self.new.standby.engine ≡ self.old.primary.back.committer.engine }
+        ensures epoch_is { self.new.outgoing.link ≡ record (self.old.outgoing.link) { epoch = epoch } }
+        ensures ends { (machines : List Machine) (list : List Call) → SessionsRefine self.old.sessions history.old.transcript machines list
+            → SessionsRefine self.new.sessions history.new.transcript (map left machines) (cut_at list position) }
+        ensures unseated { (c seat : ℕ) → HasSeat (seats_of self.new.sessions.connections.items) c seat → ⊥ }
+        ensures calls { AddsOne history.old.transcript.calls history.new.transcript.calls }
+        ensures lost { self.new.arrivals.delivered.items ≡ [] }
+        ensures frames { history.new.frames ≡ history.old.frames }
+        ensures acknowledgements { history.new.acknowledgements ≡ history.old.acknowledgements }
+        ensures primary { self.new.primary_condition ≡ conditions.Crashed }
+        ensures standby { self.new.standby_condition ≡ conditions.Ended }
+    {
+        self.primary.back.exchange_engine(&mut self.standby.engine);
+        self.outgoing.set_epoch(epoch);
+        self.sessions.crash(&mut history.transcript, position);
+        self.arrivals.crash();
+        self.primary_condition = Condition::Crashed;
+        self.standby_condition = Condition::Ended;
+    }
+}
+
+/// Whether an image with this record is a primary's.
+fn is_of_primary(record: &Record) -> bool
+    ensures { IsTrue result ↔ (record.now.role ≡ roles.Primary) }
+{
+    record.role == Role::Primary
+}
