@@ -189,7 +189,7 @@ who_is_behind_gets_a_delta old new step behind =
 
 -- a primary that was fenced does not run
 retired-stands : (life : Life) → is_retired life ≡ true → is_running life ≡ false
-retired-stands Retired e = refl
+retired-stands (Retired remains) e = refl
 retired-stands _ e = cc
 
 -- nor is it in any condition in which a crash may come to it
@@ -197,13 +197,13 @@ retired-uncut : (w : World) (call : Cut) → is_retired w.primary.life ≡ true 
 retired-uncut w call e = none w.primary.life call e w
   where
     none : (life : Life) (call : Cut) → is_retired life ≡ true → (w : World) → may_cut (with_primary (record w.primary { life = life }) w) nodes.Primary call ≡ false
-    none Retired cut.Between e w = refl
-    none Retired cut.Commit e w = refl
-    none Retired cut.Free e w = refl
-    none Retired cut.ClearGap e w = refl
-    none Retired cut.Reopen e w = refl
-    none Retired cut.Apply e w = refl
-    none Retired cut.Promote e w = refl
+    none (Retired remains) cut.Between e w = refl
+    none (Retired remains) cut.Commit e w = refl
+    none (Retired remains) cut.Free e w = refl
+    none (Retired remains) cut.ClearGap e w = refl
+    none (Retired remains) cut.Reopen e w = refl
+    none (Retired remains) cut.Apply e w = refl
+    none (Retired remains) cut.Promote e w = refl
     none _ call e w = cc
 
 not-run : (w : World) (event : Event) → nodes_run w event ≡ false → is_enabled w event ≡ false

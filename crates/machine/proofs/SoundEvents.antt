@@ -14,7 +14,7 @@ use Rattle.machine.specs.declared.event.Node.TheVariants as nodes
 use Rattle.machine.specs.declared.event.TheConstants.{PIPE_ITEMS}
 use Rattle.machine.specs.declared.event.Event.{Event}
 use Rattle.machine.specs.declared.event.Event.TheVariants.{Enter, Feed, Offer, Turn, CloseGroup, Commit, RaiseLocal, Hand, Free, ClearGap, OpenLink, Send, Deliver, Apply, AckDelivered, RaiseRemote, Hold, Read, Release, Write, Leave, FailFence, Crash, Reopen, Fence, Promote}
-use Rattle.machine.specs.Event.{Span, Work, Commits, Frees, Acknowledgement, Link, Remains, At, AsPrimary, Life, Running, Stopped, Retired, Disk, World, connection_of, get_connection, with_committer, with_link, with_primary, with_standby, with_life, on_disk, is_running, torn, asked_to_fail, failed, Fails, OpensPrimary, crashed_primary, crashed_standby, promoted, next_primary, next_standby, left_by, may_remain, left, open_changes, has_room, spans_of, from_group, is_ready, nodes_run, may_commit, reached_lists, first_is_within, may_happen, is_enabled, Closes, committed_first, freed_first, acknowledgement_of, sent_next, next_to_send, framed, sent, without_first, Applies, counts, told, knowing, option_items, Happens, Step, asked, is_closed_by, fed_with, offered_next, held_first, having_read, having_released, written, crashed, is_open, seen_of, new_committer}
+use Rattle.machine.specs.Event.{Span, Work, Commits, Frees, Acknowledgement, Link, Remains, At, AsPrimary, Life, Running, Stopped, Retired, Disk, World, connection_of, get_connection, with_committer, with_link, with_primary, with_standby, with_life, on_disk, is_running, torn, asked_to_fail, failed, halted, Fails, OpensPrimary, crashed_primary, crashed_standby, promoted, next_primary, next_standby, left_by, may_remain, left, open_changes, has_room, spans_of, from_group, is_ready, nodes_run, may_commit, reached_lists, first_is_within, may_happen, is_enabled, Closes, committed_first, freed_first, acknowledgement_of, sent_next, next_to_send, framed, sent, without_first, Applies, counts, told, knowing, option_items, Happens, Step, asked, is_closed_by, fed_with, offered_next, held_first, having_read, having_released, written, crashed, is_open, seen_of, new_committer}
 use Rattle.machine.specs.Sound.{IsChain, IsFrameWithin, IsHeldAt, IsPrimaryLeft, IsStandbyLeft, IsToldWithin, SoundOutbound, SoundOver, SoundCommitter, SoundStandby, Sound}
 use Rattle.machine.proofs.GroupLemmas.{chain-le, framed-within, frames_within-weaker, frames-earlier, due_delta-within, link-new, link-committed, link-raised, link-handed, link-opened, link-sent, link-knowing}
 use Rattle.machine.proofs.AnswerLemmas.{outbound-held, outbound-having_released, outbound-marked, outbound-read, outbound-written}
@@ -278,9 +278,12 @@ sound-asked : (w : World) (node : Node) (n : ℕ) → Sound w → Sound (on_disk
 sound-asked w nodes.Primary n s = sound-primary_life w w.primary.life (asked_to_fail n w.primary.disk) s.primary_left s
 sound-asked w nodes.Standby n s = sound-standby_life w w.standby.life (asked_to_fail n w.standby.disk) s s.standby_left
 
-sound-failed : (w : World) (node : Node) (call : Cut) → Sound w → Sound (with_life node (Stopped (left_by w node call)) (on_disk node failed w))
+sound-failed : (w : World) (node : Node) (call : Cut) → Sound w → Sound (halted node (left_by w node call) w)
 sound-failed w nodes.Primary call s = sound-primary_life w (Stopped (left_by w nodes.Primary call)) (failed w.primary.disk) (primary_left-by w call s) s
-sound-failed w nodes.Standby call s = sound-standby_life w (Stopped (left_by w nodes.Standby call)) (failed w.standby.disk) s (standby_left-by w call s)
+sound-failed w nodes.Standby call s =
+    let left = standby_left-by w call s in
+    let none = All-nil (IsFrameWithin w.primary.epoch s.sent) in
+    search (left, none, s)
 
 pub sound-Fails : (w new : World) (node : Node) (call : Cut) → Fails w node call new → Sound w → Sound new
 sound-Fails w new node call fails s = subst Sound (sym fails.now) (sound-failed w node call s)
@@ -357,7 +360,7 @@ sound-may w (Reopen nodes.Standby) new r e h s =
       | inr fails ↦ sound-Fails w new nodes.Standby cut.Reopen fails s
     ]
 sound-may w Fence new r e h s =
-    subst Sound (sym h) (sound-primary_life w Retired w.primary.disk (All-nil (IsPrimaryLeft w.primary.committer.position (position_of w.primary.calls))) s)
+    subst Sound (sym h) (sound-primary_life w (Retired (torn w.primary.life)) w.primary.disk s.primary_left s)
 sound-may w Promote new r e h s = elim h [ inl opens ↦ sound-opened (promoted w) new opens (sound-promoted w s) | inr fails ↦ sound-Fails w new nodes.Standby cut.Promote fails s ]
 sound-may w event new r e h s = subst Sound (sym h) (search s)
 

@@ -3,7 +3,7 @@ use Rattle.std.proofs.Common.{◌≡◌, ℕ, refl}
 use Rattle.machine.specs.declared.event.Cut.{Cut}
 use Rattle.machine.specs.declared.event.Node.{Node}
 use Rattle.machine.specs.declared.event.Node.TheVariants as nodes
-use Rattle.machine.specs.Event.{Stopped, Retired, World, with_life, on_disk, asked_to_fail, failed, left_by, Fails}
+use Rattle.machine.specs.Event.{Retired, World, halted, with_life, on_disk, asked_to_fail, left_by, Fails, torn}
 
 -- all but the condition of the nodes and of their devices is as it was
 pub record Rests (old new : World) : Type 0 where
@@ -24,10 +24,10 @@ rests-as now rests = rw now rests
 
 pub rests-Fails : (w new : World) (node : Node) (call : Cut) → Fails w node call new → Rests w new
 rests-Fails w new nodes.Primary call fails =
-    let is : Rests w (with_life nodes.Primary (Stopped (left_by w nodes.Primary call)) (on_disk nodes.Primary failed w)) =
+    let is : Rests w (halted nodes.Primary (left_by w nodes.Primary call) w) =
     record { connections = refl; calls = refl; committer = refl; link = refl; epoch = refl; position = refl; wire = refl } in rests-as fails.now is
 rests-Fails w new nodes.Standby call fails =
-    let is : Rests w (with_life nodes.Standby (Stopped (left_by w nodes.Standby call)) (on_disk nodes.Standby failed w)) =
+    let is : Rests w (halted nodes.Standby (left_by w nodes.Standby call) w) =
     record { connections = refl; calls = refl; committer = refl; link = refl; epoch = refl; position = refl; wire = refl } in rests-as fails.now is
 
 pub rests-asked : (w new : World) (node : Node) (n : ℕ) → new ≡ on_disk node (asked_to_fail n) w → Rests w new
@@ -36,6 +36,6 @@ rests-asked w new nodes.Primary n now =
 rests-asked w new nodes.Standby n now =
     let is : Rests w (on_disk nodes.Standby (asked_to_fail n) w) = record { connections = refl; calls = refl; committer = refl; link = refl; epoch = refl; position = refl; wire = refl } in rests-as now is
 
-pub rests-Fence : (w new : World) → new ≡ with_life nodes.Primary Retired w → Rests w new
+pub rests-Fence : (w new : World) → new ≡ with_life nodes.Primary (Retired (torn w.primary.life)) w → Rests w new
 rests-Fence w new now =
-    let is : Rests w (with_life nodes.Primary Retired w) = record { connections = refl; calls = refl; committer = refl; link = refl; epoch = refl; position = refl; wire = refl } in rests-as now is
+    let is : Rests w (with_life nodes.Primary (Retired (torn w.primary.life)) w) = record { connections = refl; calls = refl; committer = refl; link = refl; epoch = refl; position = refl; wire = refl } in rests-as now is

@@ -1,7 +1,7 @@
--- An event after which no node is stopped met no fence that failed; and but for a promotion, or one that is cut, the epoch stays.
-use Rattle.std.proofs.Common.{◌≡◌, ◌+◌, ◌⊎◌, Bool, true, false, ◌&&◌, ◌||◌, List, [], ◌∷◌, ◌++◌, Option, slice_get, refl, sym, ap, subst, ◌∙◌, inl, inr, true≢false}
+-- What an event leaves of the nodes: but for a promotion, or one that is cut or shows that it failed late, each has the device that it had, and the epoch stays.
+use Rattle.std.proofs.Common.{◌≡◌, ℕ, ◌+◌, ◌⊎◌, Bool, true, false, ◌&&◌, ◌||◌, List, [], ◌∷◌, ◌++◌, Option, slice_get, refl, sym, ap, subst, ◌∙◌, inl, inr, true≢false}
 use Rattle.std.specs.Prelude.{All, Contains}
-use Rattle.std.proofs.lemmas.List.Elements.{All-cons, All-contains, All-nil}
+use Rattle.std.proofs.lemmas.List.Elements.{All-append, All-cons, All-contains, All-nil, All-weaker}
 use Rattle.machine.specs.declared.event.Cut.{Cut}
 use Rattle.machine.specs.declared.event.Cut.TheVariants as cut
 use Rattle.machine.specs.declared.event.Event.{Event}
@@ -10,18 +10,8 @@ use Rattle.machine.specs.declared.event.Node.{Node}
 use Rattle.machine.specs.declared.event.Node.TheVariants as nodes
 use Rattle.machine.specs.Event.{Acknowledgement, Disk, Frame, Life, Running, Stopped, Crashed, Retired, Remains, At, AsPrimary, Standby, World, Fails, Happens, Step, Takes, crashed, is_between, is_crashed, is_enabled, is_retired, is_running, is_stopped, left_by, life_of, may_cut, may_happen, may_remain, next_primary, next_standby, position_at, promoted, told, torn, with_link, without_first}
 use Rattle.machine.specs.Row.{touches}
-use Rattle.model.specs.Call.{is_nonempty}
-
--- no node has stopped, before the event or after it
-pub record IsSure (w new : World) : Type 0 where
-  pub primary_whole : torn w.primary.life ≡ []
-  pub standby_whole : torn w.standby.life ≡ []
-  pub primary_goes : is_stopped new.primary.life ≡ false
-  pub standby_goes : is_stopped new.standby.life ≡ false
-
-goes : (w new : World) (node : Node) → IsSure w new → is_stopped (life_of new node) ≡ false
-goes w new nodes.Primary sure = sure.primary_goes
-goes w new nodes.Standby sure = sure.standby_goes
+use Rattle.machine.specs.Sound.{IsPrimaryLeft, Sound}
+use Rattle.model.specs.Call.{is_nonempty, position_of}
 
 -- a node in which a fence failed stops
 stops : (w : World) (node : Node) (call : Cut) (new : World) → Fails w node call new → is_stopped (life_of new node) ≡ true
@@ -35,45 +25,25 @@ unfailed w node call new on happens = elim happens [
   | inr fails ↦ absurd (true≢false (sym (stops w node call new fails) ∙ on))
 ]
 
-pub sure-unfailed : {P : Type 0} (w : World) (node : Node) (call : Cut) (new : World) → IsSure w new → P ⊎ Fails w node call new → P
-sure-unfailed w node call new sure = unfailed w node call new (goes w new node sure)
-
-whole : (w new : World) (node : Node) → IsSure w new → torn (life_of w node) ≡ []
-whole w new nodes.Primary sure = sure.primary_whole
-whole w new nodes.Standby sure = sure.standby_whole
-
--- a crash leaves its image as it was, or what the call leaves that is cut
-may_remain-whole : (w new : World) (node : Node) (call : Cut) → IsSure w new → may_remain w node call ≡ At (position_at w node) ∷ left_by w node call
-may_remain-whole w new node call sure = ap (λ (xs : List Remains). At (position_at w node) ∷ (xs ++ left_by w node call)) (whole w new node sure)
-
 -- the image of such a node as it was
 abbrev pub IsAt : Remains → Type 0
 IsAt (At position) = Unit {0}
 IsAt AsPrimary = ⊥
 
--- where the call leaves no other
-pub remains-at : (w new : World) (node : Node) (call : Cut) (remain : Remains) → IsSure w new → All IsAt (left_by w node call) → Contains (may_remain w node call) remain → IsAt remain
-remains-at w new node call remain sure left one =
-    All-contains IsAt (may_remain w node call) remain
-    (subst (All IsAt) (sym (may_remain-whole w new node call sure)) (All-cons IsAt (At (position_at w node)) (left_by w node call) tt left)) one
-
 left-primary : (w : World) (call : Cut) → All IsAt (left_by w nodes.Primary call)
 left-primary w cut.Commit = All-cons IsAt (At (next_primary w)) [] tt (All-nil IsAt)
 left-primary w call = All-nil IsAt
 
--- of a primary each call does
-pub remains-primary : (w new : World) (call : Cut) (remain : Remains) → IsSure w new → Contains (may_remain w nodes.Primary call) remain → IsAt remain
-remains-primary w new call remain sure = remains-at w new nodes.Primary call remain sure (left-primary w call)
+at-left : (low high : ℕ) (remain : Remains) → IsPrimaryLeft low high remain → IsAt remain
+at-left low high (At position) left = tt
+at-left low high AsPrimary left = absurd left
 
--- of a standby all but that in which it is promoted
-abbrev pub promotes : Cut → Bool
-promotes cut.Promote = true
-promotes call = false
-
-pub remains-standby : (w new : World) (call : Cut) (remain : Remains) → IsSure w new → promotes call ≡ false → Contains (may_remain w nodes.Standby call) remain → IsAt remain
-remains-standby w new cut.Promote remain sure other one = absurd (true≢false other)
-remains-standby w new cut.Apply remain sure other one = remains-at w new nodes.Standby cut.Apply remain sure (All-cons IsAt (At (next_standby w)) [] tt (All-nil IsAt)) one
-remains-standby w new call remain sure other one = remains-at w new nodes.Standby call remain sure (All-nil IsAt) one
+-- a crash leaves a primary's image of a primary
+pub remains-primary : (w : World) (call : Cut) (remain : Remains) → Sound w → Contains (may_remain w nodes.Primary call) remain → IsAt remain
+remains-primary w call remain sound one =
+    All-contains IsAt (may_remain w nodes.Primary call) remain
+    (All-cons IsAt (At w.primary.committer.position) (torn w.primary.life ++ left_by w nodes.Primary call) tt
+    (All-append IsAt (torn w.primary.life) (left_by w nodes.Primary call) (All-weaker (IsPrimaryLeft w.primary.committer.position (position_of w.primary.calls)) IsAt (at-left w.primary.committer.position (position_of w.primary.calls)) (torn w.primary.life) sound.primary_left) (left-primary w call))) one
 
 -- a crash of the standby after which the primary has another device left the image of a primary
 pub crashed-ahead : (w new : World) (remain : Remains) → new ≡ crashed nodes.Standby remain w → (new.primary.disk.number ≡ w.primary.disk.number → ⊥) → new ≡ promoted w
@@ -120,33 +90,40 @@ after-crash w nodes.Primary AsPrimary = like w _ refl refl refl
 after-crash w nodes.Standby (At position) = like w _ refl refl refl
 after-crash w nodes.Standby AsPrimary = inr refl
 
-pub sure-happens : (w : World) (event : Event) (new : World) → IsSure w new → Happens w event new → Stays w new
-sure-happens w (Turn c) new sure h = of w _ new h.now (like w _ refl refl refl)
-sure-happens w CloseGroup new sure h =
+-- a fence that failed stops its node, and changes no device
+failed-stays : (w : World) (node : Node) (call : Cut) (new : World) → Fails w node call new → Stays w new
+failed-stays w nodes.Primary call new fails = of w _ new fails.now (like w _ refl refl refl)
+failed-stays w nodes.Standby call new fails = of w _ new fails.now (like w _ refl refl refl)
+
+or-failed : {P : Type 0} (w : World) (node : Node) (call : Cut) (new : World) → (P → Stays w new) → P ⊎ Fails w node call new → Stays w new
+or-failed w node call new by happens = elim happens [ inl did ↦ by did | inr fails ↦ failed-stays w node call new fails ]
+
+pub stays-happens : (w : World) (event : Event) (new : World) → Happens w event new → Stays w new
+stays-happens w (Turn c) new h = of w _ new h.now (like w _ refl refl refl)
+stays-happens w CloseGroup new h =
     elim h [
       | inl group ↦ of w _ new group.1.now (like w _ refl refl refl)
       | inr list ↦ of w _ new list.1 (like w _ refl refl refl)
     ]
-sure-happens w Commit new sure h = of w _ new (sure-unfailed w nodes.Primary cut.Commit new sure h) (like w _ refl refl refl)
-sure-happens w Free new sure h = of w _ new (sure-unfailed w nodes.Primary cut.Free new sure h) (like w _ refl refl refl)
-sure-happens w ClearGap new sure h = of w _ new (sure-unfailed w nodes.Primary cut.ClearGap new sure h) (like w _ refl refl refl)
-sure-happens w Apply new sure h =
-    let applies = sure-unfailed w nodes.Standby cut.Apply new sure h in
-    of w _ new applies.now (like w _ refl (ap (λ (d : Disk). d.number) (taken applies.frame (without_first w.standby) applies.standby applies.told applies.takes)) refl)
-sure-happens w (AckDelivered a) new sure h = of w _ new h (as-told w (slice_get w.wire.acknowledgements a))
-sure-happens w (FailFence nodes.Primary n) new sure h = of w _ new h (like w _ refl refl refl)
-sure-happens w (FailFence nodes.Standby n) new sure h = of w _ new h (like w _ refl refl refl)
-sure-happens w (Crash node call k picks) new sure h =
-    of w _ new h.now (after-crash w node h.remain)
-sure-happens w (Reopen nodes.Primary) new sure h = of w _ new (sure-unfailed w nodes.Primary cut.Reopen new sure h).now (like w _ refl refl refl)
-sure-happens w (Reopen nodes.Standby) new sure h = of w _ new (sure-unfailed w nodes.Standby cut.Reopen new sure h) (like w _ refl refl refl)
-sure-happens w Fence new sure h = of w _ new h (like w _ refl refl refl)
-sure-happens w Promote new sure h = of w _ new (sure-unfailed w nodes.Standby cut.Promote new sure h).now (inr refl)
-sure-happens w event new sure h = of w _ new h (like w _ refl refl refl)
+stays-happens w Commit new h = or-failed w nodes.Primary cut.Commit new (λ did. of w _ new did (like w _ refl refl refl)) h
+stays-happens w Free new h = or-failed w nodes.Primary cut.Free new (λ did. of w _ new did (like w _ refl refl refl)) h
+stays-happens w ClearGap new h = or-failed w nodes.Primary cut.ClearGap new (λ did. of w _ new did (like w _ refl refl refl)) h
+stays-happens w Apply new h =
+    or-failed w nodes.Standby cut.Apply new
+    (λ applies. of w _ new applies.now (like w _ refl (ap (λ (d : Disk). d.number) (taken applies.frame (without_first w.standby) applies.standby applies.told applies.takes)) refl)) h
+stays-happens w (AckDelivered a) new h = of w _ new h (as-told w (slice_get w.wire.acknowledgements a))
+stays-happens w (FailFence nodes.Primary n) new h = of w _ new h (like w _ refl refl refl)
+stays-happens w (FailFence nodes.Standby n) new h = of w _ new h (like w _ refl refl refl)
+stays-happens w (Crash node call k picks) new h = of w _ new h.now (after-crash w node h.remain)
+stays-happens w (Reopen nodes.Primary) new h = or-failed w nodes.Primary cut.Reopen new (λ opens. of w _ new opens.now (like w _ refl refl refl)) h
+stays-happens w (Reopen nodes.Standby) new h = or-failed w nodes.Standby cut.Reopen new (λ did. of w _ new did (like w _ refl refl refl)) h
+stays-happens w Fence new h = of w _ new h (like w _ refl refl refl)
+stays-happens w Promote new h = or-failed w nodes.Standby cut.Promote new (λ opens. of w _ new opens.now (inr refl)) h
+stays-happens w event new h = of w _ new h (like w _ refl refl refl)
 
-pub sure-step : (w : World) (event : Event) (did : Bool) (new : World) → Step w event did new → IsSure w new → Stays w new
-sure-step w event true new step sure = sure-happens w event new sure (step.happens refl)
-sure-step w event false new step sure = of w w new (step.stands refl) (like w w refl refl refl)
+pub stays-step : (w : World) (event : Event) (did : Bool) (new : World) → Step w event did new → Stays w new
+stays-step w event true new step = stays-happens w event new (step.happens refl)
+stays-step w event false new step = of w w new (step.stands refl) (like w w refl refl refl)
 
 -- ---- a standby that was promoted
 
@@ -159,7 +136,7 @@ idle : (life : Life) → is_retired life ≡ true → (is_running life ≡ false
 idle Running retired = absurd (true≢false (sym retired))
 idle (Stopped remains) retired = absurd (true≢false (sym retired))
 idle Crashed retired = absurd (true≢false (sym retired))
-idle Retired retired = (refl, refl, refl)
+idle (Retired remains) retired = (refl, refl, refl)
 
 -- nothing happens to it
 pub retired-still : (w : World) (event : Event) → is_retired w.standby.life ≡ true → touches nodes.Standby event ≡ true → is_enabled w event ≡ false

@@ -17,7 +17,7 @@ use Rattle.machine.specs.declared.event.Cut.TheVariants as cut
 use Rattle.std.specs.Prelude.{Vec}
 use Rattle.std.specs.Global.{Global}
 use Rattle.model.specs.declared.record.TheConstants.{FIRST_EPOCH}
-use Rattle.machine.specs.Event.{Frame, World, all_allowed, At, AsPrimary, Stopped, Retired, Run, Happens, Crashes, is_enabled, Turns, Closes, Applies, start, start_with, last_world, asked_to_fail, crashed, failed, left_by, on_disk, promoted, reopened_primary, reopened_standby, with_life, with_primary, entered, changed_at, with_connections, with_committer, with_link, with_standby, with_acknowledged, with_ended, on_inbound, on_outbound, fed_with, offered_next, called, closed_group, committed_first, raised_local, handed, handed_to, ready_again, opened_link, acknowledgement_of, sent, delivered, option_items, moved_to, without_first, told, raised_remote, held_first, having_read, having_released, written, left}
+use Rattle.machine.specs.Event.{Frame, World, all_allowed, At, AsPrimary, Retired, Run, Happens, Crashes, is_enabled, Turns, Closes, Applies, start, start_with, last_world, asked_to_fail, crashed, halted, left_by, on_disk, promoted, reopened_primary, reopened_standby, with_life, with_primary, entered, changed_at, with_connections, with_committer, with_link, with_standby, with_acknowledged, with_ended, on_inbound, on_outbound, fed_with, offered_next, called, closed_group, committed_first, raised_local, handed, handed_to, ready_again, opened_link, acknowledgement_of, sent, delivered, option_items, moved_to, without_first, told, raised_remote, held_first, having_read, having_released, written, left, torn}
 use Rattle.machine.specs.Promise.{released_in}
 use Rattle.machine.proofs.RunLemmas.{step-does, step-stays}
 use Rattle.machine.specs.Worked.{worked_events, worked_done, FirstCaseIsARun, failover_events, failover_done, FailoverIsARun}
@@ -60,8 +60,8 @@ after w (Crash nodes.Standby cut.Promote k picks) = promoted w
 after w (Crash node _ k picks) = crashed node (At 0) w
 after w (Reopen nodes.Primary) = with_primary (reopened_primary 0 1 w.primary) w
 after w (Reopen nodes.Standby) = with_standby (reopened_standby w.standby) w
-after w Fence = with_life nodes.Primary Retired w
-after w Promote = with_life nodes.Standby (Stopped (left_by w nodes.Standby cut.Promote)) (on_disk nodes.Standby failed w)
+after w Fence = with_life nodes.Primary (Retired (torn w.primary.life)) w
+after w Promote = halted nodes.Standby (left_by w nodes.Standby cut.Promote) w
 after w event = w
 
 -- the worlds after events of which those did their step

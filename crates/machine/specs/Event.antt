@@ -333,7 +333,7 @@ abbrev pub succeeding : Standby → Primary → Primary
 succeeding standby primary = record (crashed_primary standby.position primary) { disk = standby.disk; epoch = standby.epoch + 1 }
 
 abbrev pub succeeded : Standby → Standby
-succeeded standby = record standby { life = Retired; epoch = standby.epoch + 1; waiting = [] }
+succeeded standby = record standby { life = Retired []; epoch = standby.epoch + 1; waiting = [] }
 
 -- The standby's image has become that of the primary, which is to be opened.
 abbrev pub promoted : World → World
@@ -415,11 +415,16 @@ abbrev pub with_life : Node → Life → World → World
 with_life node.Primary life w = with_primary (record w.primary { life = life }) w
 with_life node.Standby life w = with_standby (record w.standby { life = life }) w
 
+-- the node stops, and this may be left of it; what was delivered to a standby, and not taken, is lost
+abbrev pub halted : Node → List Remains → World → World
+halted node.Primary remains w = with_primary (record w.primary { life = Stopped remains; disk = failed w.primary.disk }) w
+halted node.Standby remains w = with_standby (record w.standby { life = Stopped remains; disk = failed w.standby.disk; waiting = [] }) w
+
 -- A fence failed in the call, as it was asked to: the node stops, and does nothing of what the call does. Its image may be that from before the call or that
 -- from after it, for a crash to show.
 pub record Fails (w : World) (node : Node) (call : Cut) (new : World) : Type 0 where
   pub asked : (disk_of w node).failing ≡ true
-  pub now : new ≡ with_life node (Stopped (left_by w node call)) (on_disk node failed w)
+  pub now : new ≡ halted node (left_by w node call) w
 
 -- what an enabled event may do; in one that writes to a device, a fence may fail
 abbrev pub Happens : World → Event → World → Type 0
@@ -449,7 +454,7 @@ Happens w (Leave c) new = new ≡ with_connections (changed_at c left w.primary.
 Happens w (FailFence node n) new = new ≡ on_disk node (asked_to_fail n) w
 Happens w (Crash node call k picks) new = Crashes w node call new
 Happens w (Reopen node) new = Reopens node w new ⊎ Fails w node cut.Reopen new
-Happens w Fence new = new ≡ with_life node.Primary Retired w
+Happens w Fence new = new ≡ with_life node.Primary (Retired (torn w.primary.life)) w
 Happens w Promote new = OpensPrimary 0 (promoted w) new ⊎ Fails w node.Standby cut.Promote new
 
 -- One event: it does its step exactly where it is enabled, and otherwise changes nothing.

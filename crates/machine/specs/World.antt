@@ -83,8 +83,9 @@ pub data Life : Type 0 where
   -- the image from before that call.
   Stopped : List Remains → Life
   Crashed : Life
-  -- nothing happens to it any more: a primary that was fenced, or a standby that was promoted
-  Retired : Life
+  -- Nothing happens to it any more: a primary that was fenced, or a standby that was promoted. These are what its device may hold besides the image at its position, where a
+  -- fence had failed in a call before.
+  Retired : List Remains → Life
 
 -- the device of a node
 pub record Disk : Type 0 where
@@ -204,32 +205,32 @@ abbrev pub is_running : Life → Bool
 is_running Running = true
 is_running (Stopped remains) = false
 is_running Crashed = false
-is_running Retired = false
+is_running (Retired remains) = false
 
 abbrev pub is_stopped : Life → Bool
 is_stopped Running = false
 is_stopped (Stopped remains) = true
 is_stopped Crashed = false
-is_stopped Retired = false
+is_stopped (Retired remains) = false
 
 abbrev pub is_crashed : Life → Bool
 is_crashed Running = false
 is_crashed (Stopped remains) = false
 is_crashed Crashed = true
-is_crashed Retired = false
+is_crashed (Retired remains) = false
 
 abbrev pub is_retired : Life → Bool
 is_retired Running = false
 is_retired (Stopped remains) = false
 is_retired Crashed = false
-is_retired Retired = true
+is_retired (Retired remains) = true
 
 -- what a crash may leave of a node in this condition besides its image: something only where a fence failed in a call
 abbrev pub torn : Life → List Remains
 torn Running = []
 torn (Stopped remains) = remains
 torn Crashed = []
-torn Retired = []
+torn (Retired remains) = remains
 
 -- Whatever crash or failover comes, the list keeps its calls up to this position: that of the standby's record, or the one at which it was promoted.
 abbrev pub safe_position : World → ℕ

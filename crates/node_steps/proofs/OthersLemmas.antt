@@ -88,7 +88,7 @@ happens-quiet w new (events.Deliver frame piece) others before sound happens =
     by-standby w new (delivered (option_items (slice_get w.wire.frames frame)) w.standby) w.wire happens (le_refl w.standby.position) sound
 happens-quiet w new events.Apply others before sound happens = elim happens [
   | inl applies ↦ by-standby w new applies.standby (record w.wire { acknowledgements = w.wire.acknowledgements ++ applies.told }) applies.now (applies-well w new applies before).later sound
-  | inr fails ↦ by-standby w new (record w.standby { disk = failed w.standby.disk; life = Stopped (left_by w node.Standby cut.Apply) }) w.wire fails.now (le_refl w.standby.position) sound
+  | inr fails ↦ by-standby w new (record w.standby { disk = failed w.standby.disk; life = Stopped (left_by w node.Standby cut.Apply); waiting = [] }) w.wire fails.now (le_refl w.standby.position) sound
 ]
 happens-quiet w new (events.AckDelivered a) others before sound happens =
     let ack = slice_get w.wire.acknowledgements a in
