@@ -12,8 +12,9 @@ use Rattle.pipes.specs.declared.limits.TheConstants.{KEPT_GROUPS}
 use Rattle.frames.specs.declared.frame.Frame.{Frame}
 use Rattle.standby_stream.specs.Sent.{MaySend}
 use Rattle.standby_stream.specs.Stream.{Stream, Frames, IsDue, IsFull, TakesNext, acknowledged}
-use Rattle.links.specs.Sending.{HasSent, Rounds, unbegun, round, Sends, nothing, more, Step, again, fresh, waits, stays, HasNone, Waits, delta_text, frame_text, frames_text}
+use Rattle.links.specs.Sending.{Ends, broken, whole, HasSent, Rounds, WorksOff, unbegun, round, Sends, nothing, more, Step, again, fresh, waits, stays, HasNone, Waits, delta_text, frame_text, frames_text}
 use Rattle.links.proofs.Serving.{Appends-join, Appends-none}
+use Rattle.links.specs.declared.sending.TheConstants.{FRAMES_AT_ONCE}
 
 same_frame : (kept : List Frame) (own frame : Frame) → slice_get (kept ++ own ∷ []) (length kept) ≡ Some frame → own ≡ frame
 same_frame kept own frame is = sym (get_or-append_seam kept own [] own) ∙ get_or_from_slice_get (kept ++ own ∷ []) (length kept) frame own is
@@ -152,58 +153,70 @@ module _ {I : Type 0} (gives : I → Option Group → I → Type 0) where
 
   -- one more round was
   pub SoSent-more : (begun mark higher : ℕ) (first middle last : Stream) (from at left : I) (before between after : Option (List ℕ)) (sent : List Frame) (put : List ℕ)
-      → SoSent begun first from before mark middle at between → mark ≤ higher → Sends gives (acknowledged higher middle) at sent last left → put ≡ frames_text sent
+      → SoSent begun first from before mark middle at between → mark ≤ higher → Sends gives (acknowledged higher middle) at sent last left → WorksOff gives FRAMES_AT_ONCE (acknowledged higher middle) last left
+      → put ≡ frames_text sent
       → Appends between after put → SoSent begun first from before higher last left after
-  SoSent-more begun mark higher first middle last from at left before between after sent put so_far rises steps text appended = record {
+  SoSent-more begun mark higher first middle last from at left before between after sent put so_far rises steps works text appended = record {
     frames = so_far.frames ++ sent;
-    rounds = round begun mark higher (record first { delta = None }) middle last from at left so_far.frames sent so_far.rounds rises steps;
+    rounds = round begun mark higher (record first { delta = None }) middle last from at left so_far.frames sent so_far.rounds rises steps works;
     appended = subst (λ (bytes : List ℕ). Appends before after bytes) (joined_text (delta_text first.delta) _ _ so_far.frames sent refl refl)
         (Appends-join before between after (delta_text first.delta ++ frames_text so_far.frames) (frames_text sent) so_far.appended
         (subst (λ (bytes : List ℕ). Appends between after bytes) text appended));
   }
 
   -- all was written
-  pub HasSent-all : (begun mark : ℕ) (first now : Stream) (from left : I) (before after : Option (List ℕ)) → SoSent begun first from before mark now left after
-      → HasSent gives begun first from before mark now left after []
-  HasSent-all begun mark first now from left before after so_far = record {
+  pub HasSent-all : (Cause : Type 0) (begun mark : ℕ) (first now : Stream) (from left : I) (before after : Option (List ℕ)) → SoSent begun first from before mark now left after
+      → HasSent gives Cause begun first from before mark now left after []
+  HasSent-all Cause begun mark first now from left before after so_far = record {
     frames = so_far.frames;
     written = delta_text first.delta ++ frames_text so_far.frames;
-    rounds = so_far.rounds;
+    rounds = whole begun mark (record first { delta = None }) now from left so_far.frames so_far.rounds;
     split = sym (append-nil (delta_text first.delta ++ frames_text so_far.frames));
     appended = so_far.appended;
   }
 
   -- the delta was written in part
-  pub HasSent-delta : (mark : ℕ) (first now : Stream) (from : I) (before after : Option (List ℕ)) (put part rest : List ℕ) → now ≡ record first { delta = None } → put ≡ delta_text first.delta
-      → put ≡ part ++ rest → Appends before after part → HasSent gives mark first from before mark now from after rest
-  HasSent-delta mark first now from before after put part rest is text split appended = record {
+  pub HasSent-delta : (Cause : Type 0) (mark : ℕ) (first now : Stream) (from : I) (before after : Option (List ℕ)) (put part rest : List ℕ) → now ≡ record first { delta = None } → put ≡ delta_text first.delta
+      → put ≡ part ++ rest → Appends before after part → HasSent gives Cause mark first from before mark now from after rest
+  HasSent-delta Cause mark first now from before after put part rest is text split appended = record {
     frames = [];
     written = part;
-    rounds = subst (λ (link : Stream). Rounds gives mark (record first { delta = None }) from [] mark link from) (sym is) (unbegun mark (record first { delta = None }) from);
+    rounds = subst (λ (link : Stream). Ends gives Cause mark (record first { delta = None }) from [] mark link from) (sym is)
+        (whole mark mark (record first { delta = None }) (record first { delta = None }) from from [] (unbegun mark (record first { delta = None }) from));
     split = append-nil (delta_text first.delta) ∙ sym text ∙ split;
     appended = appended;
   }
 
-  -- the last round was written in part
-  pub HasSent-part : (begun mark higher : ℕ) (first middle last : Stream) (from at left : I) (before between after : Option (List ℕ)) (sent : List Frame) (put part rest : List ℕ)
-      → SoSent begun first from before mark middle at between → mark ≤ higher → Sends gives (acknowledged higher middle) at sent last left → put ≡ frames_text sent → put ≡ part ++ rest
-      → Appends between after part → HasSent gives begun first from before higher last left after rest
-  HasSent-part begun mark higher first middle last from at left before between after sent put part rest so_far rises steps text split appended =
+  -- what was written of the last round, which ends so
+  HasSent-ends : (Cause : Type 0) (begun mark higher : ℕ) (first middle last : Stream) (from at left : I) (before between after : Option (List ℕ)) (sent : List Frame) (put part rest : List ℕ)
+      → (so_far : SoSent begun first from before mark middle at between) → Ends gives Cause begun (record first { delta = None }) from (so_far.frames ++ sent) higher last left → put ≡ frames_text sent → put ≡ part ++ rest
+      → Appends between after part → HasSent gives Cause begun first from before higher last left after rest
+  HasSent-ends Cause begun mark higher first middle last from at left before between after sent put part rest so_far ends text split appended =
       let so = delta_text first.delta ++ frames_text so_far.frames in
       record {
         frames = so_far.frames ++ sent;
         written = so ++ part;
-        rounds = round begun mark higher (record first { delta = None }) middle last from at left so_far.frames sent so_far.rounds rises steps;
+        rounds = ends;
         split = sym (joined_text (delta_text first.delta) _ _ so_far.frames sent refl refl) ∙ ap (λ (bytes : List ℕ). so ++ bytes) (sym text ∙ split) ∙ sym (append_assoc so part rest);
         appended = Appends-join before between after so part so_far.appended appended;
       }
 
-  -- nothing of the last round was written
-  pub HasSent-unwritten : (begun mark higher : ℕ) (first middle last : Stream) (from at left : I) (before after : Option (List ℕ)) (sent : List Frame)
-      → SoSent begun first from before mark middle at after → mark ≤ higher → Sends gives (acknowledged higher middle) at sent last left
-      → HasSent gives begun first from before higher last left after (frames_text sent)
-  HasSent-unwritten begun mark higher first middle last from at left before after sent so_far rises steps =
-      HasSent-part begun mark higher first middle last from at left before after after sent (frames_text sent) [] (frames_text sent) so_far rises steps refl refl (Appends-none after)
+  -- the last round was written in part
+  pub HasSent-part : (Cause : Type 0) (begun mark higher : ℕ) (first middle last : Stream) (from at left : I) (before between after : Option (List ℕ)) (sent : List Frame) (put part rest : List ℕ)
+      → SoSent begun first from before mark middle at between → mark ≤ higher → Sends gives (acknowledged higher middle) at sent last left → WorksOff gives FRAMES_AT_ONCE (acknowledged higher middle) last left
+      → put ≡ frames_text sent → put ≡ part ++ rest → Appends between after part → HasSent gives Cause begun first from before higher last left after rest
+  HasSent-part Cause begun mark higher first middle last from at left before between after sent put part rest so_far rises steps works =
+      let opened = record first { delta = None } in
+      HasSent-ends Cause begun mark higher first middle last from at left before between after sent put part rest so_far
+      (whole begun higher opened last from left (so_far.frames ++ sent) (round begun mark higher opened middle last from at left so_far.frames sent so_far.rounds rises steps works))
+
+  -- it was broken off, and nothing of it was written
+  pub HasSent-unwritten : (Cause : Type 0) (begun mark higher : ℕ) (first middle last : Stream) (from at left : I) (before after : Option (List ℕ)) (sent : List Frame)
+      → Cause → SoSent begun first from before mark middle at after → mark ≤ higher → Sends gives (acknowledged higher middle) at sent last left
+      → HasSent gives Cause begun first from before higher last left after (frames_text sent)
+  HasSent-unwritten Cause begun mark higher first middle last from at left before after sent cause so_far rises steps =
+      HasSent-ends Cause begun mark higher first middle last from at left before after after sent (frames_text sent) [] (frames_text sent) so_far
+      (broken begun mark higher (record first { delta = None }) middle last from at left so_far.frames sent cause so_far.rounds rises steps) refl refl (Appends-none after)
 
   -- ---- the epoch of what is sent
 
@@ -219,10 +232,15 @@ module _ {I : Type 0} (gives : I → Option Group → I → Type 0) where
 
   Rounds-epoch : (begun : ℕ) (first : Stream) (from : I) (frames : List Frame) (mark : ℕ) (last : Stream) (left : I) → Rounds gives begun first from frames mark last left → last.epoch ≡ first.epoch
   Rounds-epoch _ _ _ _ _ _ _ (unbegun mark link groups) = refl
-  Rounds-epoch _ _ _ _ _ _ _ (round begun mark higher first middle last from at left frames sent so_far rises sends) =
+  Rounds-epoch _ _ _ _ _ _ _ (round begun mark higher first middle last from at left frames sent so_far rises sends works) =
+      Sends-epoch (acknowledged higher middle) at sent last left sends ∙ Rounds-epoch begun first from frames mark middle at so_far
+
+  Ends-epoch : {Cause : Type 0} (begun : ℕ) (first : Stream) (from : I) (frames : List Frame) (mark : ℕ) (last : Stream) (left : I) → Ends gives Cause begun first from frames mark last left → last.epoch ≡ first.epoch
+  Ends-epoch _ _ _ _ _ _ _ (whole begun mark first last from left frames rounds) = Rounds-epoch begun first from frames mark last left rounds
+  Ends-epoch _ _ _ _ _ _ _ (broken begun mark higher first middle last from at left frames sent cause so_far rises sends) =
       Sends-epoch (acknowledged higher middle) at sent last left sends ∙ Rounds-epoch begun first from frames mark middle at so_far
 
   -- it stays
-  pub HasSent-epoch : (begun : ℕ) (first : Stream) (from : I) (before : Option (List ℕ)) (mark : ℕ) (last : Stream) (left : I) (after : Option (List ℕ)) (rest : List ℕ)
-      → HasSent gives begun first from before mark last left after rest → last.epoch ≡ first.epoch
-  HasSent-epoch begun first from before mark last left after rest sent = Rounds-epoch begun (record first { delta = None }) from sent.frames mark last left sent.rounds
+  pub HasSent-epoch : {Cause : Type 0} (begun : ℕ) (first : Stream) (from : I) (before : Option (List ℕ)) (mark : ℕ) (last : Stream) (left : I) (after : Option (List ℕ)) (rest : List ℕ)
+      → HasSent gives Cause begun first from before mark last left after rest → last.epoch ≡ first.epoch
+  HasSent-epoch begun first from before mark last left after rest sent = Ends-epoch begun (record first { delta = None }) from sent.frames mark last left sent.rounds

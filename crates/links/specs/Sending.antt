@@ -5,6 +5,7 @@ use Rattle.std.specs.Io.KnownBytes.{Appends}
 use Rattle.model.specs.declared.group.Group.{Group}
 use Rattle.frames.specs.declared.frame.Frame.{Frame}
 use Rattle.stream_codec.specs.Message.{sent_of_frame, sent_text}
+use Rattle.links.specs.declared.sending.TheConstants.{FRAMES_AT_ONCE}
 use Rattle.standby_stream.specs.Stream.{Stream, IsDue, IsFrameOf, IsFull, TakesNext, acknowledged}
 
 -- a frame as bytes
@@ -53,18 +54,24 @@ pub data Sends {I : Type 0} (gives : I → Option Group → I → Type 0) : Stre
       → Sends gives first from (frames ++ sent) last left
 
 -- The frames that a link sent, round by round, and what it knew of the remote mark: before each round it takes note of that, so that the frames up to there are
--- kept no longer, and those alone.
+-- kept no longer, and those alone. In each round it sends as many frames as may be sent at once, or all that there are.
 pub data Rounds {I : Type 0} (gives : I → Option Group → I → Type 0) : ℕ → Stream → I → List Frame → ℕ → Stream → I → Type 0 where
   unbegun : (mark : ℕ) (link : Stream) (groups : I) → Rounds gives mark link groups [] mark link groups
   round : (begun mark higher : ℕ) (first middle last : Stream) (from at left : I) (frames sent : List Frame) → Rounds gives begun first from frames mark middle at → mark ≤ higher
-      → Sends gives (acknowledged higher middle) at sent last left → Rounds gives begun first from (frames ++ sent) higher last left
+      → Sends gives (acknowledged higher middle) at sent last left → WorksOff gives FRAMES_AT_ONCE (acknowledged higher middle) last left → Rounds gives begun first from (frames ++ sent) higher last left
+
+-- The same, and perhaps a last round that was broken off, for this cause.
+pub data Ends {I : Type 0} (gives : I → Option Group → I → Type 0) (Cause : Type 0) : ℕ → Stream → I → List Frame → ℕ → Stream → I → Type 0 where
+  whole : (begun mark : ℕ) (first last : Stream) (from left : I) (frames : List Frame) → Rounds gives begun first from frames mark last left → Ends gives Cause begun first from frames mark last left
+  broken : (begun mark higher : ℕ) (first middle last : Stream) (from at left : I) (frames sent : List Frame) → Cause → Rounds gives begun first from frames mark middle at → mark ≤ higher
+      → Sends gives (acknowledged higher middle) at sent last left → Ends gives Cause begun first from (frames ++ sent) higher last left
 
 -- What went out on a link since it opened: the delta, if one was due, and then the frames of these rounds, in order. `rest` is what of that was not
--- written.
-pub record HasSent {I : Type 0} (gives : I → Option Group → I → Type 0) (begun : ℕ) (first : Stream) (from : I) (before : Option (List ℕ)) (mark : ℕ) (last : Stream) (left : I)
+-- written. A last round may have been broken off for this cause.
+pub record HasSent {I : Type 0} (gives : I → Option Group → I → Type 0) (Cause : Type 0) (begun : ℕ) (first : Stream) (from : I) (before : Option (List ℕ)) (mark : ℕ) (last : Stream) (left : I)
     (after : Option (List ℕ)) (rest : List ℕ) : Type 0 where
   pub frames : List Frame
   pub written : List ℕ
-  pub rounds : Rounds gives begun (record first { delta = None }) from frames mark last left
+  pub rounds : Ends gives Cause begun (record first { delta = None }) from frames mark last left
   pub split : delta_text first.delta ++ frames_text frames ≡ written ++ rest
   pub appended : Appends before after written

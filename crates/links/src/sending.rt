@@ -6,7 +6,7 @@ ghost use Rattle.frames.specs.declared.frame.Frame.{Frame as Kept};
 ghost use Rattle.standby_stream.specs.Sent.{Grows, MaySend, between};
 ghost use Rattle.standby_stream.specs.Stream.{IsDue, Frames, TakesNext, acknowledged};
 ghost use Rattle.links.specs.Sending.{HasSent, Sends, Step, Waits, WorksOff, delta_text, frame_text, frames_text};
-ghost use Rattle.links.specs.declared.log.Lost.TheVariants.{Ended};
+ghost use Rattle.links.specs.declared.log.Lost.TheVariants.{Ended, Refused};
 
 use crate::log::Lost;
 use crate::writing::write_put;
@@ -147,7 +147,7 @@ pub(crate) fn send_all<R: Wait + Clock, I: Inlet<Item = Group>, O: Write>(
     around: Surroundings<'_>,
     to: &mut O,
 ) -> (bool, Lost)
-    ensures sent { (rest : List ℕ) × HasSent I.take_gives marks.old.remote outgoing.old.link groups.old (O.contents to.old) marks.new.remote outgoing.new.link groups.new (O.contents to.new) rest
+    ensures sent { (rest : List ℕ) × HasSent I.take_gives (result.1 ≡ Refused Memory) marks.old.remote outgoing.old.link groups.old (O.contents to.old) marks.new.remote outgoing.new.link groups.new (O.contents to.new) rest
         × (result.1 ≡ Ended → rest ≡ []) }
 {
     let mut idle = Idle::new(around.spin);
