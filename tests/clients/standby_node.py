@@ -42,14 +42,13 @@ def drawn_frames(draws, position, count):
 def take(writer, frame):
     """The writer's image takes a frame, as a node does that frees what had ended with it, where the frame has room beside that, and else before it. It gives
     whether there is room with nothing moved."""
-    earlier = writer.ended
-    if not earlier or not writer.room.surely_takes_below(frame.changes) or not writer.room.take_at_once(frame.changes):
-        writer.free_ended()
-        earlier = []
-        if not writer.room.take_at_once(frame.changes):
-            return False
-    writer.commit_parts([writer.part(frame.changes)], frame.after - frame.before)
-    writer.room.give(writer.free(earlier))
+    positions = frame.after - frame.before
+    if writer.take_beside(frame.changes, positions):
+        return True
+    writer.free_ended()
+    if not writer.room.take_at_once(frame.changes):
+        return False
+    writer.commit_parts([writer.part(frame.changes)], positions)
     return True
 
 

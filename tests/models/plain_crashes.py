@@ -25,8 +25,14 @@ class Crashes:
     def fail_fence(self, node, number):
         """The fence of this number, counted from the node's next one, fails; 0: none."""
         if getattr(self, node).runs:
-            getattr(self, node).device.fail_in = int(number)
+            getattr(self, node).fail(int(number))
             return True
+
+    def _stop(self, node):
+        """A fence of the node failed as it was asked to. What was delivered to a standby is lost."""
+        getattr(self, node).stop()
+        if node == "standby":
+            self.arrived = []
 
     def crash(self, node, *words):
         if words[0] in CUT_CALLS or words[0] == "reopen":

@@ -1,7 +1,6 @@
 """The pair of nodes and their connections, played plainly, from docs/promises.md ("The events") and
-docs/replication.md: which events do their step, the list of calls, what is released, where both nodes stand, and at
-which event a fence that fails ends the run. A fence may also be told to fail while it runs; and a run may go on after one that failed, whose node then
-stops, and have crashes in the middle of a call."""
+docs/replication.md: which events do their step, the list of calls, what is released, where both nodes stand, which nodes
+stop where a fence fails that was asked to, and at which event one that fails unasked ends the run."""
 
 import plain_delta
 import plain_image
@@ -26,18 +25,18 @@ DEFAULT_LINES = (4_096, 4_096)
 
 class Machine(Crashes):
     """A run. `done` says of each event whether it did its step, `calls` has each call as (connection, item, reply,
-    position), and `ended` names the event at which a fence failed, "formatting", or None. `told` has the positions that the standby acknowledged in
-    the run that this one is compared with: a standby that has to make room takes a frame where that one did. Where there is none it takes it where lines
-    and entries are enough. `goes_on` where it goes on after a fence that was told to fail: otherwise the call that meets such a fence ends it."""
+    position), `stops` the place and the name of each event at which a node stopped, and `ended` names the event at which a fence failed unasked, "formatting",
+    or None. `told` has the positions that the standby acknowledged in the run that this one is compared with: a standby that has to make room takes a frame
+    where that one did. Where there is none it takes it where lines and entries are enough."""
 
-    def __init__(self, lines=DEFAULT_LINES, fail=(0, 0), told=None, goes_on=False):
+    def __init__(self, lines=DEFAULT_LINES, fail=(0, 0), told=None):
         self.told = told
-        self.goes_on = goes_on
         self.connections = []
         self.calls = []
         # of each changing call its part
         self.parts = []
         self.done = []
+        self.stops = []
         self.ended = None
         self.epoch = 1
         self._begin(plain_delta.FORMATTED)
@@ -81,11 +80,13 @@ class Machine(Crashes):
             try:
                 self.done.append(self._does(name, words))
             except Fault:
-                if not self.goes_on:
+                node = CUT_CALLS.get(name) or words[0]
+                if not getattr(self, node).is_asked:
                     self.ended = place
                     self._crash_devices(events[place + 1:])
                     break
-                getattr(self, CUT_CALLS.get(name) or words[0]).stop()
+                self._stop(node)
+                self.stops.append((place, name))
                 self.done.append(True)
         return self
 

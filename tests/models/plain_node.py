@@ -5,14 +5,16 @@ from plain_writer import Writer
 
 
 class Node:
-    """A node over a new image. `fail` is the number of the fence that fails, 0 for none. One whose fence failed has stopped, and crashes before anything else
-    happens to it."""
+    """A node over a new image. `fail` is the number of the fence that fails unasked, 0 for none. One whose fence failed as it was asked to has stopped: it
+    does nothing until it has crashed."""
 
     def __init__(self, lines, role, fail=0):
         self.device = Device()
         self.runs = True
         self.has_stopped = False
         self.is_over = False
+        # whether it was asked to fail the fence that fails next
+        self.is_asked = False
         # frames that joined on and were not taken
         self.refused = 0
         self.device.fail_in = fail
@@ -27,14 +29,21 @@ class Node:
         return len(self.image.record.gaps)
 
     def take(self, changes, positions, is_told):
-        """A standby takes a frame: what has ended is freed before it and after it. Where it has to make room for it, it is what was told of the run that
-        says whether that could be done. Whether it was taken."""
+        """A standby takes a frame, and frees what that ended. What an earlier life left is freed by the same fences, where the frame has room beside it, and
+        else before it. Where it has to make room for the frame, it is what was told of the run that says whether that could be done. Whether it was taken."""
+        is_taken = not self.image.places_may_differ and self.image.take_beside(changes, positions)
+        if not is_taken and not self.take_alone(changes, positions, is_told):
+            return False
+        self.free_ended()
+        return True
+
+    def take_alone(self, changes, positions, is_told):
+        """The same, where what has ended is freed before."""
         self.free_ended()
         if (self.image.places_may_differ or not self.image.room.take_at_once(changes)) and not self.make_room(changes, is_told):
             self.refused += 1
             return False
         self.image.commit_parts([self.image.part(changes)], positions)
-        self.free_ended()
         return True
 
     def make_room(self, changes, is_told):
@@ -50,17 +59,21 @@ class Node:
         if self.image.ended:
             self.image.free_ended()
 
+    def fail(self, number):
+        """The fence of this number, counted from the next one, is asked to fail; 0: none."""
+        self.device.fail_in, self.is_asked = number, True
+
     def stop(self):
         """A fence failed."""
         self.runs, self.has_stopped = False, True
 
     def crash(self, picks=()):
         """Whether it ran or had stopped. Its image is what the picks leave."""
-        could = self.runs or self.has_stopped
+        if self.is_over or self.has_crashed:
+            return False
         self.runs = self.has_stopped = False
-        if could:
-            self.image.crash(picks)
-        return could
+        self.image.crash(picks)
+        return True
 
     def crash_in(self, does, count, picks):
         """It crashes in the middle of this call, after so many stores, flushes and fences."""
@@ -91,6 +104,6 @@ class Node:
         self.image.reopen()
 
     def end(self):
-        """Whether anything could happen to it until then. Its image stays."""
-        was_over, self.is_over, self.runs, self.has_stopped = self.is_over, True, False, False
+        """Whether anything could happen to it until then. Its device stays as it is."""
+        was_over, self.is_over, self.runs = self.is_over, True, False
         return not was_over

@@ -25,8 +25,8 @@ class Writer:
         self.record = Record(1, 0, 0, STAMPS_BETWEEN_RECORDS, 1, (), role)
         # by its entry each version that is not freed: its name and its place
         self._versions = {}
-        # the entries of those that have ended
-        self._ended = set()
+        # the entries of those that have ended, in the order in which they did; of those that an image tells, in rising order
+        self._ended = {}
         # entries whose begin lies in a gap, which are in use until that is cleared
         self._gapped = set()
         self.places_may_differ = False
@@ -65,12 +65,12 @@ class Writer:
         """What is in memory is made anew from the image."""
         device = Words(self.lines, self.words)
         self.record = plain_image.read_image(device).record
-        self._versions, self._ended = {}, set()
+        self._versions, self._ended = {}, {}
         versions = plain_image.read_versions(device, self.record)
         for entry, end in versions.counted:
             name, place = plain_image.placed(device, entry)
             self._versions[entry] = name, Place(entry, *place)
-            self._ended |= {entry} if end else set()
+            self._ended |= {entry: None} if end else {}
         self._gapped = set(versions.gapped)
         self._fill_memory()
 
@@ -84,7 +84,7 @@ class Writer:
     @property
     def live(self):
         """The entries of versions that have not ended."""
-        return sorted(self._versions.keys() - self._ended)
+        return sorted(self._versions.keys() - self._ended.keys())
 
     @property
     def ended(self):
@@ -110,9 +110,11 @@ class Writer:
             parts.append(self.part(changes))
         self.commit_parts(parts, len(parts))
 
-    def commit_parts(self, parts, positions):
+    def commit_parts(self, parts, positions, freed=()):
         """One group of parts that together move the image by so many positions; then the next record and the root. On a primary each part has its own
-        stamp and position; on a standby all have one stamp and the position after the group."""
+        stamp and position; on a standby all have one stamp and the position after the group. By the first fence these entries are freed, whose versions have
+        ended; gives their places, as `free` does."""
+        self._erase(freed, 0)
         position, cp = self.record.position, self.record.cp
         stamps = len(parts) if self.role == PRIMARY else 1
         stored = []
@@ -121,20 +123,34 @@ class Writer:
                 stored += self._make(part, cp + number, position + number)
             else:
                 stored += self._make(part, cp + 1, position + positions)
-        self._fence(stored)
+        self._fence([*map(line_of_entry, freed), *stored])
         number, position, cp = self.record.number + 1, position + positions, cp + stamps
         self._put_record(self.record._replace(number=number, position=position, cp=cp, cd=cp + STAMPS_BETWEEN_RECORDS))
+        return self._forget(freed)
 
     def free(self, entries):
         """Frees entries whose versions have ended, and gives their places, which the room does not have yet."""
         self._erase(entries, 0)
         self._fence(map(line_of_entry, entries))
-        self._ended -= set(entries)
+        return self._forget(entries)
+
+    def _forget(self, entries):
+        """These entries are free. Gives their places."""
+        for entry in entries:
+            self._ended.pop(entry, None)
         return [self._versions.pop(entry)[1] for entry in entries]
 
     def free_ended(self):
         """Frees all that has ended, and gives its places to the room, as a standby does."""
-        self.room.give(self.free(self.ended))
+        self.room.give(self.free(list(self._ended)))
+
+    def take_beside(self, changes, positions):
+        """A standby takes changes that have room beside what had ended, which is freed by the same fences. Whether they have room so."""
+        earlier = list(self._ended)
+        if not earlier or not self.room.surely_takes_below(changes) or not self.room.take_at_once(changes):
+            return False
+        self.room.give(self.commit_parts([self.part(changes)], positions, earlier))
+        return True
 
     def make_room(self, changes):
         """A standby of which no run is long enough for these changes clears its gaps and, where lines and entries are enough, moves versions. Whether it may do
@@ -190,7 +206,7 @@ class Writer:
             lines += [*range(place.line, place.line + place.lines), line_of_entry(place.entry)]
         for entry in part.ended:
             self._put(line_of_entry(entry) * WORDS_OF_LINE + 1, [stamp])
-            self._ended.add(entry)
+            self._ended[entry] = None
         return lines + list(map(line_of_entry, part.ended))
 
     def _write(self, put, place, stamp, position):

@@ -58,7 +58,7 @@ class Commands(common.Cases):
 
     def test_sessions(self):
         found = {page: self.sessions(page) for page in (SESSIONS, SIMULATOR)}
-        self.assertEqual([len(sessions) for sessions in found.values()], [5, 4])
+        self.assertEqual([len(sessions) for sessions in found.values()], [5, 5])
         for page, ((first, events), command, (_, output)) in [(page, each) for page, sessions in found.items() for each in sessions]:
             with self.case("session", page=pages.name_of(page), line=first):
                 self.assertEqual(self.run_command(command, lines_of(events)), lines_of(output).decode())

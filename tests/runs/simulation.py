@@ -280,10 +280,14 @@ class Runs(common.Cases):
         if lines[1] >= lines[0] + MORE_LINES:
             self.assertEqual(machine.given["standby"].refused, 0, "frames that the standby has no room for, though it has lines to spare")
         for place, node in enumerate(NODES):
-            if machine.ended is None:
-                self.assert_image(trace, machine, node, lines[place])
-            elif machine.ended != "formatting":
+            if machine.ended is not None:
+                self.assert_left(trace, machine, node)
+            elif machine.given[node].has_stopped:
                 self.assert_words(trace, machine, node)
+                self.assert_reads(trace, machine, node, lines[place])
+            else:
+                self.assert_image(trace, machine, node, lines[place])
+        self.machine = machine
         return trace
 
     def assert_played(self, trace, machine, events, skipped_lines):
@@ -309,8 +313,13 @@ class Runs(common.Cases):
         self.assertEqual((trace.frames, trace.acknowledgements), told_between(machine))
         self.assertEqual(trace.texts, texts_between(machine))
 
+    def assert_left(self, trace, machine, node):
+        """Where a fence failed unasked, the device has the words that crashes left of what the node did to it."""
+        if machine.ended != "formatting":
+            self.assert_words(trace, machine, node)
+
     def assert_words(self, trace, machine, node):
-        """The device has the words that the crashes left of what the node did to it, also where a fence failed."""
+        """The device has the words that the node stored and crashes left, also where a fence failed."""
         writer = machine.given[node].image
         if not writer.places_may_differ:
             wrong = sorted(set(trace.words[node].items()) ^ set(writer.words.items()))
@@ -319,11 +328,8 @@ class Runs(common.Cases):
     def assert_image(self, trace, machine, node, lines):
         """The image is, word for word, that of what the node did to it, and it reads so: just these entries are in use. Where places may differ it has
         the same versions, wherever they are."""
-        writer, parts, words = machine.given[node].image, machine.parts_of(node), plain_image.Words(lines, trace.words[node])
-        image = plain_image.read_image(words)
-        record = image.record
-        self.assertEqual(image.map, dict(plain_keyspace.keyspace_after(parts[:record.position]).records()))
-        self.assertEqual(trace.records[node], sorted(image.map.items()))
+        writer, words = machine.given[node].image, plain_image.Words(lines, trace.words[node])
+        record = self.assert_reads(trace, machine, node, lines)
         versions = plain_image.read_versions(words, record)
         # (a call that was cut may have begun versions, which no record has made count)
         wanted = plain_image.read_versions(plain_image.Words(lines, writer.words), writer.record)
@@ -337,6 +343,14 @@ class Runs(common.Cases):
             self.assertEqual(record, writer.record)
             self.assertEqual([entry for entry, end in versions.counted if not end], writer.live)
             self.assertEqual([entry for entry, end in versions.counted if end], writer.ended)
+
+    def assert_reads(self, trace, machine, node, lines):
+        """The image is whole, and holds the keyspace of the list at its position; so it is printed. Gives its record."""
+        image = plain_image.read_image(plain_image.Words(lines, trace.words[node]))
+        record, parts = image.record, machine.parts_of(node)
+        self.assertEqual(image.map, dict(plain_keyspace.keyspace_after(parts[:record.position]).records()))
+        self.assertEqual(trace.records[node], sorted(image.map.items()))
         role = next(name for name, role in ROLES.items() if role == record.role)
         told = NodeLine(record.position, record.number, record.cp, record.cd, record.epoch, role, len(record.gaps))
         self.assertEqual(trace.nodes[node], told)
+        return record

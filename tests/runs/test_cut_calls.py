@@ -1,6 +1,5 @@
 """Calls that a crash cuts after each of their stores, flushes and fences: on the plain machine, of which it is looked at what a cut may leave (docs/promises.md), the
-image from before the call, or the one after it, whole; and in runs, each of which is compared with that machine, word for word of both images. And runs that go on after
-a fence that failed, on the plain machine alone: no program does this yet."""
+image from before the call, or the one after it, whole; and in runs, each of which is compared with that machine, word for word of both images."""
 
 import common
 import draws
@@ -83,7 +82,7 @@ class CutCalls(common.Cases):
         return image.record.position
 
     def played(self, events, *more):
-        machine = Machine(goes_on=True).play(events)
+        machine = Machine().play(events)
         changes = list(machine.redis.parts)
         machine.play(more)
         # what a crash cut off the list is still what an image may not hold half of
@@ -95,7 +94,7 @@ class CutCalls(common.Cases):
         node, events = CALLS[call]
         for name, picks in {**PICKS, "drawn": drawn_picks(call)}.items():
             count, left = 0, []
-            whole = Machine(goes_on=True).play(events)
+            whole = Machine().play(events)
             before = whole.given[node].device.fences
             whole.play([f"crash {node} {call} {MOST_CALLS} 0"])
             self.assertTrue(whole.done[-1])
@@ -113,7 +112,7 @@ class CutCalls(common.Cases):
 
     def test_each_call_is_cut_everywhere(self):
         for call, (node, events) in CALLS.items():
-            before = Machine(goes_on=True).play(events)
+            before = Machine().play(events)
             at = self.check_image(before, node)
             moves = {"commit": 1, "apply": 1}.get(call, 0)
             for name, left in self.cuts(call):
@@ -154,7 +153,7 @@ class CutCalls(common.Cases):
     def test_entries_in_a_gap_come_back_once_it_is_cleared(self):
         node, events = CALLS["commit"]
         # all of the group's versions are there, and the record is not
-        machine = Machine(goes_on=True).play([*events, f"crash primary commit 40 {PICKS['newest']}", "reopen primary", "enter"])
+        machine = Machine().play([*events, f"crash primary commit 40 {PICKS['newest']}", "reopen primary", "enter"])
         image = machine.primary.image
         self.assertEqual((image.record.position, len(image.record.gaps), image.gapped), (2, 1, [2]))
         self.assertNotIn(2, image.room.entries)
@@ -226,71 +225,3 @@ class CutRuns(Runs):
                 schedule = Schedule()
                 schedule.add(*events, *more)
                 self.assertEqual(self.play(schedule).done[len(events):], len(more) * [False])
-
-
-class FailingFences(common.Cases):
-    """The call that meets the fence stops the node, and the run goes on."""
-
-    def record(self, machine, node="primary"):
-        return machine.given[node].image.record
-
-    def committing(self, fence):
-        schedule = Schedule(1)
-        schedule.add(f"fail-fence primary {fence}")
-        schedule.group(0, SET_A)
-        return schedule.events
-
-    def test_a_commit_that_meets_it(self):
-        for fence, picks, at in [(1, "1", 0), (2, "0", 0), (2, "1", 0), (3, "0", 0), (3, "1", 1)]:
-            with self.case("fence", fence=fence, picks=picks):
-                machine = Machine(goes_on=True).play(self.committing(fence))
-                # the commit is said to be done, and nothing comes after it
-                self.assertEqual(machine.done[-4:], [True, True, False, False])
-                self.assertTrue(machine.primary.has_stopped)
-                machine.play([f"crash primary {MANY * (picks + ' ')}", "reopen primary"])
-                self.assertEqual(machine.done[-2:], [True, True])
-                record = self.record(machine)
-                if at == 0:
-                    self.assertEqual((record.position, record.number, record.gaps, record.cp, record.cd), (0, 2, ((1, 4_096),), 4_097, 8_194))
-                else:
-                    self.assertEqual((record.position, record.gaps, record.cp, record.cd), (1, ((2, 4_097),), 4_098, 8_195))
-                self.assertEqual([connection.released for connection in machine.connections], [b""])
-
-    def test_only_a_crash_or_the_fence_of_the_primary_comes_next(self):
-        events = ["enter", "feed 0 SET a 2", "offer 0", "turn 0", "close-group", "commit", "raise-local", "hand", "free", "accept-freed", "clear-gap",
-                  "open-link", "send", "ack-delivered 0", "raise-remote", "hold 0", "read 0 local", "release 0", "write 0 0", "leave 0",
-                  "fail-fence primary 0", "reopen primary", "crash primary commit 1 0", "crash primary reopen 1 0"]
-        machine = Machine(goes_on=True).play([*self.committing(1), *events])
-        self.assertEqual(machine.done[-len(events):], len(events) * [False])
-        self.assertTrue(machine.play(["fence"]).done[-1])
-        self.assertEqual(machine.play(["crash primary 0", "reopen primary"]).done[-2:], [False, False])
-
-    def test_a_reopening_and_a_promotion_that_meet_it(self):
-        schedule = Schedule(1)
-        schedule.serve_to_end(0, 0, SET_A)
-        for fence in (1, 2):
-            with self.case("reopening", fence=fence):
-                machine = Machine(goes_on=True).play([*schedule.events, f"fail-fence primary {fence}", "crash primary 0", "reopen primary"])
-                self.assertTrue(machine.primary.has_stopped)
-                self.assertEqual(machine.play(["reopen primary", "crash primary 1 1", "reopen primary"]).done[-3:], [False, True, True])
-                self.assertEqual(self.record(machine).position, 1)
-        for fence, picks, epoch in [(1, "1", 1), (2, "0", 1), (2, "1", 2), (3, "0", 2), (4, "1", 2)]:
-            with self.case("promotion", fence=fence, picks=picks):
-                machine = Machine(goes_on=True).play([*schedule.events, f"fail-fence standby {fence}", "fence", "promote"])
-                self.assertTrue(machine.standby.has_stopped)
-                machine.play([f"crash standby {MANY * (picks + ' ')}"])
-                self.assertEqual((machine.done[-1], machine.epoch), (True, epoch))
-                machine.play(["reopen standby", "promote"] if epoch == 1 else ["reopen primary"])
-                self.assertEqual((machine.done[-1], machine.epoch, self.record(machine, "standby").position), (True, 2, 1))
-
-    def test_eight_gaps_and_a_ninth(self):
-        machine = Machine(goes_on=True).play(8 * ["crash primary 0", "reopen primary"])
-        record = self.record(machine)
-        self.assertEqual((record.number, len(record.gaps), record.cp, record.cd), (9, 8, 32_776, 36_873))
-        machine.play(["crash primary 0", "reopen primary"])
-        record = self.record(machine)
-        self.assertEqual((record.number, len(record.gaps), record.gaps[0], record.cp, record.cd), (11, 8, (4_098, 8_193), 36_873, 40_970))
-
-    def test_where_the_run_does_not_go_on(self):
-        events = ["fail-fence primary 1", *served()]
-        self.assertEqual(Machine().play(events).ended, events.index("commit"))

@@ -45,7 +45,7 @@ class Explorations(common.Cases):
             self.assertGreater(40 * replies, done)
             self.assertGreater(crashes, 2 * histories)
             self.assertGreater(4 * promotions, histories)
-            self.assertGreater(50 * faults, histories)
+            self.assertGreater(4 * faults, histories)
 
     def test_the_same_seed_draws_the_same(self):
         one, other = explore(7, 2_000), explore(8, 2_000)

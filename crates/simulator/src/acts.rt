@@ -29,8 +29,11 @@ impl Drawing {
         }
     }
 
-    /// The primary is fenced and its standby promoted, which may crash before.
+    /// The primary is fenced, which may have stopped, and its standby promoted, which may crash before.
     pub fn fail_over(&mut self) -> Result<(), AllocError> {
+        if self.dice.is_one_of(4) {
+            self.ask_a_fence(Node::Primary)?;
+        }
         self.add(Step::Fence)?;
         if self.dice.is_one_of(2) {
             self.follow()?;
@@ -39,9 +42,21 @@ impl Drawing {
             self.add(Step::Crash(Node::Standby, Cut::Between))?;
             self.add(Step::Reopen(Node::Standby))?;
         }
+        if self.dice.is_one_of(3) {
+            self.fail_a_promotion()?;
+        }
         self.add(Step::Promote)?;
         self.add(Step::Enter)?;
         self.add(Step::Enter)
+    }
+
+    /// A fence fails while the standby is promoted. It crashes, and is opened as what it is by then.
+    fn fail_a_promotion(&mut self) -> Result<(), AllocError> {
+        self.add(Step::FailFence(Node::Standby))?;
+        self.add(Step::Promote)?;
+        self.add(Step::Crash(Node::Standby, Cut::Between))?;
+        self.add(Step::Reopen(Node::Standby))?;
+        self.add(Step::Reopen(Node::Primary))
     }
 
     fn drawn_act(&mut self) -> Act {
@@ -156,7 +171,7 @@ impl Drawing {
     }
 
     /// A node crashes; a few things happen meanwhile, and it is opened again.
-    fn come_back(&mut self, node: Node, cut: Cut) -> Result<(), AllocError> {
+    pub fn come_back(&mut self, node: Node, cut: Cut) -> Result<(), AllocError> {
         self.add(Step::Crash(node, cut))?;
         if self.dice.is_one_of(3) {
             self.replicate()?;
@@ -172,12 +187,21 @@ impl Drawing {
         self.link()
     }
 
+    /// A fence of a node fails, in what it does next, or while it is opened.
     fn fail_a_fence(&mut self, node: Node) -> Result<(), AllocError> {
+        self.ask_a_fence(node)?;
+        self.come_back(node, Cut::Between)
+    }
+
+    /// A fence of a node is asked to fail, which then mostly has something to do.
+    fn ask_a_fence(&mut self, node: Node) -> Result<(), AllocError> {
         self.add(Step::FailFence(node))?;
+        if self.dice.is_one_of(4) {
+            return Ok(());
+        }
         self.ask()?;
         self.commit()?;
-        self.replicate()?;
-        self.come_back(node, Cut::Between)
+        self.replicate()
     }
 
     /// A node crashes in the middle of a call, which something was prepared for.

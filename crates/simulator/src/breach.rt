@@ -28,6 +28,10 @@ pub enum Breach {
     Keyspace,
     #[error("the device of a fenced primary changed")]
     Succeeded,
-    #[error("the run ended though no fence was to fail")]
+    #[error("the device of a node that has stopped changed")]
+    Stopped,
+    #[error("a crash of a node that had stopped left neither the image from before nor the one after")]
+    Between,
+    #[error("the run ended though no fence was to fail unasked")]
     Ended,
 }

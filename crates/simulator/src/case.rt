@@ -23,7 +23,7 @@ const LINES: u64 = 4_096;
 /// The most events of a history.
 const MOST_EVENTS: u64 = 10_000;
 
-/// A history: which fence of a node is to fail, if one is, and the events.
+/// A history: which fence of a node is to fail, if one is that no event asks to, and the events.
 #[derive(Drop)]
 pub struct Case {
     pub failure: Option<Failure>,
@@ -53,7 +53,7 @@ impl Source<'_> {
         }
     }
 
-    /// A fence failed and ended the run: what comes are crashes of the devices alone.
+    /// A fence failed unasked and ended the run: what comes are crashes of the devices alone.
     fn end(&mut self) -> Result<(), AllocError> {
         match self {
             Source::Drawn(drawing) => drawing.end(),
@@ -73,7 +73,7 @@ pub fn play_case(
 ) -> Result<(), Found> {
     let (first, shown_first) = new_device(alloc, failure, Node::Primary)?;
     let (second, shown_second) = new_device(alloc, failure, Node::Standby)?;
-    let mut witness = Witness::new(alloc, shown_first, shown_second)?;
+    let mut witness = Witness::new(alloc, shown_first, shown_second, failure.is_some())?;
     match Pair::<Engine, MvKeyspace>::open(alloc, first, second, 0, hash_builder) {
         Ok((pair, history)) => {
             let mut pair = pair;
@@ -106,30 +106,32 @@ fn new_device(
     ShowingPmem::new(alloc, device)
 }
 
-/// Lets the events happen, and looks at the pair after each. Returns the refusal that ended the run, if one did.
+/// Lets the events happen, and looks at the pair after each. Returns whether a fence that failed ended the run.
 fn play_through<S: Stepper>(
     stepper: &mut S,
     history: &mut History,
     source: &mut Source<'_>,
     witness: &mut Witness,
     events: &mut Vec<Event>,
-) -> Result<Option<Refusal>, Found>
+) -> Result<bool, Found>
     requires world { HasWorld (S.parts stepper.old history.old) }
 {
     witness.begin()?;
     for _event in 0..MOST_EVENTS {
         let Some(event) = source.next(history, witness)? else {
-            return Ok(None);
+            return Ok(false);
         };
         match stepper.step(history, &event) {
             Ok(did) => see_event(witness, event, did, history, events)?,
             Err(refusal) => {
+                let seen = see_refusal(witness, &event, refusal);
                 events.push(event)?;
-                return Ok(Some(refusal));
+                seen?;
+                return Ok(true);
             }
         }
     }
-    Ok(None)
+    Ok(false)
 }
 
 /// Looks at the pair after an event, which goes behind the others.
@@ -145,24 +147,29 @@ fn see_event(
     seen
 }
 
-/// Looks at what is left once a run is over: where a fence failed, after crashes of the devices.
+/// Looks at the pair where an event ended the run with this refusal.
+fn see_refusal(witness: &mut Witness, event: &Event, refusal: Refusal) -> Result<(), Found> {
+    match refusal {
+        Refusal::Fault => witness.see_fault(event),
+        _ => Err(found_in(refusal)),
+    }
+}
+
+/// Looks at what is left once a run is over: where a fence ended it, after crashes of the devices.
 fn see_end(
-    ended: Result<Option<Refusal>, Found>,
+    ended: Result<bool, Found>,
     devices: (ShowingPmem<SimPmem>, ShowingPmem<SimPmem>),
     source: &mut Source<'_>,
     history: &History,
     witness: &mut Witness,
     events: &mut Vec<Event>,
 ) -> Result<(), Found> {
-    match ended? {
-        None => Ok(()),
-        Some(Refusal::Fault) => {
-            source.end()?;
-            crash_devices(devices, source, history, witness, events)?;
-            witness.see_left()
-        }
-        Some(refusal) => Err(found_in(refusal)),
+    if ended? {
+        source.end()?;
+        crash_devices(devices, source, history, witness, events)?;
+        witness.see_left()?;
     }
+    Ok(())
 }
 
 /// Crashes the devices as the events say that are left.

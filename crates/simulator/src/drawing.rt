@@ -16,6 +16,9 @@ const MOST_CALLS: u64 = 40;
 /// Which fence from now is to fail, at most.
 const MOST_FENCES: u64 = 6;
 
+/// So many acts come while a node has stopped, on average.
+const ACTS_WHILE_STOPPED: u64 = 3;
+
 /// The bytes that many replies have.
 const REPLY_BYTES: [u64; 4] = [1, 4, 5, 7];
 
@@ -67,14 +70,14 @@ impl Drawing {
         witness: &Witness,
     ) -> Result<Option<Event>, AllocError> {
         self.entered = history.transcript.released.len() as u64;
-        self.come_on()?;
+        self.come_on(witness)?;
         match self.steps.pop_front() {
             Some(step) => Ok(Some(self.event_of(step, history, witness)?)),
             None => Ok(None),
         }
     }
 
-    /// What comes once a fence failed and ended the run: both devices crash.
+    /// What comes at the end, and where a fence failed unasked and ended the run: both nodes crash.
     pub fn end(&mut self) -> Result<(), AllocError> {
         self.is_ending = true;
         self.steps.clear();
@@ -82,8 +85,8 @@ impl Drawing {
         self.add(Step::Crash(Node::Standby, Cut::Between))
     }
 
-    /// Draws what comes next, where nothing is left of what was drawn.
-    fn come_on(&mut self) -> Result<(), AllocError> {
+    /// Draws what comes next, where nothing is left of what was drawn. A node that has stopped crashes soon.
+    fn come_on(&mut self, witness: &Witness) -> Result<(), AllocError> {
         if self.is_ending {
             return Ok(());
         }
@@ -97,6 +100,11 @@ impl Drawing {
         if self.left < self.failover {
             self.failover = 0;
             return self.fail_over();
+        }
+        if let Some(node) = witness.stopped()
+            && self.dice.is_one_of(ACTS_WHILE_STOPPED)
+        {
+            return self.come_back(node, Cut::Between);
         }
         self.act()
     }

@@ -4,57 +4,125 @@ use crate::found::Found;
 use crate::plain_records::PlainRecords;
 use crate::shown::Shown;
 use kv_types::{RecordId, Value};
-use model::{ImageContents, Role, read_image};
+use machine::Node;
+use model::{FIRST_EPOCH, ImageContents, Record, Role, read_image};
 use std::alloc::Global;
 
-/// A node's role and epoch.
+/// Where an image stands: its node's role and epoch, and its position.
 #[derive(Clone, Copy, Debug, PartialEq, Eq)]
-struct Duty {
+struct Standing {
     role: Role,
     epoch: u64,
+    position: u64,
+}
+
+impl Standing {
+    fn of(record: &Record) -> Standing {
+        Standing {
+            role: record.role,
+            epoch: record.epoch,
+            position: record.position,
+        }
+    }
+
+    /// Of a new image.
+    fn new(role: Role) -> Standing {
+        Standing {
+            role,
+            epoch: FIRST_EPOCH,
+            position: 0,
+        }
+    }
+
+    /// Whether it is that of a standby which was not promoted.
+    fn stands_by(&self) -> bool {
+        self.role == Role::Standby && self.epoch == FIRST_EPOCH
+    }
+
+    /// Whether it is that of a primary of this epoch.
+    fn serves_in(&self, epoch: u64) -> bool {
+        self.role == Role::Primary && self.epoch == epoch
+    }
 }
 
 /// What one device shows.
 #[derive(Drop)]
 struct DeviceSight {
     shown: Shown,
-    /// The position of its image when it was last looked at.
-    position: u64,
-    /// The role of its image then.
-    role: Role,
+    /// Where its image stood when it was looked at last and no fence had failed.
+    standing: Standing,
+    /// Where a fence failed since: where it stands by what was stored last.
+    left: Option<Standing>,
 }
 
 impl DeviceSight {
     fn new(shown: Shown, role: Role) -> DeviceSight {
         DeviceSight {
             shown,
-            position: 0,
-            role,
+            standing: Standing::new(role),
+            left: None,
         }
     }
 
-    /// Reads the image, if a word was stored since it was last looked at: it holds one of these, the keyspaces of the list, at its position. Returns whether
-    /// it changed. Where a fence failed it is not looked at until the device crashes.
-    fn look(
-        &mut self,
-        alloc: Global,
-        keyspaces: &[PlainRecords],
-        duty: Option<Duty>,
-    ) -> Result<bool, Found> {
-        let Ok(mut shown) = self.shown.try_borrow_mut() else {
-            return Ok(false);
-        };
-        if shown.is_torn || !shown.is_changed {
-            return Ok(false);
+    /// Reads the image, if a word was stored since it was last looked at, or a fence failed. Once one has failed nothing is stored until the device crashes.
+    /// Returns what was seen.
+    fn look(&mut self, alloc: Global, keyspaces: &[PlainRecords]) -> Result<Glance, Found> {
+        let fails = self.is_torn() && self.left.is_none();
+        if !self.is_changed() && !fails {
+            return Ok(Glance::SAME);
         }
+        if self.is_torn() && !fails {
+            return Err(Found::Breach(Breach::Stopped));
+        }
+        let found = self.read(alloc, keyspaces)?;
+        self.stand(found, fails)?;
+        Ok(Glance {
+            is_changed: true,
+            fails,
+        })
+    }
+
+    /// Reads the image as it is now: it is whole, and holds one of these, the keyspaces of the list, at its position.
+    fn read(&self, alloc: Global, keyspaces: &[PlainRecords]) -> Result<Standing, Found> {
+        let Ok(mut shown) = self.shown.try_borrow_mut() else {
+            return Ok(self.newest());
+        };
         shown.is_changed = false;
         let Some(contents) = read_image(alloc, shown.words.as_slice())? else {
             return Err(Found::Breach(Breach::Damaged));
         };
-        check_image(&contents, keyspaces, duty)?;
-        self.position = contents.record.position;
-        self.role = contents.record.role;
-        Ok(true)
+        check_keyspace(&contents, keyspaces)?;
+        Ok(Standing::of(&contents.record))
+    }
+
+    /// The image stands so, or would, where a fence fails. What a crash leaves after that stands as it did before, or so.
+    fn stand(&mut self, found: Standing, fails: bool) -> Result<(), Breach> {
+        if fails {
+            self.left = Some(found);
+            return Ok(());
+        }
+        if let Some(left) = self.left
+            && found != left
+            && found != self.standing
+        {
+            return Err(Breach::Between);
+        }
+        self.standing = found;
+        self.left = None;
+        Ok(())
+    }
+
+    /// Where it stands by what was stored last.
+    fn newest(&self) -> Standing {
+        match self.left {
+            Some(left) => left,
+            None => self.standing,
+        }
+    }
+
+    /// Whether a fence was seen to fail and no crash since.
+    fn has_stopped(&self) -> bool {
+        self.left.is_some()
     }
 
     /// Whether a word was stored since it was last looked at.
@@ -74,17 +142,31 @@ impl DeviceSight {
     }
 }
 
-/// Checks what an image holds.
-fn check_image(
-    contents: &ImageContents,
-    keyspaces: &[PlainRecords],
-    duty: Option<Duty>,
-) -> Result<(), Breach> {
-    if let Some(duty) = duty
-        && (contents.record.role != duty.role || contents.record.epoch != duty.epoch)
-    {
-        return Err(Breach::Role);
+/// What was seen of a device, or of both.
+#[derive(Clone, Copy, Debug)]
+pub struct Glance {
+    /// An image changed.
+    pub is_changed: bool,
+    /// A fence failed since it was looked at last.
+    pub fails: bool,
+}
+
+impl Glance {
+    const SAME: Glance = Glance {
+        is_changed: false,
+        fails: false,
+    };
+
+    fn and(self, other: Glance) -> Glance {
+        Glance {
+            is_changed: self.is_changed || other.is_changed,
+            fails: self.fails || other.fails,
+        }
     }
+}
+
+/// Checks what an image holds.
+fn check_keyspace(contents: &ImageContents, keyspaces: &[PlainRecords]) -> Result<(), Breach> {
     let Some(keyspace) = keyspaces.get(contents.record.position as usize) else {
         return Err(Breach::Ahead);
     };
@@ -141,83 +223,98 @@ impl Sight {
         self.is_fenced = true;
     }
 
-    /// The standby was promoted, unless a fence failed. Returns whether it was.
-    pub fn promote(&mut self) -> bool {
-        self.is_promoted = !self.second.is_torn();
+    /// Whether the standby was promoted, or crashed where its image was a primary's already.
+    pub fn is_promoted(&self) -> bool {
         self.is_promoted
     }
 
-    /// The standby crashed: its image may be that of a promotion that did not come to its end. Returns whether it is.
-    pub fn crash_standby(
+    /// The node that has stopped, if one has, and may crash.
+    pub fn stopped(&self) -> Option<Node> {
+        if self.first.has_stopped() && !self.is_fenced {
+            return Some(Node::Primary);
+        }
+        if !self.second.has_stopped() {
+            return None;
+        }
+        if self.is_promoted {
+            Some(Node::Primary)
+        } else {
+            Some(Node::Standby)
+        }
+    }
+
+    /// Looks at both devices after an event, in which the standby may have become the primary or not. Nothing happens to the device of a fenced primary.
+    pub fn look(
         &mut self,
         alloc: Global,
         keyspaces: &[PlainRecords],
-    ) -> Result<bool, Found> {
-        if !self.is_fenced {
-            return Ok(false);
-        }
-        let _ = self.second.look(alloc, keyspaces, None)?;
-        self.is_promoted = self.second.role == Role::Primary;
-        Ok(self.is_promoted)
-    }
-
-    /// Looks at both devices. Returns whether one changed.
-    pub fn look(&mut self, alloc: Global, keyspaces: &[PlainRecords]) -> Result<bool, Found> {
+        may_succeed: bool,
+    ) -> Result<Glance, Found> {
         if self.is_fenced && self.first.is_changed() {
             return Err(Found::Breach(Breach::Succeeded));
         }
-        let first = Duty {
-            role: Role::Primary,
-            epoch: 1,
-        };
-        let first_changed = self.first.look(alloc, keyspaces, Some(first))?;
-        let second = self.duty_of_second();
-        let second_changed = self.second.look(alloc, keyspaces, Some(second))?;
-        Ok(first_changed || second_changed)
+        self.look_at_images(alloc, keyspaces, may_succeed)
     }
 
-    fn duty_of_second(&self) -> Duty {
-        if self.is_promoted {
-            Duty {
-                role: Role::Primary,
-                epoch: 2,
-            }
-        } else {
-            Duty {
-                role: Role::Standby,
-                epoch: 1,
-            }
-        }
-    }
-
-    /// Looks at both devices after a fence failed and they crashed: a promotion may have come to the new record, or not.
-    pub fn look_after_end(
+    /// Looks at the images of the nodes that may still serve.
+    pub fn look_at_images(
         &mut self,
         alloc: Global,
         keyspaces: &[PlainRecords],
-    ) -> Result<(), Found> {
+        may_succeed: bool,
+    ) -> Result<Glance, Found> {
+        let mut first = Glance::SAME;
         if !self.is_fenced {
-            let _ = self.first.look(alloc, keyspaces, None)?;
+            first = self.first.look(alloc, keyspaces)?;
+            self.look_at_first()?;
         }
-        let _ = self.second.look(alloc, keyspaces, None)?;
+        let second = self.second.look(alloc, keyspaces)?;
+        if second.is_changed {
+            self.look_at_second(may_succeed && self.is_fenced)?;
+        }
+        Ok(first.and(second))
+    }
+
+    /// The first image is the primary's.
+    fn look_at_first(&self) -> Result<(), Breach> {
+        if self.first.newest().serves_in(FIRST_EPOCH) {
+            Ok(())
+        } else {
+            Err(Breach::Role)
+        }
+    }
+
+    /// The second image, which changed, is a standby's, or that of the primary which it became, unless its node has stopped on the way.
+    fn look_at_second(&mut self, may_succeed: bool) -> Result<(), Breach> {
+        let newest = self.second.newest();
+        if newest.stands_by() && !self.is_promoted {
+            return Ok(());
+        }
+        if !newest.serves_in(FIRST_EPOCH + 1) || !(may_succeed || self.is_promoted) {
+            return Err(Breach::Role);
+        }
+        if !self.second.has_stopped() {
+            self.is_promoted = true;
+        }
         Ok(())
     }
 
     /// The position of the image of the node that serves, or did last.
     pub fn serving(&self) -> u64 {
         if self.is_promoted {
-            self.second.position
+            self.second.standing.position
         } else {
-            self.first.position
+            self.first.standing.position
         }
     }
 
     /// The position that the images of all nodes have reached which may still serve.
     pub fn least(&self) -> u64 {
+        let second = self.second.standing.position;
         if self.is_promoted {
-            self.second.position
+            second
         } else {
-            self.first.position.min(self.second.position)
+            self.first.standing.position.min(second)
         }
     }
 }

@@ -8,7 +8,7 @@ pub struct Tally {
     pub histories: u64,
     pub crashes: u64,
     pub promotions: u64,
-    /// Runs that a fence ended which failed.
+    /// Fences that failed.
     pub faults: u64,
     /// Replies that were compared with those of a plain Redis.
     pub replies: u64,

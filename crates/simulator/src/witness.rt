@@ -6,7 +6,7 @@ use crate::plain_records::PlainRecords;
 use crate::plain_redis::PlainRedis;
 use crate::plain_replies::{put_array, put_bulk};
 use crate::shown::Shown;
-use crate::sight::Sight;
+use crate::sight::{Glance, Sight};
 use crate::tally::Tally;
 use bytes::Bytes;
 use kv_types::{Item, Reply};
@@ -28,12 +28,19 @@ pub struct Witness {
     /// The position of the last call of which a byte was released to anyone.
     covered: u64,
     sight: Sight,
+    /// Whether a fence of a device may fail that no event asked to.
+    may_fail: bool,
     pub tally: Tally,
 }
 
 impl Witness {
-    /// Of a new pair, over devices that show this.
-    pub fn new(alloc: Global, first: Shown, second: Shown) -> Result<Witness, Found> {
+    /// Of a new pair, over devices that show this, of which a fence may fail that no event asks to.
+    pub fn new(
+        alloc: Global,
+        first: Shown,
+        second: Shown,
+        may_fail: bool,
+    ) -> Result<Witness, Found> {
         let keyspaces = vec![in alloc; PlainRecords::new(alloc)]?;
         let redis = PlainRedis::new(alloc, PlainRecords::new(alloc), 0)?;
         Ok(Witness {
@@ -44,14 +51,20 @@ impl Witness {
             clients: Vec::new(alloc),
             covered: 0,
             sight: Sight::new(first, second),
+            may_fail,
             tally: Tally::new(),
         })
     }
 
     /// Looks at the images of a pair to which nothing happened.
     pub fn begin(&mut self) -> Result<(), Found> {
-        let _ = self.sight.look(self.alloc, self.keyspaces.as_slice())?;
+        let _ = self.look(false)?;
         Ok(())
+    }
+
+    /// The node that has stopped, if one has, and may crash.
+    pub fn stopped(&self) -> Option<Node> {
+        self.sight.stopped()
     }
 
     /// How many bytes of the replies to this connection were not released.
@@ -64,39 +77,49 @@ impl Witness {
 
     /// Looks at the pair after an event, which did its step or was not enabled.
     pub fn see(&mut self, event: &Event, did: bool, history: &History) -> Result<(), Found> {
-        let succeeds = did && self.succeeds(event)?;
-        let is_changed = self.sight.look(self.alloc, self.keyspaces.as_slice())?;
-        if is_changed && !did {
+        let was_promoted = self.sight.is_promoted();
+        let glance = self.look(did && may_succeed(event))?;
+        if glance.is_changed && !did {
             return Err(Found::Breach(Breach::Changed));
+        }
+        let is_promoted = self.sight.is_promoted();
+        if did && matches!(event, Event::Promote) && !glance.fails && !is_promoted {
+            return Err(Found::Breach(Breach::Role));
         }
         if did {
             self.follow(event, history)?;
         }
-        if succeeds {
+        if is_promoted && !was_promoted {
             self.tally.promotions = self.tally.promotions.saturating_add(1);
             self.cut()?;
         }
         self.look_at_all(history)
     }
 
-    /// Looks at both images after a fence failed and the devices crashed.
+    /// Looks at both images where a fence failed in this event, which ended the run.
+    pub fn see_fault(&mut self, event: &Event) -> Result<(), Found> {
+        let glance = self.look(may_succeed(event))?;
+        if !glance.fails || !self.may_fail {
+            return Err(Found::Breach(Breach::Ended));
+        }
+        Ok(())
+    }
+
+    /// Looks at both images after that, once the devices crashed.
     pub fn see_left(&mut self) -> Result<(), Found> {
-        self.tally.faults = self.tally.faults.saturating_add(1);
-        self.sight
-            .look_after_end(self.alloc, self.keyspaces.as_slice())?;
+        let keyspaces = self.keyspaces.as_slice();
+        let _ = self.sight.look_at_images(self.alloc, keyspaces, true)?;
         self.check_covered()
     }
 
-    /// Whether the standby is the primary from this event on, which did its step: it was promoted, or crashed in the middle of that.
-    fn succeeds(&mut self, event: &Event) -> Result<bool, Found> {
-        match event {
-            Event::Promote => Ok(self.sight.promote()),
-            Event::Crash(Node::Standby, _, _, _) => {
-                self.sight
-                    .crash_standby(self.alloc, self.keyspaces.as_slice())
-            }
-            _ => Ok(false),
+    /// Looks at both images. The standby may have become the primary, or not.
+    fn look(&mut self, may_succeed: bool) -> Result<Glance, Found> {
+        let keyspaces = self.keyspaces.as_slice();
+        let glance = self.sight.look(self.alloc, keyspaces, may_succeed)?;
+        if glance.fails {
+            self.tally.faults = self.tally.faults.saturating_add(1);
         }
+        Ok(glance)
     }
 
     /// Follows an event that did its step.
@@ -222,6 +245,11 @@ impl Witness {
         }
         Ok(())
     }
+}
+
+/// Whether the standby may be the primary from this event on: it is promoted, or crashes in the middle of that, or after a fence failed there.
+fn may_succeed(event: &Event) -> bool {
+    matches!(event, Event::Promote | Event::Crash(Node::Standby, _, _, _))
 }
 
 /// How the request of these words is spelled.

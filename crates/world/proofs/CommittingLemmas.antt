@@ -38,55 +38,16 @@ use Rattle.machine.specs.Sound.{HasRoomFor, Sound}
 use Rattle.world.specs.Cause.{IsAtLimit, EndsBy}
 use Rattle.world.specs.Committing.{AreContentsAt, AreOfEpoch, Committing, CommittingRefines, EngineStands, Leads, StageRefines, OpensAtEither, NearOnly, next_primary}
 use Rattle.connections.specs.Going.{Goes}
-use Rattle.world.specs.GroupSpan.{AreGroupsOf, AreWorkOf, IsGroupOf, positions_of_lists}
+use Rattle.node_steps.specs.GroupSpan.{AreGroupsOf, AreWorkOf, IsGroupOf, positions_of_lists}
 use Rattle.primary.specs.Recalling.{Remembers}
 use Rattle.primary.proofs.RecallParts.{remembers-committed}
 use Rattle.world.specs.Recalling.{past_of}
 use Rattle.world.proofs.EngineLemmas.{AreContentsAt-after_group, Opens-engine, keeps-opens, rests-same}
-use Rattle.world.proofs.GroupSpanLemmas.{IsGroupOf-grows, length-groups}
+use Rattle.node_steps.proofs.CommittingLemmas.{FirstGroup, first-group}
+use Rattle.node_steps.proofs.GroupSpanLemmas.{AreGroupsOf-push, IsGroupOf-grows, length-groups}
 use Rattle.primary.proofs.LeadsLemmas.{leads-after}
-use Rattle.world.proofs.QueueLemmas.{AreWorkOf-grows}
-
--- ---- while the list grows
-
-StageRefines-grows : (calls more : List Call) (code : Stage) (machine : MachineStage) → StageRefines calls code machine → StageRefines (calls ++ more) code machine
-StageRefines-grows calls more Ready machine_stage.Ready stands = tt
-StageRefines-grows calls more (Durable group) (machine_stage.Durable span) stands = IsGroupOf-grows calls more group span stands
-StageRefines-grows calls more (Shown group) (machine_stage.Shown span) stands = IsGroupOf-grows calls more group span stands
-StageRefines-grows calls more code machine stands = absurd stands
-
-pub CommittingRefines-grows : (calls more : List Call) (code : Committing) (machine : Machine) → CommittingRefines calls code machine → CommittingRefines (calls ++ more) code machine
-CommittingRefines-grows calls more code machine stands =
-    search (rules, AreWorkOf-grows calls more code.waiting.items machine.waiting stands.work, StageRefines-grows calls more code.stage machine.stage stands.stage_is, stands)
 
 -- ---- a group that waits behind free lists
-
--- the first group of what waits, with the lists before it and what is behind it, and its span
-record FirstGroup (calls : List Call) (lists : List FreeList) (group : Group) (rest : List Work) (works : List MachineWork) : Type 0 where
-  pub first : Span
-  pub others : List MachineWork
-  pub from : from_group works ≡ Commits first ∷ others
-  pub before : positions_of_lists lists ≡ lists_before works
-  pub is : IsGroupOf calls group first
-  pub are : AreWorkOf calls rest others
-
-first-group : (calls : List Call) (lists : List FreeList) (group : Group) (rest : List Work) (works : List MachineWork) → AreWorkOf calls (map work.Free lists ++ work.Commit group ∷ rest) works
-    → FirstGroup calls lists group rest works
-first-group calls [] group rest [] are = absurd are
-first-group calls [] group rest (Commits span ∷ works) are = record { first = span; others = works; from = refl; before = refl; is = are.0; are = are.1 }
-first-group calls [] group rest (Frees position ∷ works) are = absurd are.0
-first-group calls (list ∷ lists) group rest [] are = absurd are
-first-group calls (list ∷ lists) group rest (Commits span ∷ works) are = absurd are.0
-first-group calls (list ∷ lists) group rest (Frees position ∷ works) are =
-    let next = first-group calls lists group rest works are.1 in
-    record {
-      first = next.first;
-      others = next.others;
-      from = next.from;
-      before = ap₂ (λ (p : ℕ) (ps : List ℕ). p ∷ ps) are.0 next.before;
-      is = next.is;
-      are = next.are;
-    }
 
 -- These free lists, and this group behind them, were taken from what waited. The lists are aside, and the group is in hand if it was committed.
 pub record TakesLawful (contents : Contents) (old : Committing) (lists : List FreeList) (group : Group) (new : Committing) : Type 0 where
@@ -329,13 +290,7 @@ hand-none calls (Durable group) (machine_stage.Shown span) none stands = absurd 
 hand-none calls (Shown group) machine none stands = absurd (none group refl)
 hand-none calls stage machine none stands = refl
 
--- ---- a group handed on
-
-pub AreGroupsOf-push : (calls : List Call) (groups : List Group) (spans : List Span) (group : Group) (span : Span) → AreGroupsOf calls groups spans → IsGroupOf calls group span → AreGroupsOf calls (groups ++ group ∷ []) (spans ++ span ∷ [])
-AreGroupsOf-push calls [] [] group span are is = (is, tt)
-AreGroupsOf-push calls (g ∷ groups) (s ∷ spans) group span are is = (are.0, AreGroupsOf-push calls groups spans group span are.1 is)
-AreGroupsOf-push calls groups spans group span are is = absurd are
-
+-- --
 -- the machine has shown the span of the group in hand
 record ShowsSpan (calls : List Call) (group : Group) (machine : MachineStage) : Type 0 where
   pub span : Span

@@ -26,7 +26,8 @@ use Rattle.wbl_engine.proofs.LawfulLemmas.{lawful_undamaged}
 use Rattle.wbl_engine.proofs.ReopeningLaws.{keeps_through, lawful_refusal, reopening_lawful}
 use Rattle.wbl_engine.proofs.RoomLemmas.{room_cases}
 use Rattle.world.specs.Committing.{AreContentsAt, EngineStands, IsDown, Moves, Opens, OpensAt, OpensAtEither}
-use Rattle.world.proofs.EngineLemmas.{AreContentsAt-grows, Opens-engine, keeps-opens}
+use Rattle.node_steps.proofs.EngineLemmas.{AreContentsAt-grows}
+use Rattle.world.proofs.EngineLemmas.{Opens-engine, keeps-opens}
 
 -- ---- words with one candidate
 

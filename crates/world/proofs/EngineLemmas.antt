@@ -17,7 +17,7 @@ use Rattle.wbl_engine.specs.Contents.{Keeps}
 use Rattle.wbl_engine.specs.Lawful.{AreLawful, IsUndamaged}
 use Rattle.wbl_engine.proofs.LawfulLemmas.{lawful_undamaged}
 use Rattle.machine.specs.Event.{Span}
-use Rattle.world.specs.GroupSpan.{IsGroupOf}
+use Rattle.node_steps.specs.GroupSpan.{IsGroupOf}
 use Rattle.world.specs.Committing.{AreContentsAt, EngineStands, Moves, Rests, Opens, OpensAt, OpensAtEither, NearOnly}
 
 -- ---- what a crash leaves
@@ -60,17 +60,6 @@ moves-same holder calls p q old new same stands = subst (λ (d : State). Moves h
 pub moves-rest : (holder : Holder) (calls : List Call) (p q : ℕ) (old new : State) → new ≡ old → Opens holder calls p old → Moves holder calls p q old new
 moves-rest holder calls p q old new same stands = subst (λ (d : State). Moves holder calls p q old d) (sym same)
     (record { leaves = none_leaves old (OpensAtEither holder calls p q) (λ image is. inl (stands image is)); failures = refl })
-
--- ---- while the list grows
-
-pub AreContentsAt-grows : (holder : Holder) (calls more : List Call) (p : ℕ) (contents : Contents) → p ≤ position_of calls → AreContentsAt holder calls p contents → AreContentsAt holder (calls ++ more) p contents
-AreContentsAt-grows holder calls more p contents le are =
-    search (rules, subst (IsMapOf contents.versions (entries_of_lines contents.lines)) (sym (keyspace_after-cut_at-append calls more p le)) are.map, are)
-
-pub EngineStands-grows : (holder : Holder) (calls more : List Call) (p : ℕ) (device : State) (contents : Contents) (is_faulted : Bool) → p ≤ position_of calls
-    → EngineStands holder calls p device contents is_faulted → EngineStands holder (calls ++ more) p device contents is_faulted
-EngineStands-grows holder calls more p device contents is_faulted le stands =
-    search (rules, AreContentsAt-grows holder calls more p contents le stands.contents_at, stands)
 
 -- ---- one group further
 

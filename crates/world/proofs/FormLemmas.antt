@@ -36,13 +36,13 @@ use Rattle.world.specs.Cause.{IsWrongSize, UnformedBy}
 use Rattle.group_commit.specs.declared.stage.Stage.{Stage}
 use Rattle.group_commit.specs.declared.stage.Stage.TheVariants.{Ready}
 use Rattle.world.specs.Committing.{Committing, CommittingRefines, FormattingOnly, EngineStands, Leads, StageRefines}
-use Rattle.world.specs.GroupSpan.{AreGroupsOf, AreWorkOf, positions_of_lists}
+use Rattle.node_steps.specs.GroupSpan.{AreGroupsOf, AreWorkOf, positions_of_lists}
 use Rattle.world.specs.Link.{AreFramesSent, IsOwn, LinkRefines}
 use Rattle.connections.specs.Session.{ConnectionsRefine, SessionsRefine, SequencerRefines, SeatsFollow, seats_of}
 use Rattle.connections.specs.declared.connection.Connection.{Connection}
 use Rattle.world.specs.Standby.{Node, StandbyStands, ArrivalsRefine}
 use Rattle.world.specs.Headline.{start}
-use Rattle.world.specs.Condition.{has_crashed, life_as, runs}
+use Rattle.world.specs.Condition.{has_crashed, life_as, runs, has_stopped}
 use Rattle.world.specs.declared.condition.Condition.TheVariants as condition
 use Rattle.world.specs.declared.condition.Condition.{Condition}
 use Rattle.std.proofs.lemmas.List.Elements.{All-nil}
@@ -51,6 +51,7 @@ use Rattle.primary.specs.Recalling.{Remembers}
 use Rattle.primary.proofs.RecallLemmas.{remembers-new}
 use Rattle.world.specs.Recalling.{past_of}
 use Rattle.world.proofs.OpeningLemmas.{opening-none}
+use Rattle.world.specs.declared.condition.AskedFences.{AskedFences}
 
 -- ---- the sequencer
 
@@ -142,16 +143,19 @@ pub pair-starts : (first second : Holder) (pair : Pair) → SessionsRefine pair.
     → pair.committing.waiting.items ≡ [] → pair.committing.aside ≡ [] → pair.committing.stage ≡ Ready → pair.committing.local ≡ 0 → pair.notices ≡ [] → EngineStands first [] 0 pair.device pair.contents pair.is_faulted
     → pair.contents.current.gaps.items ≡ [] → IsAheadOf pair.sequencer pair.contents → Expects pair.sequencer pair.contents [] [] → pair.link ≡ new_stream FIRST_EPOCH → pair.handed.items ≡ [] → pair.remote ≡ 0 → pair.opening.position ≡ 0 → pair.frames ≡ []
     → ((epoch : ℕ) → ArrivalsRefine epoch [] pair.arrivals [] []) → StandbyStands second pair.link.epoch [] 0 pair.standby
-    → first.role ≡ Role.Primary → second.role ≡ Role.Standby → first.epoch ≡ FIRST_EPOCH → second.epoch ≡ FIRST_EPOCH → pair.primary_condition ≡ condition.Running → pair.standby_condition ≡ condition.Running → NodesRefine first second pair start
-pair-starts first second pair sessions sequencer none_ended none none_aside ready mark none_told engine no_gap ahead expects link no_group remote never_opened no_frame arrivals standby first_role second_role first_epoch second_epoch serves follows =
+    → first.role ≡ Role.Primary → second.role ≡ Role.Standby → first.epoch ≡ FIRST_EPOCH → second.epoch ≡ FIRST_EPOCH → pair.primary_condition ≡ condition.Running → pair.standby_condition ≡ condition.Running
+    → pair.asked ≡ record { primary = false; standby = false } → NodesRefine first second pair start
+pair-starts first second pair sessions sequencer none_ended none none_aside ready mark none_told engine no_gap ahead expects link no_group remote never_opened no_frame arrivals standby first_role second_role first_epoch second_epoch serves follows none_asked =
     record {
       sound = sound-start allowed;
       lives = record {
         allowed_are = refl;
         primary_disk = ap (λ (c : Condition). primary_number c) (sym follows);
         standby_disk = refl;
-        primary = sym (ap life_as serves);
-        standby = sym (ap life_as follows);
+        primary_failing = ap (λ (fences : AskedFences). fences.primary) (sym none_asked);
+        standby_failing = ap (λ (fences : AskedFences). fences.standby) (sym none_asked);
+        primary = sym (ap (λ c. life_as c []) serves);
+        standby = sym (ap (λ c. life_as c []) follows);
         first_role = first_role;
         second_role = second_role;
         first_epoch = first_epoch;
@@ -191,7 +195,7 @@ pair-starts first second pair sessions sequencer none_ended none none_aside read
           frames = subst (λ (texts : List (Vec ℕ Global)). AreFramesSent pair.link.epoch [] texts []) (sym no_frame) tt;
           own = λ whole. All-nil (IsOwn pair.link.epoch);
           arrivals = arrivals pair.link.epoch;
-          standby = record { stands = λ runs. standby; down = λ down. absurd (true≢false (sym down ∙ ap has_crashed follows)) };
+          standby = record { stands = λ runs. standby; left = λ stopped. absurd (true≢false (sym stopped ∙ ap has_stopped follows)); down = λ down. absurd (true≢false (sym down ∙ ap has_crashed follows)) };
         },
       );
     }

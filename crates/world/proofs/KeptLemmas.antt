@@ -14,10 +14,12 @@ use Rattle.wbl_engine.specs.Lawful.{AreLawful}
 use Rattle.wbl_engine.specs.Reopening.{StaysReadable}
 use Rattle.wbl_engine.proofs.LawfulLemmas.{lawful_from, lawful_undamaged}
 use Rattle.wbl_engine.specs.Lawful.{IsUndamaged}
-use Rattle.world.specs.Committing.{AreContentsAt, EngineStands, IsDown, OpensAt}
+use Rattle.machine.specs.Event.{AsPrimary, At, Remains}
+use Rattle.world.specs.Committing.{AreContentsAt, EngineStands, IsDown, NearOnly, OpensAtEither, promoted_holder}
 use Rattle.world.specs.Cutting.{LeavesCut}
-use Rattle.world.proofs.EngineLemmas.{keeps-opens}
+use Rattle.world.specs.Remaining.{KeepsAt, KeepsOne}
 use Rattle.world.proofs.OpenedLemmas.{StaysSo}
+use Rattle.world.proofs.RemainLemmas.{keeps-near}
 
 -- ---- the device
 
@@ -76,15 +78,28 @@ module _ {k : ℕ} {picks : List ℕ} {old kept mid new : State} (is : CrashedIn
 
 -- ---- its node
 
--- the image holds contents of the list at this position, which obey the rules
-pub record KeepsAt (holder : Holder) (calls : List Call) (position : ℕ) (image : Image) : Type 0 where
-  pub contents : Contents
-  pub contents_at : AreContentsAt holder calls position contents
-  pub lawful : AreLawful contents
-  pub keeps : Keeps contents image
+-- what its standby held
+pub keeps-here : (holder : Holder) (calls : List Call) (p : ℕ) (others : List Remains) (image : Image) → KeepsAt holder calls p image → KeepsOne holder calls p others image
+keeps-here holder calls p others image held = record { one = At p; is_one = (0, omega arith, refl); keeps = held }
 
-pub kept-opens : (holder : Holder) (calls : List Call) (p : ℕ) (image : Image) → KeepsAt holder calls p image → OpensAt holder calls p image
-kept-opens holder calls p image held = keeps-opens holder calls p held.contents image held.contents_at held.lawful held.keeps
+-- or what it would have held after the call
+pub keeps-next : (holder : Holder) (calls : List Call) (p next : ℕ) (image : Image) → KeepsAt holder calls p image ⊎ KeepsAt holder calls next image → KeepsOne holder calls p (At next ∷ []) image
+keeps-next holder calls p next image (inl here) = keeps-here holder calls p (At next ∷ []) image here
+keeps-next holder calls p next image (inr there) = record { one = At next; is_one = (1, omega arith, refl); keeps = there }
+
+pub kept-either : (holder : Holder) (calls : List Call) (p next : ℕ) (image : Image) → KeepsOne holder calls p (At next ∷ []) image → OpensAtEither holder calls p next image
+kept-either holder calls p next image held = elim (keeps-near holder calls p (At next ∷ []) image held) [ inl here ↦ inl here | inr (inl there) ↦ inr there | inr (inr none) ↦ absurd none ]
+
+pub near-kept : (holder : Holder) (calls : List Call) (p next : ℕ) (old new : State) → LeavesOnly old new (KeepsOne holder calls p (At next ∷ [])) → NearOnly holder calls p next old new
+near-kept holder calls p next old new only = LeavesOnly-weaken (OpensAtEither holder calls p next) (kept-either holder calls p next) only
+
+-- it holds contents of the list at this position as the standby's, or as those of the primary that it becomes
+abbrev pub KeepsAsEither : Holder → List Call → ℕ → Image → Type 0
+KeepsAsEither holder calls position image = KeepsAt holder calls position image ⊎ KeepsAt (promoted_holder holder) calls position image
+
+pub keeps-either : (holder : Holder) (calls : List Call) (p : ℕ) (image : Image) → KeepsAsEither holder calls p image → KeepsOne holder calls p (AsPrimary ∷ []) image
+keeps-either holder calls p image (inl here) = keeps-here holder calls p (AsPrimary ∷ []) image here
+keeps-either holder calls p image (inr ahead) = record { one = AsPrimary; is_one = (1, omega arith, refl); keeps = ahead }
 
 -- once it is all that is left of its node
 pub kept-down : (holder : Holder) (calls : List Call) (p : ℕ) (device : State) → KeepsAt holder calls p (image_of device.words) → IsSettled device.words → holder.lines ≡ device.lines → IsDown holder calls p device
@@ -122,7 +137,7 @@ IsDown-kept {t} {old} {kept} holder calls p keeps down = record {
 }
 
 -- an image that its opening may leave holds the contents under a record of the same place
-readable-keeps : (holder : Holder) (calls : List Call) (p : ℕ) (contents : Contents) (image image' : Image) → AreContentsAt holder calls p contents → AreLawful contents → Keeps contents image
+pub readable-keeps : (holder : Holder) (calls : List Call) (p : ℕ) (contents : Contents) (image image' : Image) → AreContentsAt holder calls p contents → AreLawful contents → Keeps contents image
     → StaysReadable contents.lines contents.current image image' → KeepsAt holder calls p image'
 readable-keeps holder calls p contents image image' are lawful keeps stays =
     let after : Contents = record { current = stays.current; lines = contents.lines; versions = contents.versions; is_free = contents.is_free } in

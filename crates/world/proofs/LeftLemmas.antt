@@ -1,5 +1,5 @@
--- The images that a call of the primary may leave where a crash cuts it.
-use Rattle.std.proofs.Common.{◌≡◌, ℕ, ◌≤◌, ◌∷◌, ◌++◌, inl, inr, refl, sym, subst, arith, le_refl, []}
+-- The images that a call of the primary may leave where a crash cuts it, or a fence fails in it.
+use Rattle.std.proofs.Common.{◌≡◌, ◌≤◌, Bool, true, false, ◌&&◌, List, [], ◌∷◌, ◌++◌, refl, sym, ap, subst, ◌∙◌, arith, le_refl, append-nil, true≢false}
 use Rattle.std.specs.Prelude.{Contains}
 use Rattle.pmem.specs.Device.{State}
 use Rattle.pmem.specs.Runs.{LeavesOnly}
@@ -13,30 +13,16 @@ use Rattle.wbl_engine.specs.Lawful.{AreLawful}
 use Rattle.machine.specs.declared.event.Cut.{Cut}
 use Rattle.machine.specs.declared.event.Cut.TheVariants as cut
 use Rattle.machine.specs.declared.event.Node.TheVariants as node
-use Rattle.machine.specs.Event.{At, Life, World, left_by, may_remain, torn}
+use Rattle.machine.specs.Event.{At, Life, Remains, World, halted, is_between, is_crashed, is_running, left_by, may_clear, may_commit, may_cut, may_free, torn, with_life}
 use Rattle.machine.specs.Event as machine
 use Rattle.machine.specs.Sound.{Sound}
 use Rattle.primary.specs.Recalling.{RecallsEach}
 use Rattle.primary.proofs.RecallLemmas.{recalls-each}
 use Rattle.world.specs.Committing.{AreContentsAt, next_primary}
-use Rattle.world.specs.Cutting.{OpensNear}
 use Rattle.world.specs.Pair.{Pair, PartsRefine}
 use Rattle.world.specs.Recalling.{past_of}
-use Rattle.world.proofs.EngineLemmas.{keeps-opens}
+use Rattle.world.specs.Remaining.{LeftBy}
 use Rattle.world.proofs.PairLemmas.{primary-within}
-
--- It holds lawful contents at a position at which the call may leave it, and they recall what the standby may need to be told.
-pub record LeftBy (holder : Holder) (w : World) (call : Cut) (image : Image) : Type 0 where
-  pub position : ℕ
-  pub one : Contains (may_remain w node.Primary call) (At position)
-  pub rises : w.primary.committer.position ≤ position
-  pub within : position ≤ position_of w.primary.calls
-  pub contents : Contents
-  pub contents_at : AreContentsAt holder w.primary.calls position contents
-  pub lawful : AreLawful contents
-  pub keeps : Keeps contents image
-  pub recalls : RecallsEach w.standby.position position (past_of w.primary.calls) contents
-  pub opens : OpensNear holder w.primary.calls w.primary.committer.position (left_by w node.Primary call) image
 
 -- contents where the primary stood before the call
 pub left-there : (holder : Holder) (w : World) (call : Cut) (contents : Contents) (image : Image) → Sound w → AreContentsAt holder w.primary.calls w.primary.committer.position contents → AreLawful contents
@@ -51,7 +37,6 @@ left-there holder w call contents image sound are lawful recalls keeps = record 
   lawful = lawful;
   keeps = keeps;
   recalls = recalls;
-  opens = inl (keeps-opens holder w.primary.calls w.primary.committer.position contents image are lawful keeps);
 }
 
 -- contents after the group that it commits next
@@ -68,7 +53,6 @@ left-next holder w contents image up rises within are lawful recalls keeps = rec
   lawful = lawful;
   keeps = keeps;
   recalls = recalls;
-  opens = inr (inl (keeps-opens holder w.primary.calls (next_primary w) contents image are lawful keeps));
 }
 
 -- what the primary holds while it runs
@@ -82,3 +66,60 @@ pub left-still : (first second : Holder) (pair : Pair) (w : World) (call : Cut) 
 left-still first second pair w call new sound parts same =
     subst (λ (d : State). LeavesOnly pair.device d (LeftBy first w call)) (sym same)
     (none_leaves pair.device (LeftBy first w call) (λ image is. left-running first second pair w call image sound parts (parts.engine.durable image is)))
+
+-- ---- the primary stops, and is crashed later
+
+-- one that may make the call has nothing of another that failed
+pub cut-whole : (w : World) (call : Cut) → is_between call ≡ false → may_cut w node.Primary call ≡ true → torn w.primary.life ≡ []
+cut-whole w call inside may = by call inside may
+  where
+    runs : (life : Life) (b : Bool) → (is_running life && b) ≡ true → torn life ≡ []
+    runs machine.Running b on = refl
+    runs (machine.Stopped remains) b on = absurd (true≢false (sym on))
+    runs machine.Crashed b on = refl
+    runs (machine.Retired remains) b on = absurd (true≢false (sym on))
+
+    falls : (life : Life) → is_crashed life ≡ true → torn life ≡ []
+    falls machine.Running on = refl
+    falls (machine.Stopped remains) on = absurd (true≢false (sym on))
+    falls machine.Crashed on = refl
+    falls (machine.Retired remains) on = absurd (true≢false (sym on))
+
+    by : (call : Cut) → is_between call ≡ false → may_cut w node.Primary call ≡ true → torn w.primary.life ≡ []
+    by cut.Commit inside may = runs w.primary.life (may_commit w) may
+    by cut.Free inside may = runs w.primary.life (may_free w) may
+    by cut.ClearGap inside may = runs w.primary.life (may_clear w) may
+    by cut.Reopen inside may = falls w.primary.life may
+    by cut.Between inside may = absurd (true≢false inside)
+    by cut.Apply inside may = absurd (true≢false (sym may))
+    by cut.Promote inside may = absurd (true≢false (sym may))
+
+-- It stopped in the call. What the call may leave of it, a crash between two events may leave then.
+pub left-halted : (holder : Holder) (w : World) (call : Cut) (image : Image) → torn w.primary.life ≡ [] → LeftBy holder w call image
+    → LeftBy holder (halted node.Primary (left_by w node.Primary call) w) cut.Between image
+left-halted holder w call image whole left = record {
+  position = left.position;
+  one = subst (λ (others : List Remains). Contains (At w.primary.committer.position ∷ others) (At left.position))
+      (ap (λ (before : List Remains). before ++ left_by w node.Primary call) whole ∙ sym (append-nil (left_by w node.Primary call))) left.one;
+  rises = left.rises;
+  within = left.within;
+  contents = left.contents;
+  contents_at = left.contents_at;
+  lawful = left.lawful;
+  keeps = left.keeps;
+  recalls = left.recalls;
+}
+
+-- it is fenced
+pub left-fenced : (holder : Holder) (w : World) (image : Image) → LeftBy holder w cut.Between image → LeftBy holder (with_life node.Primary (machine.Retired (torn w.primary.life)) w) cut.Between image
+left-fenced holder w image left = record {
+  position = left.position;
+  one = left.one;
+  rises = left.rises;
+  within = left.within;
+  contents = left.contents;
+  contents_at = left.contents_at;
+  lawful = left.lawful;
+  keeps = left.keeps;
+  recalls = left.recalls;
+}

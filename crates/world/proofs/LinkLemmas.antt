@@ -19,9 +19,9 @@ use Rattle.machine.specs.Event.{Link as Machine, Span, option_items, sent_group,
 use Rattle.pipes.specs.Waiting.{Waiting, LocalTakes}
 use Rattle.frames.specs.declared.frame.Frame.{Frame}
 use Rattle.standby_stream.specs.Stream.{Stream, TakesNext, IsFull, IsDue, Frames, IsFrameOf as IsFramed}
-use Rattle.world.specs.GroupSpan.{IsGroupOf, AreGroupsOf}
+use Rattle.node_steps.specs.GroupSpan.{IsGroupOf, AreGroupsOf}
 use Rattle.world.specs.Link.{IsFrameOf, AreFramesOf, LinkRefines}
-use Rattle.world.proofs.GroupSpanLemmas.{AreGroupsOf-grows}
+use Rattle.node_steps.proofs.GroupSpanLemmas.{AreGroupsOf-grows}
 use Rattle.world.proofs.FrameLemmas.{AreFramesOf-grows, AreFramesOf-push, length-frames}
 
 pub LinkRefines-grows : (calls more : List Call) (code : Stream) (handed : Waiting Group) (remote : ℕ) (machine : Machine) → LinkRefines calls code handed remote machine

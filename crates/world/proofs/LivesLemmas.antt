@@ -1,15 +1,15 @@
 -- Which nodes run, before an event and after it.
-use Rattle.std.proofs.Common.{◌≡◌, Bool, true, false, ◌&&◌, Option, slice_get, refl, sym, ap, subst, ◌∙◌, inl, inr, List, [], true≢false}
+use Rattle.std.proofs.Common.{◌≡◌, Bool, true, false, ◌&&◌, ◌||◌, Option, slice_get, refl, sym, ap, subst, ◌∙◌, inl, inr, List, [], true≢false}
 use Rattle.model.specs.Standing.{Holder}
 use Rattle.machine.specs.declared.event.Event.{Event}
 use Rattle.machine.specs.declared.event.Event.TheVariants.{Turn, CloseGroup, Commit, Free, ClearGap, OpenLink, Deliver, Apply, AckDelivered, FailFence, Crash, Reopen, Fence, Promote}
 use Rattle.machine.specs.World as machine
-use Rattle.machine.specs.Event.{Acknowledgement, Frame, Standby, World, Happens, Takes, is_enabled, is_retired, is_running, is_stopped, may_happen, nodes_run, told, torn, with_link}
-use Rattle.machine.proofs.SureLemmas.{IsSure}
-use Rattle.world.specs.Pair.{AreLives, NodesRefine, Pair, PairRefines}
-use Rattle.world.specs.Condition.{has_crashed, has_ended, life_as, runs}
+use Rattle.machine.specs.Event.{Acknowledgement, Disk, Frame, Life, Remains, Standby, World, Happens, Takes, is_crashed, is_enabled, is_retired, is_running, is_stopped, may_happen, nodes_run, told, torn, with_link}
+use Rattle.world.specs.Pair.{AreLives, NodesRefine, Pair, PairRefines, StillRefine}
+use Rattle.world.specs.Condition.{has_crashed, has_ended, has_stopped, is_still, life_as, runs}
+use Rattle.world.specs.declared.condition.AskedFences.{AskedFences}
 use Rattle.world.specs.declared.condition.Condition.{Condition}
-use Rattle.world.specs.declared.condition.Condition.TheVariants.{Running, Crashed, Ended}
+use Rattle.world.specs.declared.condition.Condition.TheVariants.{Running, Stopped, Crashed, Ended}
 
 -- ---- kinds of events
 
@@ -54,8 +54,8 @@ own-nodes w event own r = rw r refl
 -- of the two worlds the same is said
 pub record SameLives (old new : World) : Type 0 where
   pub allowed : new.allowed ≡ old.allowed
-  pub primary_disk : new.primary.disk.number ≡ old.primary.disk.number
-  pub standby_disk : new.standby.disk.number ≡ old.standby.disk.number
+  pub primary_disk : new.primary.disk ≡ old.primary.disk
+  pub standby_disk : new.standby.disk ≡ old.standby.disk
   pub primary : new.primary.life ≡ old.primary.life
   pub standby : new.standby.life ≡ old.standby.life
   pub epoch : new.primary.epoch ≡ old.primary.epoch
@@ -99,106 +99,145 @@ plain-happens w CloseGroup new plain h =
     ]
 plain-happens w event new plain h = of w _ new h (record { allowed = refl; primary_disk = refl; standby_disk = refl; primary = refl; standby = refl; epoch = refl })
 
-pub lives-like : {first second : Holder} {serves follows : Condition} {w w' : World} → SameLives w w' → AreLives first second serves follows w → AreLives first second serves follows w'
-lives-like same lives = record {
+life-like : (condition : Condition) {life life' : Life} → life' ≡ life → life ≡ life_as condition (torn life) → life' ≡ life_as condition (torn life')
+life-like condition same is = same ∙ is ∙ ap (λ (l : Life). life_as condition (torn l)) (sym same)
+
+pub lives-like : {first second : Holder} {serves follows : Condition} {fences : AskedFences} {w w' : World} → SameLives w w' → AreLives first second serves follows fences w → AreLives first second serves follows fences w'
+lives-like {first} {second} {serves} {follows} same lives = record {
   allowed_are = same.allowed ∙ lives.allowed_are;
-  primary_disk = same.primary_disk ∙ lives.primary_disk;
-  standby_disk = same.standby_disk ∙ lives.standby_disk;
-  primary = same.primary ∙ lives.primary;
-  standby = same.standby ∙ lives.standby;
+  primary_disk = ap (λ (d : Disk). d.number) same.primary_disk ∙ lives.primary_disk;
+  standby_disk = ap (λ (d : Disk). d.number) same.standby_disk ∙ lives.standby_disk;
+  primary_failing = ap (λ (d : Disk). d.failing) same.primary_disk ∙ lives.primary_failing;
+  standby_failing = ap (λ (d : Disk). d.failing) same.standby_disk ∙ lives.standby_failing;
+  primary = life-like serves same.primary lives.primary;
+  standby = life-like follows same.standby lives.standby;
   first_role = lives.first_role;
   second_role = lives.second_role;
   first_epoch = lives.first_epoch ∙ sym same.epoch;
   second_epoch = lives.second_epoch ∙ sym same.epoch;
 }
 
--- what a node has of a call that failed
-torn_as : (condition : Condition) → torn (life_as condition) ≡ []
-torn_as Running = refl
-torn_as Crashed = refl
-torn_as Ended = refl
+-- a call that failed has left nothing of a node that runs, nor of one that crashed
+torn_as : (condition : Condition) (remains : List Remains) → is_still condition ≡ false → torn (life_as condition remains) ≡ []
+torn_as Running remains whole = refl
+torn_as Stopped remains whole = absurd (true≢false whole)
+torn_as Crashed remains whole = refl
+torn_as Ended remains whole = absurd (true≢false whole)
 
-stopped_as : (condition : Condition) → is_stopped (life_as condition) ≡ false
-stopped_as Running = refl
-stopped_as Crashed = refl
-stopped_as Ended = refl
+pub whole-torn : (condition : Condition) {life : Life} → life ≡ life_as condition (torn life) → is_still condition ≡ false → torn life ≡ []
+whole-torn condition {life} is whole = ap torn is ∙ torn_as condition (torn life) whole
 
-pub sure-lives : {first second first' second' : Holder} {serves follows serves' follows' : Condition} {w w' : World} → AreLives first second serves follows w → AreLives first' second' serves' follows' w' → IsSure w w'
-sure-lives {first} {second} {first'} {second'} {serves} {follows} {serves'} {follows'} {w} {w'} lives lives' = record {
-  primary_whole = ap torn lives.primary ∙ torn_as serves;
-  standby_whole = ap torn lives.standby ∙ torn_as follows;
-  primary_goes = ap is_stopped lives'.primary ∙ stopped_as serves';
-  standby_goes = ap is_stopped lives'.standby ∙ stopped_as follows';
-}
+pub stopped-as : (condition : Condition) (remains : List Remains) → is_stopped (life_as condition remains) ≡ has_stopped condition
+stopped-as Running remains = refl
+stopped-as Stopped remains = refl
+stopped-as Crashed remains = refl
+stopped-as Ended remains = refl
 
 -- ---- an event whose nodes run
 
 -- the nodes that take part in the event run
-pub record Runs (first second : Holder) (serves follows : Condition) (w : World) (event : Event) : Type 0 where
-  pub lives : AreLives first second serves follows w
+pub record Runs (first second : Holder) (serves follows : Condition) (fences : AskedFences) (w : World) (event : Event) : Type 0 where
+  pub lives : AreLives first second serves follows fences w
   pub nodes : nodes_run w event ≡ true
 
 -- what has something to do is enabled
-pub enabled-is : {first second : Holder} {serves follows : Condition} {w : World} {event : Event} → Runs first second serves follows w event → is_enabled w event ≡ may_happen w event
-enabled-is {first} {second} {serves} {follows} {w} {event} runs = ap (λ b. b && may_happen w event) runs.nodes
+pub enabled-is : {first second : Holder} {serves follows : Condition} {fences : AskedFences} {w : World} {event : Event} → Runs first second serves follows fences w event → is_enabled w event ≡ may_happen w event
+enabled-is {first} {second} {serves} {follows} {fences} {w} {event} runs = ap (λ b. b && may_happen w event) runs.nodes
 
 -- the same nodes run afterwards
-pub lives-step : {first second : Holder} {serves follows : Condition} {w w' : World} {event : Event} → Runs first second serves follows w event → is_plain event ≡ true → Happens w event w' → AreLives first second serves follows w'
-lives-step {first} {second} {serves} {follows} {w} {w'} {event} runs plain happens = lives-like (plain-happens w event w' plain happens) runs.lives
+pub lives-step : {first second : Holder} {serves follows : Condition} {fences : AskedFences} {w w' : World} {event : Event} → Runs first second serves follows fences w event → is_plain event ≡ true → Happens w event w' → AreLives first second serves follows fences w'
+lives-step {first} {second} {serves} {follows} {fences} {w} {w'} {event} runs plain happens = lives-like (plain-happens w event w' plain happens) runs.lives
 
-running-life : (condition : Condition) → runs condition ≡ true → life_as condition ≡ machine.Running
-running-life Running up = refl
-running-life Crashed up = absurd (true≢false (sym up))
-running-life Ended up = absurd (true≢false (sym up))
+pub running-life : (condition : Condition) (remains : List Remains) → runs condition ≡ true → life_as condition remains ≡ machine.Running
+running-life Running remains up = refl
+running-life Stopped remains up = absurd (true≢false (sym up))
+running-life Crashed remains up = absurd (true≢false (sym up))
+running-life Ended remains up = absurd (true≢false (sym up))
 
 pub serving : {first second : Holder} {pair : Pair} {w : World} → PairRefines first second pair w → w.primary.life ≡ machine.Running
-serving {first} {second} {pair} {w} stands = stands.lives.primary ∙ running-life pair.primary_condition stands.serves
+serving {first} {second} {pair} {w} stands = stands.lives.primary ∙ running-life pair.primary_condition (torn w.primary.life) stands.serves
 
 -- an event that needs the primary alone
-pub own-runs : {first second : Holder} {pair : Pair} {w : World} → PairRefines first second pair w → (event : Event) → is_own event ≡ true → Runs first second pair.primary_condition pair.standby_condition w event
+pub own-runs : {first second : Holder} {pair : Pair} {w : World} → PairRefines first second pair w → (event : Event) → is_own event ≡ true → Runs first second pair.primary_condition pair.standby_condition pair.asked w event
 own-runs {first} {second} {pair} {w} stands event own = record { lives = stands.lives; nodes = own-nodes w event own (serving stands) }
 
 pub nodes-refine : {first second : Holder} {pair : Pair} {w : World} → PairRefines first second pair w → NodesRefine first second pair w
 nodes-refine stands = record { sound = stands.sound; lives = stands.lives; parts = inl (stands.serves, stands.parts) }
 
-pub running-as : (condition : Condition) → is_running (life_as condition) ≡ runs condition
-running-as Running = refl
-running-as Crashed = refl
-running-as Ended = refl
+pub running-as : (condition : Condition) (remains : List Remains) → is_running (life_as condition remains) ≡ runs condition
+running-as Running remains = refl
+running-as Stopped remains = refl
+running-as Crashed remains = refl
+running-as Ended remains = refl
 
-pub retired-as : (condition : Condition) → is_retired (life_as condition) ≡ has_ended condition
-retired-as Running = refl
-retired-as Crashed = refl
-retired-as Ended = refl
+pub retired-as : (condition : Condition) (remains : List Remains) → is_retired (life_as condition remains) ≡ has_ended condition
+retired-as Running remains = refl
+retired-as Stopped remains = refl
+retired-as Crashed remains = refl
+retired-as Ended remains = refl
 
--- a node that runs is not over
-pub not-over : (condition : Condition) → runs condition ≡ true → has_ended condition ≡ false
-not-over Running up = refl
-not-over Crashed up = refl
-not-over Ended up = absurd (true≢false (sym up))
+pub crashed-as : (condition : Condition) (remains : List Remains) → is_crashed (life_as condition remains) ≡ has_crashed condition
+crashed-as Running remains = refl
+crashed-as Stopped remains = refl
+crashed-as Crashed remains = refl
+crashed-as Ended remains = refl
+
+-- a node that runs is not over, and has not stopped
+pub runs-whole : (condition : Condition) → runs condition ≡ true → is_still condition ≡ false
+runs-whole Running up = refl
+runs-whole Stopped up = absurd (true≢false (sym up))
+runs-whole Crashed up = absurd (true≢false (sym up))
+runs-whole Ended up = absurd (true≢false (sym up))
 
 -- nor is one that is crashed
-pub crashed-not-over : (condition : Condition) → has_crashed condition ≡ true → has_ended condition ≡ false
-crashed-not-over Running down = refl
-crashed-not-over Crashed down = refl
-crashed-not-over Ended down = absurd (true≢false (sym down))
+pub crashed-whole : (condition : Condition) → has_crashed condition ≡ true → is_still condition ≡ false
+crashed-whole Running down = absurd (true≢false (sym down))
+crashed-whole Stopped down = absurd (true≢false (sym down))
+crashed-whole Crashed down = refl
+crashed-whole Ended down = absurd (true≢false (sym down))
 
--- a primary that runs is not crashed, and was not fenced
+still-over : (condition : Condition) → is_still condition ≡ false → has_ended condition ≡ false
+still-over Running whole = refl
+still-over Stopped whole = refl
+still-over Crashed whole = refl
+still-over Ended whole = absurd (true≢false whole)
+
+pub not-over : (condition : Condition) → runs condition ≡ true → has_ended condition ≡ false
+not-over condition up = still-over condition (runs-whole condition up)
+
+pub crashed-not-over : (condition : Condition) → has_crashed condition ≡ true → has_ended condition ≡ false
+crashed-not-over condition down = still-over condition (crashed-whole condition down)
+
+-- one that has stopped was not promoted
+pub stopped-not-over : (condition : Condition) → has_stopped condition ≡ true → has_ended condition ≡ false
+stopped-not-over Running stopped = refl
+stopped-not-over Stopped stopped = refl
+stopped-not-over Crashed stopped = refl
+stopped-not-over Ended stopped = absurd (true≢false (sym stopped))
+
+pub stopped-still : (condition : Condition) → has_stopped condition ≡ true → is_still condition ≡ true
+stopped-still condition stopped = ap (λ b. b || has_ended condition) stopped
+
+pub ended-still : (condition : Condition) → has_ended condition ≡ true → is_still condition ≡ true
+ended-still Running ended = absurd (true≢false (sym ended))
+ended-still Stopped ended = refl
+ended-still Crashed ended = absurd (true≢false (sym ended))
+ended-still Ended ended = refl
+
+-- a primary that runs is not crashed
 pub not-crashed : (condition : Condition) → runs condition ≡ true → has_crashed condition ≡ true → ⊥
 not-crashed Running up down = true≢false (sym down)
+not-crashed Stopped up down = true≢false (sym up)
 not-crashed Crashed up down = true≢false (sym up)
 not-crashed Ended up down = true≢false (sym up)
 
-not-fenced : (condition : Condition) → runs condition ≡ true → has_ended condition ≡ true → ⊥
-not-fenced Running up fenced = true≢false (sym fenced)
-not-fenced Crashed up fenced = true≢false (sym up)
-not-fenced Ended up fenced = true≢false (sym up)
+-- it has not stopped, and was not fenced
+pub not-still : (condition : Condition) → runs condition ≡ true → is_still condition ≡ true → ⊥
+not-still condition up still = true≢false (sym still ∙ runs-whole condition up)
 
--- one that was fenced is not crashed
-pub fenced-not-crashed : (condition : Condition) → has_ended condition ≡ true → has_crashed condition ≡ true → ⊥
-fenced-not-crashed Running fenced down = true≢false (sym down)
-fenced-not-crashed Crashed fenced down = true≢false (sym fenced)
-fenced-not-crashed Ended fenced down = true≢false (sym down)
+-- one that has stopped or was fenced is not crashed
+pub still-not-crashed : (condition : Condition) → is_still condition ≡ true → has_crashed condition ≡ true → ⊥
+still-not-crashed condition still down = true≢false (sym still ∙ crashed-whole condition down)
 
 -- a pair whose primary runs
 pub serves-as : {first second : Holder} {pair : Pair} {w : World} → runs pair.primary_condition ≡ true → NodesRefine first second pair w → PairRefines first second pair w
@@ -209,6 +248,14 @@ serves-as {first} {second} {pair} {w} up stands = record {
   parts = elim stands.parts [
     | inl whole ↦ whole.1
     | inr (inl down) ↦ absurd (not-crashed pair.primary_condition up down.0)
-    | inr (inr fenced) ↦ absurd (not-fenced pair.primary_condition up fenced.0)
+    | inr (inr still) ↦ absurd (not-still pair.primary_condition up still.0)
   ];
 }
+
+-- one whose primary has stopped or was fenced
+pub still-as : {first second : Holder} {pair : Pair} {w : World} → is_still pair.primary_condition ≡ true → NodesRefine first second pair w → StillRefine first second pair w
+still-as {first} {second} {pair} {w} still stands = elim stands.parts [
+  | inl whole ↦ absurd (not-still pair.primary_condition whole.0 still)
+  | inr (inl down) ↦ absurd (still-not-crashed pair.primary_condition still down.0)
+  | inr (inr is) ↦ is.1
+]

@@ -35,7 +35,7 @@ use Rattle.machine.specs.Event.{World, may_happen}
 use Rattle.machine.specs.Event as machine
 use Rattle.world.specs.Cause.{EndsBy, IsAtLimit, RestsAtLimit}
 use Rattle.world.specs.Committing.{CommittingRefines, Leads, OpensAt, StageRefines, link_has_room, next_primary}
-use Rattle.world.specs.GroupSpan.{AreWorkOf, positions_of_lists}
+use Rattle.node_steps.specs.GroupSpan.{AreWorkOf, positions_of_lists}
 use Rattle.world.specs.Pair.{Does, FreeingRefines, IsCut, Pair, PairRefines, PartsRefine}
 use Rattle.world.specs.Effect.{ClearsOldest}
 use Rattle.primary.specs.Recalling.{Remembers}
@@ -48,18 +48,20 @@ use Rattle.primary.specs.Standing.{notices_of}
 use Rattle.world.proofs.EngineLemmas.{Opens-engine}
 use Rattle.primary.proofs.FreedQueue.{Leads-cleared}
 use Rattle.world.proofs.LivesLemmas.{enabled-is, nodes-refine, own-runs}
-use Rattle.world.proofs.PairLemmas.{Led, cut-for, none-added, rests-primary, rests-standby, stays-does, tells}
+use Rattle.world.proofs.PairLemmas.{Led, cut-for, none-added, rests-running, rests-standby, stays-does, tells}
 use Rattle.world.proofs.QueueLemmas.{clear-disabled, clear-enabled}
 use Rattle.world.proofs.PairTurns.{Took, Waiting-same}
 use Rattle.world.proofs.FreeingLemmas.{cleared-moments, contents-cleared, engine-cleared, lawful-cleared, primary-steps}
-use Rattle.world.proofs.LeftLemmas.{LeftBy, left-running, left-still, left-there}
+use Rattle.world.specs.Remaining.{LeftBy}
+use Rattle.world.proofs.LeftLemmas.{left-running, left-still, left-there}
 use Rattle.world.proofs.PairFreeing.{fault-does, pair_with, refused-does}
 use Rattle.world.specs.declared.condition.Condition.{Condition}
+use Rattle.world.specs.declared.condition.AskedFences.{AskedFences}
 
-module _ {E : Type 0} (device : E → State) (contents : E → Contents) (is_faulted : E → Bool) (sessions : Connections) (transcript : Transcript) (sequencer : Sequencing) (link : Stream) (opening : Opening) (remote : ℕ) (frames : List (Vec ℕ Global)) (arrivals : Arrived) (standby : Node) (primary_condition standby_condition : Condition) where
+module _ {E : Type 0} (device : E → State) (contents : E → Contents) (is_faulted : E → Bool) (sessions : Connections) (transcript : Transcript) (sequencer : Sequencing) (link : Stream) (opening : Opening) (remote : ℕ) (frames : List (Vec ℕ Global)) (arrivals : Arrived) (standby : Node) (primary_condition standby_condition : Condition) (fences : AskedFences) where
   -- a pair with this committer, with this work waiting for it, with these notices and with these groups at the link
   abbrev cleared_with : Committer E → Waiting Work → List Freed → Waiting Group → Pair
-  cleared_with = pair_with device contents is_faulted sessions transcript sequencer link opening remote frames arrivals standby primary_condition standby_condition
+  cleared_with = pair_with device contents is_faulted sessions transcript sequencer link opening remote frames arrivals standby primary_condition standby_condition fences
 
   module _ (before : Committer E) (waiting : Waiting Work) (notices : List Freed) (handed : Waiting Group)
       (is : due_now contents before waiting (link_has_room handed.items) remote ≡ due.Clear) where
@@ -150,7 +152,7 @@ module _ {E : Type 0} (device : E → State) (contents : E → Contents) (is_fau
         steps = λ first second w stands.
             primary-steps events.ClearGap first second w (machine.cleared w) from (cleared_with after waiting' (notices ++ one.clears.answer.0 ∷ []) handed) refl
             (record { allowed = refl; primary_disk = refl; standby_disk = refl; primary = refl; standby = refl; epoch = refl })
-            stands refl refl refl one.clears.sound.1 (inl refl)
+            stands refl refl refl refl one.clears.sound.1 (inl refl)
             (sym (clear_may first second w stands)) (cleared-then (Ok ok) one first second w stands.parts) (clear-parts ok one first second w stands);
         cut = tt;
         calls = none-added _ _ refl;
@@ -158,10 +160,10 @@ module _ {E : Type 0} (device : E → State) (contents : E → Contents) (is_fau
 
       cut-clear : (refusal : Refusal) → ClearsOne after waiting' (Err refusal) → Does from events.ClearGap (Err refusal) (cleared_with after waiting' notices handed)
       cut-clear refusal one = elim one.clears.causes [
-        | inl fault ↦ fault-does device contents is_faulted sessions transcript sequencer link opening remote frames arrivals standby primary_condition standby_condition events.ClearGap refl before after waiting waiting' notices handed refusal fault (λ first second w old' new leads. leads) (one.clears.fault (ap Err fault)) clear_may
+        | inl fault ↦ fault-does device contents is_faulted sessions transcript sequencer link opening remote frames arrivals standby primary_condition standby_condition fences events.ClearGap refl before after waiting waiting' notices handed refusal fault (λ first second w old' new leads. leads) (one.clears.fault (ap Err fault)) clear_may
             (cleared-then (Err refusal) one)
         | inr (inl limit) ↦ record { steps = tt; cut = λ first second w stands. ends first second w stands limit; calls = none-added _ _ refl }
-        | inr (inr memory) ↦ refused-does device contents is_faulted sessions transcript sequencer link opening remote frames arrivals standby primary_condition standby_condition events.ClearGap refl refl before after waiting waiting' notices notices handed handed refusal memory (one.clears.memory (ap Err memory)) clear_may
+        | inr (inr memory) ↦ refused-does device contents is_faulted sessions transcript sequencer link opening remote frames arrivals standby primary_condition standby_condition fences events.ClearGap refl refl before after waiting waiting' notices notices handed handed refusal memory (one.clears.memory (ap Err memory)) clear_may
       ]
         where
           new : Pair
@@ -175,8 +177,8 @@ module _ {E : Type 0} (device : E → State) (contents : E → Contents) (is_fau
               λ image is. record { current = from.contents.current; has_record = HasRecord-lines stands.parts.engine.contents_at.lines_are (stands.parts.engine.durable image is).has_record; reached = inr (inr told.0) } in
               cut-for first second events.ClearGap refusal from new w (nodes-refine stands) (tells transcript) refl (enabled-is (own-runs stands events.ClearGap refl) ∙ clear_may first second w stands)
               (subst (λ (r : Refusal). EndsBy r events.ClearGap (Led first second from new w)) (sym limit) (
-                subst (λ (d : State). RestsAtLimit first w.primary.calls w.primary.committer.position (next_primary w) from.device d) (sym same)
-                    (record { rests = rests-primary first second from w (nodes-refine stands); limit = at }),
+                inl (subst (λ (d : State). RestsAtLimit first w.primary.calls w.primary.committer.position (next_primary w) from.device d) (sym same)
+                    (record { rests = rests-running first second from w stands.parts; limit = at })),
                 rests-standby first second from w (nodes-refine stands),
               ))
 
@@ -223,7 +225,7 @@ module _ {E : Type 0} (device : E → State) (contents : E → Contents) (is_fau
       → due_now contents before waiting (link_has_room handed.items) remote ≡ due.Clear
       → Does (cleared_with before waiting notices handed) events.ClearGap (Err refusal) (cleared_with before waiting notices' handed)
   clear-roomless before waiting notices notices' handed refusal memory is =
-      refused-does device contents is_faulted sessions transcript sequencer link opening remote frames arrivals standby primary_condition standby_condition events.ClearGap refl refl before before waiting waiting notices notices' handed handed refusal memory refl (clear_may before waiting notices handed is)
+      refused-does device contents is_faulted sessions transcript sequencer link opening remote frames arrivals standby primary_condition standby_condition fences events.ClearGap refl refl before before waiting waiting notices notices' handed handed refusal memory refl (clear_may before waiting notices handed is)
 
   -- another step is due
   pub clear-idle : (before : Committer E) (waiting : Waiting Work) (notices : List Freed) (handed : Waiting Group) → (due_now contents before waiting (link_has_room handed.items) remote ≡ due.Clear → ⊥)

@@ -13,15 +13,15 @@ use Rattle.machine.specs.Event.{Commits, Frees, Work as MachineWork, World, Clos
 use Rattle.machine.specs.Sound.{IsChain}
 use Rattle.primary.specs.Closing.{ClosesGroup, ClosesList, ClosesOne, MayClose}
 use Rattle.world.specs.Committing.{CommittingRefines}
-use Rattle.world.specs.GroupSpan.{AreWorkOf}
+use Rattle.node_steps.specs.GroupSpan.{AreWorkOf}
 use Rattle.world.specs.Recalling.{past_of}
 use Rattle.connections.specs.Session.{seats_of}
 use Rattle.world.specs.Pair.{FreeingRefines, Pair, PartsRefine, PairRefines, Steps, Does}
 use Rattle.world.proofs.LivesLemmas.{nodes-refine, own-runs}
 use Rattle.primary.proofs.LeadsLemmas.{Leads-group, Leads-list}
-use Rattle.world.proofs.ClosingLemmas.{AreWorkOf-push, IsGroupOf-handed, closes-group, closes-list, follow-handed, follow-listed, grouped, may-close, may-not-close, sequencer-handed, sequencer-listed}
+use Rattle.node_steps.proofs.ClosingLemmas.{AreWorkOf-push, IsGroupOf-handed, closes-group, closes-list, follow-handed, follow-listed, grouped, may-close, may-not-close, sequencer-handed, sequencer-listed}
 use Rattle.primary.proofs.KeptLemmas.{remembers-group, remembers-list}
-use Rattle.world.proofs.RecallLemmas.{waits-along}
+use Rattle.node_steps.proofs.RecallLemmas.{waits-along}
 use Rattle.world.proofs.PairLemmas.{cut-same, goes-steps, none-added, stays-does, tells}
 
 -- what waits for the committer, and the sequencer

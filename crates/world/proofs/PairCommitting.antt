@@ -8,12 +8,12 @@ use Rattle.model.specs.declared.work.FreeList.{FreeList}
 use Rattle.model.specs.declared.work.Work.{Work}
 use Rattle.model.specs.Standing.{Holder}
 use Rattle.machine.specs.declared.event.Event.TheVariants as events
-use Rattle.machine.specs.Event.{Commits, Frees, Link as MachineLink, Work as MachineWork, World, Committer as MachineCommitter, Step, may_happen, committed_first, from_group, handed, handed_to, raised_local, ready_again, with_committer, with_link}
+use Rattle.machine.specs.Event.{Commits, Frees, Link as MachineLink, Work as MachineWork, World, Committer as MachineCommitter, Step, may_happen, committed_first, from_group, handed, handed_to, raised_local, ready_again, with_committer, with_link, torn}
 use Rattle.machine.specs.Sound.{Sound}
 use Rattle.machine.proofs.SoundEvents.{sound-step}
 use Rattle.world.proofs.LivesLemmas.{Runs, enabled-is, lives-like, nodes-refine, own-runs}
 use Rattle.connections.specs.Going.{Goes}
-use Rattle.world.specs.GroupSpan.{AreGroupsOf}
+use Rattle.node_steps.specs.GroupSpan.{AreGroupsOf}
 use Rattle.world.specs.Cause.{Stretch, Breaks, RestsAtLimit, EndsBy, Resting}
 use Rattle.world.specs.Committing.{Committing, EngineStands, Leads, NearOnly, CommittingRefines, next_primary}
 use Rattle.world.specs.Link.{LinkRefines}
@@ -21,9 +21,9 @@ use Rattle.primary.specs.Recalling.{Remembers}
 use Rattle.world.specs.Recalling.{past_of}
 use Rattle.connections.specs.Session.{SequencerRefines}
 use Rattle.world.specs.Pair.{Pair, PartsRefine, Steps, Does}
-use Rattle.world.proofs.EngineLemmas.{moves-same}
+use Rattle.world.proofs.RemainLemmas.{near-from, near-same}
 use Rattle.world.proofs.PairLink.{link-alone}
-use Rattle.world.proofs.PairLemmas.{Opens-standby, goes-map, goes-steps, none-added}
+use Rattle.world.proofs.PairLemmas.{Remain-standby, goes-map, goes-steps, none-added}
 use Rattle.world.specs.Condition.{has_ended, runs}
 
 -- ---- a group committed
@@ -36,7 +36,7 @@ ends-commit Exhausted P Q both ends = both RestsAtLimit ends
 ends-commit refusal P Q both ends = absurd ends
 
 -- the first group that waits has committed
-pub commit-steps : (first second : Holder) (w : World) (old new : Pair) → new.standby.device ≡ old.standby.device → new.standby_condition ≡ old.standby_condition → Sound w → Runs first second new.primary_condition new.standby_condition w events.Commit
+pub commit-steps : (first second : Holder) (w : World) (old new : Pair) → new.standby.device ≡ old.standby.device → new.standby_condition ≡ old.standby_condition → Sound w → Runs first second new.primary_condition new.standby_condition new.asked w events.Commit
     → runs new.primary_condition ≡ true → new.device.failures ≡ old.device.failures
     → NearOnly first w.primary.calls w.primary.committer.position (next_primary w) old.device new.device → true ≡ may_happen w events.Commit
     → PartsRefine first second new (with_committer (committed_first (from_group w.primary.committer.waiting) w.primary.committer) w) → Steps first second w events.Commit true old new
@@ -49,9 +49,9 @@ commit-steps first second w old new device' same sound runs serves failures only
       step = step;
       stands = record { sound = sound-step w events.Commit true w' step sound; lives = lives-like (record { allowed = refl; primary_disk = refl; standby_disk = refl; primary = refl; standby = refl; epoch = refl }) runs.lives; parts = inl (serves, parts) };
       moves = record {
-        primary = record { leaves = only; failures = failures };
-        standby = λ whole. moves-same second w.primary.calls w.standby.position w.standby.position old.standby.device new.standby.device device'
-            (Opens-standby second new.link.epoch w.primary.calls w.standby.position new.standby new.standby_condition (ap has_ended same ∙ whole) parts.standby);
+        primary = near-from first w.primary.calls w.primary.committer.position (next_primary w) (torn w.primary.life) old.device new.device (record { leaves = only; failures = failures });
+        standby = λ whole. near-same second w.primary.calls w.standby.position (torn w.standby.life) old.standby.device new.standby.device device'
+            (Remain-standby second new.link.epoch w.primary.calls w.standby.position (torn w.standby.life) new.standby new.standby_condition (ap has_ended same ∙ whole) parts.standby);
       };
     }
 

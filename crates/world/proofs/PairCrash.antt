@@ -11,8 +11,8 @@ use Rattle.model.specs.Standing.{Holder}
 use Rattle.machine.specs.declared.event.Event.TheVariants as events
 use Rattle.machine.specs.declared.event.Cut.TheVariants as cuts
 use Rattle.machine.specs.declared.event.Node.TheVariants as node
-use Rattle.machine.specs.Event.{Allowed, World, At, Life, Step, crashed, is_enabled, is_running, is_stopped, left}
-use Rattle.machine.specs.Sound.{IsFrameWithin}
+use Rattle.machine.specs.Event.{Allowed, World, At, Life, Step, crashed, is_enabled, is_running, is_stopped, left, torn, Remains}
+use Rattle.machine.specs.Sound.{IsFrameWithin, IsStandbyLeft}
 use Rattle.machine.proofs.SoundEvents.{sound-step}
 use Rattle.world.specs.Committing.{Committing}
 use Rattle.connections.specs.Session.{AddsOne, HasSeat, SessionsRefine, seats_of}
@@ -31,30 +31,43 @@ use Rattle.world.proofs.PairStandby.{arrivals-stand, follower, standby-either}
 use Rattle.world.proofs.RecallLemmas.{recalls-crashed}
 use Rattle.frames.specs.declared.frame.Frame.{Frame}
 use Rattle.world.specs.Link.{AreAcksSent, AreFramesRead}
-use Rattle.world.specs.Condition.{life_as, runs}
+use Rattle.world.specs.Condition.{life_as, runs, has_stopped}
+use Rattle.world.specs.declared.condition.AskedFences.{AskedFences}
 use Rattle.world.specs.declared.condition.Condition.{Condition}
-use Rattle.world.specs.declared.condition.Condition.TheVariants.{Running, Crashed, Ended}
+use Rattle.world.specs.declared.condition.Condition.TheVariants.{Running, Stopped, Crashed, Ended}
+use Rattle.world.proofs.RemainLemmas.{near-rest, near-from, LeavesOne-cut}
 
 -- ---- a node that is crashed already
 
-crashed_as : (condition : Condition) → (is_running (life_as condition) || is_stopped (life_as condition)) ≡ runs condition
-crashed_as Running = refl
-crashed_as Crashed = refl
-crashed_as Ended = refl
+goes-as : (condition : Condition) (remains : List Remains) → (is_running (life_as condition remains) || is_stopped (life_as condition remains)) ≡ (runs condition || has_stopped condition)
+goes-as Running remains = refl
+goes-as Stopped remains = refl
+goes-as Crashed remains = refl
+goes-as Ended remains = refl
 
--- to crash a node is enabled where it runs
-crash-enabled : {first second : Holder} {serves follows : Condition} {w : World} (k : ℕ) (picks : Vec ℕ Global) → AreLives first second serves follows w
-    → (is_enabled w (events.Crash node.Primary cuts.Between k picks) ≡ runs serves) × (is_enabled w (events.Crash node.Standby cuts.Between k picks) ≡ runs follows)
-crash-enabled {first} {second} {serves} {follows} {w} k picks lives = (
-  ap (λ (a : Allowed). a.restarts && (is_running w.primary.life || is_stopped w.primary.life)) lives.allowed_are ∙ ap (λ (l : Life). is_running l || is_stopped l) lives.primary ∙ crashed_as serves,
-  ap (λ (a : Allowed). a.restarts && (is_running w.standby.life || is_stopped w.standby.life)) lives.allowed_are ∙ ap (λ (l : Life). is_running l || is_stopped l) lives.standby ∙ crashed_as follows,
+-- to crash a node is enabled where it runs or has stopped
+pub crash-enabled : {first second : Holder} {serves follows : Condition} {fences : AskedFences} {w : World} (k : ℕ) (picks : Vec ℕ Global) → AreLives first second serves follows fences w
+    → (is_enabled w (events.Crash node.Primary cuts.Between k picks) ≡ (runs serves || has_stopped serves)) × (is_enabled w (events.Crash node.Standby cuts.Between k picks) ≡ (runs follows || has_stopped follows))
+crash-enabled {first} {second} {serves} {follows} {fences} {w} k picks lives = (
+  ap (λ (a : Allowed). a.restarts && (is_running w.primary.life || is_stopped w.primary.life)) lives.allowed_are ∙ ap (λ (l : Life). is_running l || is_stopped l) lives.primary
+      ∙ goes-as serves (torn w.primary.life),
+  ap (λ (a : Allowed). a.restarts && (is_running w.standby.life || is_stopped w.standby.life)) lives.allowed_are ∙ ap (λ (l : Life). is_running l || is_stopped l) lives.standby
+      ∙ goes-as follows (torn w.standby.life),
 )
 
-pub primary-crashed : (old : Pair) (k : ℕ) (picks : Vec ℕ Global) → runs old.primary_condition ≡ false → Acts old (events.Crash node.Primary cuts.Between k picks) (Ok false) old
-primary-crashed old k picks down = stays-acts old (events.Crash node.Primary cuts.Between k picks) (λ first second w stands. (crash-enabled k picks stands.lives).0 ∙ down)
+neither : (condition : Condition) → runs condition ≡ false → has_stopped condition ≡ false → (runs condition || has_stopped condition) ≡ false
+neither condition down whole = ap (λ b. b || has_stopped condition) down ∙ whole
 
-pub standby-crashed : (old : Pair) (k : ℕ) (picks : Vec ℕ Global) → runs old.standby_condition ≡ false → Acts old (events.Crash node.Standby cuts.Between k picks) (Ok false) old
-standby-crashed old k picks down = stays-acts old (events.Crash node.Standby cuts.Between k picks) (λ first second w stands. (crash-enabled k picks stands.lives).1 ∙ down)
+goes : (condition : Condition) → runs condition ≡ true → (runs condition || has_stopped condition) ≡ true
+goes condition up = ap (λ b. b || has_stopped condition) up
+
+pub primary-crashed : (old : Pair) (k : ℕ) (picks : Vec ℕ Global) → runs old.primary_condition ≡ false → has_stopped old.primary_condition ≡ false → Acts old (events.Crash node.Primary cuts.Between k picks) (Ok false) old
+primary-crashed old k picks down whole =
+    stays-acts old (events.Crash node.Primary cuts.Between k picks) (λ first second w stands. (crash-enabled k picks stands.lives).0 ∙ neither old.primary_condition down whole)
+
+pub standby-crashed : (old : Pair) (k : ℕ) (picks : Vec ℕ Global) → runs old.standby_condition ≡ false → has_stopped old.standby_condition ≡ false → Acts old (events.Crash node.Standby cuts.Between k picks) (Ok false) old
+standby-crashed old k picks down whole =
+    stays-acts old (events.Crash node.Standby cuts.Between k picks) (λ first second w stands. (crash-enabled k picks stands.lives).1 ∙ neither old.standby_condition down whole)
 
 -- ---- the device that crashed
 
@@ -74,12 +87,15 @@ abbrev pub with_crashed_primary : Connections → Transcript → Committing → 
 with_crashed_primary sessions transcript committing device contents is_faulted pair =
     record pair { sessions = sessions; transcript = transcript; committing = committing; device = device; contents = contents; is_faulted = is_faulted; primary_condition = Crashed }
 
-pub StandbyRefines-cut : (holder : Holder) (epoch : ℕ) (calls : List Call) (p n : ℕ) (node : Node) (condition : Condition) → p ≤ n → StandbyRefines holder epoch calls p node condition
-    → StandbyRefines holder epoch (cut_at calls n) p node condition
-StandbyRefines-cut holder epoch calls p n node condition le refines = record {
-  stands = λ up. StandbyStands-cut holder epoch calls n p node le (refines.stands up);
-  down = λ down. IsDown-cut holder calls n p node.device le (refines.down down);
-}
+pub StandbyRefines-cut : (holder : Holder) (epoch : ℕ) (calls : List Call) (p n high : ℕ) (remains : List Remains) (node : Node) (condition : Condition) → p ≤ high → high ≤ n → All (IsStandbyLeft p high) remains
+    → StandbyRefines holder epoch calls p remains node condition → StandbyRefines holder epoch (cut_at calls n) p remains node condition
+StandbyRefines-cut holder epoch calls p n high remains node condition le within bound refines =
+    let reached : p ≤ n = omega (arith, le, within) in
+    record {
+      stands = λ up. StandbyStands-cut holder epoch calls n p node reached (refines.stands up);
+      left = λ stopped. LeavesOne-cut holder calls n p high remains node.device le within bound (refines.left stopped);
+      down = λ down. IsDown-cut holder calls n p node.device reached (refines.down down);
+    }
 
 pub primary-crashes : (old : Pair) (sessions : Connections) (transcript : Transcript) (committing : Committing) (device : State) (contents : Contents) (is_faulted : Bool) (k : ℕ) (picks : Vec ℕ Global) (position : ℕ)
     → runs old.primary_condition ≡ true → position ≡ old.contents.current.position → HasCrashed old.contents.lines old.device device
@@ -102,7 +118,7 @@ primary-crashes old sessions transcript committing device contents is_faulted k 
         let p = w.primary.committer.position in
         let here : position ≡ p = at ∙ parts.engine.contents_at.at in
         let w' = crashed node.Primary (At p) w in
-        let step : Step w event true w' = record { done = sym ((crash-enabled k picks stands.lives).0 ∙ runs); happens = λ did. record { remain = At p; one = (0, omega arith, refl); now = refl }; stands = λ did. absurd (true≢false did) } in
+        let step : Step w event true w' = record { done = sym ((crash-enabled k picks stands.lives).0 ∙ goes old.primary_condition runs); happens = λ did. record { remain = At p; one = (0, omega arith, refl); now = refl }; stands = λ did. absurd (true≢false did) } in
         let behind : sound.sent ≤ p = chain-le _ _ _ sound.link.waiting in
         let within : p ≤ position_of calls = primary-within w sound in
         let image = IsDown-cut first calls p p device (omega arith) (down-crashed first calls p old.device device old.contents old.is_faulted parts.engine has.sized has.settled has.image has.lines_are) in
@@ -124,7 +140,7 @@ primary-crashes old sessions transcript committing device contents is_faulted k 
               (subst (λ e. All (IsFrameWithin e p) w.wire.frames) (sym parts.epoch) (frames_within-weaker w.primary.epoch sound.sent p w.wire.frames behind sound.wire.frames)) parts.frames;
           arrivals = ArrivalsRefine-cut old.link.epoch calls p old.arrivals w.standby.waiting w.wire.acknowledgements
               (subst (λ e. All (IsFrameWithin e p) w.standby.waiting) (sym parts.epoch) (frames_within-weaker w.primary.epoch sound.sent p w.standby.waiting behind sound.standby.frames)) parts.arrivals;
-          standby = StandbyRefines-cut second old.link.epoch calls w.standby.position p old.standby old.standby_condition (omega (arith, sound.standby.behind, behind)) parts.standby;
+          standby = StandbyRefines-cut second old.link.epoch calls w.standby.position p sound.sent (torn w.standby.life) old.standby old.standby_condition sound.standby.behind behind sound.standby_left parts.standby;
         } in
         let refines : EitherRefines first second new w' = inr (inl (refl, down)) in
         record {
@@ -136,8 +152,8 @@ primary-crashes old sessions transcript committing device contents is_faulted k 
             parts = refines;
           };
           moves = record {
-            primary = crash-moves first calls p old.device device old.contents old.is_faulted parts.engine has.moments has.failures;
-            standby = λ whole. moves-same second calls w.standby.position w.standby.position old.standby.device old.standby.device refl (standby-stands first second old w stands.parts whole);
+            primary = near-from first calls p p (torn w.primary.life) old.device device (crash-moves first calls p old.device device old.contents old.is_faulted parts.engine has.moments has.failures);
+            standby = λ whole. near-rest second calls w.standby.position w.standby.position (torn w.standby.life) old.standby.device old.standby.device refl (standby-stands first second old w stands.parts whole);
           };
         }
 
@@ -162,14 +178,14 @@ standby-crashes old arrivals node' k picks follows has lost told =
         let p = w.standby.position in
         let stood = follower follows stands.parts in
         let w' = crashed node.Standby (At p) w in
-        let step : Step w event true w' = record { done = sym ((crash-enabled k picks stands.lives).1 ∙ follows); happens = λ did. record { remain = At p; one = (0, omega arith, refl); now = refl }; stands = λ did. absurd (true≢false did) } in
+        let step : Step w event true w' = record { done = sym ((crash-enabled k picks stands.lives).1 ∙ goes old.standby_condition follows); happens = λ did. record { remain = At p; one = (0, omega arith, refl); now = refl }; stands = λ did. absurd (true≢false did) } in
         let image = down-crashed second calls p old.standby.device node'.device old.standby.contents old.standby.is_faulted stood.engine has.sized has.settled has.image has.lines_are in
         let empty : ArrivalsRefine old.link.epoch calls arrivals [] w.wire.acknowledgements =
         record {
           delivered = subst (λ (frames : List Frame). AreFramesRead old.link.epoch calls frames []) (sym lost) tt;
           acknowledged = subst (λ (acks : Vec (Vec ℕ Global) Global). AreAcksSent acks.items w.wire.acknowledgements) (sym told) (arrivals-stand stands.parts).acknowledged;
         } in
-        let down : StandbyRefines second old.link.epoch calls p node' Crashed = record { stands = λ up. absurd (true≢false (sym up)); down = λ is. image } in
+        let down : StandbyRefines second old.link.epoch calls p [] node' Crashed = record { stands = λ up. absurd (true≢false (sym up)); left = λ stopped. absurd (true≢false (sym stopped)); down = λ is. image } in
         let refines : EitherRefines first second new w' = standby-either first second old arrivals node' Crashed w w'.standby w.wire.acknowledgements (not-over old.standby_condition follows) (le_refl p) stands.parts empty down in
         record {
           world = w';
@@ -180,7 +196,8 @@ standby-crashes old arrivals node' k picks follows has lost told =
             parts = refines;
           };
           moves = record {
-            primary = moves-same first calls w.primary.committer.position w.primary.committer.position old.device old.device refl (primary-stands first second old w stands.parts);
-            standby = λ whole. crash-moves second calls p old.standby.device node'.device old.standby.contents old.standby.is_faulted stood.engine has.moments has.failures;
+            primary = near-rest first calls w.primary.committer.position w.primary.committer.position (torn w.primary.life) old.device old.device refl (primary-stands first second old w stands.parts);
+            standby = λ whole. near-from second calls p p (torn w.standby.life) old.standby.device node'.device
+                (crash-moves second calls p old.standby.device node'.device old.standby.contents old.standby.is_faulted stood.engine has.moments has.failures);
           };
         }

@@ -1,5 +1,5 @@
 -- What a crash inside a call of the primary does to the pair.
-use Rattle.std.proofs.Common.{rules, ◌≡◌, ℕ, ◌≤◌, Bool, true, false, not, ◌&&◌, ◌||◌, List, map, Ok, Vec, Global, All, inl, inr, refl, sym, ap, subst, ◌∙◌, arith, true≢false}
+use Rattle.std.proofs.Common.{rules, ◌≡◌, ℕ, ◌<◌, ◌≤◌, Bool, true, false, ◌&&◌, ◌||◌, List, ◌++◌, map, Ok, Vec, Global, All, inl, inr, refl, sym, ap, subst, ◌∙◌, arith, true≢false}
 use Rattle.pmem.specs.Device.{IsOlder, Older, Only, State, Word}
 use Rattle.pmem.specs.Crash.{IsSettled, image_of}
 use Rattle.pmem.specs.Crash as crash
@@ -24,7 +24,7 @@ use Rattle.machine.specs.declared.event.Cut.TheVariants as cut
 use Rattle.machine.specs.declared.event.Event.TheVariants as events
 use Rattle.machine.specs.declared.event.Node.{Node}
 use Rattle.machine.specs.declared.event.Node.TheVariants as node
-use Rattle.machine.specs.Event.{Allowed, At, Connection, Step, World, crashed, is_between, is_crashed, is_enabled, left, left_by, may_cut}
+use Rattle.machine.specs.Event.{Allowed, At, Connection, Step, World, crashed, is_between, is_crashed, is_enabled, left, left_by, may_cut, torn}
 use Rattle.machine.specs.Sound.{IsFrameWithin, Sound}
 use Rattle.machine.proofs.GroupLemmas.{chain-le, frames_within-weaker}
 use Rattle.machine.proofs.SoundEvents.{sound-step}
@@ -35,28 +35,33 @@ use Rattle.connections.specs.declared.connections.Connections.{Connections}
 use Rattle.connections.specs.declared.transcript.Transcript.{Transcript}
 use Rattle.world.specs.Committing.{AreContentsAt, Committing, IsDown}
 use Rattle.world.specs.Condition.{has_crashed}
-use Rattle.world.specs.Cutting.{CutsPrimary, OpensNear}
+use Rattle.world.specs.Cutting.{CutsPrimary, LeavesCut, LeavesOf, OpensNear}
 use Rattle.world.specs.Pair.{AreLives, DownRefine, EitherRefines, HasWorld, NodesRefine, Pair}
 use Rattle.world.specs.Recalling.{past_of}
 use Rattle.world.specs.Step.{CutsOrStays, Leaves}
+use Rattle.world.specs.Stopping.{BreaksPrimary}
+use Rattle.world.specs.declared.condition.AskedFences.{AskedFences}
 use Rattle.world.specs.declared.condition.Condition.{Condition}
 use Rattle.world.specs.declared.condition.Condition.TheVariants.{Crashed}
 use Rattle.world.proofs.CutLemmas.{AreFramesSent-cut, ArrivalsRefine-cut, IsDown-cut, keyspace_after-cut_at-cut}
 use Rattle.world.proofs.KeptLemmas.{CrashedIn, crash-leaves, leaves-cut, left-is}
-use Rattle.world.proofs.LeftLemmas.{LeftBy, left-there}
+use Rattle.world.specs.Remaining.{LeftBy}
+use Rattle.world.proofs.LeftLemmas.{left-there}
+use Rattle.world.proofs.LivesLemmas.{crashed-as}
 use Rattle.world.proofs.OpenedLemmas.{StaysSo}
 use Rattle.world.proofs.PairCrash.{StandbyRefines-cut}
 use Rattle.world.proofs.PairLemmas.{sessions-stand, standby-refines}
 use Rattle.world.proofs.PairLives.{stays-acts}
-use Rattle.world.proofs.PairReopen.{crashed_as, fallen-parts}
+use Rattle.world.proofs.PairReopen.{fallen-parts}
 use Rattle.world.proofs.PairStandby.{arrivals-stand, frames-stand, link-epoch, own-frames}
+use Rattle.world.proofs.RemainLemmas.{left-opens}
 
 -- ---- a node that is in no such call
 
 -- a crash inside a call is enabled where the node is in it
-pub cut-enabled : {first second : Holder} {serves follows : Condition} {w : World} (n : Node) (call : Cut) (k : ℕ) (picks : Vec ℕ Global) → is_between call ≡ false → AreLives first second serves follows w
+pub cut-enabled : {first second : Holder} {serves follows : Condition} {fences : AskedFences} {w : World} (n : Node) (call : Cut) (k : ℕ) (picks : Vec ℕ Global) → is_between call ≡ false → AreLives first second serves follows fences w
     → is_enabled w (events.Crash n call k picks) ≡ may_cut w n call
-cut-enabled {first} {second} {serves} {follows} {w} n call k picks inside lives =
+cut-enabled {first} {second} {serves} {follows} {fences} {w} n call k picks inside lives =
     ap (λ (a : Allowed). a.restarts && ((is_between call || a.cuts) && may_cut w n call)) lives.allowed_are ∙ ap (λ b. (b || true) && may_cut w n call) inside
 
 crash-still : (n : Node) (call : Cut) (k : ℕ) (picks : Vec ℕ Global) (pair : Pair) → Leaves (events.Crash n call k picks) (Ok false) pair pair
@@ -101,48 +106,40 @@ EndsThere device old transcript new transcript' =
     (r : Record) → MIN_LINES ≤ device.lines → device.lines ≤ MAX_LINES → IsUndamaged device.lines r (image_of device.words) → (machines : List Connection) (list : List Call) → SessionsRefine old transcript machines list
     → SessionsRefine new transcript' (map left machines) (cut_at list r.position)
 
--- In this world the call has something to do, and a crash at any moment of it leaves what one that cuts it may leave.
-pub record CutIn (first : Holder) (w : World) (call : Cut) (lines : ℕ) (kept last : State) : Type 0 where
-  pub may : may_cut w node.Primary call ≡ true
-  pub lines_are : first.lines ≡ lines
-  pub leaves : LeavesOnly kept last (LeftBy first w call)
-
-module _ (old : Pair) (call : Cut) (k : ℕ) (picks : Vec ℕ Global) (kept last : State)
+-- What is left of a primary that crashed in this call, or had stopped: its image tells up to where the list keeps the calls.
+module _ (old : Pair) (call : Cut) (k : ℕ) (picks : Vec ℕ Global)
     (sessions : Connections) (transcript : Transcript) (sequencer : Sequencing) (committing : Committing) (device : State) (contents : Contents) (is_faulted : Bool) (handed : Waiting Group)
-    (inside : is_between call ≡ false) (off : CrashedIn k picks.items old.device kept last device) (lines : last.lines ≡ kept.lines)
-    (cut-in : (first second : Holder) (w : World) → NodesRefine first second old w → CutIn first w call old.device.lines kept last)
+    (settled : IsSettled device.words)
     (ends : EndsThere device old.sessions old.transcript sessions transcript)
     (unseated : (c seat : ℕ) → ¬ HasSeat (seats_of sessions.connections.items) c seat) where
-  abbrev new : Pair
-  new = with_cut_primary sessions transcript sequencer committing device contents is_faulted handed old
+  abbrev fallen : Pair
+  fallen = with_cut_primary sessions transcript sequencer committing device contents is_faulted handed old
 
-  shortens : (first second : Holder) (w : World) → NodesRefine first second old w → CutsPrimary first second w call k picks old new
-  shortens first second w stands =
+  pub falls : (first second : Holder) (w : World) → NodesRefine first second old w → is_enabled w (events.Crash node.Primary call k picks) ≡ true → first.lines ≡ device.lines
+      → LeftBy first w call (image_of device.words) → LeavesOnly old.device device (LeftBy first w call) → CutsPrimary first second w call k picks old fallen
+  falls first second w stands enabled lines_are left-it leaves =
       let event = events.Crash node.Primary call k picks in
-      let it = cut-in first second w stands in
       let image = image_of device.words in
-      let left-it = left-is off it.leaves in
       let sound = stands.sound in
       let calls = w.primary.calls in
       let p = left-it.position in
       let w' = crashed node.Primary (At p) w in
       let step : Step w event true w' =
       record {
-        done = sym (cut-enabled node.Primary call k picks inside stands.lives ∙ it.may);
+        done = sym enabled;
         happens = λ did. record { remain = At p; one = left-it.one; now = refl };
         stands = λ did. absurd (true≢false did);
       } in
-      let sized : left-it.contents.lines ≡ device.lines =
-      left-it.contents_at.lines_are ∙ it.lines_are ∙ sym (off.lines_are ∙ lines ∙ off.keeps.lines) in
+      let sized : left-it.contents.lines ≡ device.lines = left-it.contents_at.lines_are ∙ lines_are in
       let down : IsDown first calls p device =
-      record { contents = left-it.contents; contents_at = left-it.contents_at; lawful = left-it.lawful; keeps = left-it.keeps; settled = off.settled; sized = sized } in
+      record { contents = left-it.contents; contents_at = left-it.contents_at; lawful = left-it.lawful; keeps = left-it.keeps; settled = settled; sized = sized } in
       let undamaged : IsUndamaged device.lines left-it.contents.current image =
       subst (λ n. IsUndamaged n left-it.contents.current image) sized (lawful_undamaged left-it.contents image left-it.lawful left-it.keeps) in
       let ended : SessionsRefine sessions transcript (map left w.primary.connections) (cut_at calls left-it.contents.current.position) =
       ends left-it.contents.current (omega (arith, sized, left-it.lawful.many)) (omega (arith, sized, left-it.lawful.few)) undamaged w.primary.connections calls (sessions-stand stands.parts) in
       let behind : sound.sent ≤ p = omega (arith, chain-le _ _ _ sound.link.waiting, left-it.rises) in
       let epoch = link-epoch stands.parts in
-      let parts : DownRefine first second new w' =
+      let parts : DownRefine first second fallen w' =
       record {
         sessions = subst (λ n. SessionsRefine sessions transcript (map left w.primary.connections) (cut_at calls n)) left-it.contents_at.at ended;
         unseated = unseated;
@@ -160,27 +157,60 @@ module _ (old : Pair) (call : Cut) (k : ℕ) (picks : Vec ℕ Global) (kept last
             (subst (λ e. All (IsFrameWithin e p) w.wire.frames) (sym epoch) (frames_within-weaker w.primary.epoch sound.sent p w.wire.frames behind sound.wire.frames)) (frames-stand stands.parts);
         arrivals = ArrivalsRefine-cut old.link.epoch calls p old.arrivals w.standby.waiting w.wire.acknowledgements
             (subst (λ e. All (IsFrameWithin e p) w.standby.waiting) (sym epoch) (frames_within-weaker w.primary.epoch sound.sent p w.standby.waiting behind sound.standby.frames)) (arrivals-stand stands.parts);
-        standby = StandbyRefines-cut second old.link.epoch calls w.standby.position p old.standby old.standby_condition (omega (arith, sound.standby.behind, behind)) (standby-refines stands.parts);
+        standby = StandbyRefines-cut second old.link.epoch calls w.standby.position p sound.sent (torn w.standby.life) old.standby old.standby_condition sound.standby.behind behind sound.standby_left (standby-refines stands.parts);
       } in
-      let refines : EitherRefines first second new w' = inr (inl (refl, parts)) in
+      let refines : EitherRefines first second fallen w' = inr (inl (refl, parts)) in
       record {
         world = w';
         step = step;
         stands = record { sound = sound-step w event true w' step sound; lives = search (rules, stands.lives); parts = refines };
-        leaves = LeavesOnly-weaken (OpensNear first calls w.primary.committer.position (left_by w node.Primary call)) (λ image one. one.opens) (crash-leaves off it.leaves);
+        leaves = LeavesOnly-weaken (OpensNear first calls w.primary.committer.position (torn w.primary.life ++ left_by w node.Primary call)) (left-opens first w call) leaves;
         same_standby = (refl, refl);
       }
 
-  pub primary-cut : HasWorld old → AddsOne old.transcript.calls transcript.calls → CutsOrStays old (events.Crash node.Primary call k picks) true new
-  primary-cut has added = record {
-    is_cut_short = ap not inside;
+  -- so of all worlds that the pair stood for
+  pub primary-falls : ((first second : Holder) (w : World) → NodesRefine first second old w → CutsPrimary first second w call k picks old fallen) → LeavesOf call k picks.items old.device device
+      → AddsOne old.transcript.calls transcript.calls → CutsOrStays old (events.Crash node.Primary call k picks) true fallen
+  primary-falls shortened left-of added = record {
+    came = refl;
     did = refl;
-    shortened = shortens;
-    left = leaves-cut off (cut-in has.first has.second has.world has.stands).leaves;
+    shortened = shortened;
+    left = left-of;
     frames = refl;
     acknowledgements = refl;
     calls = added;
   }
+
+-- In this world the call has something to do, and a crash at any moment of it leaves what one that cuts it may leave.
+pub record CutIn (first : Holder) (w : World) (call : Cut) (lines : ℕ) (kept last : State) : Type 0 where
+  pub may : may_cut w node.Primary call ≡ true
+  pub lines_are : first.lines ≡ lines
+  pub leaves : LeavesOnly kept last (LeftBy first w call)
+
+-- a crash inside a call
+leaves-of : (call : Cut) (k : ℕ) (picks : List ℕ) (old new : State) → is_between call ≡ false → LeavesCut k picks old new → LeavesOf call k picks old new
+leaves-of cut.Between k picks old new inside left-cut = absurd (true≢false inside)
+leaves-of call k picks old new inside left-cut = left-cut
+
+module _ (old : Pair) (call : Cut) (k : ℕ) (picks : Vec ℕ Global) (kept last : State)
+    (sessions : Connections) (transcript : Transcript) (sequencer : Sequencing) (committing : Committing) (device : State) (contents : Contents) (is_faulted : Bool) (handed : Waiting Group)
+    (inside : is_between call ≡ false) (off : CrashedIn k picks.items old.device kept last device) (lines : last.lines ≡ kept.lines)
+    (cut-in : (first second : Holder) (w : World) → NodesRefine first second old w → CutIn first w call old.device.lines kept last)
+    (ends : EndsThere device old.sessions old.transcript sessions transcript)
+    (unseated : (c seat : ℕ) → ¬ HasSeat (seats_of sessions.connections.items) c seat) where
+  abbrev new : Pair
+  new = with_cut_primary sessions transcript sequencer committing device contents is_faulted handed old
+
+  shortens : (first second : Holder) (w : World) → NodesRefine first second old w → CutsPrimary first second w call k picks old new
+  shortens first second w stands =
+      let it = cut-in first second w stands in
+      falls old call k picks sessions transcript sequencer committing device contents is_faulted handed off.settled ends unseated first second w stands
+      (cut-enabled node.Primary call k picks inside stands.lives ∙ it.may) (it.lines_are ∙ sym (off.lines_are ∙ lines ∙ off.keeps.lines)) (left-is off it.leaves) (crash-leaves off it.leaves)
+
+  pub primary-cut : HasWorld old → AddsOne old.transcript.calls transcript.calls → CutsOrStays old (events.Crash node.Primary call k picks) true new
+  primary-cut has added =
+      primary-falls old call k picks sessions transcript sequencer committing device contents is_faulted handed off.settled ends unseated shortens
+      (leaves-of call k picks.items old.device device inside (leaves-cut off (cut-in has.first has.second has.world has.stands).leaves)) added
 
 -- ---- while it is opened
 
@@ -215,8 +245,8 @@ opening-left holder w device device' sound down recalls stays =
     left-there holder w cut.Reopen now image sound there (lawful_from c now it.undamaged.current.lawful refl (λ i. refl) down.lawful) recalls keeps)
     (stays c.current (subst (λ n. IsUndamaged n c.current (image_of device.words)) down.sized (lawful_undamaged c (image_of device.words) down.lawful down.keeps)))
 
-opens-cut : {first second : Holder} {serves follows : Condition} {w : World} → AreLives first second serves follows w → may_cut w node.Primary cut.Reopen ≡ has_crashed serves
-opens-cut {first} {second} {serves} {follows} {w} lives = ap is_crashed lives.primary ∙ crashed_as serves
+opens-cut : {first second : Holder} {serves follows : Condition} {fences : AskedFences} {w : World} → AreLives first second serves follows fences w → may_cut w node.Primary cut.Reopen ≡ has_crashed serves
+opens-cut {first} {second} {serves} {follows} {fences} {w} lives = ap is_crashed lives.primary ∙ crashed-as serves (torn w.primary.life)
 
 pub opening-stays : (old : Pair) (k : ℕ) (picks : Vec ℕ Global) → has_crashed old.primary_condition ≡ false → CutsOrStays old (events.Crash node.Primary cut.Reopen k picks) false old
 opening-stays old k picks whole = cut-stays old node.Primary cut.Reopen k picks refl (λ first second w stands. opens-cut stands.lives ∙ whole)
@@ -255,3 +285,22 @@ module _ (old : Pair) (t : ℕ) (kept : State) (fallen : has_crashed old.primary
         lines_are = sym lost.image.contents_at.lines_are ∙ lost.image.sized;
         leaves = opening-left first w kept last stands.sound (kept-down stands) lost.recalls stays;
       }
+
+-- a fence failed in it
+pub opening-breaks : (old : Pair) (sequencer : Sequencing) (committing : Committing) (device : State) (contents : Contents) (is_faulted : Bool) → has_crashed old.primary_condition ≡ true → StaysSo old.device device
+    → old.device.failures < device.failures → device.lines ≡ old.device.lines
+    → BreaksPrimary cut.Reopen old (record old { sequencer = sequencer; committing = committing; device = device; contents = contents; is_faulted = is_faulted })
+opening-breaks old sequencer committing device contents is_faulted fallen stays failed lines = record {
+  fails = λ first second w stands.
+      let lost = fallen-parts old fallen stands.parts in
+      record {
+        enabled = opens-cut stands.lives ∙ fallen;
+        leaves = opening-left first w old.device device stands.sound lost.image lost.recalls stays;
+        failures = failed;
+        lines_are = lines;
+      };
+  lines_are = λ first second w stands.
+      let image = (fallen-parts old fallen stands.parts).image in
+      sym image.sized ∙ image.contents_at.lines_are;
+  rest = refl;
+}

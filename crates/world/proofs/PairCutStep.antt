@@ -1,8 +1,7 @@
 -- What a crash inside a step of the primary's committer does to the pair.
-use Rattle.std.proofs.Common.{rules, ◌≡◌, ◌+◌, ◌-◌, ℕ, Bool, true, false, ◌&&◌, nat_lt, List, length, Result, Ok, Err, Vec, Global, inl, inr, refl, sym, ap, subst, ◌∙◌, true≢false}
+use Rattle.std.proofs.Common.{rules, ◌≡◌, ◌+◌, ◌-◌, ℕ, Bool, true, false, ◌&&◌, nat_lt, List, length, Result, Vec, Global, refl, sym, ap, subst, ◌∙◌, true≢false}
 use Rattle.pmem.specs.Device.{State, moment}
 use Rattle.pmem.specs.Crash as crash
-use Rattle.pmem.specs.Runs.{LeavesOnly}
 use Rattle.kv_types.specs.declared.refusal.Refusal.{Refusal}
 use Rattle.pipes.specs.Waiting.{Waiting}
 use Rattle.model.specs.declared.group.Group.{Group}
@@ -14,7 +13,6 @@ use Rattle.redis_core.specs.Sequencing.{Sequencing}
 use Rattle.standby_stream.specs.declared.opening.Opening.{Opening}
 use Rattle.standby_stream.specs.Stream.{Stream}
 use Rattle.group_commit.specs.Due.{due_of}
-use Rattle.group_commit.specs.Working.{TakesGroup}
 use Rattle.group_commit.specs.declared.committer.Committer.{Committer}
 use Rattle.group_commit.specs.declared.due.Due.{Due}
 use Rattle.group_commit.specs.declared.due.Due.TheVariants as due
@@ -22,7 +20,7 @@ use Rattle.group_commit.specs.declared.stage.Done.{Done}
 use Rattle.machine.specs.declared.event.TheConstants.{PIPE_ITEMS}
 use Rattle.machine.specs.declared.event.Event.TheVariants as events
 use Rattle.machine.specs.declared.event.Node.TheVariants as node
-use Rattle.machine.specs.Event.{Life, World, is_between, is_running, may_clear, may_commit, may_cut, may_free}
+use Rattle.machine.specs.Event.{Life, World, is_between, is_running, may_clear, may_commit, may_cut, may_free, torn}
 use Rattle.primary.specs.Standing.{StandsOver}
 use Rattle.connections.specs.Session.{AddsOne, HasSeat, seats_of}
 use Rattle.connections.specs.declared.connections.Connections.{Connections}
@@ -33,16 +31,15 @@ use Rattle.world.specs.Cutting.{cut_of}
 use Rattle.world.specs.Pair.{HasWorld, NodesRefine, Pair, PairRefines, PartsRefine}
 use Rattle.world.specs.Standby.{Arrived, Node}
 use Rattle.world.specs.Step.{CutsOrStays}
+use Rattle.world.specs.declared.condition.AskedFences.{AskedFences}
 use Rattle.world.specs.declared.condition.Condition.{Condition}
 use Rattle.world.proofs.KeptLemmas.{CrashedIn, EngineStands-kept}
-use Rattle.world.proofs.LeftLemmas.{LeftBy}
 use Rattle.world.proofs.LivesLemmas.{running-as, serves-as, serving}
-use Rattle.world.proofs.PairClearing.{clear-left}
 use Rattle.world.proofs.PairCut.{CutIn, EndsThere, cut-stays, primary-cut, with_cut_primary}
-use Rattle.world.proofs.PairFreeing.{free-left}
 use Rattle.world.proofs.PairLemmas.{back-stands}
-use Rattle.world.proofs.PairTurns.{Took, commit-left, pair_of, took-step}
-use Rattle.world.proofs.QueueLemmas.{clear-disabled, clear-enabled, commit-disabled, commit-enabled, free-disabled, free-enabled}
+use Rattle.world.proofs.PairStepLeft.{step-left, step-lines}
+use Rattle.world.proofs.PairTurns.{Took, pair_of, took-step}
+use Rattle.world.proofs.QueueLemmas.{clear-disabled, commit-disabled, free-disabled}
 
 -- the device was asked to keep a moment
 kept-parts : {t : ℕ} (first second : Holder) (old : Pair) (device : State) (w : World) → crash.Keeps old.device device t → PartsRefine first second old w → PartsRefine first second (record old { device = device }) w
@@ -60,10 +57,10 @@ module _ {E : Type 0} (device : E → State) (contents : E → Contents) (is_fau
     pub local : new.local ≡ old.local
     pub aside : new.aside ≡ old.aside
 
-  module _ (sessions : Connections) (transcript : Transcript) (sequencer : Sequencing) (notices : List Freed) (link : Stream) (opening : Opening) (remote : ℕ) (frames : List (Vec ℕ Global)) (arrivals : Arrived) (standby : Node) (primary_condition standby_condition : Condition) where
+  module _ (sessions : Connections) (transcript : Transcript) (sequencer : Sequencing) (notices : List Freed) (link : Stream) (opening : Opening) (remote : ℕ) (frames : List (Vec ℕ Global)) (arrivals : Arrived) (standby : Node) (primary_condition standby_condition : Condition) (fences : AskedFences) where
     -- the pair with this committer
     abbrev pair_by : Committer E → Waiting Work → Waiting Group → Pair
-    pair_by = pair_of device contents is_faulted sessions transcript sequencer notices link opening remote frames arrivals standby primary_condition standby_condition
+    pair_by = pair_of device contents is_faulted sessions transcript sequencer notices link opening remote frames arrivals standby primary_condition standby_condition fences
 
     abbrev due-by : Committer E → Waiting Work → Waiting Group → Due
     due-by c works handed = due_of c.stage c.aside.items works.items (link_has_room handed.items) (nat_lt 0 (length (contents c.engine).current.gaps.items)) remote
@@ -110,37 +107,14 @@ module _ {E : Type 0} (device : E → State) (contents : E → Contents) (is_fau
             → CutIn first w (cut_of step) (device before.engine).lines (device kept.engine) (device after.engine)
         step-cut-in step inside is came sized up first second w stands =
             let refines = asked-refines (serves-as up stands) in
-            let both = by step inside (due-still ∙ is) came refines in
+            let both =
+            step-left device contents is_faulted sessions transcript sequencer notices link opening remote frames arrivals standby primary_condition standby_condition fences kept works' handed after works'' handed'
+            step result inside (due-still ∙ is) came first second w refines in
             record {
               may = both.0;
               lines_are = sym refines.parts.engine.contents_at.lines_are ∙ ap (λ (c : Contents). c.lines) only.contents_are ∙ sized;
               leaves = both.1;
             }
-          where
-            runs-and : (b : Bool) → PairRefines first second asked w → b ≡ true → (is_running w.primary.life && b) ≡ true
-            runs-and b refines on = ap (λ (life : Life). is_running life && b) (serving refines) ∙ on
-
-            by : (step : Due) → is_between (cut_of step) ≡ false → due-by kept works' handed ≡ step → Came step → PairRefines first second asked w
-                → (may_cut w node.Primary (cut_of step) ≡ true) × LeavesOnly (device kept.engine) (device after.engine) (LeftBy first w (cut_of step))
-            by due.Commit inside is came refines = (
-              runs-and (may_commit w) refines
-                  (commit-enabled w asked.committing handed.items refines.parts.committing refines.parts.link.waiting remote (length asked.contents.current.gaps.items) is),
-              commit-left device contents is_faulted sessions transcript sequencer notices link opening remote frames arrivals standby primary_condition standby_condition kept after works' works'' handed handed' result
-                  came first second w refines,
-            )
-            by due.Free inside is came refines = (
-              runs-and (may_free w) refines
-                  (free-enabled w asked.committing handed.items refines.parts.committing refines.parts.link.waiting remote (length asked.contents.current.gaps.items) refines.parts.link.remote_is is),
-              free-left device contents is_faulted sessions transcript sequencer link opening remote frames arrivals standby primary_condition standby_condition kept works' notices handed is after works'' handed' result
-                  came first second w refines,
-            )
-            by due.Clear inside is came refines = (
-              runs-and (may_clear w) refines
-                  (clear-enabled w asked.committing handed.items refines.parts.committing refines.parts.link.waiting remote (length asked.contents.current.gaps.items) refines.parts.freeing.gaps is),
-              clear-left device contents is_faulted sessions transcript sequencer link opening remote frames arrivals standby primary_condition standby_condition kept works' notices handed is after works'' handed' result
-                  came first second w refines,
-            )
-            by step inside is came refines = absurd (true≢false inside)
 
         -- the step that is due was taken
         abbrev room : Bool
@@ -152,23 +126,13 @@ module _ {E : Type 0} (device : E → State) (contents : E → Contents) (is_fau
         came-so : (step : Due) → due-by before works handed ≡ step → Taken → Came step
         came-so step is taken = took-step device contents is_faulted remote kept after works' works'' handed handed' result step (due-still ∙ is) taken
 
-        -- the image has as many lines as before
-        took-lines : (step : Due) → is_between (cut_of step) ≡ false → Came step → (contents after.engine).lines ≡ (contents kept.engine).lines
-        took-lines due.Commit inside (none, inl took) = by result took
-          where
-            by : (result : Result Done Refusal) → TakesGroup device contents is_faulted kept works' result after works'' → (contents after.engine).lines ≡ (contents kept.engine).lines
-            by (Ok done) took = took.commits.moved.lines
-            by (Err refusal) took = took.commits.stays.lines
-        took-lines due.Commit inside (none, inr lacks) = ap (λ (e : E). (contents e).lines) lacks.engine
-        took-lines due.Free inside (none, inl frees) = frees.frees.lines
-        took-lines due.Free inside (none, inr lacks) = ap (λ (e : E). (contents e).lines) lacks.engine
-        took-lines due.Clear inside (none, queue, clears) = clears.lines
-        took-lines step inside came = absurd (true≢false inside)
-
         same-device-lines : (step : Due) → is_between (cut_of step) ≡ false → due-by before works handed ≡ step → Taken → ((engine : E) → (contents engine).lines ≡ (device engine).lines)
             → (device after.engine).lines ≡ (device kept.engine).lines
         same-device-lines step inside is taken sized =
-            sym (sized after.engine) ∙ took-lines step inside (came-so step is taken) ∙ sized kept.engine
+            sym (sized after.engine)
+            ∙ step-lines device contents is_faulted sessions transcript sequencer notices link opening remote frames arrivals standby primary_condition standby_condition fences kept works' handed after works'' handed'
+            step result inside (came-so step is taken)
+            ∙ sized kept.engine
 
         pub step-cut : (step : Due) (picks : Vec ℕ Global) (new : State) (sessions' : Connections) (transcript' : Transcript) (committing' : Committing) (contents' : Contents) (is_faulted' : Bool) → is_between (cut_of step) ≡ false
             → runs primary_condition ≡ true → due-by before works handed ≡ step → Taken → ((engine : E) → (contents engine).lines ≡ (device engine).lines)
@@ -183,7 +147,7 @@ module _ {E : Type 0} (device : E → State) (contents : E → Contents) (is_fau
 
 -- the primary does not run
 pub cut-down : (old : Pair) (step : Due) (k : ℕ) (picks : Vec ℕ Global) → is_between (cut_of step) ≡ false → runs old.primary_condition ≡ false → CutsOrStays old (events.Crash node.Primary (cut_of step) k picks) false old
-cut-down old step k picks inside down = cut-stays old node.Primary (cut_of step) k picks inside (λ first second w stands. by step inside w (ap is_running stands.lives.primary ∙ running-as old.primary_condition ∙ down))
+cut-down old step k picks inside down = cut-stays old node.Primary (cut_of step) k picks inside (λ first second w stands. by step inside w (ap is_running stands.lives.primary ∙ running-as old.primary_condition (torn w.primary.life) ∙ down))
   where
     by : (step : Due) → is_between (cut_of step) ≡ false → (w : World) → is_running w.primary.life ≡ false → may_cut w node.Primary (cut_of step) ≡ false
     by due.Commit inside w off = ap (λ b. b && may_commit w) off

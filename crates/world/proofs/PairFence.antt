@@ -1,23 +1,31 @@
 -- What the fence of the primary does to the pair.
-use Rattle.std.proofs.Common.{rules, ◌≡◌, inr, Bool, true, false, not, ◌&&◌, Ok, refl, sym, ap, ◌∙◌, true≢false}
+use Rattle.std.proofs.Common.{◌≡◌, inl, inr, true, false, not, ◌&&◌, Ok, refl, sym, ap, subst, ◌∙◌, true≢false}
+use Rattle.pmem.specs.Crash.{IsImage}
+use Rattle.model.specs.Image.{Image}
 use Rattle.model.specs.Standing.{Holder}
+use Rattle.wbl_engine.specs.Contents.{Keeps}
+use Rattle.machine.specs.declared.event.Cut.TheVariants as cut
 use Rattle.machine.specs.declared.event.Event.TheVariants.{Fence}
 use Rattle.machine.specs.declared.event.Node.TheVariants as node
-use Rattle.machine.specs.Event.{Allowed, Life, Retired, World, Step, is_enabled, is_retired, with_life}
+use Rattle.machine.specs.Event.{Allowed, Life, Retired, World, Step, is_enabled, is_retired, torn, with_life}
 use Rattle.machine.proofs.SoundEvents.{sound-step}
 use Rattle.world.specs.Condition.{has_ended}
+use Rattle.world.specs.Remaining.{LeftBy}
+use Rattle.world.specs.declared.condition.AskedFences.{AskedFences}
 use Rattle.world.specs.declared.condition.Condition.{Condition}
 use Rattle.world.specs.declared.condition.Condition.TheVariants.{Ended}
-use Rattle.world.specs.Pair.{Acts, AreLives, EitherRefines, FencedRefine, NodesRefine, Pair, Steps}
+use Rattle.world.specs.Pair.{Acts, AreLives, EitherRefines, NodesRefine, Pair, StillRefine, Steps}
+use Rattle.world.proofs.DownLemmas.{settled-image}
+use Rattle.world.proofs.LeftLemmas.{left-fenced, left-running, left-there}
 use Rattle.world.proofs.LivesLemmas.{retired-as}
-use Rattle.world.proofs.PairLemmas.{none-added, primary-stands, sessions-stand, standby-refines, untouched}
+use Rattle.world.proofs.PairLemmas.{none-added, sessions-stand, standby-refines, untouched}
 use Rattle.world.proofs.PairLives.{stays-acts}
 use Rattle.world.proofs.PairStandby.{arrivals-stand, frames-stand, link-epoch, own-frames}
 
 -- it is enabled where the primary was not fenced
-fence-enabled : {first second : Holder} {serves follows : Condition} {w : World} → AreLives first second serves follows w → is_enabled w Fence ≡ not (has_ended serves)
-fence-enabled {first} {second} {serves} {follows} {w} lives =
-    ap (λ (a : Allowed). a.fencing && not (is_retired w.primary.life)) lives.allowed_are ∙ ap (λ (l : Life). not (is_retired l)) lives.primary ∙ ap not (retired-as serves)
+fence-enabled : {first second : Holder} {serves follows : Condition} {fences : AskedFences} {w : World} → AreLives first second serves follows fences w → is_enabled w Fence ≡ not (has_ended serves)
+fence-enabled {first} {second} {serves} {follows} {fences} {w} lives =
+    ap (λ (a : Allowed). a.fencing && not (is_retired w.primary.life)) lives.allowed_are ∙ ap (λ (l : Life). not (is_retired l)) lives.primary ∙ ap not (retired-as serves (torn w.primary.life))
 
 pub primary-fenced : (old : Pair) → has_ended old.primary_condition ≡ true → Acts old Fence (Ok false) old
 primary-fenced old fenced = stays-acts old Fence (λ first second w stands. fence-enabled stands.lives ∙ ap not fenced)
@@ -25,34 +33,65 @@ primary-fenced old fenced = stays-acts old Fence (λ first second w stands. fenc
 abbrev pub with_fenced_primary : Pair → Pair
 with_fenced_primary pair = record pair { primary_condition = Ended }
 
-pub primary-fences : (old : Pair) → has_ended old.primary_condition ≡ false → Acts old Fence (Ok true) (with_fenced_primary old)
-primary-fences old unfenced = record { steps = steps; cut = tt; calls = none-added _ _ refl }
+-- its device may hold what a crash may leave of it now
+primary-left : (first second : Holder) (old : Pair) (w : World) → NodesRefine first second old w → (image : Image) → IsImage old.device.words image → LeftBy first w cut.Between image
+primary-left first second old w stands image is = elim stands.parts [
+  | inl up ↦ left-running first second old w cut.Between image stands.sound up.1 (up.1.engine.durable image is)
+  | inr (inl down) ↦
+      let there = down.1.image in
+      left-there first w cut.Between there.contents image stands.sound there.contents_at there.lawful down.1.recalls
+      (subst (Keeps there.contents) (sym (settled-image old.device.words image there.settled is)) there.keeps)
+  | inr (inr still) ↦ still.1.left image is
+]
+
+-- and has the lines of its holder
+primary-lines : (first second : Holder) (old : Pair) (w : World) → old.contents.lines ≡ old.device.lines → NodesRefine first second old w → old.device.lines ≡ first.lines
+primary-lines first second old w sized stands = elim stands.parts [
+  | inl up ↦ sym sized ∙ up.1.engine.contents_at.lines_are
+  | inr (inl down) ↦ sym down.1.image.sized ∙ down.1.image.contents_at.lines_are
+  | inr (inr still) ↦ still.1.lines_are
+]
+
+pub primary-fences : (old : Pair) → has_ended old.primary_condition ≡ false → old.contents.lines ≡ old.device.lines → Acts old Fence (Ok true) (with_fenced_primary old)
+primary-fences old unfenced sized = record { steps = steps; cut = tt; calls = none-added _ _ refl }
   where
     new : Pair
     new = with_fenced_primary old
 
     steps : (first second : Holder) (w : World) → NodesRefine first second old w → Steps first second w Fence true old new
     steps first second w stands =
-        let w' = with_life node.Primary Retired w in
-        let step : Step w Fence true w' = record { done = sym (fence-enabled stands.lives ∙ ap not unfenced); happens = λ did. refl; stands = λ did. absurd (true≢false did) } in
-        let left : FencedRefine first second new w' =
+        let lives = stands.lives in
+        let w' = with_life node.Primary (Retired (torn w.primary.life)) w in
+        let step : Step w Fence true w' = record { done = sym (fence-enabled lives ∙ ap not unfenced); happens = λ did. refl; stands = λ did. absurd (true≢false did) } in
+        let still : StillRefine first second new w' =
         record {
           sessions = sessions-stand stands.parts;
-          opens = primary-stands first second old w stands.parts;
+          lines_are = primary-lines first second old w sized stands;
+          left = λ image is. left-fenced first w image (primary-left first second old w stands image is);
           epoch = link-epoch stands.parts;
           frames = frames-stand stands.parts;
           own = own-frames stands.parts;
           arrivals = arrivals-stand stands.parts;
           standby = standby-refines stands.parts;
         } in
-        let refines : EitherRefines first second new w' = inr (inr (refl, left)) in
+        let refines : EitherRefines first second new w' = inr (inr (refl, still)) in
+        let now : AreLives first second new.primary_condition new.standby_condition new.asked w' =
+        record {
+          allowed_are = lives.allowed_are;
+          primary_disk = lives.primary_disk;
+          standby_disk = lives.standby_disk;
+          primary_failing = lives.primary_failing;
+          standby_failing = lives.standby_failing;
+          primary = refl;
+          standby = lives.standby;
+          first_role = lives.first_role;
+          second_role = lives.second_role;
+          first_epoch = lives.first_epoch;
+          second_epoch = lives.second_epoch;
+        } in
         record {
           world = w';
           step = step;
-          stands = record {
-            sound = sound-step w Fence true w' step stands.sound;
-            lives = search (rules, stands.lives);
-            parts = refines;
-          };
+          stands = record { sound = sound-step w Fence true w' step stands.sound; lives = now; parts = refines };
           moves = untouched first second old new w w' refl refl stands.parts;
         }

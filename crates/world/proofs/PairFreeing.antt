@@ -36,7 +36,7 @@ use Rattle.machine.specs.Event.{Work as MachineWork, World, has_room, may_happen
 use Rattle.machine.specs.Event as machine
 use Rattle.world.specs.Cause.{Breaks, EndsBy, Resting, asks_memory}
 use Rattle.world.specs.Committing.{CommittingRefines, Leads, OpensAt, OpensAtEither, StageRefines, link_has_room, next_primary, reached_now}
-use Rattle.world.specs.GroupSpan.{AreWorkOf, positions_of_lists}
+use Rattle.node_steps.specs.GroupSpan.{AreWorkOf, positions_of_lists}
 use Rattle.world.specs.Pair.{Does, FreeingRefines, IsCut, Pair, PairRefines, PartsRefine}
 use Rattle.world.specs.Effect.{FreesOldest}
 use Rattle.primary.specs.Recalling.{Remembers}
@@ -57,8 +57,10 @@ use Rattle.world.proofs.PairLemmas.{Led, cut-for, cut-same, none-added, rests-st
 use Rattle.world.proofs.QueueLemmas.{free-disabled, free-enabled, reached-positions, room-link}
 use Rattle.world.proofs.PairTurns.{Took, Waiting-same, pair_of}
 use Rattle.world.proofs.FreeingLemmas.{contents-without, engine-freed, freed-moments, primary-steps}
-use Rattle.world.proofs.LeftLemmas.{LeftBy, left-still, left-there}
+use Rattle.world.specs.Remaining.{LeftBy}
+use Rattle.world.proofs.LeftLemmas.{left-still, left-there}
 use Rattle.world.specs.declared.condition.Condition.{Condition}
+use Rattle.world.specs.declared.condition.AskedFences.{AskedFences}
 
 -- ---- what a turn reaches
 
@@ -72,11 +74,11 @@ work_left calls room room' items works same are = subst (λ (b : Bool). AreWorkO
 
 -- ---- a turn of a committer that is ready
 
-module _ {E : Type 0} (device : E → State) (contents : E → Contents) (is_faulted : E → Bool) (sessions : Connections) (transcript : Transcript) (sequencer : Sequencing) (link : Stream) (opening : Opening) (remote : ℕ) (frames : List (Vec ℕ Global)) (arrivals : Arrived) (standby : Node) (primary_condition standby_condition : Condition) where
+module _ {E : Type 0} (device : E → State) (contents : E → Contents) (is_faulted : E → Bool) (sessions : Connections) (transcript : Transcript) (sequencer : Sequencing) (link : Stream) (opening : Opening) (remote : ℕ) (frames : List (Vec ℕ Global)) (arrivals : Arrived) (standby : Node) (primary_condition standby_condition : Condition) (fences : AskedFences) where
   -- a pair with this committer, with this work waiting for it, with these notices and with these groups at the link
   abbrev pub pair_with : Committer E → Waiting Work → List Freed → Waiting Group → Pair
   pair_with committer waiting notices handed =
-      pair_of device contents is_faulted sessions transcript sequencer notices link opening remote frames arrivals standby primary_condition standby_condition committer waiting handed
+      pair_of device contents is_faulted sessions transcript sequencer notices link opening remote frames arrivals standby primary_condition standby_condition fences committer waiting handed
 
   -- memory was refused, and the engine was not touched
   pub refused-does : (event : Event) → is_own event ≡ true → asks_memory event ≡ true → (before after : Committer E) (waiting waiting' : Waiting Work) (notices notices' : List Freed) (handed handed' : Waiting Group) (refusal : Refusal)
@@ -119,7 +121,7 @@ module _ {E : Type 0} (device : E → State) (contents : E → Contents) (is_fau
           let leaves = LeavesOnly-weaken (OpensAtEither first w.primary.calls w.primary.committer.position (next_primary w)) (λ image at. inl at) (moments first second w stands.parts) in
           cut-for first second event refusal old new w (nodes-refine stands) (tells transcript) refl (enabled-is (own-runs stands event own) ∙ enabled first second w stands)
           (subst (λ (r : Refusal). EndsBy r event (Led first second old new w)) (sym fault)
-          (breaks first second w old new (record { leaves = leaves; failures = failed }, rests-standby first second old w (nodes-refine stands))))
+          (breaks first second w old new (inl (record { leaves = leaves; failures = failed }), rests-standby first second old w (nodes-refine stands))))
 
   -- ---- a list is freed
 
@@ -224,7 +226,7 @@ module _ {E : Type 0} (device : E → State) (contents : E → Contents) (is_fau
         steps = λ first second w stands.
             primary-steps events.Free first second w (machine.freed w) old (pair_with after waiting' (notices ++ frees.frees.answer.0 ∷ []) handed) refl
             (record { allowed = refl; primary_disk = refl; standby_disk = refl; primary = refl; standby = refl; epoch = refl })
-            stands refl refl refl frees.frees.sound.1 (inl refl)
+            stands refl refl refl refl frees.frees.sound.1 (inl refl)
             (sym (free_may first second w stands)) (moments-then (Ok ok) frees first second w stands.parts) (free-parts ok frees first second w stands);
         cut = tt;
         calls = none-added _ _ refl;

@@ -1,5 +1,5 @@
 -- What each event does to a pair whose primary runs, of what it does to its parts.
-use Rattle.std.proofs.Common.{rules, ◌≡◌, inl, inr, ℕ, ◌≤◌, Bool, true, false, List, ◌∷◌, ◌++◌, length, slice_index_or, Result, Ok, Err, IfOk, IfErr, OnErr, Vec, Global, refl, sym, ap, ap₂, subst, ◌∙◌, arith, le_refl, true≢false, []}
+use Rattle.std.proofs.Common.{rules, ◌≡◌, inl, inr, ℕ, ◌≤◌, Bool, true, false, List, ◌∷◌, ◌++◌, length, slice_index_or, Result, Ok, Err, IfOk, IfErr, OnErr, Vec, Global, refl, sym, ap, ap₂, subst, ◌∙◌, arith, le_refl, true≢false, [], All}
 use Rattle.std.proofs.lemmas.List.{length-map}
 use Rattle.kv_types.specs.declared.refusal.Refusal.{Refusal}
 use Rattle.kv_types.specs.declared.refusal.Refusal.TheVariants.{Memory}
@@ -11,14 +11,15 @@ use Rattle.machine.specs.declared.event.Event.{Event}
 use Rattle.machine.specs.declared.event.Event.TheVariants as events
 use Rattle.machine.specs.declared.event.Mark.{Mark}
 use Rattle.machine.specs.Connection.{having_seen, is_open_at, may_enter, with_outbound}
-use Rattle.machine.specs.Event.{Connection, World, Happens, Step, Turns, changed_at, left, new_connection, is_enabled, may_happen, called, with_connections}
+use Rattle.machine.specs.Event.{Connection, Remains, World, Happens, Step, Turns, changed_at, left, new_connection, is_enabled, may_happen, called, torn, with_connections}
 use Rattle.machine.proofs.SoundConnection.{uncalled}
-use Rattle.machine.specs.Sound.{Sound}
+use Rattle.machine.specs.Sound.{IsStandbyLeft, Sound}
 use Rattle.machine.proofs.GroupLemmas.{chain-le}
 use Rattle.machine.proofs.SoundEvents.{sound-step}
 use Rattle.connections.specs.Going.{Goes}
-use Rattle.world.specs.Cause.{Stretch, EndsBy, asks_memory}
-use Rattle.world.specs.Committing.{Rests, Opens, next_primary, next_standby}
+use Rattle.world.specs.Cause.{OrLies, Stretch, EndsBy, asks_memory, Resting}
+use Rattle.world.specs.Committing.{Rests, next_primary, next_standby}
+use Rattle.world.specs.Remaining.{Remain}
 use Rattle.connections.specs.Session.{IsListOf, SessionsRefine, SequencerRefines, SeatsFollow, KeepsSeats, AddsOne, StandsStill, TakesTurn, TellsTheSame, seats_of}
 use Rattle.world.specs.Pair.{HasStandby, Pair, EitherRefines, NodesRefine, PartsRefine, PairRefines, IsCut, MovesBoth, Steps, Does}
 use Rattle.world.specs.Standby.{Node, StandbyRefines}
@@ -31,13 +32,15 @@ use Rattle.world.specs.Step.{IsRoomier}
 use Rattle.connections.proofs.SessionLemmas.{length-released, released-told}
 use Rattle.connections.proofs.SeatLemmas.{follow-kept}
 use Rattle.connections.proofs.SequencerLemmas.{still-same}
-use Rattle.world.proofs.StillLemmas.{freeing-still, leads-still}
+use Rattle.node_steps.proofs.StillLemmas.{freeing-still, leads-still}
 use Rattle.primary.proofs.RecallLemmas.{remembers-on}
 use Rattle.world.specs.Recalling.{past_of}
-use Rattle.world.proofs.RecallLemmas.{remembers-still}
+use Rattle.node_steps.proofs.RecallLemmas.{remembers-still}
 use Rattle.world.proofs.OpeningLemmas.{opening-still}
-use Rattle.world.proofs.EngineLemmas.{Opens-engine, moves-rest, rests-same, EngineStands-grows}
-use Rattle.world.proofs.CommittingLemmas.{CommittingRefines-grows}
+use Rattle.node_steps.proofs.EngineLemmas.{EngineStands-grows}
+use Rattle.world.proofs.EngineLemmas.{Opens-engine, rests-same}
+use Rattle.world.proofs.RemainLemmas.{LeavesOne-grows, keeps-near, left-near, lies-still, near-rest, remain-from}
+use Rattle.node_steps.proofs.CommittingLemmas.{CommittingRefines-grows}
 use Rattle.world.proofs.FrameLemmas.{AreFramesSent-grows}
 use Rattle.world.proofs.LinkLemmas.{LinkRefines-grows}
 use Rattle.world.proofs.StandbyLemmas.{StandbyStands-grows}
@@ -45,7 +48,8 @@ use Rattle.world.proofs.DownLemmas.{IsDown-grows, Opens-down}
 use Rattle.world.proofs.ArrivalLemmas.{ArrivalsRefine-grows}
 use Rattle.world.specs.Condition.{has_ended, runs}
 use Rattle.world.specs.declared.condition.Condition.{Condition}
-use Rattle.world.specs.declared.condition.Condition.TheVariants.{Running, Crashed, Ended}
+use Rattle.world.specs.declared.condition.Condition.TheVariants.{Running, Stopped, Crashed, Ended}
+use Rattle.world.specs.declared.condition.AskedFences.{AskedFences}
 
 -- ---- what stands
 
@@ -60,35 +64,44 @@ back-stands {first} {second} {pair} {w} parts =
     let consistent = engine.contents_at.consistent in
     record { leads = parts.leads; consistent = consistent; laid = laid-engine pair.device pair.contents consistent engine.lawful engine.durable; durable = engine.durable }
 
-pub Opens-standby : (holder : Holder) (epoch : ℕ) (calls : List Call) (position : ℕ) (node : Node) (condition : Condition) → has_ended condition ≡ false → StandbyRefines holder epoch calls position node condition
-    → Opens holder calls position node.device
-Opens-standby holder epoch calls position node Running whole refines = Opens-engine _ _ _ _ _ _ (refines.stands refl).engine
-Opens-standby holder epoch calls position node Crashed whole refines = Opens-down holder calls position node.device (refines.down refl)
-Opens-standby holder epoch calls position node Ended whole refines = absurd (true≢false whole)
+pub Remain-standby : (holder : Holder) (epoch : ℕ) (calls : List Call) (position : ℕ) (remains : List Remains) (node : Node) (condition : Condition) → has_ended condition ≡ false
+    → StandbyRefines holder epoch calls position remains node condition → Remain holder calls position remains node.device
+Remain-standby holder epoch calls position remains node Running whole refines = remain-from holder calls position remains node.device (Opens-engine _ _ _ _ _ _ (refines.stands refl).engine)
+Remain-standby holder epoch calls position remains node Stopped whole refines = λ image is. keeps-near holder calls position remains image ((refines.left refl).each image is)
+Remain-standby holder epoch calls position remains node Crashed whole refines = remain-from holder calls position remains node.device (Opens-down holder calls position node.device (refines.down refl))
+Remain-standby holder epoch calls position remains node Ended whole refines = absurd (true≢false whole)
 
 -- the standby, whether the primary runs or not
-pub standby-refines : {first second : Holder} {pair : Pair} {w : World} → EitherRefines first second pair w → StandbyRefines second pair.link.epoch w.primary.calls w.standby.position pair.standby pair.standby_condition
+pub standby-refines : {first second : Holder} {pair : Pair} {w : World} → EitherRefines first second pair w → StandbyRefines second pair.link.epoch w.primary.calls w.standby.position (torn w.standby.life) pair.standby pair.standby_condition
 standby-refines parts = elim parts [
   | inl up ↦ up.1.standby
   | inr (inl down) ↦ down.1.standby
-  | inr (inr fenced) ↦ fenced.1.standby
+  | inr (inr still) ↦ still.1.standby
 ]
 
-pub standby-stands : (first second : Holder) (pair : Pair) (w : World) → EitherRefines first second pair w → HasStandby pair → Opens second w.primary.calls w.standby.position pair.standby.device
-standby-stands first second pair w parts whole = Opens-standby second pair.link.epoch w.primary.calls w.standby.position pair.standby pair.standby_condition whole (standby-refines parts)
+pub standby-stands : (first second : Holder) (pair : Pair) (w : World) → EitherRefines first second pair w → HasStandby pair → Remain second w.primary.calls w.standby.position (torn w.standby.life) pair.standby.device
+standby-stands first second pair w parts whole = Remain-standby second pair.link.epoch w.primary.calls w.standby.position (torn w.standby.life) pair.standby pair.standby_condition whole (standby-refines parts)
 
-pub primary-stands : (first second : Holder) (pair : Pair) (w : World) → EitherRefines first second pair w → Opens first w.primary.calls w.primary.committer.position pair.device
+pub primary-stands : (first second : Holder) (pair : Pair) (w : World) → EitherRefines first second pair w → Remain first w.primary.calls w.primary.committer.position (torn w.primary.life) pair.device
 primary-stands first second pair w parts = elim parts [
-  | inl up ↦ Opens-engine _ _ _ _ _ _ up.1.engine
-  | inr (inl down) ↦ Opens-down first w.primary.calls w.primary.committer.position pair.device down.1.image
-  | inr (inr fenced) ↦ fenced.1.opens
+  | inl up ↦ remain-from first w.primary.calls w.primary.committer.position (torn w.primary.life) pair.device (Opens-engine _ _ _ _ _ _ up.1.engine)
+  | inr (inl down) ↦ remain-from first w.primary.calls w.primary.committer.position (torn w.primary.life) pair.device (Opens-down first w.primary.calls w.primary.committer.position pair.device down.1.image)
+  | inr (inr still) ↦ λ image is. left-near first w image (still.1.left image is)
 ]
 
 pub sessions-stand : {first second : Holder} {pair : Pair} {w : World} → EitherRefines first second pair w → SessionsRefine pair.sessions pair.transcript w.primary.connections w.primary.calls
 sessions-stand parts = elim parts [
   | inl up ↦ up.1.sessions
   | inr (inl down) ↦ down.1.sessions
-  | inr (inr fenced) ↦ fenced.1.sessions
+  | inr (inr still) ↦ still.1.sessions
+]
+
+-- of what was asked of the devices nothing is said there
+pub asked-either : (first second : Holder) (pair : Pair) (fences : AskedFences) (w : World) → EitherRefines first second pair w → EitherRefines first second (record pair { asked = fences }) w
+asked-either first second pair fences w parts = elim parts [
+  | inl up ↦ inl (up.0, search (rules, up.1))
+  | inr (inl down) ↦ inr (inl (down.0, search (rules, down.1)))
+  | inr (inr still) ↦ inr (inr (still.0, search (rules, still.1)))
 ]
 
 -- ---- steps
@@ -97,13 +110,13 @@ sessions-stand parts = elim parts [
 pub untouched : (first second : Holder) (old new : Pair) (w w' : World) → new.device ≡ old.device → new.standby.device ≡ old.standby.device → EitherRefines first second old w → MovesBoth first second old new w w'
 untouched first second old new w w' device device' parts =
     record {
-      primary = moves-rest first w.primary.calls w.primary.committer.position w'.primary.committer.position old.device new.device device (primary-stands first second old w parts);
-      standby = λ whole. moves-rest second w.primary.calls w.standby.position w'.standby.position old.standby.device new.standby.device device' (standby-stands first second old w parts whole);
+      primary = near-rest first w.primary.calls w.primary.committer.position w'.primary.committer.position (torn w.primary.life) old.device new.device device (primary-stands first second old w parts);
+      standby = λ whole. near-rest second w.primary.calls w.standby.position w'.standby.position (torn w.standby.life) old.standby.device new.standby.device device' (standby-stands first second old w parts whole);
     }
 
 -- an event that touches no device
 pub goes-either : (first second : Holder) (w w' : World) (event : Event) (did : Bool) (old new : Pair) → new.device ≡ old.device → new.standby.device ≡ old.standby.device → NodesRefine first second old w
-    → Runs first second new.primary_condition new.standby_condition w event → is_plain event ≡ true → Happens w event w'
+    → Runs first second new.primary_condition new.standby_condition new.asked w event → is_plain event ≡ true → Happens w event w'
     → Goes (may_happen w event) did (EitherRefines first second new w') (EitherRefines first second new w) → Steps first second w event did old new
 goes-either first second w w' event true old new device device' before runs plain happens goes =
     let step : Step w event true w' = record { done = goes.done ∙ sym (enabled-is runs); happens = λ did. happens; stands = λ did. absurd (true≢false did) } in
@@ -123,25 +136,32 @@ goes-either first second w w' event false old new device device' before runs pla
 
 -- of one whose primary runs
 pub goes-steps : (first second : Holder) (w w' : World) (event : Event) (did : Bool) (old new : Pair) → new.device ≡ old.device → new.standby.device ≡ old.standby.device → NodesRefine first second old w
-    → Runs first second new.primary_condition new.standby_condition w event → runs new.primary_condition ≡ true → is_plain event ≡ true → Happens w event w'
+    → Runs first second new.primary_condition new.standby_condition new.asked w event → runs new.primary_condition ≡ true → is_plain event ≡ true → Happens w event w'
     → Goes (may_happen w event) did (PartsRefine first second new w') (PartsRefine first second new w) → Steps first second w event did old new
 goes-steps first second w w' event did old new device device' before runs serves plain happens goes =
     goes-either first second w w' event did old new device device' before runs plain happens (goes-map goes (λ moved. inl (serves, moved)) (λ stayed. inl (serves, stayed)))
 
 -- ---- cuts
 
-pub rests-primary : (first second : Holder) (old : Pair) (w : World) → NodesRefine first second old w → Rests first w.primary.calls w.primary.committer.position old.device old.device
-rests-primary first second old w stands = rests-same first w.primary.calls w.primary.committer.position old.device old.device refl (primary-stands first second old w stands.parts)
+pub rests-primary : (first second : Holder) (old : Pair) (w : World) → NodesRefine first second old w
+    → OrLies Resting first w.primary.calls w.primary.committer.position (next_primary w) (torn w.primary.life) old.device old.device
+rests-primary first second old w stands =
+    lies-still Resting first w.primary.calls w.primary.committer.position (next_primary w) (torn w.primary.life) old.device old.device refl (primary-stands first second old w stands.parts)
 
-pub rests-standby : (first second : Holder) (old : Pair) (w : World) → NodesRefine first second old w → HasStandby old → Rests second w.primary.calls w.standby.position old.standby.device old.standby.device
+-- of one that runs
+pub rests-running : (first second : Holder) (old : Pair) (w : World) → PartsRefine first second old w → Rests first w.primary.calls w.primary.committer.position old.device old.device
+rests-running first second old w parts = rests-same first w.primary.calls w.primary.committer.position old.device old.device refl (Opens-engine _ _ _ _ _ _ parts.engine)
+
+pub rests-standby : (first second : Holder) (old : Pair) (w : World) → NodesRefine first second old w → HasStandby old
+    → OrLies Resting second w.primary.calls w.standby.position (next_standby w) (torn w.standby.life) old.standby.device old.standby.device
 rests-standby first second old w stands whole =
-    rests-same second w.primary.calls w.standby.position old.standby.device old.standby.device refl (standby-stands first second old w stands.parts whole)
+    lies-still Resting second w.primary.calls w.standby.position (next_standby w) (torn w.standby.life) old.standby.device old.standby.device refl (standby-stands first second old w stands.parts whole)
 
 -- what an event that was cut did to both devices
 abbrev pub Led : Holder → Holder → Pair → Pair → World → Stretch → Stretch → Type 0
 Led first second old new w first_last second_last =
-    first_last first w.primary.calls w.primary.committer.position (next_primary w) old.device new.device
-    × (HasStandby old → second_last second w.primary.calls w.standby.position (next_standby w) old.standby.device new.standby.device)
+    OrLies first_last first w.primary.calls w.primary.committer.position (next_primary w) (torn w.primary.life) old.device new.device
+    × (HasStandby old → OrLies second_last second w.primary.calls w.standby.position (next_standby w) (torn w.standby.life) old.standby.device new.standby.device)
 
 pub cut-for : (first second : Holder) (event : Event) (refusal : Refusal) (old new : Pair) (w : World) → NodesRefine first second old w → TellsTheSame old.transcript new.transcript
     → has_ended new.standby_condition ≡ has_ended old.standby_condition → is_enabled w event ≡ true → EndsBy refusal event (Led first second old new w) → IsCut first second event refusal old new w
@@ -164,15 +184,16 @@ cut-for first second event refusal old new w stands same nodes enabled cause =
 
 -- memory was refused, and neither device was touched
 pub cut-same : (first second : Holder) (event : Event) (refusal : Refusal) (old new : Pair) (w : World) → asks_memory event ≡ true → refusal ≡ Memory → new.device ≡ old.device
-    → new.standby.device ≡ old.standby.device → TellsTheSame old.transcript new.transcript → has_ended new.standby_condition ≡ has_ended old.standby_condition → Runs first second old.primary_condition old.standby_condition w event → may_happen w event ≡ true → NodesRefine first second old w
+    → new.standby.device ≡ old.standby.device → TellsTheSame old.transcript new.transcript → has_ended new.standby_condition ≡ has_ended old.standby_condition → Runs first second old.primary_condition old.standby_condition old.asked w event → may_happen w event ≡ true → NodesRefine first second old w
     → IsCut first second event refusal old new w
 cut-same first second event refusal old new w asks memory device device' same nodes runs enabled stands =
     cut-for first second event refusal old new w stands same nodes (enabled-is runs ∙ enabled)
     (subst (λ (r : Refusal). EndsBy r event (Led first second old new w)) (sym memory) (
       asks,
       (
-        subst (Rests first w.primary.calls w.primary.committer.position old.device) (sym device) (rests-primary first second old w stands),
-        λ whole. subst (Rests second w.primary.calls w.standby.position old.standby.device) (sym device') (rests-standby first second old w stands whole),
+        lies-still Resting first w.primary.calls w.primary.committer.position (next_primary w) (torn w.primary.life) old.device new.device device (primary-stands first second old w stands.parts),
+        λ whole.
+            lies-still Resting second w.primary.calls w.standby.position (next_standby w) (torn w.standby.life) old.standby.device new.standby.device device' (standby-stands first second old w stands.parts whole),
       ),
     ))
 
@@ -307,15 +328,21 @@ read-does c mark local remote old sessions did local_is remote_is go keeps =
 pub primary-within : (w : World) → Sound w → w.primary.committer.position ≤ position_of w.primary.calls
 primary-within w s = omega (arith, s.committer.closed, chain-le _ _ _ s.committer.waiting)
 
+pub sent-within : (w : World) (s : Sound w) → s.sent ≤ position_of w.primary.calls
+sent-within w s = omega (arith, chain-le _ _ _ s.link.waiting, primary-within w s)
+
 pub standby-within : (w : World) → Sound w → w.standby.position ≤ position_of w.primary.calls
 standby-within w s = omega (arith, s.standby.behind, chain-le _ _ _ s.link.waiting, primary-within w s)
 
-StandbyRefines-grows : (holder : Holder) (epoch : ℕ) (calls more : List Call) (p : ℕ) (node : Node) (condition : Condition) → p ≤ position_of calls
-    → StandbyRefines holder epoch calls p node condition → StandbyRefines holder epoch (calls ++ more) p node condition
-StandbyRefines-grows holder epoch calls more p node condition le refines = record {
-  stands = λ up. StandbyStands-grows holder epoch calls more p node le (refines.stands up);
-  down = λ down. IsDown-grows holder calls more p node.device le (refines.down down);
-}
+StandbyRefines-grows : (holder : Holder) (epoch : ℕ) (calls more : List Call) (p high : ℕ) (remains : List Remains) (node : Node) (condition : Condition) → p ≤ high → high ≤ position_of calls
+    → All (IsStandbyLeft p high) remains → StandbyRefines holder epoch calls p remains node condition → StandbyRefines holder epoch (calls ++ more) p remains node condition
+StandbyRefines-grows holder epoch calls more p high remains node condition le within bound refines =
+    let reached : p ≤ position_of calls = omega (arith, le, within) in
+    record {
+      stands = λ up. StandbyStands-grows holder epoch calls more p node reached (refines.stands up);
+      left = λ stopped. LeavesOne-grows holder calls more p high remains node.device le within bound (refines.left stopped);
+      down = λ down. IsDown-grows holder calls more p node.device reached (refines.down down);
+    }
 
 called-parts : (first second : Holder) (old : Pair) (sessions : Connections) (transcript : Transcript) (sequencer : Sequencing) (w : World) (c : ℕ) (call : Call) → PairRefines first second old w
     → SessionsRefine sessions transcript (called c call w).primary.connections (w.primary.calls ++ call ∷ []) → SequencerRefines (w.primary.calls ++ call ∷ []) w.primary.committer.closed sequencer
@@ -339,7 +366,8 @@ called-parts first second old sessions transcript sequencer w c call stands sess
       frames = AreFramesSent-grows old.link.epoch w.primary.calls (call ∷ []) old.frames w.wire.frames parts.frames;
       own = parts.own;
       arrivals = ArrivalsRefine-grows old.link.epoch w.primary.calls (call ∷ []) old.arrivals w.standby.waiting w.wire.acknowledgements parts.arrivals;
-      standby = StandbyRefines-grows second old.link.epoch w.primary.calls (call ∷ []) w.standby.position old.standby old.standby_condition (standby-within w stands.sound) parts.standby;
+      standby = StandbyRefines-grows second old.link.epoch w.primary.calls (call ∷ []) w.standby.position stands.sound.sent (torn w.standby.life) old.standby old.standby_condition stands.sound.standby.behind
+          (sent-within w stands.sound) stands.sound.standby_left parts.standby;
     }
 
 turn-steps : (first second : Holder) (old : Pair) (sessions : Connections) (transcript : Transcript) (sequencer : Sequencing) (w : World) (c : ℕ) (did : Bool) → PairRefines first second old w

@@ -19,7 +19,7 @@ use Rattle.wbl_engine.specs.declared.freeing.Freed.{Freed}
 use Rattle.stream_codec.specs.Message.{Acknowledged, IsWithinLimits, sent_of_ack, sent_of_frame, sent_text}
 use Rattle.machine.specs.declared.event.TheConstants.{KEPT_GROUPS}
 use Rattle.machine.specs.declared.event.Event.TheVariants as events
-use Rattle.machine.specs.Event.{World, Primary, Link as MachineLink, counts as machine_counts, Frame as Sent, Span, Acknowledgement, may_happen, next_to_send, framed, sent, sent_next, option_items, knowing, raised_remote, told, with_link, with_sent}
+use Rattle.machine.specs.Event.{World, Primary, Link as MachineLink, counts as machine_counts, Frame as Sent, Span, Acknowledgement, may_happen, next_to_send, framed, sent, sent_next, option_items, knowing, raised_remote, told, with_link, with_sent, torn}
 use Rattle.std.proofs.lemmas.List.Elements.{All-append, All-cons, All-head, All-nil}
 use Rattle.machine.specs.Sound.{IsToldWithin}
 use Rattle.machine.proofs.GroupLemmas.{chain-le}
@@ -60,7 +60,7 @@ link-parts first second old waiting link remote frames w machine passed parts sa
       subst (λ e. AreFramesSent e w.primary.calls frames passed) (sym same) frames_passed,
       λ (whole : has_ended old.standby_condition ≡ false). subst (λ e. All (IsOwn e) passed) (sym same) (own whole),
       subst (λ e. ArrivalsRefine e w.primary.calls old.arrivals w.standby.waiting w.wire.acknowledgements) (sym same) parts.arrivals,
-      subst (λ e. StandbyRefines second e w.primary.calls w.standby.position old.standby old.standby_condition) (sym same) parts.standby,
+      subst (λ e. StandbyRefines second e w.primary.calls w.standby.position (torn w.standby.life) old.standby old.standby_condition) (sym same) parts.standby,
     )
 
 -- no frame passed

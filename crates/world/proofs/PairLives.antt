@@ -13,20 +13,21 @@ use Rattle.world.proofs.LivesLemmas.{retired-as, running-as, serves-as}
 use Rattle.world.proofs.PairLemmas.{none-added, untouched}
 use Rattle.world.specs.Condition.{has_ended, runs}
 use Rattle.world.specs.declared.condition.Condition.{Condition}
+use Rattle.world.specs.declared.condition.AskedFences.{AskedFences}
 
 -- the nodes of an event run just where they are said to
-nodes-take : {first second : Holder} {serves follows : Condition} {w : World} → AreLives first second serves follows w → (event : Event) → nodes_run w event ≡ takes_part (runs serves) (runs follows) event
-nodes-take {first} {second} {serves} {follows} {w} lives OpenLink =
-    ap (λ b. b && is_running w.standby.life) (ap is_running lives.primary ∙ running-as serves) ∙ ap (λ b. runs serves && b) (ap is_running lives.standby ∙ running-as follows)
-nodes-take {first} {second} {serves} {follows} {w} lives (Deliver frame piece) = ap is_running lives.standby ∙ running-as follows
-nodes-take {first} {second} {serves} {follows} {w} lives Apply = ap is_running lives.standby ∙ running-as follows
-nodes-take {first} {second} {serves} {follows} {w} lives (FailFence node_of.Primary n) = ap is_running lives.primary ∙ running-as serves
-nodes-take {first} {second} {serves} {follows} {w} lives (FailFence node_of.Standby n) = ap is_running lives.standby ∙ running-as follows
+nodes-take : {first second : Holder} {serves follows : Condition} {fences : AskedFences} {w : World} → AreLives first second serves follows fences w → (event : Event) → nodes_run w event ≡ takes_part (runs serves) (runs follows) event
+nodes-take {first} {second} {serves} {follows} {fences} {w} lives OpenLink =
+    ap (λ b. b && is_running w.standby.life) (ap is_running lives.primary ∙ running-as serves _) ∙ ap (λ b. runs serves && b) (ap is_running lives.standby ∙ running-as follows _)
+nodes-take {first} {second} {serves} {follows} {fences} {w} lives (Deliver frame piece) = ap is_running lives.standby ∙ running-as follows _
+nodes-take {first} {second} {serves} {follows} {fences} {w} lives Apply = ap is_running lives.standby ∙ running-as follows _
+nodes-take {first} {second} {serves} {follows} {fences} {w} lives (FailFence node_of.Primary n) = ap is_running lives.primary ∙ running-as serves _
+nodes-take {first} {second} {serves} {follows} {fences} {w} lives (FailFence node_of.Standby n) = ap is_running lives.standby ∙ running-as follows _
 nodes-take lives (Crash node call k picks) = refl
 nodes-take lives (Reopen node) = refl
 nodes-take lives Fence = refl
-nodes-take {first} {second} {serves} {follows} {w} lives Promote = ap is_running lives.standby ∙ running-as follows
-nodes-take {first} {second} {serves} {follows} {w} lives event = ap is_running lives.primary ∙ running-as serves
+nodes-take {first} {second} {serves} {follows} {fences} {w} lives Promote = ap is_running lives.standby ∙ running-as follows _
+nodes-take {first} {second} {serves} {follows} {fences} {w} lives event = ap is_running lives.primary ∙ running-as serves _
 
 -- an event that is not enabled
 pub stays-acts : (old : Pair) (event : Event) → ((first second : Holder) (w : World) → NodesRefine first second old w → is_enabled w event ≡ false) → Acts old event (Ok false) old
@@ -56,7 +57,7 @@ not-both false b e = refl
 pub promote-acts : (old : Pair) → has_ended old.primary_condition ≡ false → Acts old Promote (Ok false) old
 promote-acts old unfenced =
     stays-acts old Promote (λ first second w stands.
-    not-both (nodes_run w Promote) (w.allowed.promotions && is_retired w.primary.life) (not-both w.allowed.promotions (is_retired w.primary.life) (ap is_retired stands.lives.primary ∙ retired-as old.primary_condition ∙ unfenced)))
+    not-both (nodes_run w Promote) (w.allowed.promotions && is_retired w.primary.life) (not-both w.allowed.promotions (is_retired w.primary.life) (ap is_retired stands.lives.primary ∙ retired-as old.primary_condition _ ∙ unfenced)))
 
 -- a crash that does not come inside a call comes between two
 pub between : (call : Cut) → is_between call ≡ true → call ≡ cut.Between

@@ -1,13 +1,12 @@
 -- What the promotion of the standby does to the pair.
-use Rattle.std.proofs.Common.{◌≡◌, ◌≢◌, ◌⊎◌, inl, inr, ℕ, ◌+◌, ◌<◌, ◌≤◌, Bool, true, false, ◌&&◌, if◌then◌else◌, List, [], ◌∷◌, map, length, slice_index_or, Result, Ok, Err, All, Vec, Global, refl, sym, ap, ap₂, subst, ◌∙◌, arith, true≢false}
+use Rattle.std.proofs.Common.{◌≡◌, ◌≢◌, inl, inr, ℕ, ◌+◌, ◌<◌, ◌≤◌, Bool, true, false, ◌&&◌, List, [], map, length, slice_index_or, Result, Ok, Err, All, Vec, Global, refl, sym, ap, ap₂, subst, ◌∙◌, arith, true≢false}
 use Rattle.std.proofs.lemmas.List.{length-map}
-use Rattle.std.proofs.lemmas.List.Elements.{All-head, All-tail}
 use Rattle.kv_types.specs.declared.refusal.Refusal.{Refusal}
+use Rattle.kv_types.specs.declared.refusal.Refusal.TheVariants.{Fault}
 use Rattle.pmem.specs.Device.{State}
 use Rattle.pmem.specs.Runs.{LeavesOnly}
 use Rattle.pmem.proofs.Leaving.{LeavesOnly-weaken}
 use Rattle.pipes.specs.Waiting.{Waiting}
-use Rattle.model.specs.declared.call.Call.{Call}
 use Rattle.model.specs.declared.group.Group.{Group}
 use Rattle.model.specs.declared.record.Role.TheVariants as role
 use Rattle.model.specs.Call.{cut_at, position_of}
@@ -24,7 +23,7 @@ use Rattle.frames.specs.declared.frame.Frame.{Frame}
 use Rattle.machine.specs.declared.event.Cut.TheVariants as cut
 use Rattle.machine.specs.declared.event.Event.TheVariants.{Promote, Reopen}
 use Rattle.machine.specs.declared.event.Node.TheVariants as node
-use Rattle.machine.specs.Event.{Allowed, Frame as Sent, World, Step, is_enabled, is_retired, is_running, is_stopped, left, promoted}
+use Rattle.machine.specs.Event.{Allowed, World, Step, is_enabled, is_retired, is_running, is_stopped, left, promoted, torn}
 use Rattle.machine.specs.Sound.{IsFrameWithin}
 use Rattle.machine.proofs.SoundEvents.{sound-promoted}
 use Rattle.machine.proofs.SureLemmas.{unfailed}
@@ -36,52 +35,44 @@ use Rattle.connections.specs.declared.transcript.Transcript.{Transcript}
 use Rattle.world.specs.Cause.{Promoting}
 use Rattle.world.specs.Committing.{Committing, OpensAsEither, OpensAt, next_standby, promoted_holder}
 use Rattle.world.specs.Condition.{has_ended, runs}
+use Rattle.world.specs.declared.condition.AskedFences.{AskedFences}
 use Rattle.world.specs.declared.condition.Condition.{Condition}
 use Rattle.world.specs.declared.condition.Condition.TheVariants.{Running, Crashed, Ended}
-use Rattle.world.specs.Link.{AreAcksSent, AreFramesRead, AreFramesSent}
+use Rattle.world.specs.Link.{AreAcksSent, AreFramesRead}
 use Rattle.world.specs.Pair.{Acts, AreLives, DownRefine, EitherRefines, HasStandby, IsPromotionCut, NodesRefine, Pair, Promotes, Succeeds, first_device, second_device}
 use Rattle.world.specs.Standby.{Arrived, Node}
 use Rattle.world.proofs.CutLemmas.{IsDown-cut}
+use Rattle.world.proofs.KeptLemmas.{KeepsAsEither}
 use Rattle.world.proofs.LivesLemmas.{not-over, retired-as, running-as}
 use Rattle.world.proofs.OpenedLemmas.{IsNotOpened, IsOpened, opened-stands}
+use Rattle.world.proofs.PairFallen.{devices-are}
 use Rattle.world.proofs.PairLemmas.{none-added, sessions-stand, standby-within}
 use Rattle.world.proofs.PairReopen.{Begins, primary-reopens, with_primary_node}
 use Rattle.world.proofs.PairStandby.{arrivals-stand, follower, frames-stand, link-epoch}
-use Rattle.world.proofs.PromotionLemmas.{OpensAt-uncut, PromotesUnder, WasNotPromoted, WasPromoted, down-promoted, not-opened-ends, not-promoted-ends, opened-leaves, same-failures}
-
--- ---- the wire
-
--- what an earlier primary sent tells nothing of this list
-pub frames-earlier : (epoch later n : ℕ) (calls calls' : List Call) (texts : List (Vec ℕ Global)) (sent : List Sent) → epoch < later → All (IsFrameWithin epoch n) sent → AreFramesSent epoch calls texts sent → AreFramesSent later calls' texts sent
-frames-earlier epoch later n calls calls' [] [] less within are = tt
-frames-earlier epoch later n calls calls' (bytes ∷ texts) (one ∷ sent) less within are = (
-  record {
-    frame = are.0.frame;
-    text = are.0.text;
-    may = are.0.may;
-    about = are.0.about;
-    is = λ own. absurd (omega (arith, own, less, (All-head (IsFrameWithin epoch n) one sent within).epoch_is));
-  },
-  frames-earlier epoch later n calls calls' texts sent less (All-tail (IsFrameWithin epoch n) one sent within) are.1,
-)
-frames-earlier epoch later n calls calls' texts sent less within are = absurd are
+use Rattle.world.proofs.PromotionLemmas.{OpensAt-uncut, PromotesUnder, WasNotPromoted, WasPromoted, down-promoted, former_holder, frames-earlier, not-opened-ends, not-opened-keeps, not-promoted-ends, opened-leaves, same-failures}
 
 -- ---- the pair
 
 -- it is enabled where the primary was fenced and the standby runs
-promote-enabled : {first second : Holder} {serves follows : Condition} {w : World} → AreLives first second serves follows w → has_ended serves ≡ true → runs follows ≡ true → is_enabled w Promote ≡ true
-promote-enabled {first} {second} {serves} {follows} {w} lives fenced follows_up =
-    ap₂ (λ a b. a && b) (ap is_running lives.standby ∙ running-as follows ∙ follows_up)
-    (ap₂ (λ (a : Allowed) (b : Bool). a.promotions && b) lives.allowed_are (ap is_retired lives.primary ∙ retired-as serves ∙ fenced))
+promote-enabled : {first second : Holder} {serves follows : Condition} {fences : AskedFences} {w : World} → AreLives first second serves follows fences w → has_ended serves ≡ true → runs follows ≡ true → is_enabled w Promote ≡ true
+promote-enabled {first} {second} {serves} {follows} {fences} {w} lives fenced follows_up =
+    ap₂ (λ a b. a && b) (ap is_running lives.standby ∙ running-as follows (torn w.standby.life) ∙ follows_up)
+    (ap₂ (λ (a : Allowed) (b : Bool). a.promotions && b) lives.allowed_are (ap is_retired lives.primary ∙ retired-as serves (torn w.primary.life) ∙ fenced))
 
 -- the standby's place once the engines were exchanged, with the sessions, the transcript and the arrivals that are left
 abbrev left_with : Connections → Transcript → State → Stream → Arrived → Node → Pair → Pair
 left_with sessions transcript device link arrivals node pair =
-    record pair { sessions = sessions; transcript = transcript; device = device; link = link; arrivals = arrivals; standby = node; primary_condition = Crashed; standby_condition = Ended }
-
--- the holder of the former primary's device, of which nothing is said
-abbrev pub former_holder : Holder → Holder
-former_holder second = record { lines = second.lines; role = role.Standby; epoch = second.epoch + 1 }
+    record pair {
+      sessions = sessions;
+      transcript = transcript;
+      device = device;
+      link = link;
+      arrivals = arrivals;
+      standby = node;
+      primary_condition = Crashed;
+      standby_condition = Ended;
+      asked = record (pair.asked) { primary = pair.asked.standby };
+    }
 
 -- the list of calls and the released bytes are those of the world
 record ToldAs (transcript : Transcript) (w : World) : Type 0 where
@@ -105,10 +96,6 @@ told-as {first} {second} {pair} {w} parts =
 module _ (old : Pair) (fenced : has_ended old.primary_condition ≡ true) (follows : runs old.standby_condition ≡ true) where
   began : HasStandby old
   began = not-over old.standby_condition follows
-
-  -- the devices of a pair whose standby was not promoted
-  devices-are : (pair : Pair) → HasStandby pair → (first_device pair ≡ pair.device) × (second_device pair ≡ pair.standby.device)
-  devices-are pair whole = (ap (λ b. if b then pair.standby.device else pair.device) whole, ap (λ b. if b then pair.device else pair.standby.device) whole)
 
   -- the token of the fence names the epoch of the standby
   pub names-epoch : (first second : Holder) (w : World) → NodesRefine first second old w → (epoch : ℕ) → epoch ≡ old.link.epoch → epoch ≡ old.standby.contents.current.epoch
@@ -169,10 +156,10 @@ module _ (old : Pair) (fenced : has_ended old.primary_condition ≡ true) (follo
           under.fits names sound,
         )
 
-    -- and not opened: the primary has its engine, and the standby's place that of the former primary
-    pub opening-refused : (new : Pair) (result : Result Bool Refusal) (refusal : Refusal) → result ≡ Err refusal → new.transcript ≡ old.transcript → has_ended new.standby_condition ≡ true → new.standby.device ≡ old.device
-        → IsNotOpened role.Primary crashed new.device refusal → Promotes old result new
-    opening-refused new result refusal is same ended former refused =
+    -- and not opened
+    pub opening-refused : (new : Pair) (last : State) (result : Result Bool Refusal) (refusal : Refusal) → result ≡ Err refusal → new.transcript ≡ old.transcript → first_device new ≡ old.device → second_device new ≡ last
+        → IsNotOpened role.Primary crashed last refusal → Promotes old result new
+    opening-refused new last result refusal is same former latter refused =
         subst (λ (r : Result Bool Refusal). Promotes old r new) (sym is) (record { succeeds = tt; cut = cut; calls = none-added _ _ (ap (λ (t : Transcript). t.calls) same) })
       where
         cut : (first second : Holder) (w : World) → NodesRefine first second old w → IsPromotionCut second refusal old new w
@@ -182,16 +169,23 @@ module _ (old : Pair) (fenced : has_ended old.primary_condition ≡ true) (follo
             let p = w.standby.position in
             let next = next_standby w in
             let made = was first second w stands in
-            let ends = not-opened-ends second w.primary.calls p old.standby.device between crashed old.standby.contents after old.standby.is_faulted stood.engine made.1 made.0 new.device refusal next refused in
+            let ends = not-opened-ends second w.primary.calls p old.standby.device between crashed old.standby.contents after old.standby.is_faulted stood.engine made.1 made.0 last refusal next refused in
             record {
               enabled = promote-enabled stands.lives fenced follows;
               calls = told.calls;
               released = told.released;
               count = told.count;
-              first_stays = ap (λ b. if b then new.standby.device else new.device) ended ∙ former ∙ sym (devices-are old began).0;
+              first_stays = former ∙ sym (devices-are old began).0;
               cause = subst (λ (d : State). Promoting refusal second w.primary.calls p next d (second_device new)) (sym (devices-are old began).1)
-                  (subst (λ (d : State). Promoting refusal second w.primary.calls p next old.standby.device d) (sym (ap (λ b. if b then new.device else new.standby.device) ended)) ends);
+                  (subst (λ (d : State). Promoting refusal second w.primary.calls p next old.standby.device d) (sym latter) ends);
             }
+
+    -- where a fence failed in it
+    pub opening-keeps : (last : State) (refusal : Refusal) → IsNotOpened role.Primary crashed last refusal → refusal ≡ Fault → (first second : Holder) (w : World) → NodesRefine first second old w
+        → LeavesOnly old.standby.device last (KeepsAsEither second w.primary.calls w.standby.position) × (old.standby.device.failures < last.failures)
+    opening-keeps last refusal refused fault first second w stands =
+        let made = was first second w stands in
+        not-opened-keeps second w.primary.calls w.standby.position old.standby.device between crashed old.standby.contents after old.standby.is_faulted (follower follows stands.parts).engine made.1 made.0 last refusal refused fault
 
     -- ---- it was opened
 
@@ -239,7 +233,7 @@ module _ (old : Pair) (fenced : has_ended old.primary_condition ≡ true) (follo
               delivered = subst (λ (frames : List Frame). AreFramesRead link.epoch (cut_at calls p) frames []) (sym lost) tt;
               acknowledged = subst (λ (acks : Vec (Vec ℕ Global) Global). AreAcksSent acks.items w.wire.acknowledgements) (sym told) (arrivals-stand stands.parts).acknowledged;
             };
-            standby = record { stands = λ up. absurd (true≢false (sym up)); down = λ is. absurd (true≢false (sym is)) };
+            standby = record { stands = λ up. absurd (true≢false (sym up)); left = λ stopped. absurd (true≢false (sym stopped)); down = λ is. absurd (true≢false (sym is)) };
           } in
           let refines : EitherRefines (promoted_holder second) (former_holder second) fallen (promoted w) = inr (inl (refl, down)) in
           record {
@@ -248,6 +242,8 @@ module _ (old : Pair) (fenced : has_ended old.primary_condition ≡ true) (follo
               allowed_are = lives.allowed_are;
               primary_disk = lives.standby_disk;
               standby_disk = lives.standby_disk;
+              primary_failing = lives.standby_failing;
+              standby_failing = lives.standby_failing;
               primary = refl;
               standby = refl;
               first_role = refl;
@@ -284,7 +280,12 @@ module _ (old : Pair) (fenced : has_ended old.primary_condition ≡ true) (follo
                 stands = λ did. absurd (true≢false did);
               } in
               let last : LeavesOnly crashed device (OpensAt (promoted_holder second) calls p) =
-              LeavesOnly-weaken (OpensAt (promoted_holder second) calls p) (λ image either. elim either [ inl is ↦ uncut second w image is | inr is ↦ uncut second w image (subst (λ n. OpensAt (promoted_holder second) (cut_at calls p) n image) (ap (λ (x : World). x.primary.committer.position) opens.now) is) ])
+              LeavesOnly-weaken (OpensAt (promoted_holder second) calls p)
+              (λ image either. elim either [
+                | inl is ↦ uncut second w image is
+                | inr (inl is) ↦ uncut second w image (subst (λ n. OpensAt (promoted_holder second) (cut_at calls p) n image) (ap (λ (x : World). x.primary.committer.position) opens.now) is)
+                | inr (inr none) ↦ absurd none
+              ])
               reopens.moves.primary.leaves in
               let leaves = opened-leaves second calls p old.standby.device between crashed old.standby.contents after old.standby.is_faulted stood.engine made.1 made.0 device last in
               let same = same-failures second calls p old.standby.device between crashed old.standby.contents after old.standby.is_faulted stood.engine made.1 made.0 in

@@ -27,11 +27,11 @@ use Rattle.wbl_engine.specs.Reopening.{RefusesReopening}
 use Rattle.machine.specs.declared.event.Event.{Event}
 use Rattle.machine.specs.declared.event.Event.TheVariants as events
 use Rattle.machine.specs.declared.event.Node.TheVariants as node
-use Rattle.machine.specs.Event.{Allowed, Committer as MachineCommitter, World, Step, is_crashed, is_enabled, new_link, reopened_primary, reopened_standby, with_primary, with_standby}
+use Rattle.machine.specs.Event.{Allowed, Committer as MachineCommitter, World, Step, is_crashed, is_enabled, new_link, reopened_primary, reopened_standby, with_primary, with_standby, torn}
 use Rattle.machine.proofs.SoundEvents.{sound-step}
 use Rattle.world.specs.Cause.{EndsBy, Stretch}
 use Rattle.world.specs.Committing.{Committing, CommittingRefines, next_primary, next_standby}
-use Rattle.world.specs.GroupSpan.{AreGroupsOf}
+use Rattle.node_steps.specs.GroupSpan.{AreGroupsOf}
 use Rattle.world.specs.Link.{AreFramesSent, IsOwn, LinkRefines}
 use Rattle.primary.specs.Recalling.{AreKeyspaces, DeltaLeads, RecallsEach, Remembers}
 use Rattle.primary.proofs.KeptImages.{delta-leads, keeps-opened, recalls-of}
@@ -49,23 +49,20 @@ use Rattle.world.proofs.OpenedLemmas.{IsNotOpened, IsOpened, opened-breaks, open
 use Rattle.world.proofs.OpeningLemmas.{have_their_lines, in_order}
 use Rattle.world.proofs.PairLives.{stays-acts}
 use Rattle.world.proofs.PairStandby.{arrivals-stand, link-epoch, standby-either}
-use Rattle.world.proofs.LivesLemmas.{crashed-not-over, fenced-not-crashed, not-crashed}
+use Rattle.world.proofs.LivesLemmas.{crashed-not-over, still-not-crashed, not-crashed, crashed-as}
 use Rattle.world.specs.Condition.{has_crashed, life_as}
 use Rattle.world.specs.declared.condition.Condition.{Condition}
 use Rattle.world.specs.declared.condition.Condition.TheVariants.{Running, Crashed, Ended}
+use Rattle.world.specs.declared.condition.AskedFences.{AskedFences}
+use Rattle.world.proofs.RemainLemmas.{near-rest, near-from}
 
 -- ---- a node that runs
 
-pub crashed_as : (condition : Condition) → is_crashed (life_as condition) ≡ has_crashed condition
-crashed_as Running = refl
-crashed_as Crashed = refl
-crashed_as Ended = refl
+primary-opens : {first second : Holder} {serves follows : Condition} {fences : AskedFences} {w : World} → AreLives first second serves follows fences w → is_enabled w (events.Reopen node.Primary) ≡ has_crashed serves
+primary-opens {first} {second} {serves} {follows} {fences} {w} lives = ap (λ (a : Allowed). a.restarts && is_crashed w.primary.life) lives.allowed_are ∙ ap is_crashed lives.primary ∙ crashed-as serves (torn w.primary.life)
 
-primary-opens : {first second : Holder} {serves follows : Condition} {w : World} → AreLives first second serves follows w → is_enabled w (events.Reopen node.Primary) ≡ has_crashed serves
-primary-opens {first} {second} {serves} {follows} {w} lives = ap (λ (a : Allowed). a.restarts && is_crashed w.primary.life) lives.allowed_are ∙ ap is_crashed lives.primary ∙ crashed_as serves
-
-standby-opens : {first second : Holder} {serves follows : Condition} {w : World} → AreLives first second serves follows w → is_enabled w (events.Reopen node.Standby) ≡ has_crashed follows
-standby-opens {first} {second} {serves} {follows} {w} lives = ap (λ (a : Allowed). a.restarts && is_crashed w.standby.life) lives.allowed_are ∙ ap is_crashed lives.standby ∙ crashed_as follows
+standby-opens : {first second : Holder} {serves follows : Condition} {fences : AskedFences} {w : World} → AreLives first second serves follows fences w → is_enabled w (events.Reopen node.Standby) ≡ has_crashed follows
+standby-opens {first} {second} {serves} {follows} {fences} {w} lives = ap (λ (a : Allowed). a.restarts && is_crashed w.standby.life) lives.allowed_are ∙ ap is_crashed lives.standby ∙ crashed-as follows (torn w.standby.life)
 
 pub primary-runs-on : (old : Pair) → has_crashed old.primary_condition ≡ false → Acts old (events.Reopen node.Primary) (Ok false) old
 primary-runs-on old whole = stays-acts old (events.Reopen node.Primary) (λ first second w stands. primary-opens stands.lives ∙ whole)
@@ -108,7 +105,7 @@ standby-reopens old node' fallen opened follows own = record { steps = steps; cu
         let w' = with_standby (reopened_standby w.standby) w in
         let step : Step w event true w' =
         record { done = sym (standby-opens lives ∙ fallen); happens = λ did. inl refl; stands = λ did. absurd (true≢false did) } in
-        let refined : StandbyRefines second old.link.epoch calls p node' Running = record { stands = λ up. stood; down = λ is. absurd (true≢false (sym is)) } in
+        let refined : StandbyRefines second old.link.epoch calls p [] node' Running = record { stands = λ up. stood; left = λ is. absurd (true≢false (sym is)); down = λ is. absurd (true≢false (sym is)) } in
         record {
           world = w';
           step = step;
@@ -118,8 +115,8 @@ standby-reopens old node' fallen opened follows own = record { steps = steps; cu
             parts = standby-either first second old old.arrivals node' Running w w'.standby w.wire.acknowledgements (crashed-not-over old.standby_condition fallen) (le_refl p) stands.parts (arrivals-stand stands.parts) refined;
           };
           moves = record {
-            primary = moves-same first calls w.primary.committer.position w.primary.committer.position old.device old.device refl (primary-stands first second old w stands.parts);
-            standby = λ whole. opened-moves second calls p old.standby.device node'.device down opened.moments opened.failures;
+            primary = near-rest first calls w.primary.committer.position w.primary.committer.position (torn w.primary.life) old.device old.device refl (primary-stands first second old w stands.parts);
+            standby = λ whole. near-from second calls p p (torn w.standby.life) old.standby.device node'.device (opened-moves second calls p old.standby.device node'.device down opened.moments opened.failures);
           };
         }
 
@@ -147,17 +144,17 @@ standby-reopening-cut old node' result refusal is fallen refused =
         let down = (standby-refines stands.parts).down fallen in
         let here = rests-primary first second old w stands in
         let memory : refusal ≡ Memory → node'.device.failures ≡ device.failures → EndsBy refusal event (Led first second old new w) =
-        λ is same. subst (λ (r : Refusal). EndsBy r event (Led first second old new w)) (sym is) (refl, (here, λ whole. opened-rests second calls p device node'.device down refused.moments same)) in
+        λ is same. subst (λ (r : Refusal). EndsBy r event (Led first second old new w)) (sym is) (refl, (here, λ whole. inl (opened-rests second calls p device node'.device down refused.moments same))) in
         let ends : EndsBy refusal event (Led first second old new w) =
         elim refused.refused [
-          | inl fault ↦ opened-ends event refusal (Led first second old new w) fault (here, λ whole. opened-breaks second calls p next device node'.device down refused.moments (refused.fault fault))
+          | inl fault ↦ opened-ends event refusal (Led first second old new w) fault (here, λ whole. inl (opened-breaks second calls p next device node'.device down refused.moments (refused.fault fault)))
           | inr (inl is) ↦ memory is (refused.failures (λ fault. memory_no_fault (sym is ∙ fault)))
           | inr (inr why) ↦
               let mine = subst (λ r. RefusesReopening device.lines (image_of device.words) r refusal) (sym stands.lives.second_role) why.0 in
               elim (restart-refused second calls p device refusal down mine) [
                 | inl is ↦ memory is (ap (λ (d : State). d.failures) why.1)
                 | inr full ↦ subst (λ (r : Refusal). EndsBy r event (Led first second old new w)) (sym full.0)
-                    (here, λ whole. opened-limit second calls p next device node'.device full.1.0 down refused.moments why.1 full.1.1 full.1.2)
+                    (here, λ whole. inl (opened-limit second calls p next device node'.device full.1.0 down refused.moments why.1 full.1.1 full.1.2))
               ]
         ] in
         cut-for first second event refusal old new w stands (tells old.transcript) refl (standby-opens stands.lives ∙ fallen) ends
@@ -172,7 +169,7 @@ pub fallen-parts : {first second : Holder} {w : World} (old : Pair) → has_cras
 fallen-parts old fallen parts = elim parts [
   | inl up ↦ absurd (not-crashed old.primary_condition up.0 fallen)
   | inr (inl down) ↦ down.1
-  | inr (inr fenced) ↦ absurd (fenced-not-crashed old.primary_condition fenced.0 fallen)
+  | inr (inr still) ↦ absurd (still-not-crashed old.primary_condition still.0 fallen)
 ]
 
 abbrev pub with_primary_node : Sequencing → Committing → List Freed → State → Contents → Bool → Waiting Group → Stream → Opening → ℕ → Condition → Pair → Pair
@@ -298,7 +295,7 @@ primary-reopens old sequencer committing notices device contents is_faulted hand
           frames = subst (λ e. AreFramesSent e calls old.frames w.wire.frames) same lost.frames;
           own = λ whole. subst (λ e. All (IsOwn e) w.wire.frames) same (lost.own whole);
           arrivals = subst (λ e. ArrivalsRefine e calls old.arrivals w.standby.waiting w.wire.acknowledgements) same lost.arrivals;
-          standby = subst (λ e. StandbyRefines second e calls w.standby.position old.standby old.standby_condition) same lost.standby;
+          standby = subst (λ e. StandbyRefines second e calls w.standby.position (torn w.standby.life) old.standby old.standby_condition) same lost.standby;
         } in
         let refines : EitherRefines first second new w' = inl (refl, parts) in
         record {
@@ -310,8 +307,8 @@ primary-reopens old sequencer committing notices device contents is_faulted hand
             parts = refines;
           };
           moves = record {
-            primary = opened-moves first calls p old.device device lost.image opened.moments opened.failures;
-            standby = λ whole. moves-same second calls w.standby.position w.standby.position old.standby.device old.standby.device refl (standby-stands first second old w stands.parts whole);
+            primary = near-from first calls p p (torn w.primary.life) old.device device (opened-moves first calls p old.device device lost.image opened.moments opened.failures);
+            standby = λ whole. near-rest second calls w.standby.position w.standby.position (torn w.standby.life) old.standby.device old.standby.device refl (standby-stands first second old w stands.parts whole);
           };
         }
 
@@ -336,17 +333,17 @@ primary-reopening-cut old sequencer committing device' contents is_faulted resul
         let down = (fallen-parts old fallen stands.parts).image in
         let there = rests-standby first second old w stands in
         let memory : refusal ≡ Memory → device'.failures ≡ device.failures → EndsBy refusal event (Led first second old new w) =
-        λ is same. subst (λ (r : Refusal). EndsBy r event (Led first second old new w)) (sym is) (refl, (opened-rests first calls p device device' down refused.moments same, there)) in
+        λ is same. subst (λ (r : Refusal). EndsBy r event (Led first second old new w)) (sym is) (refl, (inl (opened-rests first calls p device device' down refused.moments same), there)) in
         let ends : EndsBy refusal event (Led first second old new w) =
         elim refused.refused [
-          | inl fault ↦ opened-ends event refusal (Led first second old new w) fault (opened-breaks first calls p next device device' down refused.moments (refused.fault fault), there)
+          | inl fault ↦ opened-ends event refusal (Led first second old new w) fault (inl (opened-breaks first calls p next device device' down refused.moments (refused.fault fault)), there)
           | inr (inl is) ↦ memory is (refused.failures (λ fault. memory_no_fault (sym is ∙ fault)))
           | inr (inr why) ↦
               let mine = subst (λ r. RefusesReopening device.lines (image_of device.words) r refusal) (sym stands.lives.first_role) why.0 in
               elim (restart-refused first calls p device refusal down mine) [
                 | inl is ↦ memory is (ap (λ (d : State). d.failures) why.1)
                 | inr full ↦ subst (λ (r : Refusal). EndsBy r event (Led first second old new w)) (sym full.0)
-                    (opened-limit first calls p next device device' full.1.0 down refused.moments why.1 full.1.1 full.1.2, there)
+                    (inl (opened-limit first calls p next device device' full.1.0 down refused.moments why.1 full.1.1 full.1.2), there)
               ]
         ] in
         cut-for first second event refusal old new w stands (tells old.transcript) refl (primary-opens stands.lives ∙ fallen) ends

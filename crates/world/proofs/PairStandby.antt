@@ -17,11 +17,11 @@ use Rattle.standby_stream.specs.Stream.{Stream}
 use Rattle.machine.specs.declared.event.Event.{Event}
 use Rattle.machine.specs.declared.event.Event.TheVariants as events
 use Rattle.model.specs.declared.call.Call.{Call}
-use Rattle.machine.specs.Event.{Disk, Happens, World, Standby as MachineStandby, Acknowledgement, Span, Step, due_delta, is_running, nodes_run, may_happen, opened_link, acknowledgement_of, delivered, option_items, told, with_link, with_standby, with_acknowledged, without_first}
+use Rattle.machine.specs.Event.{Disk, Happens, World, Standby as MachineStandby, Acknowledgement, Span, Step, due_delta, is_running, nodes_run, may_happen, opened_link, acknowledgement_of, delivered, option_items, told, with_link, with_standby, with_acknowledged, without_first, torn}
 use Rattle.machine.specs.Sound.{Sound}
 use Rattle.machine.proofs.GrowLemmas.{grows-step}
 use Rattle.machine.proofs.SoundEvents.{sound-step}
-use Rattle.world.proofs.LivesLemmas.{Runs, enabled-is, lives-like, nodes-refine, not-crashed, not-over, running-as, serving, taken-life}
+use Rattle.world.proofs.LivesLemmas.{Runs, enabled-is, lives-like, nodes-refine, not-crashed, not-over, running-as, serving, taken-life, not-still, stopped-still}
 use Rattle.connections.specs.Going.{Goes}
 use Rattle.world.specs.Cause.{Stretch, Breaks, RestsAtFrameLimit, EndsBy, Resting}
 use Rattle.world.specs.Committing.{NearOnly, Moves, next_standby}
@@ -37,6 +37,7 @@ use Rattle.world.proofs.OpeningLemmas.{opening-on}
 use Rattle.primary.proofs.RecallLemmas.{recalls-still, remembers-on}
 use Rattle.world.specs.Condition.{has_ended, runs}
 use Rattle.world.specs.declared.condition.Condition.{Condition}
+use Rattle.world.proofs.RemainLemmas.{near-rest, near-from, left-later}
 
 -- ---- the standby
 
@@ -51,7 +52,7 @@ with_standby_as arrivals node condition pair = record pair { arrivals = arrivals
 
 -- the standby, and what it told, are others, and it is no further back
 standby-parts : (first second : Holder) (old : Pair) (arrivals : Arrived) (node : Node) (condition : Condition) (w : World) (machine : MachineStandby) (told : List Acknowledgement) → has_ended old.standby_condition ≡ false → w.standby.position ≤ machine.position
-    → PartsRefine first second old w → ArrivalsRefine old.link.epoch w.primary.calls arrivals machine.waiting told → StandbyRefines second old.link.epoch w.primary.calls machine.position node condition
+    → PartsRefine first second old w → ArrivalsRefine old.link.epoch w.primary.calls arrivals machine.waiting told → StandbyRefines second old.link.epoch w.primary.calls machine.position (torn machine.life) node condition
     → PartsRefine first second (with_standby_as arrivals node condition old) (record w { standby = machine; wire = record w.wire { acknowledgements = told } })
 standby-parts first second old arrivals node condition w machine told whole later parts arrivals_stand node_stands =
     search (
@@ -63,30 +64,42 @@ standby-parts first second old arrivals node condition w machine told whole late
 
 -- whether the primary runs or not
 pub standby-either : (first second : Holder) (old : Pair) (arrivals : Arrived) (node : Node) (condition : Condition) (w : World) (machine : MachineStandby) (told : List Acknowledgement) → has_ended old.standby_condition ≡ false → w.standby.position ≤ machine.position
-    → EitherRefines first second old w → ArrivalsRefine old.link.epoch w.primary.calls arrivals machine.waiting told → StandbyRefines second old.link.epoch w.primary.calls machine.position node condition
+    → EitherRefines first second old w → ArrivalsRefine old.link.epoch w.primary.calls arrivals machine.waiting told → StandbyRefines second old.link.epoch w.primary.calls machine.position (torn machine.life) node condition
     → EitherRefines first second (with_standby_as arrivals node condition old) (record w { standby = machine; wire = record w.wire { acknowledgements = told } })
 standby-either first second old arrivals node condition w machine told whole later parts arrivals_stand node_stands = elim parts [
   | inl up ↦ inl (up.0, standby-parts first second old arrivals node condition w machine told whole later up.1 arrivals_stand node_stands)
   | inr (inl down) ↦
       let lost = down.1 in
       inr (inl (down.0, search (rules, λ (still : has_ended condition ≡ false). lost.own whole, recalls-still w.standby.position machine.position w.primary.committer.position (past_of w.primary.calls) lost.image.contents later lost.recalls)))
-  | inr (inr fenced) ↦
-      let left = fenced.1 in
-      inr (inr (fenced.0, record { sessions = left.sessions; opens = left.opens; epoch = left.epoch; frames = left.frames; own = λ still. left.own whole; arrivals = arrivals_stand; standby = node_stands }))
+  | inr (inr idle) ↦
+      let still = idle.1 in
+      inr (inr (
+        idle.0,
+        record {
+          sessions = still.sessions;
+          lines_are = still.lines_are;
+          left = λ image is. left-later first w (record w { standby = machine; wire = record w.wire { acknowledgements = told } }) image refl later (still.left image is);
+          epoch = still.epoch;
+          frames = still.frames;
+          own = λ goes. still.own whole;
+          arrivals = arrivals_stand;
+          standby = node_stands;
+        },
+      ))
 ]
 
 pub frames-stand : {first second : Holder} {pair : Pair} {w : World} → EitherRefines first second pair w → AreFramesSent pair.link.epoch w.primary.calls pair.frames w.wire.frames
 frames-stand parts = elim parts [
   | inl up ↦ up.1.frames
   | inr (inl down) ↦ down.1.frames
-  | inr (inr fenced) ↦ fenced.1.frames
+  | inr (inr still) ↦ still.1.frames
 ]
 
 pub own-frames : {first second : Holder} {pair : Pair} {w : World} → EitherRefines first second pair w → has_ended pair.standby_condition ≡ false → All (IsOwn pair.link.epoch) w.wire.frames
 own-frames parts = elim parts [
   | inl up ↦ up.1.own
   | inr (inl down) ↦ down.1.own
-  | inr (inr fenced) ↦ fenced.1.own
+  | inr (inr still) ↦ still.1.own
 ]
 
 pub arrivals-stand : {first second : Holder} {pair : Pair} {w : World} → EitherRefines first second pair w
@@ -94,7 +107,7 @@ pub arrivals-stand : {first second : Holder} {pair : Pair} {w : World} → Eithe
 arrivals-stand parts = elim parts [
   | inl up ↦ up.1.arrivals
   | inr (inl down) ↦ down.1.arrivals
-  | inr (inr fenced) ↦ fenced.1.arrivals
+  | inr (inr still) ↦ still.1.arrivals
 ]
 
 -- all that is on the wire is of the pair's epoch
@@ -110,25 +123,25 @@ pub link-epoch : {first second : Holder} {pair : Pair} {w : World} → EitherRef
 link-epoch parts = elim parts [
   | inl up ↦ up.1.epoch
   | inr (inl down) ↦ down.1.epoch
-  | inr (inr fenced) ↦ fenced.1.epoch
+  | inr (inr still) ↦ still.1.epoch
 ]
 
 -- the epoch of the standby's node is the machine's
-own-epoch : (first second : Holder) (old : Pair) (w : World) → runs old.standby_condition ≡ true → NodesRefine first second old w → old.standby.epoch ≡ w.standby.epoch
+pub own-epoch : (first second : Holder) (old : Pair) (w : World) → runs old.standby_condition ≡ true → NodesRefine first second old w → old.standby.epoch ≡ w.standby.epoch
 own-epoch first second old w follows stands = (follower follows stands.parts).epoch_is ∙ link-epoch stands.parts ∙ sym stands.sound.standby.epoch_is
 
 -- ---- which events may come
 
 -- an event of a standby that runs
 standby-runs : {first second : Holder} {pair : Pair} {w : World} → runs pair.standby_condition ≡ true → NodesRefine first second pair w → (event : Event) → (is_running w.standby.life ≡ true → nodes_run w event ≡ true)
-    → Runs first second pair.primary_condition pair.standby_condition w event
+    → Runs first second pair.primary_condition pair.standby_condition pair.asked w event
 standby-runs {first} {second} {pair} {w} follows stands event nodes = record {
   lives = stands.lives;
-  nodes = nodes (ap is_running stands.lives.standby ∙ running-as pair.standby_condition ∙ follows);
+  nodes = nodes (ap is_running stands.lives.standby ∙ running-as pair.standby_condition _ ∙ follows);
 }
 
 -- an event of both
-both-run : {first second : Holder} {pair : Pair} {w : World} → runs pair.standby_condition ≡ true → PairRefines first second pair w → Runs first second pair.primary_condition pair.standby_condition w events.OpenLink
+both-run : {first second : Holder} {pair : Pair} {w : World} → runs pair.standby_condition ≡ true → PairRefines first second pair w → Runs first second pair.primary_condition pair.standby_condition pair.asked w events.OpenLink
 both-run {first} {second} {pair} {w} follows stands =
     standby-runs follows (nodes-refine stands) events.OpenLink (λ runs. ap (λ b. b && is_running w.standby.life) (ap is_running (serving stands)) ∙ runs)
 
@@ -300,7 +313,11 @@ node-either : (first second : Holder) (old : Pair) (arrivals : Arrived) (node : 
     → w.standby.position ≤ machine.position → ArrivalsRefine old.link.epoch w.primary.calls arrivals machine.waiting told → StandbyStands second old.link.epoch w.primary.calls machine.position node
     → EitherRefines first second (with_node arrivals node old) (record w { standby = machine; wire = record w.wire { acknowledgements = told } })
 node-either first second old arrivals node w machine told follows parts later arrivals_stand node_stands =
-    standby-either first second old arrivals node old.standby_condition w machine told (not-over old.standby_condition follows) later parts arrivals_stand (record { stands = λ up. node_stands; down = λ down. absurd (not-crashed old.standby_condition follows down) })
+    standby-either first second old arrivals node old.standby_condition w machine told (not-over old.standby_condition follows) later parts arrivals_stand (record {
+      stands = λ up. node_stands;
+      left = λ stopped. absurd (not-still old.standby_condition follows (stopped-still old.standby_condition stopped));
+      down = λ down. absurd (not-crashed old.standby_condition follows down);
+    })
 
 apply-steps : (first second : Holder) (old : Pair) (arrivals : Arrived) (node : Node) (w : World) (did : Bool) → runs old.standby_condition ≡ true → NodesRefine first second old w
     → AppliesFirst second old.link.epoch w did arrivals old.standby node → Steps first second w events.Apply did old (with_node arrivals node old)
@@ -317,14 +334,15 @@ apply-steps first second old arrivals node w true follows stands applies =
       step = step;
       stands = record {
         sound = sound-step w events.Apply true w' step stands.sound;
-        lives = lives-like (record { allowed = refl; primary_disk = refl; standby_disk = ap (λ (d : Disk). d.number) kept.1; primary = refl; standby = kept.0; epoch = refl }) stands.lives;
+        lives = lives-like (record { allowed = refl; primary_disk = refl; standby_disk = kept.1; primary = refl; standby = kept.0; epoch = refl }) stands.lives;
         parts = node-either first second old arrivals node w applied.standby (w.wire.acknowledgements ++ applied.told) follows stands.parts (grows-step w events.Apply true w' step stands.sound).safe
             (subst (λ (x : World). ArrivalsRefine old.link.epoch w.primary.calls arrivals x.standby.waiting x.wire.acknowledgements) applied.now moved.2)
             (subst (λ (x : World). StandbyStands second old.link.epoch w.primary.calls x.standby.position node) applied.now moved.3);
       };
       moves = record {
-        primary = moves-same first w.primary.calls w.primary.committer.position w.primary.committer.position old.device old.device refl (primary-stands first second old w stands.parts);
-        standby = λ whole. subst (λ (x : World). Moves second w.primary.calls w.standby.position x.standby.position old.standby.device node.device) applied.now moved.4;
+        primary = near-rest first w.primary.calls w.primary.committer.position w.primary.committer.position (torn w.primary.life) old.device old.device refl (primary-stands first second old w stands.parts);
+        standby = λ whole. near-from second w.primary.calls w.standby.position applied.standby.position (torn w.standby.life) old.standby.device node.device
+            (subst (λ (x : World). Moves second w.primary.calls w.standby.position x.standby.position old.standby.device node.device) applied.now moved.4);
       };
     }
 apply-steps first second old arrivals node w false follows stands applies =
@@ -391,6 +409,6 @@ apply-acts old arrivals node result follows applies only cuts = go result applie
               let cut = cuts second w stands.sound (own-epoch first second old w follows stands) (arrive first second w stands) (stand first second w stands) in
               cut-for first second events.Apply refusal old new w stands (tells old.transcript) refl (enabled-is (standby-runs follows stands events.Apply (λ runs. runs)) ∙ cut.0)
               (ends-apply refusal (λ _ last. last second w.primary.calls w.standby.position (next_standby w) old.standby.device node.device) (Led first second old new w)
-              (λ last broken. (rests-primary first second old w stands, λ whole. broken)) cut.1);
+              (λ last broken. (rests-primary first second old w stands, λ whole. inl broken)) cut.1);
           calls = none-added _ _ refl;
         }

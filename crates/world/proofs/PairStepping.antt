@@ -27,6 +27,7 @@ use Rattle.world.proofs.PairTurns.{Took, commit-does, commit-stays, hand-does-so
 use Rattle.world.proofs.PairClearing.{clear-done, clear-ends, clear-idle, clear-roomless}
 use Rattle.world.proofs.PairFreeing.{free-done, free-ends, free-idle, free-roomless, pair_with}
 use Rattle.world.specs.declared.condition.Condition.{Condition}
+use Rattle.world.specs.declared.condition.AskedFences.{AskedFences}
 
 -- what a turn freed, of which the sequencer is to be told
 abbrev pub noted : Result Done Refusal → List Freed
@@ -60,10 +61,10 @@ module _ {E : Type 0} (device : E → State) (contents : E → Contents) (is_fau
   noted-so due.Clear result some took told = refl
   noted-so due.Nothing result some took told = absurd (some refl)
 
-module _ {E : Type 0} (device : E → State) (contents : E → Contents) (is_faulted : E → Bool) (sessions : Connections) (transcript : Transcript) (sequencer : Sequencing) (link : Stream) (opening : Opening) (remote : ℕ) (frames : List (Vec ℕ Global)) (arrivals : Arrived) (standby : Node) (primary_condition standby_condition : Condition)
+module _ {E : Type 0} (device : E → State) (contents : E → Contents) (is_faulted : E → Bool) (sessions : Connections) (transcript : Transcript) (sequencer : Sequencing) (link : Stream) (opening : Opening) (remote : ℕ) (frames : List (Vec ℕ Global)) (arrivals : Arrived) (standby : Node) (primary_condition standby_condition : Condition) (fences : AskedFences)
     (before : Committer E) (works : Waiting Work) (notices : List Freed) (handed : Waiting Group) where
   abbrev with : Committer E → Waiting Work → List Freed → Waiting Group → Pair
-  with = pair_with device contents is_faulted sessions transcript sequencer link opening remote frames arrivals standby primary_condition standby_condition
+  with = pair_with device contents is_faulted sessions transcript sequencer link opening remote frames arrivals standby primary_condition standby_condition fences
 
   abbrev old : Pair
   old = with before works notices handed
@@ -80,23 +81,23 @@ module _ {E : Type 0} (device : E → State) (contents : E → Contents) (is_fau
 
   pub step-idle : (step : Due) → step ≢ due.Nothing → (now ≡ step → ⊥) → Did step (Ok false) old
   step-idle due.Commit some never = record {
-    does = commit-stays device contents is_faulted sessions transcript sequencer notices link opening remote frames arrivals standby primary_condition standby_condition before works handed never;
+    does = commit-stays device contents is_faulted sessions transcript sequencer notices link opening remote frames arrivals standby primary_condition standby_condition fences before works handed never;
     leaves = record { primary = λ idle. refl; standby = λ idle. refl; frames = refl; acknowledgements = refl; effect = tt };
   }
   step-idle due.Raise some never = record {
-    does = raise-stays device contents is_faulted sessions transcript sequencer notices link opening remote frames arrivals standby primary_condition standby_condition before works handed never;
+    does = raise-stays device contents is_faulted sessions transcript sequencer notices link opening remote frames arrivals standby primary_condition standby_condition fences before works handed never;
     leaves = record { primary = λ idle. refl; standby = λ idle. refl; frames = refl; acknowledgements = refl; effect = tt };
   }
   step-idle due.Hand some never = record {
-    does = hand-stays device contents is_faulted sessions transcript sequencer notices link opening remote frames arrivals standby primary_condition standby_condition before works handed never;
+    does = hand-stays device contents is_faulted sessions transcript sequencer notices link opening remote frames arrivals standby primary_condition standby_condition fences before works handed never;
     leaves = record { primary = λ idle. refl; standby = λ idle. refl; frames = refl; acknowledgements = refl; effect = tt };
   }
   step-idle due.Free some never = record {
-    does = free-idle device contents is_faulted sessions transcript sequencer link opening remote frames arrivals standby primary_condition standby_condition before works notices handed never;
+    does = free-idle device contents is_faulted sessions transcript sequencer link opening remote frames arrivals standby primary_condition standby_condition fences before works notices handed never;
     leaves = record { primary = λ idle. refl; standby = λ idle. refl; frames = refl; acknowledgements = refl; effect = tt };
   }
   step-idle due.Clear some never = record {
-    does = clear-idle device contents is_faulted sessions transcript sequencer link opening remote frames arrivals standby primary_condition standby_condition before works notices handed never;
+    does = clear-idle device contents is_faulted sessions transcript sequencer link opening remote frames arrivals standby primary_condition standby_condition fences before works notices handed never;
     leaves = record { primary = λ idle. refl; standby = λ idle. refl; frames = refl; acknowledgements = refl; effect = tt };
   }
   step-idle due.Nothing some never = absurd (some refl)
@@ -105,11 +106,11 @@ module _ {E : Type 0} (device : E → State) (contents : E → Contents) (is_fau
 
   pub step-roomless : (step : Due) (notices' : List Freed) (refusal : Refusal) → refusal ≡ Memory → frees_places step ≡ true → now ≡ step → Did step (Err refusal) (with before works notices' handed)
   step-roomless due.Free notices' refusal memory frees is = record {
-    does = free-roomless device contents is_faulted sessions transcript sequencer link opening remote frames arrivals standby primary_condition standby_condition before works notices notices' handed refusal memory is;
+    does = free-roomless device contents is_faulted sessions transcript sequencer link opening remote frames arrivals standby primary_condition standby_condition fences before works notices notices' handed refusal memory is;
     leaves = record { primary = λ idle. refl; standby = λ idle. refl; frames = refl; acknowledgements = refl; effect = tt };
   }
   step-roomless due.Clear notices' refusal memory frees is = record {
-    does = clear-roomless device contents is_faulted sessions transcript sequencer link opening remote frames arrivals standby primary_condition standby_condition before works notices notices' handed refusal memory is;
+    does = clear-roomless device contents is_faulted sessions transcript sequencer link opening remote frames arrivals standby primary_condition standby_condition fences before works notices notices' handed refusal memory is;
     leaves = record { primary = λ idle. refl; standby = λ idle. refl; frames = refl; acknowledgements = refl; effect = tt };
   }
   step-roomless due.Commit notices' refusal memory frees is = absurd (true≢false (sym frees))
@@ -141,31 +142,31 @@ module _ {E : Type 0} (device : E → State) (contents : E → Contents) (is_fau
 
     pub step-did : (step : Due) (result : Result Done Refusal) → step ≢ due.Nothing → now ≡ step → Came step result → Did step (went result) (new result)
     step-did due.Commit result some is took = record {
-      does = untold due.Commit result some refl took (commit-does device contents is_faulted sessions transcript sequencer notices link opening remote frames arrivals standby primary_condition standby_condition before after works works' handed handed' result is took);
+      does = untold due.Commit result some refl took (commit-does device contents is_faulted sessions transcript sequencer notices link opening remote frames arrivals standby primary_condition standby_condition fences before after works works' handed handed' result is took);
       leaves = record { primary = λ idle. absurd (true≢false (sym (begun result) ∙ idle)); standby = λ idle. refl; frames = refl; acknowledgements = refl; effect = tt };
     }
     step-did due.Raise result some is took = record {
-      does = untold due.Raise result some refl took (raise-does-so device contents is_faulted sessions transcript sequencer notices link opening remote frames arrivals standby primary_condition standby_condition before after works works' handed handed' result took);
+      does = untold due.Raise result some refl took (raise-does-so device contents is_faulted sessions transcript sequencer notices link opening remote frames arrivals standby primary_condition standby_condition fences before after works works' handed handed' result took);
       leaves = record { primary = λ idle. raise-leaves device contents is_faulted remote before after works works' handed handed' result took; standby = λ idle. refl; frames = refl; acknowledgements = refl; effect = tt };
     }
     step-did due.Hand result some is took = record {
-      does = untold due.Hand result some refl took (hand-does-so device contents is_faulted sessions transcript sequencer notices link opening remote frames arrivals standby primary_condition standby_condition before after works works' handed handed' result took);
+      does = untold due.Hand result some refl took (hand-does-so device contents is_faulted sessions transcript sequencer notices link opening remote frames arrivals standby primary_condition standby_condition fences before after works works' handed handed' result took);
       leaves = record { primary = λ idle. hand-leaves device contents is_faulted remote before after works works' handed handed' result took; standby = λ idle. refl; frames = refl; acknowledgements = refl; effect = tt };
     }
     step-did due.Free (Ok came) some is took =
-        let done = free-done device contents is_faulted sessions transcript sequencer link opening remote frames arrivals standby primary_condition standby_condition before works notices handed is after works' handed' came took in
+        let done = free-done device contents is_faulted sessions transcript sequencer link opening remote frames arrivals standby primary_condition standby_condition fences before works notices handed is after works' handed' came took in
         record { does = done.0; leaves = record { primary = λ idle. absurd (true≢false idle); standby = λ idle. refl; frames = refl; acknowledgements = refl; effect = done.1 } }
     step-did due.Free (Err refusal) some is took = record {
       does = subst (λ (ns : List Freed). Does old (event_of due.Free) (Err refusal) (with after works' ns handed')) (sym (append-nil notices))
-          (free-ends device contents is_faulted sessions transcript sequencer link opening remote frames arrivals standby primary_condition standby_condition before works notices handed is after works' handed' refusal took);
+          (free-ends device contents is_faulted sessions transcript sequencer link opening remote frames arrivals standby primary_condition standby_condition fences before works notices handed is after works' handed' refusal took);
       leaves = record { primary = λ idle. absurd (true≢false idle); standby = λ idle. refl; frames = refl; acknowledgements = refl; effect = tt };
     }
     step-did due.Clear (Ok came) some is took =
-        let done = clear-done device contents is_faulted sessions transcript sequencer link opening remote frames arrivals standby primary_condition standby_condition before works notices handed is after works' handed' came took in
+        let done = clear-done device contents is_faulted sessions transcript sequencer link opening remote frames arrivals standby primary_condition standby_condition fences before works notices handed is after works' handed' came took in
         record { does = done.0; leaves = record { primary = λ idle. absurd (true≢false idle); standby = λ idle. refl; frames = refl; acknowledgements = refl; effect = done.1 } }
     step-did due.Clear (Err refusal) some is took = record {
       does = subst (λ (ns : List Freed). Does old (event_of due.Clear) (Err refusal) (with after works' ns handed')) (sym (append-nil notices))
-          (clear-ends device contents is_faulted sessions transcript sequencer link opening remote frames arrivals standby primary_condition standby_condition before works notices handed is after works' handed' refusal took);
+          (clear-ends device contents is_faulted sessions transcript sequencer link opening remote frames arrivals standby primary_condition standby_condition fences before works notices handed is after works' handed' refusal took);
       leaves = record { primary = λ idle. absurd (true≢false idle); standby = λ idle. refl; frames = refl; acknowledgements = refl; effect = tt };
     }
     step-did due.Nothing result some is took = absurd (some refl)

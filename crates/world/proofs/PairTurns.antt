@@ -46,12 +46,14 @@ use Rattle.world.specs.Pair.{Pair, PartsRefine, PairRefines, Steps, Does}
 use Rattle.connections.specs.declared.connections.Connections.{Connections}
 use Rattle.connections.specs.declared.transcript.Transcript.{Transcript}
 use Rattle.world.proofs.CommittingLemmas.{Leads-committed, Remembers-committed, TakesLawful, commit-ends, commit-goes, commit-lands, commit-moments, hand-goes, hand-none, hand-room, raise-goes, raise-none, takes-lawful}
-use Rattle.world.proofs.LeftLemmas.{LeftBy, left-next, left-running, left-still}
+use Rattle.world.specs.Remaining.{LeftBy}
+use Rattle.world.proofs.LeftLemmas.{left-next, left-running, left-still}
 use Rattle.world.proofs.LivesLemmas.{enabled-is, nodes-refine, own-runs, serving}
 use Rattle.world.proofs.PairLemmas.{Led, cut-for, cut-same, none-added, rests-standby, stays-does, tells}
 use Rattle.world.proofs.PairCommitting.{commit-steps, ends-commit, hand-does, raise-does, same_closed}
 use Rattle.world.proofs.QueueLemmas.{commit-disabled, commit-enabled}
 use Rattle.world.specs.declared.condition.Condition.{Condition}
+use Rattle.world.specs.declared.condition.AskedFences.{AskedFences}
 
 -- a turn that took its step was not refused
 abbrev pub went : Result Done Refusal → Result Bool Refusal
@@ -130,7 +132,7 @@ module _ {E : Type 0} (device : E → State) (contents : E → Contents) (is_fau
         → Took step (link_has_room handed.items) remote before works handed result after works' handed'
     took-step step is took = subst (λ (step : Due). Took step (link_has_room handed.items) remote before works handed result after works' handed') is (took-due took)
 
-module _ {E : Type 0} (device : E → State) (contents : E → Contents) (is_faulted : E → Bool) (sessions : Connections) (transcript : Transcript) (sequencer : Sequencing) (notices : List Freed) (link : Stream) (opening : Opening) (remote : ℕ) (frames : List (Vec ℕ Global)) (arrivals : Arrived) (standby : Node) (primary_condition standby_condition : Condition) where
+module _ {E : Type 0} (device : E → State) (contents : E → Contents) (is_faulted : E → Bool) (sessions : Connections) (transcript : Transcript) (sequencer : Sequencing) (notices : List Freed) (link : Stream) (opening : Opening) (remote : ℕ) (frames : List (Vec ℕ Global)) (arrivals : Arrived) (standby : Node) (primary_condition standby_condition : Condition) (fences : AskedFences) where
   -- a pair with this committer, with this work waiting for it, and with these groups at the link
   abbrev pub pair_of : Committer E → Waiting Work → Waiting Group → Pair
   pair_of committer work waiting = record {
@@ -151,6 +153,7 @@ module _ {E : Type 0} (device : E → State) (contents : E → Contents) (is_fau
     standby = standby;
     primary_condition = primary_condition;
     standby_condition = standby_condition;
+    asked = fences;
   }
 
   -- the step that is due
@@ -245,7 +248,7 @@ module _ {E : Type 0} (device : E → State) (contents : E → Contents) (is_fau
             cut-for first second events.Commit refusal old new w (nodes-refine stands) (tells transcript) refl
             (enabled-is (own-runs stands events.Commit refl) ∙ may-commit before works handed is first second w parts)
             (ends-commit refusal (λ last _. last first w.primary.calls w.primary.committer.position (next_primary w) old.device new.device) (Led first second old new w)
-            (λ last broken. (broken, rests-standby first second old w (nodes-refine stands)))
+            (λ last broken. (inl broken, rests-standby first second old w (nodes-refine stands)))
             (commit-ends first w old.committing took.lists took.group new.committing old.device new.device old.contents old.is_faulted (Err refusal) refusal refl takes
             commits.causes commits.fault (λ cause. let told = commits.exhausted cause in (told.0, ap (λ (e : E). device e) told.1))
             commits.exhausts commits.moments parts.committing parts.engine));

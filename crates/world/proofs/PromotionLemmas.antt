@@ -1,5 +1,7 @@
 -- The image of a standby that is promoted: what the calls that do so leave of it.
-use Rattle.std.proofs.Common.{◌≡◌, ◌≢◌, ◌⊎◌, inl, inr, ℕ, ◌+◌, ◌<◌, ◌≤◌, Bool, true, false, ◌&&◌, if◌then◌else◌, List, [], ◌∷◌, map, refl, sym, ap, subst, ◌∙◌, arith, true≢false}
+use Rattle.std.proofs.Common.{◌≡◌, ◌≢◌, ◌⊎◌, inl, inr, ℕ, ◌+◌, ◌<◌, ◌≤◌, Bool, true, false, List, [], ◌∷◌, map, All, Vec, Global, refl, sym, ap, subst, ◌∙◌, arith, true≢false}
+use Rattle.std.proofs.lemmas.Bool.{cases_lt}
+use Rattle.std.proofs.lemmas.List.Elements.{All-head, All-tail}
 use Rattle.kv_types.specs.declared.refusal.Refusal.{Refusal}
 use Rattle.kv_types.specs.declared.refusal.Refusal.TheVariants.{Exhausted, Fault, Memory}
 use Rattle.pmem.specs.Device.{State}
@@ -7,6 +9,8 @@ use Rattle.pmem.specs.Crash.{IsImage, IsSettled, image_of}
 use Rattle.pmem.specs.Runs.{LeavesOnly}
 use Rattle.pmem.proofs.Leaving.{LeavesOnly-then, LeavesOnly-weaken, none_leaves}
 use Rattle.model.specs.declared.call.Call.{Call}
+use Rattle.model.specs.declared.image.TheConstants.{COUNTER_LIMIT}
+use Rattle.model.specs.declared.record.Record.{Record}
 use Rattle.model.specs.declared.record.Role.TheVariants as role
 use Rattle.model.specs.Call.{cut_at}
 use Rattle.model.specs.Group.{Contents}
@@ -19,13 +23,38 @@ use Rattle.wbl_engine.specs.Lawful.{AreLawful}
 use Rattle.wbl_engine.specs.Promoting.{ExhaustsPromotion, promoted as promoted_contents}
 use Rattle.wbl_engine.proofs.PromotingLemmas.{consistent_promoted, lawful_promoted}
 use Rattle.failover.specs.Promoting.{IsBeforeOrPromoted}
-use Rattle.machine.specs.Event.{promoted}
+use Rattle.machine.specs.Event.{Frame as Sent, promoted}
+use Rattle.machine.specs.Sound.{IsFrameWithin}
 use Rattle.world.specs.Cause.{Promoting}
 use Rattle.world.specs.Committing.{AreContentsAt, EngineStands, IsDown, OpensAsEither, OpensAt, promoted_holder}
+use Rattle.world.specs.Link.{AreFramesSent}
 use Rattle.world.proofs.CutLemmas.{keyspace_after-cut_at-cut}
 use Rattle.world.proofs.DownLemmas.{restart-moments, restart-refused, settled-image}
-use Rattle.world.proofs.EngineLemmas.{Opens-engine, keeps-opens}
-use Rattle.world.proofs.OpenedLemmas.{IsNotOpened}
+use Rattle.world.proofs.EngineLemmas.{Opens-engine}
+use Rattle.world.proofs.KeptLemmas.{KeepsAsEither, engine-keeps, restart-keeps}
+use Rattle.world.proofs.OpenedLemmas.{IsNotOpened, StaysSo}
+use Rattle.world.proofs.RemainLemmas.{kept-opens}
+
+-- ---- the wire
+
+-- what an earlier primary sent tells nothing of this list
+pub frames-earlier : (epoch later n : ℕ) (calls calls' : List Call) (texts : List (Vec ℕ Global)) (sent : List Sent) → epoch < later → All (IsFrameWithin epoch n) sent → AreFramesSent epoch calls texts sent → AreFramesSent later calls' texts sent
+frames-earlier epoch later n calls calls' [] [] less within are = tt
+frames-earlier epoch later n calls calls' (bytes ∷ texts) (one ∷ sent) less within are = (
+  record {
+    frame = are.0.frame;
+    text = are.0.text;
+    may = are.0.may;
+    about = are.0.about;
+    is = λ own. absurd (omega (arith, own, less, (All-head (IsFrameWithin epoch n) one sent within).epoch_is));
+  },
+  frames-earlier epoch later n calls calls' texts sent less (All-tail (IsFrameWithin epoch n) one sent within) are.1,
+)
+frames-earlier epoch later n calls calls' texts sent less within are = absurd are
+
+-- the holder of the former primary's device, of which nothing is said
+abbrev pub former_holder : Holder → Holder
+former_holder second = record { lines = second.lines; role = role.Standby; epoch = second.epoch + 1 }
 
 -- ---- the image
 
@@ -71,14 +100,40 @@ contents-promoted holder calls p contents after are moved =
       map = are.map;
     })
 
--- each image meanwhile opens as the standby's or as the primary's
-either-opens : (holder : Holder) (calls : List Call) (p : ℕ) (device : State) (contents : Contents) (is_faulted : Bool) → EngineStands holder calls p device contents is_faulted
-    → (¬ ExhaustsPromotion contents.current) → (image : Image) → IsBeforeOrPromoted contents image → OpensAsEither holder calls p image
-either-opens holder calls p device contents is_faulted stands fits image (inl before) = inl (keeps-opens holder calls p contents image stands.contents_at stands.lawful before)
-either-opens holder calls p device contents is_faulted stands fits image (inr after) =
-    inr (keeps-opens (promoted_holder holder) calls p (promoted_contents contents) image
-    (contents-promoted holder calls p contents (promoted_contents contents) stands.contents_at (record { current = refl; lines = refl; versions = λ i. refl; is_free = λ i. refl }))
-    (lawful_promoted contents stands.lawful fits) after)
+-- each image meanwhile holds the standby's contents, or the primary's
+either-keeps : (holder : Holder) (calls : List Call) (p : ℕ) (device : State) (contents : Contents) (is_faulted : Bool) → EngineStands holder calls p device contents is_faulted
+    → (¬ ExhaustsPromotion contents.current) → (image : Image) → IsBeforeOrPromoted contents image → KeepsAsEither holder calls p image
+either-keeps holder calls p device contents is_faulted stands fits image (inl before) = inl (record { contents = contents; contents_at = stands.contents_at; lawful = stands.lawful; keeps = before })
+either-keeps holder calls p device contents is_faulted stands fits image (inr after) = inr (record {
+  contents = promoted_contents contents;
+  contents_at = contents-promoted holder calls p contents (promoted_contents contents) stands.contents_at (record { current = refl; lines = refl; versions = λ i. refl; is_free = λ i. refl });
+  lawful = lawful_promoted contents stands.lawful fits;
+  keeps = after;
+})
+
+limit : (r : Record) → ExhaustsPromotion r ⊎ (¬ ExhaustsPromotion r)
+limit r = elim (cases_lt (r.number + 1) COUNTER_LIMIT) [
+  | inl number ↦ elim (cases_lt (r.epoch + 1) COUNTER_LIMIT) [
+    | inl epoch ↦ inr (λ reached. elim reached [ inl full ↦ omega (arith, number, full) | inr full ↦ omega (arith, epoch, full) ])
+    | inr reached ↦ inl (inr reached)
+  ]
+  | inr reached ↦ inl (inl reached)
+]
+
+-- So does each image of the call, whatever it answers: where a counter is at its limit, nothing was done.
+pub promotion-keeps : (holder : Holder) (calls : List Call) (p : ℕ) (old new : State) (contents : Contents) (is_faulted : Bool) → EngineStands holder calls p old contents is_faulted
+    → (ExhaustsPromotion contents.current → new ≡ old) → LeavesOnly old new (IsBeforeOrPromoted contents) → LeavesOnly old new (KeepsAsEither holder calls p)
+promotion-keeps holder calls p old new contents is_faulted stands full only = elim (limit contents.current) [
+  | inl reached ↦
+      subst (λ (d : State). LeavesOnly old d (KeepsAsEither holder calls p)) (sym (full reached))
+      (none_leaves old (KeepsAsEither holder calls p) (λ image is. inl (engine-keeps holder calls p old contents is_faulted stands image is)))
+  | inr fits ↦ LeavesOnly-weaken (KeepsAsEither holder calls p) (either-keeps holder calls p old contents is_faulted stands fits) only
+]
+
+-- it opens as the standby's or as the primary's
+either-kept : (holder : Holder) (calls : List Call) (p : ℕ) (image : Image) → KeepsAsEither holder calls p image → OpensAsEither holder calls p image
+either-kept holder calls p image (inl before) = inl (kept-opens holder calls p image before)
+either-kept holder calls p image (inr after) = inr (kept-opens (promoted_holder holder) calls p image after)
 
 module _ (holder : Holder) (calls : List Call) (p : ℕ) (old between new : State) (contents after : Contents) (is_faulted : Bool) (stands : EngineStands holder calls p old contents is_faulted)
     (fits : ¬ ExhaustsPromotion contents.current) (was : WasPromoted old between new contents after) where
@@ -94,20 +149,30 @@ module _ (holder : Holder) (calls : List Call) (p : ℕ) (old between new : Stat
   }
 
   -- what a crash leaves up to then
-  pub promoted-leaves : LeavesOnly old new (OpensAsEither holder calls p)
-  promoted-leaves =
+  promoted-keeps : LeavesOnly old new (KeepsAsEither holder calls p)
+  promoted-keeps =
       LeavesOnly-then
-      (LeavesOnly-weaken (OpensAsEither holder calls p) (either-opens holder calls p old contents is_faulted stands fits) was.promoting)
-      (LeavesOnly-weaken (OpensAsEither holder calls p)
-      (λ image is. inr (keeps-opens (promoted_holder holder) calls p after image (contents-promoted holder calls p contents after stands.contents_at was.moved) (was.lawful stands.lawful) (was.durable image is)))
+      (LeavesOnly-weaken (KeepsAsEither holder calls p) (either-keeps holder calls p old contents is_faulted stands fits) was.promoting)
+      (LeavesOnly-weaken (KeepsAsEither holder calls p)
+      (λ image is. inr (record { contents = after; contents_at = contents-promoted holder calls p contents after stands.contents_at was.moved; lawful = was.lawful stands.lawful; keeps = was.durable image is }))
       was.moments)
+
+  promoted-leaves : LeavesOnly old new (OpensAsEither holder calls p)
+  promoted-leaves = LeavesOnly-weaken (OpensAsEither holder calls p) (either-kept holder calls p) promoted-keeps
 
   -- and what it leaves once the image was opened, or was not
   pub opened-leaves : (last : State) → LeavesOnly new last (OpensAt (promoted_holder holder) calls p) → LeavesOnly old last (OpensAsEither holder calls p)
   opened-leaves last only = LeavesOnly-then promoted-leaves (LeavesOnly-weaken (OpensAsEither holder calls p) (λ image is. inr is) only)
 
+  opened-keeps : (last : State) → StaysSo new last → LeavesOnly old last (KeepsAsEither holder calls p)
+  opened-keeps last stays = LeavesOnly-then promoted-keeps (LeavesOnly-weaken (KeepsAsEither holder calls p) (λ image is. inr is) (restart-keeps (promoted_holder holder) calls p new last down-promoted stays))
+
   pub same-failures : new.failures ≡ old.failures
   same-failures = was.failures ∙ was.promoting_failures
+
+  -- a fence failed in the opening
+  pub not-opened-keeps : (last : State) (refusal : Refusal) → IsNotOpened role.Primary new last refusal → refusal ≡ Fault → LeavesOnly old last (KeepsAsEither holder calls p) × (old.failures < last.failures)
+  not-opened-keeps last refusal refused fault = (opened-keeps last refused.moments, omega (arith, same-failures, refused.fault fault))
 
   -- the opening was refused
   pub not-opened-ends : (last : State) (refusal : Refusal) (next : ℕ) → IsNotOpened role.Primary new last refusal → Promoting refusal holder calls p next old last
@@ -145,16 +210,23 @@ pub record WasNotPromoted (old new : State) (contents : Contents) (is_faulted : 
   pub fits : refusal ≡ Fault → ¬ ExhaustsPromotion contents.current
   pub moments : LeavesOnly old new (IsBeforeOrPromoted contents)
 
+-- where a fence failed in it
+pub not-promoted-keeps : (holder : Holder) (calls : List Call) (p : ℕ) (old new : State) (contents : Contents) (is_faulted : Bool) (refusal : Refusal) → EngineStands holder calls p old contents is_faulted
+    → WasNotPromoted old new contents is_faulted refusal → refusal ≡ Fault → LeavesOnly old new (KeepsAsEither holder calls p) × (old.failures < new.failures)
+not-promoted-keeps holder calls p old new contents is_faulted refusal stands was fault = (
+  LeavesOnly-weaken (KeepsAsEither holder calls p) (either-keeps holder calls p old contents is_faulted stands (was.fits fault)) was.moments,
+  elim (was.fault fault) [
+    | inl faulted ↦ absurd (true≢false (sym faulted ∙ stands.sound))
+    | inr now ↦ now
+  ],
+)
+
 pub not-promoted-ends : (holder : Holder) (calls : List Call) (p next : ℕ) (old new : State) (contents : Contents) (is_faulted : Bool) (refusal : Refusal) → EngineStands holder calls p old contents is_faulted
     → WasNotPromoted old new contents is_faulted refusal → Promoting refusal holder calls p next old new
 not-promoted-ends holder calls p next old new contents is_faulted refusal stands was = elim was.causes [
   | inl fault ↦
-      let failed : old.failures < new.failures = elim (was.fault fault) [
-        | inl faulted ↦ absurd (true≢false (sym faulted ∙ stands.sound))
-        | inr now ↦ now
-      ] in
-      subst (λ (r : Refusal). Promoting r holder calls p next old new) (sym fault)
-      (record { leaves = LeavesOnly-weaken (OpensAsEither holder calls p) (either-opens holder calls p old contents is_faulted stands (was.fits fault)) was.moments; failures = failed })
+      let it = not-promoted-keeps holder calls p old new contents is_faulted refusal stands was fault in
+      subst (λ (r : Refusal). Promoting r holder calls p next old new) (sym fault) (record { leaves = LeavesOnly-weaken (OpensAsEither holder calls p) (either-kept holder calls p) it.0; failures = it.1 })
   | inr exhausted ↦
       let why = was.exhausted exhausted in
       subst (λ (r : Refusal). Promoting r holder calls p next old new) (sym exhausted)

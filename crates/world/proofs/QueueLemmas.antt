@@ -19,45 +19,11 @@ use Rattle.machine.specs.Event.{Commits, Frees, Span, Stage as MachineStage, Wor
 use Rattle.machine.specs.Event as machine
 use Rattle.machine.specs.World as machine_stage
 use Rattle.world.specs.Committing.{Committing, CommittingRefines, StageRefines, link_has_room, reached_now}
-use Rattle.world.specs.GroupSpan.{AreGroupsOf, AreWorkOf, IsWorkOf, positions_of_lists}
-use Rattle.world.proofs.GroupSpanLemmas.{IsGroupOf-grows, length-groups}
-
--- ---- while the list grows
-
-IsWorkOf-grows : (calls more : List Call) (item : Work) (work : MachineWork) → IsWorkOf calls item work → IsWorkOf (calls ++ more) item work
-IsWorkOf-grows calls more (work.Commit group) (Commits span) is = IsGroupOf-grows calls more group span is
-IsWorkOf-grows calls more (work.Free list) (Frees position) is = is
-IsWorkOf-grows calls more item work is = absurd is
-
-pub AreWorkOf-grows : (calls more : List Call) (items : List Work) (works : List MachineWork) → AreWorkOf calls items works → AreWorkOf (calls ++ more) items works
-AreWorkOf-grows calls more [] [] are = tt
-AreWorkOf-grows calls more (item ∷ items) (work ∷ works) are = (IsWorkOf-grows calls more item work are.0, AreWorkOf-grows calls more items works are.1)
-AreWorkOf-grows calls more items works are = absurd are
-
-pub AreWorkOf-append : (calls : List Call) (items : List Work) (works : List MachineWork) (others : List Work) (more : List MachineWork) → AreWorkOf calls items works → AreWorkOf calls others more
-    → AreWorkOf calls (items ++ others) (works ++ more)
-AreWorkOf-append calls [] [] others more are are' = are'
-AreWorkOf-append calls (item ∷ items) (work ∷ works) others more are are' = (are.0, AreWorkOf-append calls items works others more are.1 are')
-AreWorkOf-append calls items works others more are are' = absurd are
+use Rattle.node_steps.specs.GroupSpan.{AreGroupsOf, AreWorkOf, IsWorkOf, positions_of_lists}
+use Rattle.node_steps.proofs.GroupSpanLemmas.{length-groups}
+use Rattle.node_steps.proofs.QueueLemmas.{has_group-work, lists-work, nonempty-work}
 
 -- ---- what is in it
-
-pub nonempty-work : (calls : List Call) (items : List Work) (works : List MachineWork) → AreWorkOf calls items works → is_nonempty items ≡ is_nonempty works
-nonempty-work calls [] [] are = refl
-nonempty-work calls (item ∷ items) (work ∷ works) are = refl
-nonempty-work calls items works are = absurd are
-
-pub lists-work : (calls : List Call) (items : List Work) (works : List MachineWork) → AreWorkOf calls items works → positions_of_lists (lists_of items) ≡ machine.lists_of works
-lists-work calls [] [] are = refl
-lists-work calls (work.Commit group ∷ items) (Commits span ∷ works) are = lists-work calls items works are.1
-lists-work calls (work.Free list ∷ items) (Frees position ∷ works) are = ap₂ (λ (p : ℕ) (ps : List ℕ). p ∷ ps) are.0 (lists-work calls items works are.1)
-lists-work calls items works are = absurd (search (rules, are))
-
-pub has_group-work : (calls : List Call) (items : List Work) (works : List MachineWork) → AreWorkOf calls items works → has_group items ≡ is_nonempty (from_group works)
-has_group-work calls [] [] are = refl
-has_group-work calls (work.Commit group ∷ items) (Commits span ∷ works) are = refl
-has_group-work calls (work.Free list ∷ items) (Frees position ∷ works) are = has_group-work calls items works are.1
-has_group-work calls items works are = absurd (search (rules, are))
 
 -- whether the link has room
 pub room-link : (calls : List Call) (handed : List Group) (spans : List Span) → AreGroupsOf calls handed spans → link_has_room handed ≡ has_room spans

@@ -1,45 +1,40 @@
 -- What is reported of a run at its end.
 use Rattle.std.specs.Global.{Global}
-use Rattle.std.proofs.Common.{Vec, ◌≡◌, ◌⊎◌, ℕ, ◌≤◌, nat_eq, if◌then◌else◌, Bool, List, [], ◌∷◌, ◌++◌, length, take, slice_index_or, Option, Some, None, Ok, Err, refl, sym, ap, ap₂, subst, ◌∙◌, arith, le_refl, inl, inr, true, false, true≢false, ◌&&◌}
+use Rattle.std.proofs.Common.{Vec, ◌≡◌, ◌⊎◌, ℕ, ◌≤◌, if◌then◌else◌, Bool, List, [], length, take, slice_index_or, Option, Some, None, refl, sym, ap, subst, ◌∙◌, arith, le_refl, inl, inr, true, false}
 use Rattle.pmem.specs.Device.{State}
 use Rattle.pmem.specs.Runs.{LeavesOnly}
 use Rattle.kv_types.specs.declared.refusal.Refusal.{Refusal}
 use Rattle.kv_types.specs.declared.refusal.Refusal.TheVariants.{Memory, Fault, Exhausted}
-use Rattle.pmem.proofs.Leaving.{LeavesOnly-then, LeavesOnly-weaken}
+use Rattle.pmem.proofs.Leaving.{LeavesOnly-weaken}
 use Rattle.model.specs.declared.call.Call.{Call}
-use Rattle.model.specs.declared.record.Role.{Role}
 use Rattle.model.specs.declared.record.Role.TheVariants.{Primary, Standby}
-use Rattle.model.specs.Call.{cut_at}
 use Rattle.model.specs.Image.{Image}
 use Rattle.model.specs.Standing.{Holder, new_holder}
 use Rattle.machine.specs.declared.event.Event.{Event}
-use Rattle.machine.specs.declared.event.Event.TheVariants.{Commit, Free, ClearGap, Apply, OpenLink, Promote, Reopen, Send}
+use Rattle.machine.specs.declared.event.Event.TheVariants.{Commit, Free, ClearGap, Apply, Promote, Reopen}
 use Rattle.machine.specs.declared.event.Node.{Node}
 use Rattle.machine.specs.declared.event.Node.TheVariants as node
-use Rattle.machine.specs.declared.event.Cut.TheVariants as cut
-use Rattle.machine.specs.Event.{Run, World, last_world}
+use Rattle.machine.specs.Event.{Run, World, last_world, torn}
 use Rattle.machine.specs.Promise.{IsPromised, IsReleased, Tells, released_in}
 use Rattle.machine.proofs.GrowLemmas.{released-stays}
 use Rattle.machine.proofs.CoverLemmas.{covered-run}
 use Rattle.machine.proofs.EveryRun.{promised-told}
-use Rattle.machine.proofs.RunLemmas.{run-push, last_world-push, sound-start}
-use Rattle.world.specs.Cause.{Stretch, UnformedBy, Breaks, Promoting, RestsAtFrameLimit, RestsAtLimit, RestsBeforeReopening, EndsBy, Resting}
-use Rattle.world.specs.Committing.{FormattingOnly, Moves, NearOnly, Opens, OpensAsEither, OpensAt, OpensAtEither, Rests, next_primary, next_standby, promoted_holder}
+use Rattle.machine.proofs.RunLemmas.{sound-start}
+use Rattle.world.specs.Cause.{Stretch, UnformedBy, Breaks, OrLies, Promoting, RestsAtFrameLimit, RestsAtLimit, RestsBeforeReopening, EndsBy, Resting}
+use Rattle.world.specs.Committing.{FormattingOnly, NearOnly, OpensAsEither, OpensAtEither, next_primary, next_standby, promoted_holder}
+use Rattle.world.specs.Remaining.{Remain}
 use Rattle.world.specs.declared.trace.EarlyEnd.{EarlyEnd}
 use Rattle.world.specs.declared.trace.EarlyEnd.TheVariants.{AtFormatting, AtEvent}
-use Rattle.world.specs.Headline.{AnyWorld, Enables, start, primary_position, standby_position, AreMoments, EndsAs, IsKept, KeepsItsWord, MovesBy, MovesOn, Opening, Passes, PlaysOn, AreMoves, OpensFrom, OpensFromEither, OpensIn, Reaches, StandsAfter, StandsIn, IsCutAfter, Plays, HasSent, each, holder_at, node_on, opens_always, opens_in_the_end, primary_holder, standby_holder, touches_on}
-use Rattle.world.specs.Pair.{HasStandby, Pair, NodesRefine, allowed, HasRoom, HasWorld, IsCut, IsPromotionCut, Steps, Succeeds, first_device, second_device}
-use Rattle.world.specs.Step.{AcksBy, FramesBy, IsStep, touches_primary, touches_standby}
+use Rattle.world.specs.Headline.{AnyWorld, Enables, start, primary_position, standby_position, AreMoments, EndsAs, IsKept, KeepsItsWord, Opening, PlaysOn, OpensFrom, OpensFromEither, Reaches, StandsAfter, StandsIn, IsCutAfter, Plays, HasSent, each, node_on, opens_always, opens_in_the_end, primary_holder, standby_holder}
+use Rattle.world.specs.Pair.{HasStandby, Pair, NodesRefine, allowed, first_device, second_device}
 use Rattle.connections.specs.Session.{released_of}
-use Rattle.world.proofs.EngineLemmas.{rests-same}
 use Rattle.world.proofs.PairLemmas.{primary-stands, rests-primary, rests-standby, sessions-stand}
-use Rattle.world.proofs.StepLemmas.{acks-sent, cut-for-room, frames-sent}
+use Rattle.world.proofs.RemainLemmas.{lies-still}
+use Rattle.world.proofs.StepLemmas.{acks-sent, frames-sent}
 use Rattle.connections.proofs.SessionLemmas.{released-told}
-use Rattle.world.specs.Condition.{has_ended, life_as}
-use Rattle.world.specs.declared.condition.Condition.{Condition}
-use Rattle.world.specs.declared.condition.Condition.TheVariants as condition
+use Rattle.world.specs.Condition.{has_ended}
 use Rattle.world.proofs.MomentLemmas.{IsFinal, moments-from}
-use Rattle.world.proofs.ReachLemmas.{place, placed, primary-holds, standby-holds}
+use Rattle.world.proofs.GoingLemmas.{place, placed, primary-holds, standby-holds}
 
 -- ---- what is told at the end
 
@@ -121,12 +116,8 @@ from-lower : (holder : Holder) (calls : List Call) (p q : ℕ) (image : Image) �
 from-lower holder calls p q image le opens = (opens.0, omega (arith, le, opens.1), opens.2)
 
 final-always : (first_last second_last : Stretch) → IsLast first_last → IsLast second_last → IsFinal opens_always (each first_last second_last)
-final-always first_last second_last first_from second_from = record { includes = includes; lower = lower; ends = ends }
+final-always first_last second_last first_from second_from = record { lower = lower; ends = ends }
   where
-    includes : (n : Node) (holder : Holder) (calls : List Call) (p : ℕ) (image : Image) → OpensFrom holder calls p image → opens_always n holder calls p image
-    includes node.Primary holder calls p image opens = opens
-    includes node.Standby holder calls p image opens = opens
-
     lower : (n : Node) (holder : Holder) (calls : List Call) (p q : ℕ) (image : Image) → p ≤ q → opens_always n holder calls q image → opens_always n holder calls p image
     lower node.Primary holder calls p q image le opens = from-lower holder calls p q image le opens
     lower node.Standby holder calls p q image le opens = from-lower holder calls p q image le opens
@@ -150,12 +141,8 @@ promoting-from refusal holder calls p q old new ends = LeavesOnly-weaken (OpensF
     leaves refusal ends = absurd ends
 
 final-promoting : (refusal : Refusal) → IsFinal opens_in_the_end (each Resting (Promoting refusal))
-final-promoting refusal = record { includes = includes; lower = lower; ends = ends }
+final-promoting refusal = record { lower = lower; ends = ends }
   where
-    includes : (n : Node) (holder : Holder) (calls : List Call) (p : ℕ) (image : Image) → OpensFrom holder calls p image → opens_in_the_end n holder calls p image
-    includes node.Primary holder calls p image opens = opens
-    includes node.Standby holder calls p image opens = inl opens
-
     lower : (n : Node) (holder : Holder) (calls : List Call) (p q : ℕ) (image : Image) → p ≤ q → opens_in_the_end n holder calls q image → opens_in_the_end n holder calls p image
     lower node.Primary holder calls p q image le opens = from-lower holder calls p q image le opens
     lower node.Standby holder calls p q image le (inl opens) = inl (from-lower holder calls p q image le opens)
@@ -169,21 +156,21 @@ final-promoting refusal = record { includes = includes; lower = lower; ends = en
 
 -- what is true of the primary's stretch and of the standby's is true of those of both devices
 module _ (first_lines second_lines : ℕ) (pair pair' : Pair) (w : World) (stands : StandsIn first_lines second_lines pair w) (first_last second_last : Stretch)
-    (primary_last : first_last stands.serving w.primary.calls w.primary.committer.position (next_primary w) pair.device pair'.device)
-    (standby_last : HasStandby pair → second_last stands.following w.primary.calls w.standby.position (next_standby w) pair.standby.device pair'.standby.device)
+    (primary_last : OrLies first_last stands.serving w.primary.calls w.primary.committer.position (next_primary w) (torn w.primary.life) pair.device pair'.device)
+    (standby_last : HasStandby pair → OrLies second_last stands.following w.primary.calls w.standby.position (next_standby w) (torn w.standby.life) pair.standby.device pair'.standby.device)
     (former_still : has_ended pair.standby_condition ≡ true → pair'.standby.device ≡ pair.standby.device) where
   ends-first : (b : Bool) → has_ended pair.standby_condition ≡ b → stands.serving.lines ≡ (if b then second_lines else first_lines)
       → EndsAs (each first_last second_last) first_lines w (place 0 b) (if b then pair.standby.device else pair.device) (if b then pair'.standby.device else pair'.device)
   ends-first true is lines = former_still is
   ends-first false is lines =
-      subst (λ (h : Holder). first_last h w.primary.calls w.primary.committer.position (next_primary w) pair.device pair'.device) (primary-holds stands.stands ∙ ap (λ n. primary_holder n w) lines) primary_last
+      subst (λ (h : Holder). OrLies first_last h w.primary.calls w.primary.committer.position (next_primary w) (torn w.primary.life) pair.device pair'.device) (primary-holds stands.stands ∙ ap (λ n. primary_holder n w) lines) primary_last
 
   ends-second : (b : Bool) → has_ended pair.standby_condition ≡ b → stands.serving.lines ≡ (if b then second_lines else first_lines)
       → EndsAs (each first_last second_last) second_lines w (place 1 b) (if b then pair.device else pair.standby.device) (if b then pair'.device else pair'.standby.device)
   ends-second true is lines =
-      subst (λ (h : Holder). first_last h w.primary.calls w.primary.committer.position (next_primary w) pair.device pair'.device) (primary-holds stands.stands ∙ ap (λ n. primary_holder n w) lines) primary_last
+      subst (λ (h : Holder). OrLies first_last h w.primary.calls w.primary.committer.position (next_primary w) (torn w.primary.life) pair.device pair'.device) (primary-holds stands.stands ∙ ap (λ n. primary_holder n w) lines) primary_last
   ends-second false is lines =
-      subst (λ (h : Holder). second_last h w.primary.calls w.standby.position (next_standby w) pair.standby.device pair'.standby.device) (standby-holds stands.stands ∙ ap (λ n. standby_holder n w) (stands.following_lines is)) (standby_last is)
+      subst (λ (h : Holder). OrLies second_last h w.primary.calls w.standby.position (next_standby w) (torn w.standby.life) pair.standby.device pair'.standby.device) (standby-holds stands.stands ∙ ap (λ n. standby_holder n w) (stands.following_lines is)) (standby_last is)
 
   -- by the numbers of the devices
   ends-by-number : has_ended pair'.standby_condition ≡ has_ended pair.standby_condition
@@ -283,13 +270,14 @@ played-cut first_lines second_lines began events event refusal done pair release
           let stands = after.stands in
           let lines = stands.serving_lines ∙ ap (λ b. if b then second_lines else first_lines) whole in
           let here : first_device before ≡ before.device = ap (λ b. if b then before.standby.device else before.device) whole in
-          let opens : Opens stands.serving w.primary.calls w.primary.committer.position (first_device before) =
-          subst (Opens stands.serving w.primary.calls w.primary.committer.position) (sym here) (primary-stands stands.serving stands.following before w stands.stands.parts) in
-          let first_rests : Rests (primary_holder first_lines w) w.primary.calls w.primary.committer.position (first_device before) (first_device pair) =
-          subst (λ (h : Holder). Rests h w.primary.calls w.primary.committer.position (first_device before) (first_device pair)) (primary-holds stands.stands ∙ ap (λ n. primary_holder n w) lines)
-          (rests-same stands.serving w.primary.calls w.primary.committer.position (first_device before) (first_device pair) cut.first_stays opens) in
-          let second_ends : Promoting refusal (standby_holder second_lines w) w.primary.calls w.standby.position (next_standby w) (second_device before) (second_device pair) =
-          subst (λ (h : Holder). Promoting refusal h w.primary.calls w.standby.position (next_standby w) (second_device before) (second_device pair)) (standby-holds stands.stands ∙ ap (λ n. standby_holder n w) (stands.following_lines whole)) cut.cause in
+          let remain : Remain stands.serving w.primary.calls w.primary.committer.position (torn w.primary.life) (first_device before) =
+          subst (Remain stands.serving w.primary.calls w.primary.committer.position (torn w.primary.life)) (sym here) (primary-stands stands.serving stands.following before w stands.stands.parts) in
+          let first_rests : OrLies Resting (primary_holder first_lines w) w.primary.calls w.primary.committer.position (next_primary w) (torn w.primary.life) (first_device before) (first_device pair) =
+          subst (λ (h : Holder). OrLies Resting h w.primary.calls w.primary.committer.position (next_primary w) (torn w.primary.life) (first_device before) (first_device pair)) (primary-holds stands.stands ∙ ap (λ n. primary_holder n w) lines)
+          (lies-still Resting stands.serving w.primary.calls w.primary.committer.position (next_primary w) (torn w.primary.life) (first_device before) (first_device pair) cut.first_stays remain) in
+          let second_ends : OrLies (Promoting refusal) (standby_holder second_lines w) w.primary.calls w.standby.position (next_standby w) (torn w.standby.life) (second_device before) (second_device pair) =
+          subst (λ (h : Holder). OrLies (Promoting refusal) h w.primary.calls w.standby.position (next_standby w) (torn w.standby.life) (second_device before) (second_device pair))
+          (standby-holds stands.stands ∙ ap (λ n. standby_holder n w) (stands.following_lines whole)) (inl cut.cause) in
           let lasts = each Resting (Promoting refusal) in
           inr (
             promoted.0,

@@ -23,22 +23,28 @@ use Rattle.mv_keyspace.proofs.PartTables.{map-from_table}
 use Rattle.wbl_engine.specs.Contents.{IsDurable}
 use Rattle.wbl_engine.specs.Lawful.{AreLawful}
 use Rattle.machine.specs.declared.event.Event.TheVariants.{Apply}
-use Rattle.machine.specs.Event.{Standby as Machine, Span, Frame as Sent, Acknowledgement, Takes, acknowledgement_of, moved_to}
+use Rattle.machine.specs.Event.{At, Remains, Standby as Machine, Span, Frame as Sent, Acknowledgement, Takes, acknowledgement_of, moved_to}
 use Rattle.frames.specs.declared.ack.Ack.{Ack}
 use Rattle.frames.specs.declared.frame.Frame.{Frame}
 use Rattle.standby.specs.declared.standby.Standby.{Standby}
 use Rattle.standby.specs.Following.{Follows, HoldsRearranged, HoldsWhole, IsHeld, IsNext, IsRearranged, IsTakenNext, HasTaken, IsBeforeOrWhole, WouldExhaust}
 use Rattle.standby.specs.Taking.{IsFull, TakesFrame}
 use Rattle.world.specs.Cause.{IsAtLimit, EndsBy}
-use Rattle.world.specs.Committing.{AreContentsAt, EngineStands, Moves, NearOnly, OpensAt, OpensAtEither, Rests, next_from}
+use Rattle.world.specs.Committing.{AreContentsAt, EngineStands, Moves, OpensAt, OpensAtEither, Rests, next_from}
 use Rattle.world.specs.Link.{IsFrameOf}
+use Rattle.world.specs.Remaining.{KeepsAt, KeepsOne}
 use Rattle.world.specs.Standby.{Node, StandbyStands, node_at, told_by}
-use Rattle.world.proofs.KeptLemmas.{EngineStands-kept, KeepsAt, engine-keeps, kept-opens}
-use Rattle.world.proofs.EngineLemmas.{Opens-engine, moves-same, near-still, rests-same, EngineStands-grows}
+use Rattle.world.proofs.KeptLemmas.{EngineStands-kept, engine-keeps, keeps-here, keeps-next, near-kept}
+use Rattle.world.proofs.RemainLemmas.{kept-opens}
+use Rattle.node_steps.proofs.EngineLemmas.{EngineStands-grows}
+use Rattle.world.proofs.EngineLemmas.{Opens-engine, moves-same, rests-same}
 
 -- nothing happened to the standby
-pub StandbyStands-still : (holder : Holder) (epoch : ℕ) (calls : List Call) (p q : ℕ) (node : Node) → StandbyStands holder epoch calls p node → NearOnly holder calls p q node.device node.device
-StandbyStands-still holder epoch calls p q node stands = near-still holder calls p q node.device node.contents node.is_faulted stands.engine
+pub StandbyStands-still : (holder : Holder) (epoch : ℕ) (calls : List Call) (p : ℕ) (others : List Remains) (node : Node) → StandbyStands holder epoch calls p node
+    → LeavesOnly node.device node.device (KeepsOne holder calls p others)
+StandbyStands-still holder epoch calls p others node stands =
+    none_leaves node.device (KeepsOne holder calls p others)
+    (λ image is. keeps-here holder calls p others image (engine-keeps holder calls p node.device node.contents node.is_faulted stands.engine image is))
 
 -- ---- what a standby answers to a frame
 
@@ -355,56 +361,29 @@ module _ {E K D : Type 0} (device : E → State) (contents : E → Contents) (is
   next-joined : span.before ≡ machine.position → next ≡ span.after
   next-joined e = ap (λ b. cond b span.after machine.position) (ap₂ (λ a b. a && b) (eq-eqb sent.epoch machine.epoch own) (eq-eqb span.before machine.position e))
 
-  -- at any moment of the call, a crash leaves what was before the frame or all of it
-  still : new ≡ old → NearOnly holder calls machine.position next old.device new.device
-  still same =
-      subst (λ (node : Node). NearOnly holder calls machine.position next old.device node.device) (sym same)
-      (StandbyStands-still holder epoch calls machine.position next old stands)
-
-  joins : IsNext old.contents.current.position frame → LeavesOnly old.device new.device (IsBeforeOrWhole frame old.contents old.table)
-      → NearOnly holder calls machine.position next old.device new.device
-  joins is_next only = LeavesOnly-weaken (OpensAtEither holder calls machine.position next) either only
-    where
-      either : (image : Image) → IsBeforeOrWhole frame old.contents old.table image → OpensAtEither holder calls machine.position next image
-      either image (inl before) = inl (before_opens image before)
-      either image (inr held) =
-          let e = is_joined is_next in
-          inr (subst (λ p. OpensAt holder calls p image) (sym (next-joined e)) (whole_opens image e held))
-
-  pub frame-moments : (result : Result Ack Refusal) → Answered result → NearOnly holder calls machine.position next old.device new.device
-  frame-moments result (inl again) = still (ap (node_of device contents is_faulted table) again.same)
-  frame-moments result (inr (inl whole)) = joins whole.due.next.next whole.moments
-  frame-moments result (inr (inr refuses)) = elim refuses.state [
-    | inl once ↦ still (ap (node_of device contents is_faulted table) once.same)
-    | inr (inl left) ↦ LeavesOnly-weaken (OpensAtEither holder calls machine.position next) (λ image before. inl (before_opens image before)) left.moments
-    | inr (inr broken) ↦ joins broken.due.next.next broken.moments
-  ]
-
-  -- so each image then holds contents where the standby stood, or where it stands next
+  -- at any moment of the call a crash leaves what was before the frame or all of it
   abbrev KeepsNear : Image → Type 0
-  KeepsNear image = KeepsAt holder calls machine.position image ⊎ KeepsAt holder calls next image
+  KeepsNear = KeepsOne holder calls machine.position (At next ∷ [])
 
-  still_keeps : new ≡ old → LeavesOnly old.device new.device KeepsNear
-  still_keeps same =
-      subst (λ (node : Node). LeavesOnly old.device node.device KeepsNear) (sym same)
-      (none_leaves old.device KeepsNear (λ image is. inl (engine-keeps holder calls machine.position old.device old.contents old.is_faulted stands.engine image is)))
+  still : new ≡ old → LeavesOnly old.device new.device KeepsNear
+  still same = subst (λ (node : Node). LeavesOnly old.device node.device KeepsNear) (sym same) (StandbyStands-still holder epoch calls machine.position (At next ∷ []) old stands)
 
-  joins_keeps : IsNext old.contents.current.position frame → LeavesOnly old.device new.device (IsBeforeOrWhole frame old.contents old.table) → LeavesOnly old.device new.device KeepsNear
-  joins_keeps is_next only = LeavesOnly-weaken KeepsNear either only
+  joins : IsNext old.contents.current.position frame → LeavesOnly old.device new.device (IsBeforeOrWhole frame old.contents old.table) → LeavesOnly old.device new.device KeepsNear
+  joins is_next only = LeavesOnly-weaken KeepsNear either only
     where
       either : (image : Image) → IsBeforeOrWhole frame old.contents old.table image → KeepsNear image
-      either image (inl before) = inl (before_keeps image before)
+      either image (inl before) = keeps-here holder calls machine.position (At next ∷ []) image (before_keeps image before)
       either image (inr held) =
           let e = is_joined is_next in
-          inr (subst (λ p. KeepsAt holder calls p image) (sym (next-joined e)) (whole_keeps image e held))
+          keeps-next holder calls machine.position next image (inr (subst (λ p. KeepsAt holder calls p image) (sym (next-joined e)) (whole_keeps image e held)))
 
-  pub frame-keeps : (result : Result Ack Refusal) → Answered result → LeavesOnly old.device new.device (λ image. KeepsAt holder calls machine.position image ⊎ KeepsAt holder calls next image)
-  frame-keeps result (inl again) = still_keeps (ap (node_of device contents is_faulted table) again.same)
-  frame-keeps result (inr (inl whole)) = joins_keeps whole.due.next.next whole.moments
+  pub frame-keeps : (result : Result Ack Refusal) → Answered result → LeavesOnly old.device new.device (KeepsOne holder calls machine.position (At next ∷ []))
+  frame-keeps result (inl again) = still (ap (node_of device contents is_faulted table) again.same)
+  frame-keeps result (inr (inl whole)) = joins whole.due.next.next whole.moments
   frame-keeps result (inr (inr refuses)) = elim refuses.state [
-    | inl once ↦ still_keeps (ap (node_of device contents is_faulted table) once.same)
-    | inr (inl left) ↦ LeavesOnly-weaken KeepsNear (λ image before. inl (before_keeps image before)) left.moments
-    | inr (inr broken) ↦ joins_keeps broken.due.next.next broken.moments
+    | inl once ↦ still (ap (node_of device contents is_faulted table) once.same)
+    | inr (inl left) ↦ LeavesOnly-weaken KeepsNear (λ image before. keeps-here holder calls machine.position (At next ∷ []) image (before_keeps image before)) left.moments
+    | inr (inr broken) ↦ joins broken.due.next.next broken.moments
   ]
 
   -- a frame that would take a counter to the limit: it takes one stamp
@@ -444,7 +423,7 @@ module _ {E K D : Type 0} (device : E → State) (contents : E → Contents) (is
       | inl full ↦ absurd (goes (inl full.0))
       | inr memory ↦ subst Ends (sym memory) (refl, refused_rests left.moments left.failures)
     ]
-    | inr (inr broken) ↦ subst Ends (sym broken.cause) (record { leaves = joins broken.due.next.next broken.moments; failures = broken.failures })
+    | inr (inr broken) ↦ subst Ends (sym broken.cause) (record { leaves = near-kept holder calls machine.position next old.device new.device (joins broken.due.next.next broken.moments); failures = broken.failures })
   ])
     where
       Ends : Refusal → Type 0

@@ -6,7 +6,8 @@ use Rattle.model.specs.Standing.{Holder}
 use Rattle.machine.specs.declared.event.Event.{Event}
 use Rattle.machine.specs.declared.event.Event.TheVariants.{Apply, Crash, FailFence, OpenLink, Promote, Reopen, Send, Turn, Write}
 use Rattle.machine.specs.declared.event.Node.TheVariants as node
-use Rattle.machine.specs.Event.{Step, World}
+use Rattle.machine.specs.Event.{Remains, Step, World, is_enabled, is_retired, is_stopped, may_happen, nodes_run, torn}
+use Rattle.std.proofs.lemmas.Bool.{and_parts}
 use Rattle.std.proofs.lemmas.List.{append-nil}
 use Rattle.machine.specs.Promise.{released_in}
 use Rattle.machine.proofs.PromiseLemmas.{released-held}
@@ -17,14 +18,17 @@ use Rattle.connections.proofs.SessionLemmas.{released-told}
 use Rattle.world.specs.Headline.{start}
 use Rattle.world.specs.Link.{AreAcksSent, AreFramesSent}
 use Rattle.world.specs.Pair.{Acts, Does, EitherRefines, HasRoom, HasWorld, IsCut, NodesRefine, Pair, PairRefines, Promotes, Steps, Succeeds, takes_part}
-use Rattle.world.specs.Cutting.{CutsShort, is_cut}
+use Rattle.world.specs.Cutting.{CutsShort, is_crash}
 use Rattle.world.specs.Effect.{Effect}
-use Rattle.world.specs.Step.{Acted, AcksBy, CallsBy, CutsOrStays, FramesBy, Happened, IsRoomier, IsStep, LacksRoom, Leaves, Shows, Succeeded, Turns, WasCut, WasInterrupted, WasPromoted, released_by, released_to}
-use Rattle.world.proofs.GivenLemmas.{calls-step, released-step}
-use Rattle.world.proofs.LivesLemmas.{nodes-refine, serves-as, sure-lives}
+use Rattle.world.specs.Step.{Acted, AcksBy, CallsBy, CutsOrStays, FramesBy, Happened, IsRoomier, IsStep, LacksRoom, Leaves, Shows, Succeeded, Turns, WasCut, WasPromoted, has_begun, released_by, released_to}
+use Rattle.world.specs.Stopping.{Stops}
+use Rattle.world.proofs.GivenLemmas.{IsWhole, calls-step, released-step}
+use Rattle.world.proofs.LivesLemmas.{nodes-refine, serves-as, serving}
 use Rattle.world.proofs.PairLemmas.{primary-stands, roomier-stands, sessions-stand, standby-stands}
 use Rattle.world.proofs.PairLives.{idle-step, own-acts}
-use Rattle.world.specs.Condition.{runs}
+use Rattle.world.specs.Condition.{has_ended, life_as, runs}
+use Rattle.world.specs.declared.condition.Condition.{Condition}
+use Rattle.world.specs.declared.condition.Condition.TheVariants.{Running, Stopped, Crashed, Ended}
 
 -- ---- what can be seen
 
@@ -32,14 +36,14 @@ pub frames-sent : (first second : Holder) (pair : Pair) (w : World) → EitherRe
 frames-sent first second pair w parts = elim parts [
   | inl up ↦ subst (λ epoch. AreFramesSent epoch w.primary.calls pair.frames w.wire.frames) up.1.epoch up.1.frames
   | inr (inl down) ↦ subst (λ epoch. AreFramesSent epoch w.primary.calls pair.frames w.wire.frames) down.1.epoch down.1.frames
-  | inr (inr fenced) ↦ subst (λ epoch. AreFramesSent epoch w.primary.calls pair.frames w.wire.frames) fenced.1.epoch fenced.1.frames
+  | inr (inr still) ↦ subst (λ epoch. AreFramesSent epoch w.primary.calls pair.frames w.wire.frames) still.1.epoch still.1.frames
 ]
 
 pub acks-sent : (first second : Holder) (pair : Pair) (w : World) → EitherRefines first second pair w → AreAcksSent pair.arrivals.acknowledgements.items w.wire.acknowledgements
 acks-sent first second pair w parts = elim parts [
   | inl up ↦ up.1.arrivals.acknowledged
   | inr (inl down) ↦ down.1.arrivals.acknowledged
-  | inr (inr fenced) ↦ fenced.1.arrivals.acknowledged
+  | inr (inr still) ↦ still.1.arrivals.acknowledged
 ]
 
 pub shows : (first second : Holder) (pair : Pair) (w : World) → NodesRefine first second pair w → Shows first second w pair
@@ -57,37 +61,65 @@ shows first second pair w stands =
 
 -- ---- one event
 
-happened : (first second : Holder) (w : World) (event : Event) (did : Bool) (old new : Pair) → NodesRefine first second old w → Steps first second w event did old new → Happened first second w event did old new
-happened first second w event did old new stands steps =
+abbrev pub promotes : Event → Bool
+promotes Promote = true
+promotes event = false
+
+-- in a promotion no fence failed, as there is none
+other-whole : (event : Event) (new : World) → promotes event ≡ false → IsWhole event new
+other-whole event new other = λ is. absurd (true≢false (sym (ap promotes is) ∙ other))
+
+happened : (first second : Holder) (w : World) (event : Event) (did : Bool) (old new : Pair) → NodesRefine first second old w → (steps : Steps first second w event did old new) → (did ≡ true → IsWhole event steps.world)
+    → Happened first second w event did old new
+happened first second w event did old new stands steps whole =
     let before = shows first second old w stands in
     let after = shows first second new steps.world steps.stands in
-    let sure = sure-lives stands.lives steps.stands.lives in
     record {
       steps = steps;
       before = before;
       after = after;
-      called = subst (CallsBy w event did) (sym after.calls) (calls-step w event did steps.world sure steps.step);
-      released = λ c. after.released c ∙ released-step w event did steps.world sure steps.step c ∙ ap (λ bytes. bytes ++ released_by w event did c) (sym (before.released c));
+      called = subst (CallsBy w event did) (sym after.calls) (calls-step w event did steps.world stands.sound whole steps.step);
+      released = λ c. after.released c ∙ released-step w event did steps.world steps.step c ∙ ap (λ bytes. bytes ++ released_by w event did c) (sym (before.released c));
     }
 
-acted : (old : Pair) (event : Event) (result : Result Bool Refusal) (new : Pair) → Acts old event result new → Leaves event result old new → Acted old event result new
-acted old event (Ok did) new acts leaves = record {
-  happened = λ first second w stands. happened first second w event did old new stands (acts.steps first second w stands);
+-- an event that is no promotion, where one is enabled
+abbrev IsOther : Pair → Event → Type 0
+IsOther old event = (first second : Holder) (w : World) → NodesRefine first second old w → is_enabled w event ≡ true → event ≡ Promote → ⊥
+
+acted : (old : Pair) (event : Event) (result : Result Bool Refusal) (new : Pair) → (result ≡ Ok true → IsOther old event) → Acts old event result new → Leaves event result old new → Acted old event result new
+acted old event (Ok did) new other acts leaves = record {
+  happened = λ first second w stands.
+      let steps = acts.steps first second w stands in
+      happened first second w event did old new stands steps (λ is promotion. absurd (other (ap (λ (b : Bool). Ok b) is) first second w stands (sym steps.step.done ∙ is) promotion));
   refused = tt;
   leaves = leaves;
   room = λ room. acts.calls;
 }
-acted old event (Err refusal) new acts leaves = record {
+acted old event (Err refusal) new other acts leaves = record {
   happened = tt;
   refused = inl (λ first second w stands. record { cut = acts.cut first second w stands; before = shows first second old w stands });
   leaves = leaves;
   room = λ room. acts.calls;
 }
 
-pub is-step : (old : Pair) (event : Event) (result : Result Bool Refusal) (new : Pair) → Acts old event result new → Leaves event result old new → IsStep old event result new
-is-step old event result new acts leaves = inl (acted old event result new acts leaves)
+is-step : (old : Pair) (event : Event) (result : Result Bool Refusal) (new : Pair) → (result ≡ Ok true → IsOther old event) → Acts old event result new → Leaves event result old new → IsStep old event result new
+is-step old event result new other acts leaves = inl (acted old event result new other acts leaves)
+
+-- nothing happened
+pub stays-is : (old : Pair) (event : Event) (new : Pair) → Acts old event (Ok false) new → Leaves event (Ok false) old new → IsStep old event (Ok false) new
+stays-is old event new acts leaves = is-step old event (Ok false) new (λ is. absurd (true≢false (sym (ap (has_begun) is)))) acts leaves
 
 -- ---- a promotion
+
+goes-as : (condition : Condition) (remains : List Remains) → has_ended condition ≡ true → is_stopped (life_as condition remains) ≡ false
+goes-as Running remains ended = refl
+goes-as Stopped remains ended = absurd (true≢false (sym ended))
+goes-as Crashed remains ended = refl
+goes-as Ended remains ended = refl
+
+-- a standby that was promoted has not stopped
+pub ended-goes : {first second : Holder} {pair : Pair} {w : World} → NodesRefine first second pair w → has_ended pair.standby_condition ≡ true → is_stopped w.standby.life ≡ false
+ended-goes {first} {second} {pair} {w} stands ended = ap is_stopped stands.lives.standby ∙ goes-as pair.standby_condition (torn w.standby.life) ended
 
 -- what a promotion did can be told
 pub promoted-is : {old new : Pair} {event : Event} {result : Result Bool Refusal} → event ≡ Promote → Promotes old result new → new.frames ≡ old.frames
@@ -98,13 +130,12 @@ promoted-is {old} {new} {event} {result} is promotes frames acks = inr (inl (go 
     succeeded first second w stands succeeds =
         let before = shows first second old w stands in
         let after = shows (promoted_holder second) succeeds.former new succeeds.world succeeds.stands in
-        let sure = sure-lives stands.lives succeeds.stands.lives in
         record {
           succeeds = succeeds;
           before = before;
           after = after;
-          called = subst (CallsBy w Promote true) (sym after.calls) (calls-step w Promote true succeeds.world sure succeeds.step);
-          released = λ c. after.released c ∙ released-step w Promote true succeeds.world sure succeeds.step c ∙ append-nil (released_in w c) ∙ sym (before.released c);
+          called = subst (CallsBy w Promote true) (sym after.calls) (calls-step w Promote true succeeds.world stands.sound (λ did promotion. ended-goes succeeds.stands succeeds.ended) succeeds.step);
+          released = λ c. after.released c ∙ released-step w Promote true succeeds.world succeeds.step c ∙ append-nil (released_in w c) ∙ sym (before.released c);
         }
 
     go : (result : Result Bool Refusal) → Promotes old result new → WasPromoted old event result new
@@ -151,17 +182,30 @@ leaves-still event pair =
 -- its nodes do not run
 pub idle-is : {old : Pair} {event : Event} {took : Bool} → took ≡ takes_part (runs old.primary_condition) (runs old.standby_condition) event → took ≡ false → IsStep old event (Ok false) old
 idle-is {old} {event} {took} takes idle =
-    is-step old event (Ok false) old (idle-step takes idle) (leaves-still event old)
+    stays-is old event old (idle-step takes idle) (leaves-still event old)
+
+-- where the primary runs no promotion is enabled
+serving-other : (old : Pair) (event : Event) → runs old.primary_condition ≡ true → IsOther old event
+serving-other old event up = λ first second w stands enabled is.
+    let may = and_parts (nodes_run w Promote) (may_happen w Promote) (subst (λ (e : Event). is_enabled w e ≡ true) is enabled) in
+    true≢false (sym (and_parts w.allowed.promotions (is_retired w.primary.life) may.1).1 ∙ ap is_retired (serving (serves-as up stands)))
 
 -- the primary takes part alone
 pub own-is : {old new : Pair} {event event' : Event} {result : Result Bool Refusal} {took : Bool} → event ≡ event' → took ≡ takes_part (runs old.primary_condition) (runs old.standby_condition) event → took ≡ true
     → (takes_part (runs old.primary_condition) (runs old.standby_condition) event' ≡ true → runs old.primary_condition ≡ true) → Does old event' result new → Leaves event' result old new → IsStep old event result new
 own-is {old} {new} {event} {event'} {result} {took} is takes took_part own does leaves =
-    is-step old event result new (own-acts is takes took_part own does) (subst (λ (e : Event). Leaves e result old new) (sym is) leaves)
+    let up = own (ap (takes_part (runs old.primary_condition) (runs old.standby_condition)) (sym is) ∙ sym takes ∙ took_part) in
+    is-step old event result new (λ did. serving-other old event up) (own-acts is takes took_part own does) (subst (λ (e : Event). Leaves e result old new) (sym is) leaves)
 
--- any event
-pub acts-is : {old new : Pair} {event event' : Event} {result : Result Bool Refusal} → event ≡ event' → Acts old event' result new → Leaves event' result old new → IsStep old event result new
-acts-is {old} {new} {event} {event'} {result} is acts leaves = subst (λ (e : Event). IsStep old e result new) (sym is) (is-step old event' result new acts leaves)
+-- any event but a promotion
+pub acts-is : {old new : Pair} {event event' : Event} {result : Result Bool Refusal} → event ≡ event' → promotes event' ≡ false → Acts old event' result new → Leaves event' result old new → IsStep old event result new
+acts-is {old} {new} {event} {event'} {result} is other acts leaves =
+    subst (λ (e : Event). IsStep old e result new) (sym is)
+    (is-step old event' result new (λ did first second w stands enabled promotion. true≢false (sym (ap promotes promotion) ∙ other)) acts leaves)
+
+-- a fence failed in it
+pub stopped-is : {old new : Pair} {event : Event} {result : Result Bool Refusal} → Stops old event result new → IsStep old event result new
+stopped-is {old} {new} stops = inr (inr (inr (record { stops = stops; before = λ first second w stands. shows first second old w stands; after = λ first second w stands. shows first second new w stands })))
 
 -- ---- a crash inside a call
 
@@ -182,13 +226,13 @@ stands-next first second w (Crash node.Standby call k picks) old new cuts = elim
 stands-next first second w event old new cuts = absurd cuts
 
 -- it releases nothing
-releases-none : (w : World) (event : Event) (c : ℕ) → is_cut event ≡ true → released_by w event true c ≡ []
+releases-none : (w : World) (event : Event) (c : ℕ) → is_crash event ≡ true → released_by w event true c ≡ []
 releases-none w (Write d n) c is = absurd (true≢false (sym is))
 releases-none w event c is = refl
 
 interrupted : (old : Pair) (event : Event) (did : Bool) (new : Pair) → CutsOrStays old event did new → IsStep old event (Ok did) new
-interrupted old event false new stays = is-step old event (Ok false) new stays.0 stays.1
-interrupted old event true new cuts = inr (inr (record { cuts = cuts; before = λ first second w stands. shows first second old w stands; after = λ first second w stands. shows first second new w stands; called = called; released = released }))
+interrupted old event false new stays = stays-is old event new stays.0 stays.1
+interrupted old event true new cuts = inr (inr (inl (record { cuts = cuts; before = λ first second w stands. shows first second old w stands; after = λ first second w stands. shows first second new w stands; called = called; released = released })))
   where
     next : (first second : Holder) (w : World) → NodesRefine first second old w → StandsNext w event new
     next first second w stands = stands-next first second w event old new (cuts.shortened first second w stands)
@@ -197,15 +241,15 @@ interrupted old event true new cuts = inr (inr (record { cuts = cuts; before = �
     called first second w stands =
         let to = next first second w stands in
         let after = shows to.first to.second new to.world to.stands in
-        subst (CallsBy w event true) (sym after.calls) (calls-step w event true to.world (sure-lives stands.lives to.stands.lives) to.step)
+        subst (CallsBy w event true) (sym after.calls) (calls-step w event true to.world stands.sound (λ did promotion. absurd (true≢false (sym cuts.came ∙ ap is_crash promotion))) to.step)
 
     released : (first second : Holder) (w : World) → NodesRefine first second old w → (c : ℕ) → released_to new c ≡ released_to old c
     released first second w stands c =
         let to = next first second w stands in
         let before = shows first second old w stands in
         let after = shows to.first to.second new to.world to.stands in
-        after.released c ∙ released-step w event true to.world (sure-lives stands.lives to.stands.lives) to.step c
-        ∙ ap (λ bytes. released_in w c ++ bytes) (releases-none w event c cuts.is_cut_short) ∙ append-nil (released_in w c) ∙ sym (before.released c)
+        after.released c ∙ released-step w event true to.world to.step c
+        ∙ ap (λ bytes. released_in w c ++ bytes) (releases-none w event c cuts.came) ∙ append-nil (released_in w c) ∙ sym (before.released c)
 
 -- a crash came inside a call, or the node was in no such call
 pub interrupted-is : {old new : Pair} {event event' : Event} {did : Bool} → event ≡ event' → CutsOrStays old event' did new → IsStep old event (Ok did) new
@@ -234,8 +278,8 @@ adds-roomy old transcript new roomier room adds = record {
 turn-step : (old : Pair) (c : ℕ) (result : Result Bool Refusal) (new : Pair) → runs old.primary_condition ≡ true → Turns old c result new → Leaves (Turn c) result old new → IsStep old (Turn c) result new
 turn-step old c (Ok did) new runs turns leaves = inl (record {
   happened = λ first second w stands.
-      happened first second w (Turn c) did old new stands
-      (steps-from first second w (Turn c) did old turns.roomy new (turns.does.steps first second w (roomy-refines first second old turns.roomy w turns.is_roomier (serves-as runs stands))));
+      let steps = steps-from first second w (Turn c) did old turns.roomy new (turns.does.steps first second w (roomy-refines first second old turns.roomy w turns.is_roomier (serves-as runs stands))) in
+      happened first second w (Turn c) did old new stands steps (λ is. other-whole (Turn c) steps.world refl);
   refused = tt;
   leaves = leaves;
   room = λ room. adds-roomy old.transcript turns.roomy new turns.is_roomier room.room turns.does.calls;
@@ -285,9 +329,13 @@ goes-on {old} {new} {event} {did} has is = elim is [
   | inr (inl promoted) ↦
       let next = (promoted.succeeded.1 has.first has.second has.world has.stands).succeeds in
       record { first = promoted_holder has.second; second = next.former; world = next.world; stands = next.stands }
-  | inr (inr cut) ↦
+  | inr (inr (inl cut)) ↦
       let next = stands-next has.first has.second has.world event old new (cut.cuts.shortened has.first has.second has.world has.stands) in
       record { first = next.first; second = next.second; world = next.world; stands = next.stands }
+  | inr (inr (inr stopped)) ↦ elim (stopped.stops.stopped has.first has.second has.world has.stands) [
+    | inl primary ↦ record { first = has.first; second = has.second; world = primary.world; stands = primary.stands }
+    | inr standby ↦ record { first = has.first; second = has.second; world = standby.world; stands = standby.stands }
+  ]
 ]
 
 -- as a new one does

@@ -12,11 +12,13 @@ use Rattle.model.specs.Standing.{Holder}
 use Rattle.machine.specs.declared.event.Event.{Event}
 use Rattle.machine.specs.declared.event.Node.{Node}
 use Rattle.machine.specs.declared.event.Node.TheVariants as node
+use Rattle.machine.specs.Event.{Remains}
 use Rattle.machine.specs.Row.{EachPosition, Limit, OneStamp, Reopening, row}
 use Rattle.wbl_engine.specs.Reopening.{ExhaustsReopening}
 use Rattle.pmem.specs.Runs.{LeavesOnly}
 use Rattle.wbl_engine.specs.Promoting.{ExhaustsPromotion}
 use Rattle.world.specs.Committing.{OpensAsEither, Rests, NearOnly}
+use Rattle.world.specs.Remaining.{Remain}
 
 -- a relation between two states of a holder's device, given the list of calls, a position in it, and the position that the node goes to next
 abbrev pub Stretch : Type 1
@@ -73,6 +75,10 @@ pub record RestsBeforeReopening (holder : Holder) (calls : List Call) (position 
   pub current : Record
   pub has_record : (image : Image) → IsImage new.words image → HasRecord holder.lines current image
   pub limit : ExhaustsReopening current
+
+-- so of a device; or its node had stopped, where a fence that failed left these, and nothing was done to it
+abbrev pub OrLies : Stretch → Holder → List Call → ℕ → ℕ → List Remains → State → State → Type 0
+OrLies last holder calls position next others old new = last holder calls position next old new ⊎ ((new ≡ old) × Remain holder calls position others new)
 
 -- its refusal ends the run
 abbrev pub asks_memory : Event → Bool

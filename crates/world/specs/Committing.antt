@@ -29,26 +29,10 @@ use Rattle.machine.specs.Event.{Committer as Machine, Stage as MachineStage}
 -- where the nodes stand after the group that the primary commits next, and after the frame that the standby takes next
 pub use Rattle.machine.specs.Event.{next_from, next_primary, next_standby}
 use Rattle.machine.specs.World as machine_stage
-use Rattle.world.specs.GroupSpan.{AreWorkOf, IsGroupOf, positions_of_lists}
+pub use Rattle.node_steps.specs.Committing.{AreContentsAt, Committing, CommittingRefines, EngineStands, StageRefines}
 pub use Rattle.primary.specs.Leading.{AreOfEpoch, Leads, entries_told, extents_told}
 
 -- ---- the engine
-
--- the holder's contents are those of the list at this position
-pub record AreContentsAt (holder : Holder) (calls : List Call) (position : ℕ) (contents : Contents) : Type 0 where
-  pub at : contents.current.position ≡ position
-  pub role_is : contents.current.role ≡ holder.role
-  pub epoch_is : contents.current.epoch ≡ holder.epoch
-  pub lines_are : contents.lines ≡ holder.lines
-  pub consistent : IsConsistent contents
-  pub map : IsMapOf contents.versions (entries_of_lines contents.lines) (keyspace_after (cut_at calls position))
-
--- a sound engine of this holder whose contents are those of the list at this position and obey the rules, over a device on which each crash leaves them
-pub record EngineStands (holder : Holder) (calls : List Call) (position : ℕ) (device : State) (contents : Contents) (is_faulted : Bool) : Type 0 where
-  pub contents_at : AreContentsAt holder calls position contents
-  pub lawful : AreLawful contents
-  pub sound : is_faulted ≡ false
-  pub durable : IsDurable device contents
 
 -- the image of a node that crashed: each word has one candidate, and it holds contents at this position of the list, which obey the rules
 pub record IsDown (holder : Holder) (calls : List Call) (position : ℕ) (device : State) : Type 0 where
@@ -127,26 +111,3 @@ frees_places step = false
 -- the free lists that the committer has reached
 abbrev pub reached_now : List FreeList → List Work → List Group → List FreeList
 reached_now aside items handed = reached_by (link_has_room handed) aside items
-
--- what waits for the committer, and what it has beside its engine
-pub record Committing : Type 0 where
-  pub waiting : Waiting Work
-  -- free lists that were taken and wait for the standby, oldest first
-  pub aside : List FreeList
-  pub stage : Stage
-  -- the local mark
-  pub local : ℕ
-
--- the committer's group in hand is that of the machine's span in hand
-abbrev pub StageRefines : List Call → Stage → MachineStage → Type 0
-StageRefines calls Ready machine_stage.Ready = Unit {0}
-StageRefines calls (Durable group) (machine_stage.Durable span) = IsGroupOf calls group span
-StageRefines calls (Shown group) (machine_stage.Shown span) = IsGroupOf calls group span
-StageRefines calls _ _ = ⊥
-
--- the committer's queue and mark
-pub record CommittingRefines (calls : List Call) (code : Committing) (machine : Machine) : Type 0 where
-  pub work : AreWorkOf calls code.waiting.items machine.waiting
-  pub aside : positions_of_lists code.aside ≡ machine.aside
-  pub stage_is : StageRefines calls code.stage machine.stage
-  pub local_is : code.local ≡ machine.local

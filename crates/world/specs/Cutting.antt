@@ -1,12 +1,15 @@
--- A crash inside a call: what it leaves of the node whose call it is, and of the pair.
-use Rattle.std.specs.Prelude.{◌≡◌, ◌⊎◌, ℕ, ◌+◌, Bool, true, false, not, List, [], ◌∷◌, Some, Vec, Result, Ok}
+-- A crash inside a call, or of a node that has stopped: what it leaves of that node, and of the pair.
+use Rattle.std.specs.Prelude.{◌≡◌, ◌≢◌, ◌⊎◌, ℕ, ◌+◌, ◌≤◌, Bool, true, false, not, List, [], ◌∷◌, ◌++◌, map, Option, None, Some, Vec, Result, Ok}
 use Rattle.std.specs.Global.{Global}
-use Rattle.pmem.specs.Crash.{IsSettled, picked, words_to_crash}
+use Rattle.pmem.specs.Crash.{IsSettled, image_of, picked, words_to_crash}
 use Rattle.pmem.specs.Device.{State, moment, newest_at}
 use Rattle.pmem.specs.Runs.{HasPassed, LeavesOnly}
 use Rattle.kv_types.specs.declared.refusal.Refusal.{Refusal}
-use Rattle.model.specs.declared.call.Call.{Call}
-use Rattle.model.specs.Image.{Image}
+use Rattle.model.specs.declared.image.TheConstants.{MAX_LINES, MIN_LINES}
+use Rattle.model.specs.declared.record.Record.{Record}
+use Rattle.model.specs.declared.record.Role.TheVariants as Role
+use Rattle.model.specs.Call.{cut_at}
+use Rattle.wbl_engine.specs.Lawful.{IsUndamaged}
 use Rattle.model.specs.Standing.{Holder}
 use Rattle.group_commit.specs.declared.due.Due.{Due}
 use Rattle.group_commit.specs.declared.due.Due.TheVariants as due
@@ -16,27 +19,16 @@ use Rattle.machine.specs.declared.event.Event.{Event}
 use Rattle.machine.specs.declared.event.Event.TheVariants.{Crash}
 use Rattle.machine.specs.declared.event.Node.{Node}
 use Rattle.machine.specs.declared.event.Node.TheVariants as node
-use Rattle.machine.specs.Event.{At, AsPrimary, Remains, Step, World, is_between, left_by}
-use Rattle.connections.specs.Session.{AddsOne}
-use Rattle.world.specs.Committing.{OpensAt, promoted_holder}
+use Rattle.machine.specs.Event.{Remains, Step, World, is_between, left, left_by, torn}
+use Rattle.connections.specs.Session.{AddsOne, HasSeat, SessionsRefine, seats_of}
+use Rattle.world.specs.declared.condition.Condition.TheVariants as conditions
+use Rattle.world.specs.Committing.{promoted_holder}
 use Rattle.world.specs.Condition.{has_ended}
+use Rattle.world.specs.Effect.{LeavesPicked}
+pub use Rattle.world.specs.Remaining.{OpensAs, OpensAsOne, OpensNear}
 use Rattle.world.specs.Pair.{HasStandby, NodesRefine, Pair, first_device, second_device}
 
 -- ---- what a cut call leaves
-
--- The image opens as what a cut call leaves: at a position of the list; or where the standby stands, as that of the primary which it becomes.
-abbrev pub OpensAs : Holder → List Call → ℕ → Image → Remains → Type 0
-OpensAs holder calls position image (At p) = OpensAt holder calls p image
-OpensAs holder calls position image AsPrimary = OpensAt (promoted_holder holder) calls position image
-
--- as one of these
-abbrev pub OpensAsOne : Holder → List Call → ℕ → List Remains → Image → Type 0
-OpensAsOne holder calls position [] image = ⊥
-OpensAsOne holder calls position (one ∷ others) image = OpensAs holder calls position image one ⊎ OpensAsOne holder calls position others image
-
--- the image opens where its node stood before the call, or as one of these
-abbrev pub OpensNear : Holder → List Call → ℕ → List Remains → Image → Type 0
-OpensNear holder calls position others image = OpensAt holder calls position image ⊎ OpensAsOne holder calls position others image
 
 -- the call in which the committer takes this step; the others write to no device
 abbrev pub cut_of : Due → Cut
@@ -44,6 +36,11 @@ cut_of due.Commit = cut.Commit
 cut_of due.Free = cut.Free
 cut_of due.Clear = cut.ClearGap
 cut_of step = cut.Between
+
+-- the event is a crash, of whichever node
+abbrev pub is_crash : Event → Bool
+is_crash (Crash n call k picks) = true
+is_crash event = false
 
 -- what a crash in this event may leave of this node, where it comes inside a call, besides the image from before the call
 abbrev pub cut_short : World → Event → Node → List Remains
@@ -66,14 +63,19 @@ pub record LeavesCut (k : ℕ) (picks : List ℕ) (old new : State) : Type 0 whe
   pub went : HasPassed old last
   pub picked_are : new.starved ≡ false → (word : ℕ) → newest_at new word ≡ picked (words_to_crash last (Some (moment old + k))) picks word
 
+-- inside a call; or once its node had stopped, and then no fence failed
+abbrev pub LeavesOf : Cut → ℕ → List ℕ → State → State → Type 0
+LeavesOf cut.Between k picks old new = LeavesPicked picks old new × (new.failures ≡ old.failures)
+LeavesOf call k picks old new = LeavesCut k picks old new
+
 -- ---- the pair
 
--- A call of the primary was cut by a crash: the machine's step, and the pair refines the world after it. The standby and its device are as they were.
+-- A call of the primary was cut by a crash, or a crash came to it once it had stopped: the machine's step, and the pair refines the world after it. The standby and its device are as they were.
 pub record CutsPrimary (first second : Holder) (w : World) (call : Cut) (k : ℕ) (picks : Vec ℕ Global) (old new : Pair) : Type 0 where
   pub world : World
   pub step : Step w (Crash node.Primary call k picks) true world
   pub stands : NodesRefine first second new world
-  pub leaves : LeavesOnly old.device new.device (OpensNear first w.primary.calls w.primary.committer.position (left_by w node.Primary call))
+  pub leaves : LeavesOnly old.device new.device (OpensNear first w.primary.calls w.primary.committer.position (torn w.primary.life ++ left_by w node.Primary call))
   pub same_standby : (new.standby ≡ old.standby) × (new.standby_condition ≡ old.standby_condition)
 
 -- The standby stays the standby, or its image is that of a primary, which is crashed: the standby's place is that of the former one then, of whose holder nothing is said.
@@ -86,13 +88,13 @@ pub record GoesAhead (second : Holder) (new : Pair) (world : World) : Type 0 whe
   pub stands : NodesRefine (promoted_holder second) former new world
   pub ended : has_ended new.standby_condition ≡ true
 
--- A call of the standby was cut by a crash: the machine's step, and the pair refines the world after it. The device of the primary, or of the former one, is as it was.
+-- A call of the standby was cut by a crash, or a crash came to it once it had stopped: the machine's step, and the pair refines the world after it. The device of the primary, or of the former one, is as it was.
 pub record CutsStandby (first second : Holder) (w : World) (call : Cut) (k : ℕ) (picks : Vec ℕ Global) (old new : Pair) : Type 0 where
   pub world : World
   pub step : Step w (Crash node.Standby call k picks) true world
   pub began : HasStandby old
   pub goes : StaysBehind first second new world ⊎ GoesAhead second new world
-  pub leaves : LeavesOnly (second_device old) (second_device new) (OpensNear second w.primary.calls w.standby.position (left_by w node.Standby call))
+  pub leaves : LeavesOnly (second_device old) (second_device new) (OpensNear second w.primary.calls w.standby.position (torn w.standby.life ++ left_by w node.Standby call))
   pub first_stays : first_device new ≡ first_device old
 
 -- whichever node's it was
@@ -103,16 +105,51 @@ CutsShort first second w event old new = ⊥
 
 -- what was left of the device whose call it was
 abbrev pub LeftCut : Event → Pair → Pair → Type 0
-LeftCut (Crash node.Primary call k picks) old new = LeavesCut k picks.items old.device new.device
-LeftCut (Crash node.Standby call k picks) old new = LeavesCut k picks.items (second_device old) (second_device new)
+LeftCut (Crash node.Primary call k picks) old new = LeavesOf call k picks.items old.device new.device
+LeftCut (Crash node.Standby call k picks) old new = LeavesOf call k picks.items (second_device old) (second_device new)
 LeftCut event old new = ⊥
 
--- A crash inside a call happened to a pair: of all worlds that it stood for. No message was made.
+-- A crash inside a call happened to a pair, or one of a node that had stopped: of all worlds that it stood for. No message was made.
 pub record Cuts (old : Pair) (event : Event) (result : Result Bool Refusal) (new : Pair) : Type 0 where
-  pub is_cut_short : is_cut event ≡ true
+  pub came : is_crash event ≡ true
   pub did : result ≡ Ok true
   pub shortened : (first second : Holder) (w : World) → NodesRefine first second old w → CutsShort first second w event old new
   pub left : LeftCut event old new
   pub frames : new.frames ≡ old.frames
   pub acknowledgements : new.arrivals.acknowledgements.items ≡ old.arrivals.acknowledgements.items
   pub calls : AddsOne old.transcript.calls new.transcript.calls
+
+-- ---- a standby goes by its image
+
+-- the record that is found in a device's image is that of an image which breaks no rule
+abbrev pub Finds : Option Record → State → Type 0
+Finds found device = (r : Record) → MIN_LINES ≤ device.lines → device.lines ≤ MAX_LINES → IsUndamaged device.lines r (image_of device.words) → found ≡ Some r
+
+-- Of the standby there is its image. What was delivered to it is lost.
+pub record FallsBehind (old new : Pair) : Type 0 where
+  pub lost : new.arrivals.delivered.items ≡ []
+  pub told : new.arrivals.acknowledgements ≡ old.arrivals.acknowledgements
+  pub falls : new ≡ record old { arrivals = new.arrivals; standby_condition = conditions.Crashed }
+
+-- Its image is that of a primary with a record of this position and epoch, which has its device from then on, and the standby's place that of the former one. What the pair has of what it had.
+pub record ComesForward (position epoch : ℕ) (old new : Pair) : Type 0 where
+  pub ends : (w : World) → SessionsRefine old.sessions old.transcript w.primary.connections w.primary.calls → SessionsRefine new.sessions new.transcript (map left w.primary.connections) (cut_at w.primary.calls position)
+  pub unseated : (c seat : ℕ) → HasSeat (seats_of new.sessions.connections.items) c seat → ⊥
+  pub calls : AddsOne old.transcript.calls new.transcript.calls
+  pub epoch_is : new.link.epoch ≡ epoch
+  pub lost : new.arrivals.delivered.items ≡ []
+  pub told : new.arrivals.acknowledgements ≡ old.arrivals.acknowledgements
+  pub frames : new.frames ≡ old.frames
+  pub primary : new.primary_condition ≡ conditions.Crashed
+  pub standby : new.standby_condition ≡ conditions.Ended
+  pub taken : new.device ≡ old.standby.device
+  pub given : new.standby.device ≡ old.device
+  pub asked : new.asked ≡ record (old.asked) { primary = old.asked.standby }
+
+-- A standby that crashed goes by the record of its image.
+pub record GoesByImage (old new : Pair) : Type 0 where
+  pub found : Option Record
+  pub finds : Finds found old.standby.device
+  pub none : found ≡ None → FallsBehind old new
+  pub following : (r : Record) → found ≡ Some r → r.role ≢ Role.Primary → FallsBehind old new
+  pub serving : (r : Record) → found ≡ Some r → r.role ≡ Role.Primary → ComesForward r.position r.epoch old new

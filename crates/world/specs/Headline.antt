@@ -1,5 +1,5 @@
 -- The word that a run keeps: the promise, between any two events, and what a crash leaves of both images at any moment of the run.
-use Rattle.std.specs.Prelude.{◌≡◌, ◌⊎◌, ℕ, ◌≤◌, ◌&&◌, nat_eq, if◌then◌else◌, Bool, true, false, List, [], ◌∷◌, ◌++◌, take, slice_get, slice_index_or, Option, Some, None, Vec}
+use Rattle.std.specs.Prelude.{◌≡◌, ◌⊎◌, ℕ, ◌≤◌, ◌&&◌, ◌||◌, not, nat_eq, if◌then◌else◌, Bool, true, false, List, [], ◌∷◌, ◌++◌, take, slice_get, slice_index_or, Option, Some, None, Vec}
 use Rattle.std.specs.Global.{Global}
 use Rattle.pmem.specs.Device.{State}
 use Rattle.pmem.specs.Runs.{LeavesOnly}
@@ -10,17 +10,17 @@ use Rattle.model.specs.Call.{cut_at, position_of}
 use Rattle.model.specs.Image.{Image}
 use Rattle.model.specs.Standing.{Holder}
 use Rattle.machine.specs.declared.event.Event.{Event}
-use Rattle.machine.specs.declared.event.Cut.TheVariants as cut
-use Rattle.machine.specs.declared.event.Event.TheVariants.{Crash, Promote}
+use Rattle.machine.specs.declared.event.Event.TheVariants.{Promote}
 use Rattle.machine.specs.declared.event.Node.{Node}
 use Rattle.machine.specs.declared.event.Node.TheVariants as node
-use Rattle.machine.specs.Event.{Run, World, is_enabled, start_with, last_world, position_at}
+use Rattle.machine.specs.Event.{AsPrimary, At, Remains, Run, World, is_enabled, is_stopped, life_of, start_with, last_world, position_at, torn}
 use Rattle.machine.specs.Row.{touches}
 use Rattle.machine.specs.Promise.{IsPromised, IsReleased, released_in}
 use Rattle.world.specs.Committing.{OpensAt, FormattingOnly, next_primary, next_standby, promoted_holder}
-use Rattle.world.specs.Cause.{Stretch, Promoting, Resting, UnformedBy, EndsBy}
+use Rattle.world.specs.Cause.{Stretch, OrLies, Promoting, Resting, UnformedBy, EndsBy}
 use Rattle.world.specs.Condition.{has_ended}
-use Rattle.world.specs.Cutting.{OpensAsOne, cut_short, is_cut}
+use Rattle.world.specs.Cutting.{cut_short, is_cut}
+use Rattle.world.specs.Remaining.{OpensNear}
 use Rattle.world.specs.Link.{AreAcksSent, AreFramesSent}
 use Rattle.world.specs.Pair.{HasStandby, Pair, NodesRefine, IsCut, IsPromotionCut, allowed, first_device, second_device}
 use Rattle.world.specs.declared.trace.EarlyEnd.{EarlyEnd}
@@ -90,17 +90,23 @@ OpensFrom holder calls position image = (p : ℕ) × (position ≤ p) × OpensAt
 abbrev pub OpensFromEither : Opening
 OpensFromEither holder calls position image = OpensFrom holder calls position image ⊎ OpensFrom (promoted_holder holder) calls position image
 
--- in this event: a standby whose promotion is cut may have the image of a primary
-abbrev pub opens_during : Event → Node → Opening
-opens_during (Crash node.Standby cut.Promote k picks) node.Standby = OpensFromEither
-opens_during event n = OpensFrom
+-- the same, where its image may be one of these: a standby whose promotion is cut, or in which a fence failed in its promotion, may have that of a primary
+abbrev pub opens_as : List Remains → Opening
+opens_as [] = OpensFrom
+opens_as (At p ∷ others) = opens_as others
+opens_as (AsPrimary ∷ others) = OpensFromEither
+
+-- in this event
+abbrev pub opens_during : World → Event → Node → Opening
+opens_during w event n = opens_as (torn (life_of w n) ++ cut_short w event n)
 
 -- the image opens in one of these worlds, each but the last with the event that came next, as that of the node whose device it is, at this position of its list or at a later one; in the last of
--- them as is said of it
+-- them as is said of it, or of a node that has stopped
 abbrev pub OpensIn : (Node → Opening) → ℕ → ℕ → ℕ → World → List Event → List World → Image → Type 0
-OpensIn final number lines position w [] [] image = OfSomeNode (node_on number w) (λ n. final n (holder_at lines w n) w.primary.calls position image)
+OpensIn final number lines position w [] [] image =
+    OfSomeNode (node_on number w) (λ n. final n (holder_at lines w n) w.primary.calls position image ⊎ opens_as (torn (life_of w n)) (holder_at lines w n) w.primary.calls position image)
 OpensIn final number lines position w (event ∷ events) (w' ∷ worlds) image =
-    OfSomeNode (node_on number w) (λ n. opens_during event n (holder_at lines w n) w.primary.calls position image) ⊎ OpensIn final number lines position w' events worlds image
+    OfSomeNode (node_on number w) (λ n. opens_during w event n (holder_at lines w n) w.primary.calls position image) ⊎ OpensIn final number lines position w' events worlds image
 OpensIn final number lines position w events worlds image = ⊥
 
 -- Each crash between these two states of a device leaves an image that opens in this world or a later one, and in which no call is missing that was released in
@@ -110,13 +116,19 @@ KeepsReleased final number lines w events worlds old new =
     OfNode (node_on number w) (λ n. (prefix : List Call) (call : Call) → IsReleased w.primary.calls (released_in w) prefix call
     → LeavesOnly old new (OpensIn final number lines (position_of (prefix ++ call ∷ [])) w events worlds))
 
--- Each crash between these two states leaves an image that opens, over the list of the first world, where the node stands in that world, or where the node stands in the second one
--- whose device it is then, or as a call that the event cut would have left it; and no fence failed, but perhaps in such a call.
+-- the image opens as that of this node in this world, over this list: where it stands there, or as a call in which a fence failed would have left it, or as one of these
+abbrev pub OpensThere : ℕ → World → Node → List Call → List Remains → Image → Type 0
+OpensThere lines w n calls others image = OpensNear (holder_at lines w n) calls (position_at w n) (torn (life_of w n) ++ others) image
+
+-- the node stops between these two worlds
+abbrev pub stops_between : World → World → Node → Bool
+stops_between w w' n = not (is_stopped (life_of w n)) && is_stopped (life_of w' n)
+
+-- Each crash between these two states leaves an image that opens, over the list of the first world, as it may in that world, or as it may in the second one as that of the node whose device it is
+-- then; or as a call that the event cut would have left it. And no fence failed, but perhaps in such a call; or the node stopped.
 pub record MovesOn (lines : ℕ) (w : World) (event : Event) (w' : World) (before : Node) (after : Option Node) (old new : State) : Type 0 where
-  pub leaves : LeavesOnly old new (λ image. OpensAt (holder_at lines w before) w.primary.calls (position_at w before) image
-      ⊎ OfSomeNode after (λ n. OpensAt (holder_at lines w' n) w.primary.calls (position_at w' n) image)
-      ⊎ OpensAsOne (holder_at lines w before) w.primary.calls (position_at w before) (cut_short w event before) image)
-  pub failures : is_cut event ≡ false → new.failures ≡ old.failures
+  pub leaves : LeavesOnly old new (λ image. OpensThere lines w before w.primary.calls (cut_short w event before) image ⊎ OfSomeNode after (λ n. OpensThere lines w' n w.primary.calls [] image))
+  pub failures : (is_cut event || stops_between w w' before) ≡ false → new.failures ≡ old.failures
 
 -- what an event does to a device; one that is no node's stays as it is, with all that it has gone through
 abbrev pub MovesBy : ℕ → World → Event → World → Option Node → Option Node → State → State → Type 0
@@ -126,11 +138,11 @@ MovesBy lines w event w' (Some before) after old new = MovesOn lines w event w' 
 -- what comes after the last event
 abbrev pub EndsAs : (Node → Stretch) → ℕ → World → Option Node → State → State → Type 0
 EndsAs last lines w None old new = new ≡ old
-EndsAs last lines w (Some n) old new = last n (holder_at lines w n) w.primary.calls (position_at w n) (next_at w n) old new
+EndsAs last lines w (Some n) old new = OrLies (last n) (holder_at lines w n) w.primary.calls (position_at w n) (next_at w n) (torn (life_of w n)) old new
 
 -- The moments of the device with this number and this many lines, cut by the events of a run from this world on, at states that the device passed in this order. A crash during an
 -- event leaves an image that opens, over the list of the world before it, where its node stood before the event or where it stands after it: the standby's, where
--- that is promoted, as a primary's; or, where a crash cut a call, where that would have brought it. An event that does not touch the device, or was not enabled, leaves it as it was, with all that it has gone through. What comes after
+-- that is promoted, as a primary's; or, where a crash cut a call, or a fence failed in one, where that would have brought it. An event that does not touch the device, or was not enabled, leaves it as it was, with all that it has gone through. What comes after
 -- the last event is a stretch of its own. And from each cut on, up to the end, each crash keeps what was released by then.
 abbrev pub AreMoments : (Node → Opening) → (Node → Stretch) → ℕ → ℕ → World → List Event → List Bool → List World → State → State → Type 0
 AreMoments final last number lines w [] [] [] old new = KeepsReleased final number lines w [] [] old new × EndsAs last lines w (node_on number w) old new

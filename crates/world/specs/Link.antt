@@ -12,7 +12,7 @@ use Rattle.frames.specs.declared.frame.Frame.{Frame}
 use Rattle.standby_stream.specs.Stream.{Stream}
 use Rattle.stream_codec.specs.declared.message.TheConstants.{MAX_BODY_BYTES}
 use Rattle.stream_codec.specs.Message.{Acknowledged, IsSent, sent_of_frame, sent_text}
-use Rattle.world.specs.GroupSpan.{AreGroupsOf}
+use Rattle.node_steps.specs.GroupSpan.{AreGroupsOf}
 
 -- the span lies within the list
 pub record LiesWithin (calls : List Call) (span : Span) : Type 0 where

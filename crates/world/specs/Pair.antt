@@ -1,6 +1,7 @@
--- How a pair of nodes with its connections refines the machine's, while its primary runs, while it is crashed, and once it was fenced.
+-- How a pair of nodes with its connections refines the machine's, while its primary runs, while it is crashed, and once it has stopped or was fenced.
 use Rattle.std.specs.Prelude.{◌≡◌, ◌⊎◌, ◌&&◌, ℕ, ◌<◌, Bool, true, false, if◌then◌else◌, List, [], length, slice_index_or, All, Vec, vec_capacity, Result, IfOk, IfErr}
 use Rattle.std.specs.Global.{Global}
+use Rattle.pmem.specs.Crash.{IsImage}
 use Rattle.pmem.specs.Device.{State}
 use Rattle.kv_types.specs.declared.refusal.Refusal.{Refusal}
 use Rattle.model.specs.declared.group.Group.{Group}
@@ -8,25 +9,30 @@ use Rattle.wbl_engine.specs.declared.freeing.Freed.{Freed}
 use Rattle.model.specs.Group.{Contents}
 use Rattle.model.specs.declared.record.Role.TheVariants as Role
 use Rattle.model.specs.Call.{position_of}
+use Rattle.model.specs.Image.{Image}
 use Rattle.model.specs.Standing.{Holder}
 use Rattle.pipes.specs.Waiting.{Waiting}
 use Rattle.redis_core.specs.Sequencing.{Sequencing}
 use Rattle.standby_stream.specs.Stream.{Stream}
 use Rattle.standby_stream.specs.declared.opening.Opening.{Opening}
 use Rattle.machine.specs.declared.event.Event.{Event}
-use Rattle.machine.specs.Event.{Allowed, Primary, World, Step, is_enabled, new_committer, new_link}
+use Rattle.machine.specs.declared.event.Cut.TheVariants as cut
+use Rattle.machine.specs.Event.{Allowed, Primary, World, Step, is_enabled, new_committer, new_link, torn}
 use Rattle.machine.specs.Row.{are_running, row}
 use Rattle.machine.specs.Promise.{released_in}
 use Rattle.machine.specs.Sound.{Sound}
 use Rattle.pmem.specs.Runs.{LeavesOnly}
 use Rattle.machine.specs.declared.event.Event.TheVariants.{Promote}
-use Rattle.world.specs.Cause.{EndsBy, Promoting}
-use Rattle.world.specs.Committing.{Committing, EngineStands, IsDown, Leads, Moves, Opens, OpensAsEither, CommittingRefines, next_primary, next_standby, promoted_holder}
-use Rattle.world.specs.Condition.{has_crashed, has_ended, life_as, runs}
+use Rattle.world.specs.Cause.{EndsBy, OrLies, Promoting}
+use Rattle.world.specs.Committing.{Committing, EngineStands, IsDown, Leads, OpensAsEither, CommittingRefines, next_primary, next_standby, promoted_holder}
+use Rattle.world.specs.Condition.{has_crashed, has_ended, is_still, life_as, runs}
+use Rattle.world.specs.declared.condition.AskedFences.{AskedFences}
 use Rattle.world.specs.declared.condition.Condition.{Condition}
+pub use Rattle.node_steps.specs.Node.{FreeingRefines}
 use Rattle.world.specs.Link.{IsOwn, AreFramesSent, LinkRefines}
 use Rattle.primary.specs.Recalling.{RecallsEach, Remembers}
 use Rattle.world.specs.Recalling.{OpeningLeads, past_of}
+use Rattle.world.specs.Remaining.{LeftBy, MovesNear}
 use Rattle.connections.specs.Session.{SessionsRefine, SequencerRefines, SeatsFollow, HasSeat, AddsOne, released_of, seats_of}
 use Rattle.world.specs.Standby.{Arrived, Node, StandbyRefines, ArrivalsRefine}
 use Rattle.connections.specs.declared.connections.Connections.{Connections}
@@ -57,21 +63,16 @@ pub record Pair : Type 0 where
   pub frames : List (Vec ℕ Global)
   pub arrivals : Arrived
   pub standby : Node
-  -- the primary runs, or is crashed, or was fenced
+  -- the primary runs, or has stopped, or is crashed, or was fenced
   pub primary_condition : Condition
-  -- The standby runs, or is crashed, or was promoted: the primary goes on from its image then, and it has the device of the former primary.
+  -- The standby runs, or has stopped, or is crashed, or was promoted: the primary goes on from its image then, and it has the device of the former primary.
   pub standby_condition : Condition
+  -- of which of their devices a fence was asked to fail, and has not failed yet
+  pub asked : AskedFences
 
 -- the standby was not promoted
 abbrev pub HasStandby : Pair → Type 0
 HasStandby pair = has_ended pair.standby_condition ≡ false
-
--- What has ended, what was freed and the record's gaps are as many as the machine's.
-pub record FreeingRefines (s : Sequencing) (notices : List Freed) (contents : Contents) (machine : Primary) : Type 0 where
-  pub ended : length s.ended ≡ machine.ended
-  pub newest : s.newest ≡ machine.newest
-  pub notices_are : length notices ≡ machine.notices
-  pub gaps : length contents.current.gaps.items ≡ machine.gaps
 
 -- The parts of one whose primary runs refine those of the machine. The primary's image is that of the first holder, the standby's that of the second.
 pub record PartsRefine (first second : Holder) (pair : Pair) (w : World) : Type 0 where
@@ -90,7 +91,7 @@ pub record PartsRefine (first second : Holder) (pair : Pair) (w : World) : Type 
   -- while there is a standby, nothing of an earlier epoch is on the way to it
   pub own : HasStandby pair → All (IsOwn pair.link.epoch) w.wire.frames
   pub arrivals : ArrivalsRefine pair.link.epoch w.primary.calls pair.arrivals w.standby.waiting w.wire.acknowledgements
-  pub standby : StandbyRefines second pair.link.epoch w.primary.calls w.standby.position pair.standby pair.standby_condition
+  pub standby : StandbyRefines second pair.link.epoch w.primary.calls w.standby.position (torn w.standby.life) pair.standby pair.standby_condition
 
 -- The parts of one whose primary is crashed: of the primary there is its image.
 pub record DownRefine (first second : Holder) (pair : Pair) (w : World) : Type 0 where
@@ -110,24 +111,25 @@ pub record DownRefine (first second : Holder) (pair : Pair) (w : World) : Type 0
   -- while there is a standby, nothing of an earlier epoch is on the way to it
   pub own : HasStandby pair → All (IsOwn pair.link.epoch) w.wire.frames
   pub arrivals : ArrivalsRefine pair.link.epoch w.primary.calls pair.arrivals w.standby.waiting w.wire.acknowledgements
-  pub standby : StandbyRefines second pair.link.epoch w.primary.calls w.standby.position pair.standby pair.standby_condition
+  pub standby : StandbyRefines second pair.link.epoch w.primary.calls w.standby.position (torn w.standby.life) pair.standby pair.standby_condition
 
--- The parts of one whose primary was fenced: of the primary there is its device, on which each crash leaves an image that opens where the primary stood. The list
--- of calls stays what it was, with all that was released.
-pub record FencedRefine (first second : Holder) (pair : Pair) (w : World) : Type 0 where
+-- The parts of one whose primary has stopped or was fenced: of the primary there is its device, on which each crash leaves an image that holds what the primary held where it stood, or what the
+-- call in which a fence failed would have left. The list of calls stays what it was, with all that was released.
+pub record StillRefine (first second : Holder) (pair : Pair) (w : World) : Type 0 where
   pub sessions : SessionsRefine pair.sessions pair.transcript w.primary.connections w.primary.calls
-  pub opens : Opens first w.primary.calls w.primary.committer.position pair.device
+  pub lines_are : pair.device.lines ≡ first.lines
+  pub left : (image : Image) → IsImage pair.device.words image → LeftBy first w cut.Between image
   pub epoch : pair.link.epoch ≡ w.primary.epoch
   pub frames : AreFramesSent pair.link.epoch w.primary.calls pair.frames w.wire.frames
   -- while there is a standby, nothing of an earlier epoch is on the way to it
   pub own : HasStandby pair → All (IsOwn pair.link.epoch) w.wire.frames
   pub arrivals : ArrivalsRefine pair.link.epoch w.primary.calls pair.arrivals w.standby.waiting w.wire.acknowledgements
-  pub standby : StandbyRefines second pair.link.epoch w.primary.calls w.standby.position pair.standby pair.standby_condition
+  pub standby : StandbyRefines second pair.link.epoch w.primary.calls w.standby.position (torn w.standby.life) pair.standby pair.standby_condition
 
 -- ---- lives
 
 -- what happens to the nodes of a pair: they crash, between two events or inside a call, and are opened again, the primary is fenced, and the standby is promoted after that;
--- and fences of their devices are asked to fail
+-- and fences of their devices are asked to fail, and do
 abbrev pub allowed : Allowed
 allowed = record { restarts = true; fencing = true; promotions = true; failures = true; cuts = true }
 
@@ -135,13 +137,15 @@ allowed = record { restarts = true; fencing = true; promotions = true; failures 
 abbrev pub primary_number : Condition → ℕ
 primary_number condition = if has_ended condition then 1 else 0
 
--- Each node is in the condition that is said of it, over its device; and the images are those of a primary and a standby of the pair's epoch.
-pub record AreLives (first second : Holder) (primary_condition standby_condition : Condition) (w : World) : Type 0 where
+-- Each node is in the condition that is said of it, over its device, of which a fence was asked to fail as is said; and the images are those of a primary and a standby of the pair's epoch.
+pub record AreLives (first second : Holder) (primary_condition standby_condition : Condition) (fences : AskedFences) (w : World) : Type 0 where
   pub allowed_are : w.allowed ≡ allowed
   pub primary_disk : w.primary.disk.number ≡ primary_number standby_condition
   pub standby_disk : w.standby.disk.number ≡ 1
-  pub primary : w.primary.life ≡ life_as primary_condition
-  pub standby : w.standby.life ≡ life_as standby_condition
+  pub primary_failing : w.primary.disk.failing ≡ fences.primary
+  pub standby_failing : w.standby.disk.failing ≡ fences.standby
+  pub primary : w.primary.life ≡ life_as primary_condition (torn w.primary.life)
+  pub standby : w.standby.life ≡ life_as standby_condition (torn w.standby.life)
   pub first_role : first.role ≡ Role.Primary
   pub second_role : second.role ≡ Role.Standby
   pub first_epoch : first.epoch ≡ w.primary.epoch
@@ -152,21 +156,21 @@ pub record AreLives (first second : Holder) (primary_condition standby_condition
 -- its primary runs, and it refines a world that a run may reach
 pub record PairRefines (first second : Holder) (pair : Pair) (w : World) : Type 0 where
   pub sound : Sound w
-  pub lives : AreLives first second pair.primary_condition pair.standby_condition w
+  pub lives : AreLives first second pair.primary_condition pair.standby_condition pair.asked w
   pub serves : runs pair.primary_condition ≡ true
   pub parts : PartsRefine first second pair w
 
--- its parts refine the machine's, whether its primary runs, is crashed or was fenced
+-- its parts refine the machine's, whether its primary runs, is crashed, or has stopped or was fenced
 abbrev pub EitherRefines : Holder → Holder → Pair → World → Type 0
 EitherRefines first second pair w =
     ((runs pair.primary_condition ≡ true) × PartsRefine first second pair w)
     ⊎ ((has_crashed pair.primary_condition ≡ true) × DownRefine first second pair w)
-    ⊎ ((has_ended pair.primary_condition ≡ true) × FencedRefine first second pair w)
+    ⊎ ((is_still pair.primary_condition ≡ true) × StillRefine first second pair w)
 
 -- it refines such a world, whatever the condition of its primary
 pub record NodesRefine (first second : Holder) (pair : Pair) (w : World) : Type 0 where
   pub sound : Sound w
-  pub lives : AreLives first second pair.primary_condition pair.standby_condition w
+  pub lives : AreLives first second pair.primary_condition pair.standby_condition pair.asked w
   pub parts : EitherRefines first second pair w
 
 -- there is a world that it refines
@@ -189,14 +193,14 @@ pub record IsCut (first second : Holder) (event : Event) (refusal : Refusal) (ol
   -- no standby was promoted
   pub standby : has_ended new.standby_condition ≡ has_ended old.standby_condition
   pub cause : EndsBy refusal event (λ first_last second_last.
-      first_last first w.primary.calls w.primary.committer.position (next_primary w) old.device new.device
-      × (HasStandby old → second_last second w.primary.calls w.standby.position (next_standby w) old.standby.device new.standby.device))
+      OrLies first_last first w.primary.calls w.primary.committer.position (next_primary w) (torn w.primary.life) old.device new.device
+      × (HasStandby old → OrLies second_last second w.primary.calls w.standby.position (next_standby w) (torn w.standby.life) old.standby.device new.standby.device))
 
 -- The step from one pair to the other moved each device, over the list of calls before it, from where its node stands in one world to where it stands in the other. (Of a
 -- standby that was promoted before nothing is said.)
 pub record MovesBoth (first second : Holder) (old new : Pair) (w w' : World) : Type 0 where
-  pub primary : Moves first w.primary.calls w.primary.committer.position w'.primary.committer.position old.device new.device
-  pub standby : HasStandby old → Moves second w.primary.calls w.standby.position w'.standby.position old.standby.device new.standby.device
+  pub primary : MovesNear first w.primary.calls w.primary.committer.position w'.primary.committer.position (torn w.primary.life) old.device new.device
+  pub standby : HasStandby old → MovesNear second w.primary.calls w.standby.position w'.standby.position (torn w.standby.life) old.standby.device new.standby.device
 
 -- the machine's step, the world that the pair refines after it, and what the step did to the devices
 pub record Steps (first second : Holder) (w : World) (event : Event) (did : Bool) (old new : Pair) : Type 0 where

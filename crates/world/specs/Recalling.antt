@@ -2,15 +2,12 @@
 use Rattle.std.specs.Prelude.{ℕ, ◌<◌, ◌≤◌, List}
 use Rattle.kv_types.specs.Change.{changes_size}
 use Rattle.model.specs.declared.call.Call.{Call}
-use Rattle.model.specs.Call.{cut_at, keyspace_after, position_of}
+use Rattle.model.specs.Call.{position_of}
 use Rattle.standby_stream.specs.declared.opening.Opening.{Opening}
 use Rattle.standby_stream.specs.Delta.{delta_changes}
 use Rattle.stream_codec.specs.declared.message.TheConstants.{MAX_BODY_BYTES}
-use Rattle.primary.specs.Recalling.{DeltaLeads, Past}
-
--- the keyspace at each position of the list
-abbrev pub past_of : List Call → Past
-past_of calls = λ p. keyspace_after (cut_at calls p)
+pub use Rattle.node_steps.specs.Node.{past_of}
+use Rattle.primary.specs.Recalling.{DeltaLeads}
 
 -- From each position that the standby may stand at, the delta leads to the keyspace at which the primary was opened, and one frame has room for it.
 pub record OpeningLeads (low opened : ℕ) (calls : List Call) (opening : Opening) : Type 0 where

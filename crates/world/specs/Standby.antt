@@ -11,14 +11,15 @@ use Rattle.model.specs.Group.{Contents}
 use Rattle.model.specs.Standing.{Holder}
 use Rattle.mv_keyspace.specs.Table.{Table, records}
 use Rattle.machine.specs.declared.event.Event.TheVariants.{Apply}
-use Rattle.machine.specs.Event.{Acknowledgement, World, Frame as Sent, Applies, may_happen}
+use Rattle.machine.specs.Event.{Acknowledgement, Remains, World, Frame as Sent, Applies, may_happen}
 use Rattle.frames.specs.declared.ack.Ack.{Ack}
 use Rattle.frames.specs.declared.frame.Frame.{Frame}
 use Rattle.standby.specs.Following.{Follows}
 use Rattle.world.specs.Committing.{EngineStands, IsDown, Moves}
-use Rattle.world.specs.Condition.{has_crashed, runs}
+use Rattle.world.specs.Condition.{has_crashed, has_stopped, runs}
 use Rattle.world.specs.declared.condition.Condition.{Condition}
 use Rattle.world.specs.Link.{AreFramesRead, AreAcksSent}
+use Rattle.world.specs.Remaining.{LeavesOne}
 use Rattle.world.specs.declared.arrivals.Arrivals.{Arrivals}
 
 -- what a standby is made of
@@ -45,9 +46,11 @@ pub record StandbyStands (holder : Holder) (epoch : ℕ) (calls : List Call) (po
   pub epoch_is : node.epoch ≡ epoch
   pub epoch_held : epoch ≡ holder.epoch
 
--- the same of one that runs, and of one that is crashed what its image is; of one that was promoted nothing
-pub record StandbyRefines (holder : Holder) (epoch : ℕ) (calls : List Call) (position : ℕ) (node : Node) (condition : Condition) : Type 0 where
+-- The same of one that runs; of one that stopped what each crash leaves of it, where a fence that failed left these; and of one that is crashed what its image is. Of one that was promoted
+-- nothing.
+pub record StandbyRefines (holder : Holder) (epoch : ℕ) (calls : List Call) (position : ℕ) (remains : List Remains) (node : Node) (condition : Condition) : Type 0 where
   pub stands : runs condition ≡ true → StandbyStands holder epoch calls position node
+  pub left : has_stopped condition ≡ true → LeavesOne holder calls position remains node.device
   pub down : has_crashed condition ≡ true → IsDown holder calls position node.device
 
 -- what an acknowledgement tells

@@ -8,18 +8,19 @@ use Rattle.model.specs.Call.{MayReply, cut_at, position_of, state_after}
 use Rattle.model.specs.Standing.{Holder}
 use Rattle.machine.specs.declared.event.Event.{Event}
 use Rattle.machine.specs.declared.event.Event.TheVariants.{Apply, ClearGap, Commit, Crash, Free, OpenLink, Promote, Reopen, Send, Turn, Write}
-use Rattle.machine.specs.declared.event.Cut.TheVariants as cut
 use Rattle.machine.specs.declared.event.Node.TheVariants as node
-use Rattle.machine.specs.Event.{At, Connection, World, connection_of, may_remain}
+use Rattle.machine.specs.Event.{AsPrimary, At, Connection, Remains, World, connection_of, may_remain, torn}
 use Rattle.machine.specs.Promise.{IsReleased, released_in}
 use Rattle.machine.specs.Row.{touches}
 use Rattle.connections.specs.Session.{AddsOne, TranscriptRefines, released_of}
 use Rattle.connections.specs.declared.transcript.Transcript.{Transcript}
-use Rattle.world.specs.Committing.{Opens, promoted_holder}
+use Rattle.world.specs.Committing.{promoted_holder}
 pub use Rattle.world.specs.Effect.{AddsMessage}
 use Rattle.world.specs.Cutting.{Cuts}
 use Rattle.world.specs.Effect.{Effect}
 use Rattle.world.specs.Link.{AreAcksSent, AreFramesSent}
+use Rattle.world.specs.Remaining.{Remain}
+use Rattle.world.specs.Stopping.{Stops}
 use Rattle.world.specs.Pair.{Acts, Does, HasRoom, HasStandby, IsCut, IsPromotionCut, NodesRefine, Pair, Steps, Succeeds}
 
 -- ---- what an event leaves as it was
@@ -64,26 +65,31 @@ abbrev pub released_to : Pair → ℕ → List ℕ
 released_to pair c = slice_index_or (released_of pair.transcript) c []
 
 -- What anyone may see of a pair that stands for this world: the list of calls, the released bytes and the messages between its nodes; and what a crash now leaves of
--- either device opens where its node stands, with each call that was released.
+-- either device opens where its node stands, with each call that was released; or, where a fence failed, as the call in which it did would have left it.
 pub record Shows (first second : Holder) (w : World) (pair : Pair) : Type 0 where
   pub calls : pair.transcript.calls.items ≡ w.primary.calls
   pub released : (c : ℕ) → released_to pair c ≡ released_in w c
   pub frames : AreFramesSent w.primary.epoch w.primary.calls pair.frames w.wire.frames
   pub acknowledgements : AreAcksSent pair.arrivals.acknowledgements.items w.wire.acknowledgements
-  pub primary : Opens first w.primary.calls w.primary.committer.position pair.device
-  pub standby : HasStandby pair → Opens second w.primary.calls w.standby.position pair.standby.device
+  pub primary : Remain first w.primary.calls w.primary.committer.position (torn w.primary.life) pair.device
+  pub standby : HasStandby pair → Remain second w.primary.calls w.standby.position (torn w.standby.life) pair.standby.device
   pub held : (prefix : List Call) (call : Call) → IsReleased w.primary.calls (released_in w) prefix call
       → (position_of (prefix ++ call ∷ []) ≤ w.primary.committer.position) × (position_of (prefix ++ call ∷ []) ≤ w.standby.position)
 
 -- ---- what an event gave
 
+-- where a crash has left this of the standby
+abbrev pub calls_left : World → Remains → List Call
+calls_left w (At p) = w.primary.calls
+calls_left w AsPrimary = cut_at w.primary.calls w.standby.position
+
 -- The list of calls after an event: a turn adds the call of the connection's first waiting item, a crash of the primary drops the calls that its image does not hold,
--- and a promotion those that the standby's does not, as one does that was cut and left the image of a primary.
+-- and a promotion those that the standby's does not, as a crash of the standby does that shows the image of a primary.
 abbrev pub CallsBy : World → Event → Bool → List Call → Type 0
 CallsBy w (Turn c) true new =
     (call : Call) × (call.connection ≡ c) × (take 1 (connection_of w c).inbound.waiting ≡ call.item ∷ []) × MayReply (state_after w.primary.calls) call × (new ≡ w.primary.calls ++ call ∷ [])
 CallsBy w (Crash node.Primary call k picks) true new = (p : ℕ) × Contains (may_remain w node.Primary call) (At p) × (new ≡ cut_at w.primary.calls p)
-CallsBy w (Crash node.Standby cut.Promote k picks) true new = (new ≡ w.primary.calls) ⊎ (new ≡ cut_at w.primary.calls w.standby.position)
+CallsBy w (Crash node.Standby call k picks) true new = (remain : Remains) × Contains (may_remain w node.Standby call) remain × (new ≡ calls_left w remain)
 CallsBy w Promote true new = new ≡ cut_at w.primary.calls w.standby.position
 CallsBy w event did new = new ≡ w.primary.calls
 
@@ -144,7 +150,7 @@ pub record WasPromoted (old : Pair) (event : Event) (result : Result Bool Refusa
   pub acknowledgements : new.arrivals.acknowledgements.items ≡ old.arrivals.acknowledgements.items
   pub room : HasRoom old → AddsOne old.transcript.calls new.transcript.calls
 
--- What a crash inside a call did to a pair, of all worlds that it stood for: the machine's step, what was seen of the pair before it and after it, and what the list is then. Nothing was
+-- What a crash inside a call, or of a node that had stopped, did to a pair, of all worlds that it stood for: the machine's step, what was seen of the pair before it and after it, and what the list is then. Nothing was
 -- released.
 pub record WasInterrupted (old : Pair) (event : Event) (result : Result Bool Refusal) (new : Pair) : Type 0 where
   pub cuts : Cuts old event result new
@@ -153,6 +159,12 @@ pub record WasInterrupted (old : Pair) (event : Event) (result : Result Bool Ref
   pub called : (first second : Holder) (w : World) → NodesRefine first second old w → CallsBy w event true new.transcript.calls.items
   pub released : (first second : Holder) (w : World) → NodesRefine first second old w → (c : ℕ) → released_to new c ≡ released_to old c
 
+-- What a fence that failed did to a pair, as it was asked to: its node stopped. What was seen of the pair before it and after it.
+pub record WasStopped (old : Pair) (event : Event) (result : Result Bool Refusal) (new : Pair) : Type 0 where
+  pub stops : Stops old event result new
+  pub before : (first second : Holder) (w : World) → NodesRefine first second old w → Shows first second w old
+  pub after : (first second : Holder) (w : World) → NodesRefine first second new w → Shows first second w new
+
 -- a crash inside a call came, or the node was in no such call
 abbrev pub CutsOrStays : Pair → Event → Bool → Pair → Type 0
 CutsOrStays old event true new = Cuts old event (Ok true) new
@@ -160,7 +172,7 @@ CutsOrStays old event false new = Acts old event (Ok false) new × Leaves event 
 
 -- what an event did to a pair
 abbrev pub IsStep : Pair → Event → Result Bool Refusal → Pair → Type 0
-IsStep old event result new = Acted old event result new ⊎ WasPromoted old event result new ⊎ WasInterrupted old event result new
+IsStep old event result new = Acted old event result new ⊎ WasPromoted old event result new ⊎ WasInterrupted old event result new ⊎ WasStopped old event result new
 
 -- ---- a turn
 

@@ -3,13 +3,15 @@ ghost use Rattle.std.specs.Prelude.{◌≡◌, ◌⊎◌, ◌↔◌, ℕ, ◌<�
 ghost use Rattle.std.specs.Global.{Global};
 ghost use Rattle.machine.specs.declared.event.Event.TheVariants.{Deliver, Apply};
 ghost use Rattle.model.specs.Standing.{Holder};
-ghost use Rattle.machine.specs.Event.{World, may_happen, acknowledgement_of, delivered, option_items};
+ghost use Rattle.pmem.specs.Runs.{LeavesOnly};
+ghost use Rattle.machine.specs.Event.{At, World, may_happen, acknowledgement_of, delivered, option_items};
 ghost use Rattle.machine.specs.Sound.{Sound};
 ghost use Rattle.wbl_engine.specs.Contents.{IsDurable};
 ghost use Rattle.standby.specs.Following.{Follows};
 ghost use Rattle.connections.specs.Going.{Goes};
 ghost use Rattle.world.specs.Cause.{EndsBy};
-ghost use Rattle.world.specs.Committing.{NearOnly, next_standby};
+ghost use Rattle.world.specs.Committing.{next_standby};
+ghost use Rattle.world.specs.Remaining.{KeepsOne};
 ghost use Rattle.world.specs.Effect.{AnswersFirst, OnDid};
 ghost use Rattle.world.specs.Link.{AreFramesSent, IsOwn};
 ghost use Rattle.world.specs.Step.{AcksBy, AddsMessage};
@@ -111,7 +113,8 @@ impl Arrivals {
             → (E.contents standby.old.engine).current.epoch ≡ w.standby.epoch
             → ArrivalsRefine (E.contents standby.old.engine).current.epoch w.primary.calls (arrived_with self.old acknowledgements.old) w.standby.waiting w.wire.acknowledgements
             → StandbyStands holder (E.contents standby.old.engine).current.epoch w.primary.calls w.standby.position (node_at (E.device standby.old.engine) (E.contents standby.old.engine) (E.is_faulted standby.old.engine) (K.table standby.old.keyspace) standby.old.heap standby.old.ended.items)
-            → NearOnly holder w.primary.calls w.standby.position (next_standby w) (E.device standby.old.engine) (E.device standby.new.engine) }
+            → LeavesOnly (E.device standby.old.engine) (E.device standby.new.engine) (KeepsOne holder w.primary.calls w.standby.position (At (next_standby w) ∷ [])) }
+        ensures lines { (E.contents standby.new.engine).lines ≡ (E.contents standby.old.engine).lines }
     {
         if self.delivered.is_empty() {
             return Ok(false);

@@ -1,13 +1,16 @@
 //! The steps of a pair's committer.
-ghost use Rattle.std.specs.Prelude.{◌≡◌, ◌≢◌, ◌↔◌, ◌<◌, ◌++◌, [], true, IfErr, OnErr, OnOk};
+ghost use Rattle.std.specs.Prelude.{◌≡◌, ◌≢◌, ◌↔◌, ◌<◌, ◌++◌, [], true, false, IfErr, OnErr, OnOk};
 ghost use Rattle.std.specs.VecDeque.{deque_capacity, deque_len};
 ghost use Rattle.group_commit.specs.Due.{due_now};
 ghost use Rattle.group_commit.specs.declared.due.Due.TheVariants as due;
+ghost use Rattle.machine.specs.Event.{is_between};
 ghost use Rattle.primary.specs.Standing.{notices_of};
 ghost use Rattle.world.specs.Committing.{event_of, frees_places, link_has_room};
 ghost use Rattle.world.specs.Condition.{runs};
 ghost use Rattle.world.specs.Pair.{Does, HasWorld};
+ghost use Rattle.world.specs.Cutting.{cut_of};
 ghost use Rattle.world.specs.Step.{Leaves};
+ghost use Rattle.world.specs.Stopping.{BreaksPrimary};
 ghost use Rattle.world.specs.declared.history.History.{History};
 
 use crate::pair::{Pair, Stepper};
@@ -26,6 +29,7 @@ impl<E: Restarting, K: Keyspace + Drop> Pair<E, K> {
         requires world { (history : History) × HasWorld (⟦<Pair<E, K> as Stepper>⟧.parts self.old history) }
         ensures does { (history : History) → Does (⟦<Pair<E, K> as Stepper>⟧.parts self.old history) (event_of step) result (⟦<Pair<E, K> as Stepper>⟧.parts self.new history) }
         ensures leaves { (history : History) → Leaves (event_of step) result (⟦<Pair<E, K> as Stepper>⟧.parts self.old history) (⟦<Pair<E, K> as Stepper>⟧.parts self.new history) }
+        ensures broken { IfErr result (λ refusal. refusal ≡ Refusal.Fault → is_between (cut_of step) ≡ false → (history : History) → BreaksPrimary (cut_of step) (⟦<Pair<E, K> as Stepper>⟧.parts self.old history) (⟦<Pair<E, K> as Stepper>⟧.parts self.new history)) }
     {
         if !self.is_due(step) {
             return Ok(false);

@@ -1,11 +1,13 @@
 //! Whether a node runs.
 ghost use Rattle.std.specs.Prelude.{◌≡◌};
-ghost use Rattle.world.specs.Condition.{has_crashed, has_ended, runs};
+ghost use Rattle.world.specs.Condition.{has_crashed, has_ended, has_stopped, runs};
 
 /// What a node is between two events.
 #[derive(Clone, Copy, Debug)]
 pub(crate) enum Condition {
     Running,
+    /// A fence of its device failed, as it was asked to. It does nothing more until it has crashed and was opened again.
+    Stopped,
     /// There is its image. What it held beside that is made anew when it is opened again.
     Crashed,
     /// There is its device, and nothing happens to it any more: a primary that was fenced, or a standby that was promoted.
@@ -18,7 +20,16 @@ impl Condition {
     {
         match self {
             Condition::Running => true,
-            Condition::Crashed | Condition::Ended => false,
+            Condition::Stopped | Condition::Crashed | Condition::Ended => false,
+        }
+    }
+
+    pub(crate) fn has_stopped(self) -> bool
+        ensures { result ≡ has_stopped self }
+    {
+        match self {
+            Condition::Stopped => true,
+            Condition::Running | Condition::Crashed | Condition::Ended => false,
         }
     }
 
@@ -28,7 +39,7 @@ impl Condition {
     {
         match self {
             Condition::Crashed => true,
-            Condition::Running | Condition::Ended => false,
+            Condition::Running | Condition::Stopped | Condition::Ended => false,
         }
     }
 
@@ -37,7 +48,21 @@ impl Condition {
     {
         match self {
             Condition::Ended => true,
-            Condition::Running | Condition::Crashed => false,
+            Condition::Running | Condition::Stopped | Condition::Crashed => false,
         }
     }
+}
+
+/// Of which of the two nodes' devices a fence was asked to fail, and has not failed yet.
+#[derive(Clone, Copy, Debug)]
+pub(crate) struct AskedFences {
+    pub(crate) primary: bool,
+    pub(crate) standby: bool,
+}
+
+impl AskedFences {
+    pub(crate) const NONE: AskedFences = AskedFences {
+        primary: false,
+        standby: false,
+    };
 }

@@ -1,11 +1,13 @@
 //! The crash of a node of a pair, and its reopening.
-ghost use Rattle.std.specs.Prelude.{◌≡◌, ℕ, [], Ok, IfErr, IfOk};
+ghost use Rattle.std.specs.Prelude.{◌≡◌, ℕ, [], true, false, Ok, IfErr, IfOk};
 ghost use Rattle.standby_stream.specs.Stream.{new_stream};
 ghost use Rattle.machine.specs.declared.event.Event.TheVariants as events;
 ghost use Rattle.machine.specs.declared.event.Cut.TheVariants as cuts;
 ghost use Rattle.machine.specs.declared.event.Node.TheVariants as nodes;
 ghost use Rattle.world.specs.Pair.{Acts, HasWorld};
-ghost use Rattle.world.specs.Step.{Leaves};
+ghost use Rattle.world.specs.Condition.{has_stopped};
+ghost use Rattle.world.specs.Step.{CutsOrStays, IsStep, Leaves};
+ghost use Rattle.world.specs.Stopping.{BreaksPrimary, BreaksStandby};
 ghost use Rattle.world.specs.declared.history.History.{History};
 
 use crate::condition::Condition;
@@ -22,25 +24,31 @@ use wbl_engine::Restarting;
 
 impl<E: Restarting, K: Keyspace + Drop> Pair<E, K> {
     /// Between two events.
-    pub(crate) fn crash(
-        &mut self,
-        history: &mut History,
-        node: Node,
-        picks: &Vec<u64>,
-    ) -> Result<bool, Refusal>
+    pub(crate) fn crash(&mut self, history: &mut History, node: Node, picks: &Vec<u64>) -> bool
         requires { HasWorld (⟦<Pair<E, K> as Stepper>⟧.parts self.old history.old) }
-        ensures does { (after : ℕ) → Acts (⟦<Pair<E, K> as Stepper>⟧.parts self.old history.old) (events.Crash node cuts.Between after picks.now) result (⟦<Pair<E, K> as Stepper>⟧.parts self.new history.new) }
-        ensures leaves { (after : ℕ) → Leaves (events.Crash node cuts.Between after picks.now) result (⟦<Pair<E, K> as Stepper>⟧.parts self.old history.old) (⟦<Pair<E, K> as Stepper>⟧.parts self.new history.new) }
+        ensures { (after : ℕ) → IsStep (⟦<Pair<E, K> as Stepper>⟧.parts self.old history.old) (events.Crash node cuts.Between after picks.now) (Ok result) (⟦<Pair<E, K> as Stepper>⟧.parts self.new history.new) }
     {
         match node {
-            Node::Primary => Ok(self.crash_primary(history, picks)),
-            Node::Standby => Ok(self.crash_standby(picks)),
+            Node::Primary => self.crash_primary(history, picks),
+            Node::Standby => self.crash_standby(history, picks),
         }
     }
 
-    /// Of the primary there is its image then, and the list keeps the calls that it holds. All connections are over.
     fn crash_primary(&mut self, history: &mut History, picks: &Vec<u64>) -> bool
         requires { HasWorld (⟦<Pair<E, K> as Stepper>⟧.parts self.old history.old) }
+        ensures { (after : ℕ) → IsStep (⟦<Pair<E, K> as Stepper>⟧.parts self.old history.old) (events.Crash nodes.Primary cuts.Between after picks.now) (Ok result) (⟦<Pair<E, K> as Stepper>⟧.parts self.new history.new) }
+    {
+        if self.primary_condition.has_stopped() {
+            self.crash_stopped_primary(history, picks);
+            return true;
+        }
+        self.crash_running_primary(history, picks)
+    }
+
+    /// Of the primary there is its image then, and the list keeps the calls that it holds. All connections are over.
+    fn crash_running_primary(&mut self, history: &mut History, picks: &Vec<u64>) -> bool
+        requires whole { has_stopped self.old.primary_condition ≡ false }
+        requires world { HasWorld (⟦<Pair<E, K> as Stepper>⟧.parts self.old history.old) }
         ensures does { (after : ℕ) → Acts (⟦<Pair<E, K> as Stepper>⟧.parts self.old history.old) (events.Crash nodes.Primary cuts.Between after picks.now) (Ok result) (⟦<Pair<E, K> as Stepper>⟧.parts self.new history.new) }
         ensures leaves { (after : ℕ) → Leaves (events.Crash nodes.Primary cuts.Between after picks.now) (Ok result) (⟦<Pair<E, K> as Stepper>⟧.parts self.old history.old) (⟦<Pair<E, K> as Stepper>⟧.parts self.new history.new) }
     {
@@ -54,9 +62,33 @@ impl<E: Restarting, K: Keyspace + Drop> Pair<E, K> {
         true
     }
 
+    /// The image of one that stopped tells up to where the list keeps the calls.
+    fn crash_stopped_primary(&mut self, history: &mut History, picks: &Vec<u64>)
+        requires stopped { has_stopped self.old.primary_condition ≡ true }
+        requires world { HasWorld (⟦<Pair<E, K> as Stepper>⟧.parts self.old history.old) }
+        ensures { (after : ℕ) → CutsOrStays (⟦<Pair<E, K> as Stepper>⟧.parts self.old history.old) (events.Crash nodes.Primary cuts.Between after picks.now) true (⟦<Pair<E, K> as Stepper>⟧.parts self.new history.new) }
+    {
+        self.primary.back.crash(picks.as_slice());
+        let position = self.image_position();
+        self.sessions.crash(&mut history.transcript, position);
+        self.primary_condition = Condition::Crashed;
+    }
+
+    fn crash_standby(&mut self, history: &mut History, picks: &Vec<u64>) -> bool
+        requires { HasWorld (⟦<Pair<E, K> as Stepper>⟧.parts self.old history.old) }
+        ensures { (after : ℕ) → IsStep (⟦<Pair<E, K> as Stepper>⟧.parts self.old history.old) (events.Crash nodes.Standby cuts.Between after picks.now) (Ok result) (⟦<Pair<E, K> as Stepper>⟧.parts self.new history.new) }
+    {
+        if self.standby_condition.has_stopped() {
+            self.crash_stopped_standby(history, picks);
+            return true;
+        }
+        self.crash_running_standby(picks)
+    }
+
     /// Of the standby there is its image then. What was delivered to it is lost.
-    fn crash_standby(&mut self, picks: &Vec<u64>) -> bool
-        requires { (history : History) × HasWorld (⟦<Pair<E, K> as Stepper>⟧.parts self.old history) }
+    fn crash_running_standby(&mut self, picks: &Vec<u64>) -> bool
+        requires whole { has_stopped self.old.standby_condition ≡ false }
+        requires world { (history : History) × HasWorld (⟦<Pair<E, K> as Stepper>⟧.parts self.old history) }
         ensures does { (history : History) → (after : ℕ) → Acts (⟦<Pair<E, K> as Stepper>⟧.parts self.old history) (events.Crash nodes.Standby cuts.Between after picks.now) (Ok result) (⟦<Pair<E, K> as Stepper>⟧.parts self.new history) }
         ensures leaves { (history : History) → (after : ℕ) → Leaves (events.Crash nodes.Standby cuts.Between after picks.now) (Ok result) (⟦<Pair<E, K> as Stepper>⟧.parts self.old history) (⟦<Pair<E, K> as Stepper>⟧.parts self.new history) }
     {
@@ -69,22 +101,22 @@ impl<E: Restarting, K: Keyspace + Drop> Pair<E, K> {
         true
     }
 
-    pub(crate) fn reopen(&mut self, node: Node) -> Result<bool, Refusal>
-        requires { (history : History) × HasWorld (⟦<Pair<E, K> as Stepper>⟧.parts self.old history) }
-        ensures does { (history : History) → Acts (⟦<Pair<E, K> as Stepper>⟧.parts self.old history) (events.Reopen node) result (⟦<Pair<E, K> as Stepper>⟧.parts self.new history) }
-        ensures leaves { (history : History) → Leaves (events.Reopen node) result (⟦<Pair<E, K> as Stepper>⟧.parts self.old history) (⟦<Pair<E, K> as Stepper>⟧.parts self.new history) }
+    /// The image of one that stopped tells whether it is a standby still.
+    fn crash_stopped_standby(&mut self, history: &mut History, picks: &Vec<u64>)
+        requires stopped { has_stopped self.old.standby_condition ≡ true }
+        requires world { HasWorld (⟦<Pair<E, K> as Stepper>⟧.parts self.old history.old) }
+        ensures { (after : ℕ) → CutsOrStays (⟦<Pair<E, K> as Stepper>⟧.parts self.old history.old) (events.Crash nodes.Standby cuts.Between after picks.now) true (⟦<Pair<E, K> as Stepper>⟧.parts self.new history.new) }
     {
-        match node {
-            Node::Primary => self.reopen_primary(),
-            Node::Standby => self.reopen_standby(),
-        }
+        self.standby.crash(picks.as_slice());
+        self.go_by_image(history);
     }
 
     /// The primary goes on from its image: its keyspace and its heap are made from the versions there, and nothing waits.
-    fn reopen_primary(&mut self) -> Result<bool, Refusal>
+    pub(crate) fn reopen_primary(&mut self) -> Result<bool, Refusal>
         requires { (history : History) × HasWorld (⟦<Pair<E, K> as Stepper>⟧.parts self.old history) }
         ensures does { (history : History) → Acts (⟦<Pair<E, K> as Stepper>⟧.parts self.old history) (events.Reopen nodes.Primary) result (⟦<Pair<E, K> as Stepper>⟧.parts self.new history) }
         ensures leaves { (history : History) → Leaves (events.Reopen nodes.Primary) result (⟦<Pair<E, K> as Stepper>⟧.parts self.old history) (⟦<Pair<E, K> as Stepper>⟧.parts self.new history) }
+        ensures broken { IfErr result (λ refusal. refusal ≡ Refusal.Fault → (history : History) → BreaksPrimary cuts.Reopen (⟦<Pair<E, K> as Stepper>⟧.parts self.old history) (⟦<Pair<E, K> as Stepper>⟧.parts self.new history)) }
     {
         if !self.primary_condition.has_crashed() {
             return Ok(false);
@@ -100,10 +132,11 @@ impl<E: Restarting, K: Keyspace + Drop> Pair<E, K> {
     }
 
     /// The standby goes on from its image.
-    fn reopen_standby(&mut self) -> Result<bool, Refusal>
+    pub(crate) fn reopen_standby(&mut self) -> Result<bool, Refusal>
         requires { (history : History) × HasWorld (⟦<Pair<E, K> as Stepper>⟧.parts self.old history) }
         ensures does { (history : History) → Acts (⟦<Pair<E, K> as Stepper>⟧.parts self.old history) (events.Reopen nodes.Standby) result (⟦<Pair<E, K> as Stepper>⟧.parts self.new history) }
         ensures leaves { (history : History) → Leaves (events.Reopen nodes.Standby) result (⟦<Pair<E, K> as Stepper>⟧.parts self.old history) (⟦<Pair<E, K> as Stepper>⟧.parts self.new history) }
+        ensures broken { IfErr result (λ refusal. refusal ≡ Refusal.Fault → (history : History) → BreaksStandby cuts.Reopen (⟦<Pair<E, K> as Stepper>⟧.parts self.old history) (⟦<Pair<E, K> as Stepper>⟧.parts self.new history)) }
     {
         if !self.standby_condition.has_crashed() {
             return Ok(false);

@@ -116,7 +116,7 @@ impl<E: Restarting, K: Keyspace + Drop> Pair<E, K> {
     }
 
     /// Where the primary's image stands, up to which the list keeps the calls.
-    fn image_position(&self) -> u64
+    pub(crate) fn image_position(&self) -> u64
         ensures { (r : CommitRecord) → MIN_LINES ≤ (E.device self.now.primary.back.committer.engine).lines → (E.device self.now.primary.back.committer.engine).lines ≤ MAX_LINES
             → IsUndamaged (E.device self.now.primary.back.committer.engine).lines r (image_of (E.device self.now.primary.back.committer.engine).words) → result ≡ r.position }
     {

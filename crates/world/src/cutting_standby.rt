@@ -9,6 +9,7 @@ ghost use Rattle.model.specs.Call.{cut_at};
 ghost use Rattle.model.specs.declared.call.Call.{Call};
 ghost use Rattle.model.specs.declared.record.Role.TheVariants as roles;
 ghost use Rattle.world.specs.Pair.{HasWorld};
+ghost use Rattle.world.specs.Cutting.{GoesByImage};
 ghost use Rattle.world.specs.Step.{CutsOrStays};
 ghost use Rattle.world.specs.declared.condition.Condition.TheVariants as conditions;
 ghost use Rattle.world.specs.declared.history.History.{History};
@@ -77,16 +78,23 @@ impl<E: Restarting, K: Keyspace + Drop> Pair<E, K> {
         self.standby.keep_at(k);
         let _ = promote_image(&mut self.standby, fenced);
         self.standby.crash_kept(picks.as_slice());
+        self.go_by_image(history);
+        true
+    }
+
+    /// The standby has crashed, and its image tells whose it is: a standby's still, or that of the primary which it becomes.
+    pub(crate) fn go_by_image(&mut self, history: &mut History)
+        ensures { GoesByImage (⟦<Pair<E, K> as Stepper>⟧.parts self.old history.old) (⟦<Pair<E, K> as Stepper>⟧.parts self.new history.new) }
+    {
         let Some(found) = self.standby.image_record() else {
             self.fall_behind();
-            return true;
+            return;
         };
         if !is_of_primary(&found) {
             self.fall_behind();
-            return true;
+            return;
         }
         self.succeed(history, found.position, found.epoch);
-        true
     }
 
     /// Of the standby there is its image from now on. What was delivered to it is lost.
@@ -112,8 +120,10 @@ impl<E: Restarting, K: Keyspace + Drop> Pair<E, K> {
         ensures acknowledgements { history.new.acknowledgements ≡ history.old.acknowledgements }
         ensures primary { self.new.primary_condition ≡ conditions.Crashed }
         ensures standby { self.new.standby_condition ≡ conditions.Ended }
+        ensures asked { self.new.asked ≡ record (self.old.asked) { primary = self.old.asked.standby } }
     {
         self.primary.back.exchange_engine(&mut self.standby.engine);
+        self.asked.primary = self.asked.standby;
         self.outgoing.set_epoch(epoch);
         self.sessions.crash(&mut history.transcript, position);
         self.arrivals.crash();

@@ -31,6 +31,7 @@ impl<E: Restarting, K: Keyspace + Drop> Pair<E, K> {
         ensures leaves { (history : History) → Leaves (events.FailFence nodes.Primary n) (Ok result) (⟦<Pair<E, K> as Stepper>⟧.parts self.old history) (⟦<Pair<E, K> as Stepper>⟧.parts self.new history) }
     {
         self.primary.back.fail_at(n);
+        self.asked.primary = n > 0;
         true
     }
 
@@ -40,6 +41,7 @@ impl<E: Restarting, K: Keyspace + Drop> Pair<E, K> {
         ensures leaves { (history : History) → Leaves (events.FailFence nodes.Standby n) (Ok result) (⟦<Pair<E, K> as Stepper>⟧.parts self.old history) (⟦<Pair<E, K> as Stepper>⟧.parts self.new history) }
     {
         self.standby.fail_at(n);
+        self.asked.standby = n > 0;
         true
     }
 }

@@ -11,7 +11,7 @@ use mv_keyspace::Keyspace;
 use wbl_engine::Restarting;
 
 impl<E: Restarting, K: Keyspace + Drop> Pair<E, K> {
-    /// The primary does nothing more, whether it runs or is crashed. Of it there is its device, as it is.
+    /// The primary does nothing more, whether it runs, has stopped or is crashed. Of it there is its device, as it is.
     pub(crate) fn fence(&mut self) -> bool
         ensures does { (history : History) → Acts (⟦<Pair<E, K> as Stepper>⟧.parts self.old history) events.Fence (Ok result) (⟦<Pair<E, K> as Stepper>⟧.parts self.new history) }
         ensures leaves { (history : History) → Leaves events.Fence (Ok result) (⟦<Pair<E, K> as Stepper>⟧.parts self.old history) (⟦<Pair<E, K> as Stepper>⟧.parts self.new history) }

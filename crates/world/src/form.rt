@@ -17,12 +17,13 @@ ghost use Rattle.extent_heap.specs.Room.{fresh_room, is_free_line, is_free_entry
 ghost use Rattle.model.specs.Image.{entries_of_lines, first_extent_line};
 
 use crate::arrivals::Arrivals;
-use crate::condition::Condition;
+use crate::condition::{AskedFences, Condition};
 use crate::crashing::new_link;
 use crate::history::History;
 use crate::pair::{Pair, Stepper};
 use connections::Connections;
 use extent_heap::ExtentHeap;
+use failover::fence;
 use kv_types::Refusal;
 use model::{FIRST_EPOCH, Group, LAYOUT, Work};
 use mv_keyspace::Keyspace;
@@ -181,8 +182,10 @@ impl<P: Crashing, K: Keyspace + Drop> Pair<WblEngine<P>, K> {
             hash_builder: _,
             primary_condition: _,
             standby_condition,
+            asked: _,
         } = self;
-        let (serving, following) = (primary.back.into_device(), standby.into_device());
+        let (_fenced, serving) = fence(primary);
+        let following = standby.into_device();
         // the engines were exchanged where the standby was promoted
         if standby_condition.has_ended() {
             (following, serving)
@@ -244,6 +247,7 @@ fn form<P: Crashing, K: Keyspace + Drop>(
                 hash_builder,
                 primary_condition: Condition::Running,
                 standby_condition: Condition::Running,
+                asked: AskedFences::NONE,
             },
             between.history,
         )),

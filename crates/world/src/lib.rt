@@ -14,6 +14,7 @@ mod history;
 mod pair;
 mod playing;
 mod promoting;
+mod stopping;
 mod trace;
 mod wire;
 

@@ -1,15 +1,17 @@
 //! A pair of nodes with their connections, one event at a time.
 ghost use Rattle.std.specs.Prelude.{◌≡◌, ◌<◌, ◌≤◌, [], Ok, None, Some, true, IfErr, IfOk};
+ghost use Rattle.machine.specs.declared.event.Cut.TheVariants as cuts;
 ghost use Rattle.machine.specs.declared.event.Event.TheVariants as events;
 ghost use Rattle.world.specs.Condition.{runs};
 ghost use Rattle.world.specs.Pair.{Acts, Does, HasWorld, takes_part};
 ghost use Rattle.world.specs.Pair as specs;
 ghost use Rattle.world.specs.Standby.{arrived_with, node_at};
 ghost use Rattle.world.specs.Step.{IsStep, Leaves, Turns};
+ghost use Rattle.world.specs.Stopping.{BreaksStandby};
 ghost use Rattle.world.specs.declared.history.History.{History};
 
 use crate::arrivals::{Arrivals, acknowledge};
-use crate::condition::Condition;
+use crate::condition::{AskedFences, Condition};
 use crate::history::History;
 use crate::wire::{decode, pass};
 use bytes::Bytes;
@@ -41,11 +43,12 @@ pub trait Stepper {
     /// released bytes and the messages are those of that world, before the event and after it, so what this very event gave to anyone is what is
     /// new in them. A device that the event does not touch is as it was, with all that it has gone through; at any moment of the event
     /// a crash leaves of the other an image that opens where its node stood before the event or where it stands after it; or, where a crash cut a call, where that would
-    /// have brought it.
+    /// have brought it. Where a fence of it fails that was asked to (`Event::FailFence`), its node stops in the middle of the event's call, and a crash leaves what one
+    /// in that call would.
     ///
     /// # Errors
     ///
-    /// `Memory` where a growth was refused, `Fault` where a fence failed, `Exhausted` where a counter would reach 2^62. The event was enabled, the calls
+    /// `Memory` where a growth was refused, `Fault` where a fence failed that was not asked to, `Exhausted` where a counter would reach 2^62. The event was enabled, the calls
     /// and the released bytes are as before, and of the devices the contract says what each cause leaves: nothing but `into_devices` is
     /// of use then. One `Memory` is another: where a turn was refused the room for its call, nothing changed, and the pair goes on.
     fn step(&mut self, history: &mut History, event: &Event) -> Result<bool, Refusal>
@@ -74,6 +77,8 @@ pub struct Pair<E: Durable, K: Keyspace> {
     /// The primary's. Of one that crashed the connections stay too, all of them over.
     pub(crate) primary_condition: Condition,
     pub(crate) standby_condition: Condition,
+    /// Of which devices a fence was asked to fail.
+    pub(crate) asked: AskedFences,
 }
 
 impl<E: Restarting, K: Keyspace + Drop> Stepper for Pair<E, K> {
@@ -95,6 +100,7 @@ impl<E: Restarting, K: Keyspace + Drop> Stepper for Pair<E, K> {
       standby = node_at (E.device p.standby.engine) (E.contents p.standby.engine) (E.is_faulted p.standby.engine) (K.table p.standby.keyspace) p.standby.heap p.standby.ended.items;
       primary_condition = p.primary_condition;
       standby_condition = p.standby_condition;
+      asked = p.asked;
     } };
 
     fn step(&mut self, history: &mut History, event: &Event) -> Result<bool, Refusal> {
@@ -107,16 +113,16 @@ impl<E: Restarting, K: Keyspace + Drop> Stepper for Pair<E, K> {
             Event::Offer(c) => self.offer(*c),
             Event::Turn(c) => self.turn(history, *c),
             Event::CloseGroup => self.close_group(),
-            Event::Commit => self.take_step(Due::Commit),
+            Event::Commit => self.step_or_stop(history, Due::Commit),
             Event::RaiseLocal => self.take_step(Due::Raise),
             Event::Hand => self.take_step(Due::Hand),
-            Event::Free => self.take_step(Due::Free),
+            Event::Free => self.step_or_stop(history, Due::Free),
             Event::AcceptFreed => Ok(self.accept_freed()),
-            Event::ClearGap => self.take_step(Due::Clear),
+            Event::ClearGap => self.step_or_stop(history, Due::Clear),
             Event::OpenLink => self.open_link(history),
             Event::Send => self.send(history),
             Event::Deliver(frame, piece) => self.deliver(history, *frame, *piece),
-            Event::Apply => self.apply(history),
+            Event::Apply => self.apply_or_stop(history),
             Event::AckDelivered(ack) => self.ack_delivered(history, *ack),
             Event::RaiseRemote => self.raise_remote(),
             Event::Hold(c) => self.hold(history, *c),
@@ -125,10 +131,10 @@ impl<E: Restarting, K: Keyspace + Drop> Stepper for Pair<E, K> {
             Event::Write(c, n) => self.write(history, *c, *n),
             Event::Leave(c) => self.leave(*c),
             Event::Crash(node, call, k, picks) => self.crash_in(history, *node, *call, *k, picks),
-            Event::Reopen(node) => self.reopen(*node),
+            Event::Reopen(node) => self.reopen_or_stop(history, *node),
             Event::FailFence(node, n) => Ok(self.fail_fence(*node, *n)),
             Event::Fence => Ok(self.fence()),
-            Event::Promote => self.promote(history),
+            Event::Promote => self.promote_or_stop(history),
         }
     }
 }
@@ -157,7 +163,7 @@ impl<E: Restarting, K: Keyspace + Drop> Pair<E, K> {
         ensures { IsStep (⟦<Pair<E, K> as Stepper>⟧.parts self.old history.old) (events.Crash node call k picks.now) result (⟦<Pair<E, K> as Stepper>⟧.parts self.new history.new) }
     {
         if call.is_between() {
-            return self.crash(history, node, picks);
+            return Ok(self.crash(history, node, picks));
         }
         Ok(self.cut(history, node, call, k, picks))
     }
@@ -258,11 +264,12 @@ impl<E: Restarting, K: Keyspace + Drop> Pair<E, K> {
             .deliver(self.alloc, history.frames.as_slice(), frame, piece)
     }
 
-    fn apply(&mut self, history: &mut History) -> Result<bool, Refusal>
+    pub(crate) fn apply(&mut self, history: &mut History) -> Result<bool, Refusal>
         requires follows { runs self.old.standby_condition ≡ true }
         requires world { HasWorld (⟦<Pair<E, K> as Stepper>⟧.parts self.old history.old) }
         ensures does { Acts (⟦<Pair<E, K> as Stepper>⟧.parts self.old history.old) events.Apply result (⟦<Pair<E, K> as Stepper>⟧.parts self.new history.new) }
         ensures leaves { Leaves events.Apply result (⟦<Pair<E, K> as Stepper>⟧.parts self.old history.old) (⟦<Pair<E, K> as Stepper>⟧.parts self.new history.new) }
+        ensures broken { IfErr result (λ refusal. refusal ≡ Refusal.Fault → BreaksStandby cuts.Apply (⟦<Pair<E, K> as Stepper>⟧.parts self.old history.old) (⟦<Pair<E, K> as Stepper>⟧.parts self.new history.new)) }
     {
         self.arrivals.apply(self.alloc, &mut history.acknowledgements, &mut self.standby)
     }

@@ -21,7 +21,8 @@ use wbl_engine::WblEngine;
 /// enabled event does its step, any other changes nothing. All devices come back in their order.
 ///
 /// The run ends early, and says why, where a device has a wrong size (`WrongSize`), or at an enabled event for which memory is refused (`Memory`), in
-/// which a fence fails (`Fault`), or which would take a counter to 2^62 (`Exhausted`). A turn that is refused memory replies so, and the run goes on.
+/// which a fence fails unasked (`Fault`), or which would take a counter to 2^62 (`Exhausted`). A turn that is refused memory replies so, and the run goes on; so it does
+/// where a fence fails that an event asked to, whose node then stops until it crashes.
 ///
 /// This is the promise of the whole server, for any devices and any list of events: one sequential Redis answers the list of calls, which takes each
 /// connection's requests in order; the bytes released to each connection begin its replies; each released call was covered, and is in what both

@@ -1,9 +1,11 @@
 //! The promotion of a pair's standby.
-ghost use Rattle.std.specs.Prelude.{◌≡◌, true};
+ghost use Rattle.std.specs.Prelude.{◌≡◌, true, IfErr};
 ghost use Rattle.machine.specs.declared.event.Event.TheVariants as events;
 ghost use Rattle.world.specs.Condition.{runs};
 ghost use Rattle.world.specs.Pair.{HasWorld};
 ghost use Rattle.world.specs.Step.{IsStep};
+ghost use Rattle.world.specs.Stopping.{BreaksPromotion};
+ghost use Rattle.world.specs.declared.condition.Condition.TheVariants as conditions;
 ghost use Rattle.world.specs.declared.history.History.{History};
 
 use crate::condition::Condition;
@@ -24,7 +26,8 @@ impl<E: Restarting, K: Keyspace + Drop> Pair<E, K> {
     pub(crate) fn promote(&mut self, history: &mut History) -> Result<bool, Refusal>
         requires follows { runs self.old.standby_condition ≡ true }
         requires world { HasWorld (⟦<Pair<E, K> as Stepper>⟧.parts self.old history.old) }
-        ensures { IsStep (⟦<Pair<E, K> as Stepper>⟧.parts self.old history.old) events.Promote result (⟦<Pair<E, K> as Stepper>⟧.parts self.new history.new) }
+        ensures step { IsStep (⟦<Pair<E, K> as Stepper>⟧.parts self.old history.old) events.Promote result (⟦<Pair<E, K> as Stepper>⟧.parts self.new history.new) }
+        ensures broken { IfErr result (λ refusal. refusal ≡ Refusal.Fault → BreaksPromotion (⟦<Pair<E, K> as Stepper>⟧.parts self.old history.old) (⟦<Pair<E, K> as Stepper>⟧.parts self.new history.new)) }
     {
         if !self.primary_condition.has_ended() {
             return Ok(false);
@@ -35,7 +38,13 @@ impl<E: Restarting, K: Keyspace + Drop> Pair<E, K> {
         self.standby.crash(&[]);
         self.primary.back.exchange_engine(&mut self.standby.engine);
         self.standby_condition = Condition::Ended;
-        let opening = self.primary.restart(self.alloc, self.hash_builder)?;
+        let opening = match self.primary.restart(self.alloc, self.hash_builder) {
+            Ok(opening) => opening,
+            Err(refusal) => {
+                self.give_back();
+                return Err(refusal);
+            }
+        };
         let (handed, outgoing) = new_link(self.alloc, self.primary.back.epoch(), opening)?;
         self.notices.clear();
         self.handed = handed;
@@ -43,7 +52,18 @@ impl<E: Restarting, K: Keyspace + Drop> Pair<E, K> {
         self.remote = 0;
         self.sessions.crash(&mut history.transcript, position);
         self.arrivals.crash();
+        self.asked.primary = self.asked.standby;
         self.primary_condition = Condition::Running;
         Ok(true)
+    }
+
+    /// The image was promoted and is not opened: each node has its engine again.
+    fn give_back(&mut self)
+        ensures standby { self.new.standby.engine ≡ self.old.primary.back.committer.engine }
+        ensures primary { self.new.primary.back.committer.engine ≡ self.old.standby.engine }
+        ensures gives { self.new ≡ record self.old { primary = self.new.primary; standby = self.new.standby; standby_condition = conditions.Running } }
+    {
+        self.primary.back.exchange_engine(&mut self.standby.engine);
+        self.standby_condition = Condition::Running;
     }
 }

@@ -2,7 +2,7 @@
 use crate::history::History;
 use kv_types::Refusal;
 
-/// Where a run ended before its last event, and why: `Memory` where a growth was refused, `Fault` where a fence failed, `Exhausted` where a
+/// Where a run ended before its last event, and why: `Memory` where a growth was refused, `Fault` where a fence failed unasked, `Exhausted` where a
 /// counter of an image would reach 2^62.
 #[derive(Clone, Copy, Debug, PartialEq, Eq)]
 pub enum EarlyEnd {

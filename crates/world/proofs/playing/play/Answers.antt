@@ -43,7 +43,7 @@ returns-in-Err g c = λ first second stands.
 pub loop-event-preserved : goal.loop-event-preserved
 loop-event-preserved g c =
     let room : HasRoom (g.S.Stepper.parts c.loop-event.stepper c.loop-event.history) = record { room = omega (arith, c.loop-event.invariant.few, c.loop-event.invariant.room_calls, c.loop-event-test.true) } in
-    let adds = adds-one c.in-Ok.ensures room in
+    let adds = adds-one {new = g.S.Stepper.parts c.step.new.self c.step.new.history} c.in-Ok.ensures room in
     record {
       count = omega (arith, c.push_reserved.ensures.len, c.loop-event.invariant.count);
       room = omega (arith, c.push_reserved.ensures.capacity, c.loop-event.invariant.room);

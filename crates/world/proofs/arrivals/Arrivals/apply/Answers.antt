@@ -1,5 +1,6 @@
 use Rattle.std.proofs.Common.{◌≡◌, inl, inr, ℕ, Vec, Global, ◌++◌, [], ◌∷◌, List, Option, Result, Ok, Err, refl, sym, ap, subst, ◌∙◌, append-nil, arith, true≢false}
 use Rattle.model.specs.Standing.{Holder}
+use Rattle.pmem.specs.Runs.{LeavesOnly}
 use Rattle.std.proofs.lemmas.Bool.{eqb-false}
 use Rattle.std.proofs.lemmas.Result.{err_from_is_err_and}
 use Rattle.std.specs.Option.{option_to_list}
@@ -7,16 +8,17 @@ use Rattle.kv_types.specs.declared.refusal.Refusal.{Refusal}
 use Rattle.kv_types.specs.declared.refusal.Refusal.TheVariants.{Memory}
 use Rattle.model.specs.Call.{is_nonempty}
 use Rattle.machine.specs.declared.event.Event.TheVariants.{Apply}
-use Rattle.machine.specs.Event.{World, Frame as Sent, Acknowledgement, without_first}
+use Rattle.machine.specs.Event.{At, World, Frame as Sent, Acknowledgement, without_first}
 use Rattle.machine.specs.Sound.{Sound}
 use Rattle.frames.specs.declared.ack.Ack.{Ack}
 use Rattle.frames.specs.declared.frame.Frame.{Frame}
 use Rattle.standby.specs.declared.standby.Standby.{Standby}
 use Rattle.standby.specs.Taking.{TakesFrame}
 use Rattle.world.specs.Cause.{EndsBy}
-use Rattle.world.specs.Committing.{NearOnly, next_from, next_standby}
+use Rattle.world.specs.Committing.{next_from, next_standby}
+use Rattle.world.specs.Remaining.{KeepsOne}
 use Rattle.world.specs.Standby.{Arrived, Node, ArrivalsRefine, StandbyStands, arrived_with, told_by}
-use Rattle.world.proofs.StandbyLemmas.{takes_ok, takes_refused, refused-full, frame-ends, frame-moments, StandbyStands-still}
+use Rattle.world.proofs.StandbyLemmas.{takes_ok, takes_refused, refused-full, frame-ends, frame-keeps, frame-lines, StandbyStands-still}
 use Rattle.world.proofs.EngineLemmas.{Opens-engine, rests-same}
 use Rattle.world.specs.Link.{AreAcksSent}
 use Rattle.world.proofs.FrameLemmas.{AreAcksSent-push}
@@ -55,13 +57,13 @@ first g c w stands =
 -- at any moment of the call
 moments : (g : Over) (c : After-on_frame g) (holder : Holder) (w : World) → Sound w → (g.E.Durable.contents c.args.standby.now.engine).current.epoch ≡ w.standby.epoch → ArrivalsRefine (g.E.Durable.contents c.args.standby.now.engine).current.epoch w.primary.calls (arrived_with c.args.self.now c.args.acknowledgements.now) w.standby.waiting w.wire.acknowledgements
     → StandbyStands holder (g.E.Durable.contents c.args.standby.now.engine).current.epoch w.primary.calls w.standby.position (node g c.args.standby.now)
-    → NearOnly holder w.primary.calls w.standby.position (next_standby w) (g.E.Durable.device c.args.standby.now.engine) (g.E.Durable.device c.on_frame.new.self.engine)
+    → LeavesOnly (g.E.Durable.device c.args.standby.now.engine) (g.E.Durable.device c.on_frame.new.self.engine) (KeepsOne holder w.primary.calls w.standby.position (At (next_standby w) ∷ []))
 moments g c holder w sound epochs arrives stands =
     let epoch = (g.E.Durable.contents c.args.standby.now.engine).current.epoch in
     let frame = c.unwrap-frame.result in
     let one = first g c w arrives in
-    subst (λ (frames : List Sent). NearOnly holder w.primary.calls w.standby.position (next_from w.standby frames) (g.E.Durable.device c.args.standby.now.engine) (g.E.Durable.device c.on_frame.new.self.engine)) (sym one.all)
-    (frame-moments g.E.Durable.device g.E.Durable.contents g.E.Durable.is_faulted g.K.Keyspace.table holder epoch w.primary.calls w.standby frame one.span c.args.standby.now c.on_frame.new.self one.epoch_is epochs one.is stands c.on_frame.result c.on_frame.ensures)
+    subst (λ (frames : List Sent). LeavesOnly (g.E.Durable.device c.args.standby.now.engine) (g.E.Durable.device c.on_frame.new.self.engine) (KeepsOne holder w.primary.calls w.standby.position (At (next_from w.standby frames) ∷ []))) (sym one.all)
+    (frame-keeps g.E.Durable.device g.E.Durable.contents g.E.Durable.is_faulted g.K.Keyspace.table holder epoch w.primary.calls w.standby frame one.span c.args.standby.now c.on_frame.new.self one.epoch_is epochs one.is stands c.on_frame.result c.on_frame.ensures)
 
 pub returns-in-Ok-clause-applies : goal.returns-in-Ok-clause-applies
 returns-in-Ok-clause-applies g c = λ holder w sound epochs arrives stands.
@@ -94,13 +96,13 @@ returns-in-Err-clause-applies g c = λ holder w sound epochs arrives stands.
     (told g prefix (Err c.in-Err.refusal) c.in-Err.is))
 
 pub returns-then-is_empty-clause-moments : goal.returns-then-is_empty-clause-moments
-returns-then-is_empty-clause-moments g c = λ holder w sound epochs arrives stands. StandbyStands-still holder (g.E.Durable.contents c.args.standby.now.engine).current.epoch w.primary.calls w.standby.position (next_standby w) (node g c.args.standby.now) stands
+returns-then-is_empty-clause-moments g c = λ holder w sound epochs arrives stands. StandbyStands-still holder (g.E.Durable.contents c.args.standby.now.engine).current.epoch w.primary.calls w.standby.position (At (next_standby w) ∷ []) (node g c.args.standby.now) stands
 
 pub returns-in_err-room-clause-moments : goal.returns-in_err-room-clause-moments
-returns-in_err-room-clause-moments g c = λ holder w sound epochs arrives stands. StandbyStands-still holder (g.E.Durable.contents c.args.standby.now.engine).current.epoch w.primary.calls w.standby.position (next_standby w) (node g c.args.standby.now) stands
+returns-in_err-room-clause-moments g c = λ holder w sound epochs arrives stands. StandbyStands-still holder (g.E.Durable.contents c.args.standby.now.engine).current.epoch w.primary.calls w.standby.position (At (next_standby w) ∷ []) (node g c.args.standby.now) stands
 
 pub returns-in_err-reserve-clause-moments : goal.returns-in_err-reserve-clause-moments
-returns-in_err-reserve-clause-moments g c = λ holder w sound epochs arrives stands. StandbyStands-still holder (g.E.Durable.contents c.args.standby.now.engine).current.epoch w.primary.calls w.standby.position (next_standby w) (node g c.args.standby.now) stands
+returns-in_err-reserve-clause-moments g c = λ holder w sound epochs arrives stands. StandbyStands-still holder (g.E.Durable.contents c.args.standby.now.engine).current.epoch w.primary.calls w.standby.position (At (next_standby w) ∷ []) (node g c.args.standby.now) stands
 
 pub returns-in-Err-2-clause-moments : goal.returns-in-Err-2-clause-moments
 returns-in-Err-2-clause-moments g c = moments g (goal.at.returns-in-Err-2-clause-moments g c).After-on_frame
@@ -168,3 +170,15 @@ returns-in-Err-clause-answered g c =
     let prefix = (goal.at.returns-in-Err-clause-answered g c).After-on_frame in
     let full = refused-full _ _ _ _ c.unwrap-frame.result c.args.standby.now c.on_frame.new.self c.in-Err.refusal (c.goes_on.ensures.0 c.if-goes_on.true) (told g prefix (Err c.in-Err.refusal) c.in-Err.is) next in
     inr (record { room = full.room; freed = full.freed; gaps = full.gaps }))
+
+lines : (g : Over) (c : After-on_frame g) → (g.E.Durable.contents c.on_frame.new.self.engine).lines ≡ (g.E.Durable.contents c.args.standby.now.engine).lines
+lines g c = frame-lines g.E.Durable.device g.E.Durable.contents g.E.Durable.is_faulted g.K.Keyspace.table c.unwrap-frame.result c.args.standby.now c.on_frame.new.self c.on_frame.result c.on_frame.ensures
+
+pub returns-in-Err-2-clause-lines : goal.returns-in-Err-2-clause-lines
+returns-in-Err-2-clause-lines g c = lines g (goal.at.returns-in-Err-2-clause-lines g c).After-on_frame
+
+pub returns-in-Ok-clause-lines : goal.returns-in-Ok-clause-lines
+returns-in-Ok-clause-lines g c = lines g (goal.at.returns-in-Ok-clause-lines g c).After-on_frame
+
+pub returns-in-Err-clause-lines : goal.returns-in-Err-clause-lines
+returns-in-Err-clause-lines g c = lines g (goal.at.returns-in-Err-clause-lines g c).After-on_frame

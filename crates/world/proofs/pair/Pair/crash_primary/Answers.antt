@@ -1,40 +1,15 @@
-use Rattle.std.proofs.Common.{ℕ, List, ap, refl, ◌∙◌, sym}
-use Rattle.pmem.specs.Crash.{picked}
-use Rattle.world.proofs.PairCrash.{primary-crashed, primary-crashes}
+use Rattle.std.proofs.Common.{refl, sym, ◌∙◌}
+use Rattle.world.proofs.StepLemmas.{acts-is, interrupted-is}
 use Rattle.world.proofs.pair.Pair.crash_primary.Goals as goal
 
-pub returns-then-not-is_running-clause-does : goal.returns-then-not-is_running-clause-does
-returns-then-not-is_running-clause-does g c = λ after. primary-crashed _ after c.args.picks.now (sym c.is_running.ensures ∙ c.if-not-is_running.true)
+pub crash_stopped_primary-requires-clause-stopped : goal.crash_stopped_primary-requires-clause-stopped
+crash_stopped_primary-requires-clause-stopped g c = sym c.has_stopped.ensures ∙ c.if-has_stopped.true
 
-pub returns-clause-does : goal.returns-clause-does
-returns-clause-does g c = λ after.
-    let E = g.E.Durable in
-    let engine = c.crash.new.self.committer.engine in
-    let crashed = c.crash.ensures in
-    let ended = c.crash-2.ensures in
-    primary-crashes _ c.crash-2.new.self c.crash-2.new.transcript (record { waiting = c.crash.new.self.work; aside = c.crash.new.self.committer.aside.items; stage = c.crash.new.self.committer.stage; local = c.crash.new.self.committer.local })
-    (E.device engine) (E.contents engine) (E.is_faulted engine) after c.args.picks.now c.position-position.result (sym c.is_running.ensures ∙ c.if-not-is_running.false) c.position-position.ensures
-    (record {
-      sized = g.met.E.Durable.sized c.args.self.now.primary.back.committer.engine;
-      settled = crashed.settled;
-      image = crashed.image;
-      lines_are = crashed.lines;
-      failures = crashed.failures;
-      moments = crashed.moments;
-    })
-    (λ w stand. ended.goes w.primary.connections w.primary.calls stand) ended.unseated ended.calls
+pub returns-then-has_stopped : goal.returns-then-has_stopped
+returns-then-has_stopped g c = λ after. interrupted-is refl (c.crash_stopped_primary.ensures after)
 
-pub returns-clause-leaves : goal.returns-clause-leaves
-returns-clause-leaves g c = λ after.
-    let crashed = c.crash.ensures in
-    record {
-      primary = λ idle. cc;
-      standby = λ idle. refl;
-      frames = refl;
-      acknowledgements = refl;
-      effect = record {
-        settled = crashed.settled;
-        image = crashed.image;
-        picked_are = λ fed word. crashed.picked fed word ∙ ap (λ (picks : List ℕ). picked (g.E.Durable.device c.args.self.now.primary.back.committer.engine).words picks word) c.as_slice.ensures.value;
-      };
-    }
+pub crash_running_primary-requires-clause-whole : goal.crash_running_primary-requires-clause-whole
+crash_running_primary-requires-clause-whole g c = sym c.has_stopped.ensures ∙ c.if-has_stopped.false
+
+pub returns : goal.returns
+returns g c = λ after. acts-is refl refl (c.crash_running_primary.ensures.does after) (c.crash_running_primary.ensures.leaves after)

@@ -1,49 +1,15 @@
-use Rattle.std.proofs.Common.{ℕ, List, ap, refl, ◌∙◌, sym}
-use Rattle.pmem.specs.Crash.{picked}
-use Rattle.world.specs.Standby.{arrived_with}
-use Rattle.world.proofs.PairCrash.{standby-crashed, standby-crashes}
+use Rattle.std.proofs.Common.{refl, sym, ◌∙◌}
+use Rattle.world.proofs.StepLemmas.{acts-is, interrupted-is}
 use Rattle.world.proofs.pair.Pair.crash_standby.Goals as goal
 
-pub returns-then-not-is_running-clause-does : goal.returns-then-not-is_running-clause-does
-returns-then-not-is_running-clause-does g c = λ history after. standby-crashed _ after c.args.picks.now (sym c.is_running.ensures ∙ c.if-not-is_running.true)
+pub crash_stopped_standby-requires-clause-stopped : goal.crash_stopped_standby-requires-clause-stopped
+crash_stopped_standby-requires-clause-stopped g c = sym c.has_stopped.ensures ∙ c.if-has_stopped.true
 
-pub returns-clause-does : goal.returns-clause-does
-returns-clause-does g c = λ history after.
-    let E = g.E.Durable in
-    let standby = c.crash.new.self in
-    let crashed = c.crash.ensures in
-    standby-crashes _ (arrived_with c.crash-2.new.self history.acknowledgements)
-    (record {
-      device = E.device standby.engine;
-      contents = E.contents standby.engine;
-      is_faulted = E.is_faulted standby.engine;
-      table = g.K.Keyspace.table standby.keyspace;
-      room = standby.heap;
-      ended = standby.ended.items;
-      epoch = (E.contents standby.engine).current.epoch;
-    })
-    after c.args.picks.now (sym c.is_running.ensures ∙ c.if-not-is_running.false)
-    (record {
-      sized = g.met.E.Durable.sized c.args.self.now.standby.engine;
-      settled = crashed.settled;
-      image = crashed.image;
-      lines_are = crashed.lines;
-      failures = crashed.failures;
-      moments = crashed.moments;
-    })
-    c.crash-2.ensures refl
+pub returns-then-has_stopped : goal.returns-then-has_stopped
+returns-then-has_stopped g c = λ after. interrupted-is refl (c.crash_stopped_standby.ensures after)
 
-pub returns-clause-leaves : goal.returns-clause-leaves
-returns-clause-leaves g c = λ history after.
-    let crashed = c.crash.ensures in
-    record {
-      primary = λ idle. refl;
-      standby = λ idle. cc;
-      frames = refl;
-      acknowledgements = refl;
-      effect = record {
-        settled = crashed.settled;
-        image = crashed.image;
-        picked_are = λ fed word. crashed.picked fed word ∙ ap (λ (picks : List ℕ). picked (g.E.Durable.device c.args.self.now.standby.engine).words picks word) c.as_slice.ensures.value;
-      };
-    }
+pub crash_running_standby-requires : goal.crash_running_standby-requires
+crash_running_standby-requires g c = record { whole = sym c.has_stopped.ensures ∙ c.if-has_stopped.false; world = (c.args.history.now, c.requires) }
+
+pub returns : goal.returns
+returns g c = λ after. acts-is refl refl (c.crash_running_standby.ensures.does c.args.history.now after) (c.crash_running_standby.ensures.leaves c.args.history.now after)

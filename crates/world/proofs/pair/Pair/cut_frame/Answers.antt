@@ -1,4 +1,4 @@
-use Rattle.std.proofs.Common.{◌≡◌, ◌⊎◌, ◌++◌, ◌∷◌, ℕ, List, Option, refl, sym, ap, subst, ◌∙◌, arith}
+use Rattle.std.proofs.Common.{◌≡◌, ◌++◌, ◌∷◌, [], ℕ, List, Option, refl, sym, ap, subst, ◌∙◌, arith}
 use Rattle.std.proofs.lemmas.Bool.{eqb-false, eqb-true}
 use Rattle.std.specs.Option.{option_to_list}
 use Rattle.pmem.specs.Crash.{picked, words_to_crash}
@@ -7,10 +7,11 @@ use Rattle.frames.specs.declared.frame.Frame.{Frame}
 use Rattle.machine.specs.declared.event.Cut.TheVariants.{Apply}
 use Rattle.machine.specs.declared.event.Event.TheVariants.{Crash}
 use Rattle.machine.specs.declared.event.Node.TheVariants.{Standby}
-use Rattle.machine.specs.Event.{Frame as Sent, next_from}
+use Rattle.machine.specs.Event.{At, Frame as Sent, next_from}
 use Rattle.world.specs.Standby.{Node, arrived_with, node_at}
 use Rattle.world.proofs.ArrivalLemmas.{first-frame}
-use Rattle.world.proofs.KeptLemmas.{CrashedIn, KeepsAt}
+use Rattle.world.specs.Remaining.{KeepsOne}
+use Rattle.world.proofs.KeptLemmas.{CrashedIn}
 use Rattle.world.proofs.PairCutStandby.{frame-cuts, frame-idle, frame-none}
 use Rattle.world.proofs.PairStandby.{arrivals-stand, follower, link-epoch}
 use Rattle.world.proofs.StandbyLemmas.{StandbyStands-kept, frame-asked, frame-keeps, frame-lines}
@@ -77,6 +78,6 @@ returns g c =
     (node_at (E.device kept.engine) (E.contents kept.engine) (E.is_faulted kept.engine) (K.table kept.keyspace) kept.heap kept.ended.items)
     moved.keeps moved.contents moved.faulted (ap K.table moved.keyspace) moved.heap (ap (λ ended. ended.items) moved.ended) (ap (λ contents. contents.current.epoch) moved.contents) (follower follows stands.parts) in
     let one = first-frame epoch w (arrived_with c.args.self.now.arrivals c.args.history.now.acknowledgements) frame c.pop_front.new.self.items stood_first (arrivals-stand stands.parts) in
-    subst (λ (frames : List Sent). LeavesOnly (E.device kept.engine) (E.device mid.engine) (λ image. KeepsAt second w.primary.calls w.standby.position image ⊎ KeepsAt second w.primary.calls (next_from w.standby frames) image)) (sym one.all)
+    subst (λ (frames : List Sent). LeavesOnly (E.device kept.engine) (E.device mid.engine) (KeepsOne second w.primary.calls w.standby.position (At (next_from w.standby frames) ∷ []))) (sym one.all)
     (frame-keeps E.device E.contents E.is_faulted K.table second epoch w.primary.calls w.standby frame one.span kept mid one.epoch_is (link-epoch stands.parts ∙ sym stands.sound.standby.epoch_is) one.is stood c.on_frame.result c.on_frame.ensures))
     c.requires.world)

@@ -29,7 +29,7 @@ commit-requires-clause-stands g c =
       pair.primary.front.sequencer,
       pair.notices.items,
       asked-stands E.device E.contents E.is_faulted pair.sessions history.transcript pair.primary.front.sequencer pair.notices.items pair.outgoing.link pair.outgoing.opening pair.remote history.frames.items
-          (arrived_with pair.arrivals history.acknowledgements) standby pair.primary_condition pair.standby_condition c.args.k pair.primary.back.committer kept.committer pair.primary.back.work kept.work pair.handed only asked.work
+          (arrived_with pair.arrivals history.acknowledgements) standby pair.primary_condition pair.standby_condition pair.asked c.args.k pair.primary.back.committer kept.committer pair.primary.back.work kept.work pair.handed only asked.work
           (sym c.is_running.ensures ∙ c.if-not-is_running.false) c.requires.world,
     )
 
@@ -65,7 +65,7 @@ returns g c =
       moments = crashed.moments;
     } in
     step-cut E.device E.contents E.is_faulted pair.sessions history.transcript pair.primary.front.sequencer pair.notices.items pair.outgoing.link pair.outgoing.opening pair.remote history.frames.items
-    (arrived_with pair.arrivals history.acknowledgements) standby pair.primary_condition pair.standby_condition c.args.k before kept.committer pair.primary.back.work kept.work pair.handed only asked.work
+    (arrived_with pair.arrivals history.acknowledgements) standby pair.primary_condition pair.standby_condition pair.asked c.args.k before kept.committer pair.primary.back.work kept.work pair.handed only asked.work
     after.committer after.work c.commit.new.link c.commit.result c.args.step c.args.picks.now (E.device left_.committer.engine) c.crash.new.self c.crash.new.transcript
     (record { waiting = left_.work; aside = left_.committer.aside.items; stage = left_.committer.stage; local = left_.committer.local }) (E.contents left_.committer.engine) (E.is_faulted left_.committer.engine)
     c.requires.inside up is came.takes sized off

@@ -6,4 +6,4 @@ pub returns-then-has_ended-clause-does : goal.returns-then-has_ended-clause-does
 returns-then-has_ended-clause-does g c = λ history. primary-fenced _ (sym c.has_ended.ensures ∙ c.if-has_ended.true)
 
 pub returns-clause-does : goal.returns-clause-does
-returns-clause-does g c = λ history. primary-fences _ (sym c.has_ended.ensures ∙ c.if-has_ended.false)
+returns-clause-does g c = λ history. primary-fences _ (sym c.has_ended.ensures ∙ c.if-has_ended.false) (g.met.E.Durable.sized c.args.self.now.primary.back.committer.engine)

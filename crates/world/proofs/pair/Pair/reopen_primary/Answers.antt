@@ -6,6 +6,7 @@ use Rattle.standby_stream.specs.Delta.{IsOpening}
 use Rattle.standby_stream.specs.Stream.{new_stream}
 use Rattle.standby_stream.specs.declared.opening.Opening.{Opening}
 use Rattle.world.proofs.OpenedLemmas.{IsNotOpened}
+use Rattle.world.proofs.PairCut.{opening-breaks}
 use Rattle.world.proofs.PairReopen.{primary-reopening-cut, primary-reopens, primary-runs-on}
 use Rattle.world.proofs.pair.Pair.reopen_primary.Goals as goal
 
@@ -25,6 +26,17 @@ returns-in_err-opening-clause-does g c = λ history.
     primary-reopening-cut _ c.restart.new.self.front.sequencer (record { waiting = back.work; aside = committer.aside.items; stage = committer.stage; local = committer.local }) (E.device committer.engine) (E.contents committer.engine)
     (E.is_faulted committer.engine) c.from_residual.result exit.0 exit.1 (sym c.has_crashed.ensures ∙ c.if-not-has_crashed.false) (subst (IsNotOpened Primary device (E.device committer.engine)) (sym exit.2) refused)
 
+pub returns-in_err-opening-clause-broken : goal.returns-in_err-opening-clause-broken
+returns-in_err-opening-clause-broken g c =
+    let E = g.E.Durable in
+    let back = c.restart.new.self.back in
+    let committer = back.committer in
+    let told = c.in_err-opening.ensures in
+    let exit = err_from_is_err_and c.from_residual.result c.from_residual.ensures.1 in
+    rw exit.1 (λ fault history.
+    opening-breaks _ c.restart.new.self.front.sequencer (record { waiting = back.work; aside = committer.aside.items; stage = committer.stage; local = committer.local }) (E.device committer.engine) (E.contents committer.engine)
+    (E.is_faulted committer.engine) (sym c.has_crashed.ensures ∙ c.if-not-has_crashed.false) told.moments (told.fault (ap Err (sym exit.2 ∙ fault))) told.lines)
+
 -- the image is the reopened one then
 pub returns-in_err-handed-clause-does : goal.returns-in_err-handed-clause-does
 returns-in_err-handed-clause-does g c = λ history.
@@ -39,6 +51,12 @@ returns-in_err-handed-clause-does g c = λ history.
     record { refused = inr (inl memory); fault = λ is. absurd (let no = sym memory ∙ is in cc); failures = λ other. told.failures (λ fault. cc); moments = told.moments } in
     primary-reopening-cut _ c.restart.new.self.front.sequencer (record { waiting = back.work; aside = committer.aside.items; stage = committer.stage; local = committer.local }) (E.device committer.engine) (E.contents committer.engine)
     (E.is_faulted committer.engine) c.from_residual-in_err-handed.result exit.0 exit.1 (sym c.has_crashed.ensures ∙ c.if-not-has_crashed.false) refused
+
+pub returns-in_err-handed-clause-broken : goal.returns-in_err-handed-clause-broken
+returns-in_err-handed-clause-broken g c =
+    let exit = err_from_is_err_and c.from_residual-in_err-handed.result c.from_residual-in_err-handed.ensures.1 in
+    let memory = exit.2 ∙ c.in_err-handed.ensures.cause in
+    rw exit.1 (λ fault. absurd (let no = sym memory ∙ fault in cc))
 
 pub returns-clause-does : goal.returns-clause-does
 returns-clause-does g c = λ history.

@@ -1,8 +1,9 @@
 use Rattle.std.proofs.Common.{Err, ap, inl, inr, refl, sym, subst, ◌∙◌}
 use Rattle.std.proofs.lemmas.Result.{err_from_is_err_and}
 use Rattle.model.specs.declared.record.Role.TheVariants.{Standby}
-use Rattle.world.specs.Standby.{Node}
+use Rattle.world.specs.Standby.{Node, node_at}
 use Rattle.world.proofs.OpenedLemmas.{IsNotOpened}
+use Rattle.world.proofs.PairBreaksStandby.{reopening-breaks}
 use Rattle.world.proofs.PairReopen.{standby-reopening-cut, standby-reopens, standby-runs-on}
 use Rattle.world.proofs.pair.Pair.reopen_standby.Goals as goal
 
@@ -55,3 +56,12 @@ returns-clause-does g c = λ history.
 
 pub returns-clause-leaves : goal.returns-clause-leaves
 returns-clause-leaves g c = λ history. record { primary = λ idle. refl; standby = λ idle. cc; frames = refl; acknowledgements = refl; effect = c.in_ok-restart.ensures.reopens }
+
+pub returns-in_err-restart-clause-broken : goal.returns-in_err-restart-clause-broken
+returns-in_err-restart-clause-broken g c =
+    let E = g.E.Durable in
+    let standby = c.restart.new.self in
+    let told = c.in_err-restart.ensures in
+    let exit = err_from_is_err_and c.from_residual.result c.from_residual.ensures.1 in
+    let node' : Node = node_at (E.device standby.engine) (E.contents standby.engine) (E.is_faulted standby.engine) (g.K.Keyspace.table standby.keyspace) standby.heap standby.ended.items in
+    rw exit.1 (λ fault history. reopening-breaks _ node' (sym c.has_crashed.ensures ∙ c.if-not-has_crashed.false) told.lines (told.fault (ap Err (sym exit.2 ∙ fault))) told.moments)

@@ -1,4 +1,4 @@
-use Rattle.std.proofs.Common.{ap, sym, ◌∙◌}
+use Rattle.std.proofs.Common.{ap, refl, sym, ◌∙◌}
 use Rattle.std.proofs.lemmas.Bool.{and_parts}
 use Rattle.world.specs.Condition.{runs}
 use Rattle.world.specs.Pair.{takes_part}
@@ -24,22 +24,22 @@ pub returns-in-CloseGroup : goal.returns-in-CloseGroup
 returns-in-CloseGroup g c = own-is c.in-CloseGroup.is c.takes_part.ensures c.if-not-takes_part.false (λ runs. runs) (c.close_group.ensures.does c.args.history.now) (c.close_group.ensures.leaves c.args.history.now)
 
 pub returns-in-Commit : goal.returns-in-Commit
-returns-in-Commit g c = own-is c.in-Commit.is c.takes_part.ensures c.if-not-takes_part.false (λ runs. runs) (c.take_step.ensures.does c.args.history.now) (c.take_step.ensures.leaves c.args.history.now)
+returns-in-Commit g c = rw c.in-Commit.is c.step_or_stop.ensures
 
 pub returns-in-RaiseLocal : goal.returns-in-RaiseLocal
-returns-in-RaiseLocal g c = own-is c.in-RaiseLocal.is c.takes_part.ensures c.if-not-takes_part.false (λ runs. runs) (c.take_step-in-RaiseLocal.ensures.does c.args.history.now) (c.take_step-in-RaiseLocal.ensures.leaves c.args.history.now)
+returns-in-RaiseLocal g c = own-is c.in-RaiseLocal.is c.takes_part.ensures c.if-not-takes_part.false (λ runs. runs) (c.take_step.ensures.does c.args.history.now) (c.take_step.ensures.leaves c.args.history.now)
 
 pub returns-in-Hand : goal.returns-in-Hand
 returns-in-Hand g c = own-is c.in-Hand.is c.takes_part.ensures c.if-not-takes_part.false (λ runs. runs) (c.take_step-in-Hand.ensures.does c.args.history.now) (c.take_step-in-Hand.ensures.leaves c.args.history.now)
 
 pub returns-in-Free : goal.returns-in-Free
-returns-in-Free g c = own-is c.in-Free.is c.takes_part.ensures c.if-not-takes_part.false (λ runs. runs) (c.take_step-in-Free.ensures.does c.args.history.now) (c.take_step-in-Free.ensures.leaves c.args.history.now)
+returns-in-Free g c = rw c.in-Free.is c.step_or_stop-in-Free.ensures
 
 pub returns-in-AcceptFreed : goal.returns-in-AcceptFreed
 returns-in-AcceptFreed g c = own-is c.in-AcceptFreed.is c.takes_part.ensures c.if-not-takes_part.false (λ runs. runs) (c.accept_freed.ensures.does c.args.history.now) (c.accept_freed.ensures.leaves c.args.history.now)
 
 pub returns-in-ClearGap : goal.returns-in-ClearGap
-returns-in-ClearGap g c = own-is c.in-ClearGap.is c.takes_part.ensures c.if-not-takes_part.false (λ runs. runs) (c.take_step-in-ClearGap.ensures.does c.args.history.now) (c.take_step-in-ClearGap.ensures.leaves c.args.history.now)
+returns-in-ClearGap g c = rw c.in-ClearGap.is c.step_or_stop-in-ClearGap.ensures
 
 pub returns-in-Send : goal.returns-in-Send
 returns-in-Send g c = own-is c.in-Send.is c.takes_part.ensures c.if-not-takes_part.false (λ runs. runs) c.send.ensures.does c.send.ensures.leaves
@@ -69,26 +69,26 @@ pub returns-in-OpenLink : goal.returns-in-OpenLink
 returns-in-OpenLink g c = own-is c.in-OpenLink.is c.takes_part.ensures c.if-not-takes_part.false (λ both. (and_parts (runs c.args.self.now.primary_condition) (runs c.args.self.now.standby_condition) both).0) c.open_link.ensures.does c.open_link.ensures.leaves
 
 pub returns-in-Deliver : goal.returns-in-Deliver
-returns-in-Deliver g c = acts-is c.in-Deliver.is c.deliver.ensures.does c.deliver.ensures.leaves
+returns-in-Deliver g c = acts-is c.in-Deliver.is refl c.deliver.ensures.does c.deliver.ensures.leaves
 
 pub returns-in-Apply : goal.returns-in-Apply
-returns-in-Apply g c = acts-is c.in-Apply.is c.apply.ensures.does c.apply.ensures.leaves
+returns-in-Apply g c = rw c.in-Apply.is c.apply_or_stop.ensures
 
 pub returns-in-Crash : goal.returns-in-Crash
 returns-in-Crash g c = rw c.in-Crash.is c.crash_in.ensures
 
 pub returns-in-Reopen : goal.returns-in-Reopen
-returns-in-Reopen g c = acts-is c.in-Reopen.is (c.reopen.ensures.does c.args.history.now) (c.reopen.ensures.leaves c.args.history.now)
+returns-in-Reopen g c = rw c.in-Reopen.is c.reopen_or_stop.ensures
 
 pub fail_fence-requires : goal.fail_fence-requires
 fail_fence-requires g c =
     ap (takes_part (runs c.args.self.now.primary_condition) (runs c.args.self.now.standby_condition)) (sym c.in-FailFence.is) ∙ sym c.takes_part.ensures ∙ c.if-not-takes_part.false
 
 pub returns-in-FailFence : goal.returns-in-FailFence
-returns-in-FailFence g c = acts-is c.in-FailFence.is (c.fail_fence.ensures.does c.args.history.now) (c.fail_fence.ensures.leaves c.args.history.now)
+returns-in-FailFence g c = acts-is c.in-FailFence.is refl (c.fail_fence.ensures.does c.args.history.now) (c.fail_fence.ensures.leaves c.args.history.now)
 
 pub returns-in-Fence : goal.returns-in-Fence
-returns-in-Fence g c = acts-is c.in-Fence.is (c.fence.ensures.does c.args.history.now) (c.fence.ensures.leaves c.args.history.now)
+returns-in-Fence g c = acts-is c.in-Fence.is refl (c.fence.ensures.does c.args.history.now) (c.fence.ensures.leaves c.args.history.now)
 
 pub returns-in-Promote : goal.returns-in-Promote
-returns-in-Promote g c = rw c.in-Promote.is c.promote.ensures
+returns-in-Promote g c = rw c.in-Promote.is c.promote_or_stop.ensures

@@ -1,0 +1,337 @@
+-- What a crash of the standby, inside a call of it or once it had stopped, does to the pair: its image is a standby's still, or that of the primary which it becomes.
+use Rattle.std.proofs.Common.{◌≡◌, ◌≢◌, ◌⊎◌, inl, inr, ℕ, zero, suc, ◌+◌, ◌<◌, ◌≤◌, Bool, true, false, ◌||◌, ◌&&◌, cond, if◌then◌else◌, List, [], ◌∷◌, ◌++◌, length, get_or, map, Option, Some, None, All, Ok, Vec, Global, refl, sym, ap, subst, ◌∙◌, arith, true≢false}
+use Rattle.std.proofs.lemmas.Bool.{or_right}
+use Rattle.std.specs.Prelude.{Contains}
+use Rattle.pmem.specs.Device.{State}
+use Rattle.pmem.specs.Crash.{IsSettled, image_of}
+use Rattle.pmem.specs.Runs.{LeavesOnly}
+use Rattle.model.specs.declared.call.Call.{Call}
+use Rattle.model.specs.declared.record.Record.{Record}
+use Rattle.model.specs.declared.record.Role.{Role}
+use Rattle.model.specs.declared.record.Role.TheVariants as role
+use Rattle.model.specs.Call.{cut_at, position_of}
+use Rattle.model.specs.Image.{Image}
+use Rattle.model.specs.Standing.{Holder}
+use Rattle.model.proofs.CallsLemmas.{position_of-cut_at}
+use Rattle.wbl_engine.specs.Lawful.{IsUndamaged}
+use Rattle.wbl_engine.proofs.LawfulLemmas.{lawful_undamaged}
+use Rattle.frames.specs.declared.frame.Frame.{Frame}
+use Rattle.machine.specs.declared.event.Event.TheVariants as events
+use Rattle.machine.specs.declared.event.Cut.{Cut}
+use Rattle.machine.specs.declared.event.Node.TheVariants as node
+use Rattle.machine.specs.Event.{Allowed, AsPrimary, At, Remains, Step, World, crashed, is_between, is_enabled, left, left_by, may_cut, may_remain, promoted, torn}
+use Rattle.machine.specs.Sound.{IsFrameWithin}
+use Rattle.machine.proofs.GrowLemmas.{grows-step}
+use Rattle.machine.proofs.SoundEvents.{sound-step}
+use Rattle.connections.specs.Session.{SessionsRefine}
+use Rattle.world.specs.Committing.{IsDown, promoted_holder}
+use Rattle.world.specs.Condition.{has_crashed, has_ended, has_stopped, life_as, runs}
+use Rattle.world.specs.Cutting.{ComesForward, Cuts, CutsStandby, FallsBehind, Finds, GoesByImage, LeavesOf, OpensNear}
+use Rattle.world.specs.declared.condition.AskedFences.{AskedFences}
+use Rattle.world.specs.declared.condition.Condition.{Condition}
+use Rattle.world.specs.declared.condition.Condition.TheVariants.{Crashed}
+use Rattle.world.specs.Link.{AreAcksSent, AreFramesRead, AreFramesSent}
+use Rattle.world.specs.Pair.{AreLives, DownRefine, EitherRefines, HasStandby, NodesRefine, Pair, first_device, primary_number, second_device}
+use Rattle.world.specs.Remaining.{KeepsAs, KeepsAt, KeepsOne}
+use Rattle.world.specs.Standby.{Arrived, ArrivalsRefine, Node, StandbyRefines}
+use Rattle.world.proofs.CutLemmas.{IsDown-cut}
+use Rattle.world.proofs.KeptLemmas.{kept-down}
+use Rattle.world.proofs.PairCrash.{with_crashed_standby}
+use Rattle.world.proofs.PairLemmas.{none-added, sessions-stand, standby-within}
+use Rattle.world.proofs.PairStandby.{arrivals-stand, frames-stand, link-epoch, standby-either}
+use Rattle.world.proofs.PromotionLemmas.{former_holder, frames-earlier}
+
+-- ---- which crash may come
+
+-- one of the standby is enabled where it may come
+pub fall-enabled : {first second : Holder} {serves follows : Condition} {fences : AskedFences} {w : World} (call : Cut) (k : ℕ) (picks : Vec ℕ Global) → AreLives first second serves follows fences w
+    → is_enabled w (events.Crash node.Standby call k picks) ≡ may_cut w node.Standby call
+fall-enabled {first} {second} {serves} {follows} {fences} {w} call k picks lives =
+    ap (λ (a : Allowed). a.restarts && ((is_between call || a.cuts) && may_cut w node.Standby call)) lives.allowed_are ∙ ap (λ b. b && may_cut w node.Standby call) (or_right (is_between call) true refl)
+
+-- ---- what it left
+
+-- It might come in this world, and left one of what the standby may leave there.
+pub record FallsIn (second : Holder) (w : World) (call : Cut) (old last : State) : Type 0 where
+  pub may : may_cut w node.Standby call ≡ true
+  pub lines_are : second.lines ≡ last.lines
+  pub held : KeepsOne second w.primary.calls w.standby.position (torn w.standby.life ++ left_by w node.Standby call) (image_of last.words)
+  pub leaves : LeavesOnly old last (OpensNear second w.primary.calls w.standby.position (torn w.standby.life ++ left_by w node.Standby call))
+
+-- the standby's device crashed in this call, of all worlds that the pair stood for
+pub record HasFallen (old : Pair) (call : Cut) (k : ℕ) (picks : Vec ℕ Global) (last : State) : Type 0 where
+  pub whole : HasStandby old
+  pub settled : IsSettled last.words
+  pub left : LeavesOf call k picks.items old.standby.device last
+  pub falls : (first second : Holder) (w : World) → NodesRefine first second old w → FallsIn second w call old.standby.device last
+
+-- the devices of a pair whose standby was not promoted
+pub devices-are : (pair : Pair) → HasStandby pair → (first_device pair ≡ pair.device) × (second_device pair ≡ pair.standby.device)
+devices-are pair whole = (ap (λ b. if b then pair.standby.device else pair.device) whole, ap (λ b. if b then pair.device else pair.standby.device) whole)
+
+one_at : (holder : Holder) (calls : List Call) (p : ℕ) (image : Image) (one : Remains) → KeepsAs holder calls p one image → (KeepsAt (promoted_holder holder) calls p image → ⊥) → (q : ℕ) × (one ≡ At q)
+one_at holder calls p image (At q) held never = (q, refl)
+one_at holder calls p image AsPrimary held never = absurd (never held)
+
+one_ahead : (holder : Holder) (calls : List Call) (p : ℕ) (image : Image) (one : Remains) → KeepsAs holder calls p one image → ((q : ℕ) → KeepsAt holder calls q image → ⊥)
+    → (one ≡ AsPrimary) × KeepsAt (promoted_holder holder) calls p image
+one_ahead holder calls p image (At q) held never = absurd (never q held)
+one_ahead holder calls p image AsPrimary held never = (refl, held)
+
+-- ---- the standby stays
+
+-- what is left of the standby is its image, at a position that the call may leave
+standby-cut : (old : Pair) (arrivals : Arrived) (node' : Node) (call : Cut) (k : ℕ) (picks : Vec ℕ Global) → HasStandby old → arrivals.delivered.items ≡ [] → arrivals.acknowledgements ≡ old.arrivals.acknowledgements
+    → (first second : Holder) (w : World) → NodesRefine first second old w → is_enabled w (events.Crash node.Standby call k picks) ≡ true
+    → (p : ℕ) → Contains (may_remain w node.Standby call) (At p) → IsDown second w.primary.calls p node'.device
+    → LeavesOnly old.standby.device node'.device (OpensNear second w.primary.calls w.standby.position (torn w.standby.life ++ left_by w node.Standby call))
+    → CutsStandby first second w call k picks old (with_crashed_standby arrivals node' old)
+standby-cut old arrivals node' call k picks whole lost told first second w stands enabled p may image leaves =
+    let new = with_crashed_standby arrivals node' old in
+    let event = events.Crash node.Standby call k picks in
+    let calls = w.primary.calls in
+    let w' = crashed node.Standby (At p) w in
+    let step : Step w event true w' = record { done = sym enabled; happens = λ did. record { remain = At p; one = may; now = refl }; stands = λ did. absurd (true≢false did) } in
+    let empty : ArrivalsRefine old.link.epoch calls arrivals [] w.wire.acknowledgements =
+    record {
+      delivered = subst (λ (frames : List Frame). AreFramesRead old.link.epoch calls frames []) (sym lost) tt;
+      acknowledged = subst (λ (acks : Vec (Vec ℕ Global) Global). AreAcksSent acks.items w.wire.acknowledgements) (sym told) (arrivals-stand stands.parts).acknowledged;
+    } in
+    let down : StandbyRefines second old.link.epoch calls p [] node' Crashed =
+    record { stands = λ up. absurd (true≢false (sym up)); left = λ stopped. absurd (true≢false (sym stopped)); down = λ is. image } in
+    let later : w.standby.position ≤ p = (grows-step w event true w' step stands.sound).safe in
+    let refines : EitherRefines first second new w' = standby-either first second old arrivals node' Crashed w w'.standby w.wire.acknowledgements whole later stands.parts empty down in
+    let lives : AreLives first second old.primary_condition Crashed old.asked w' =
+    record {
+      allowed_are = stands.lives.allowed_are;
+      primary_disk = stands.lives.primary_disk ∙ ap (λ b. cond b 1 0) whole;
+      standby_disk = stands.lives.standby_disk;
+      primary_failing = stands.lives.primary_failing;
+      standby_failing = stands.lives.standby_failing;
+      primary = stands.lives.primary;
+      standby = refl;
+      first_role = stands.lives.first_role;
+      second_role = stands.lives.second_role;
+      first_epoch = stands.lives.first_epoch;
+      second_epoch = stands.lives.second_epoch;
+    } in
+    record {
+      world = w';
+      step = step;
+      began = whole;
+      goes = inl (record { stands = record { sound = sound-step w event true w' step stands.sound; lives = lives; parts = refines }; whole = refl });
+      leaves = subst (λ (d : State). LeavesOnly d node'.device (OpensNear second calls w.standby.position (torn w.standby.life ++ left_by w node.Standby call))) (sym (devices-are old whole).1) leaves;
+      first_stays = sym (devices-are old whole).0;
+    }
+
+-- all of these are a standby's
+abbrev pub are_behind : List Remains → Bool
+are_behind [] = true
+are_behind (At q ∷ others) = are_behind others
+are_behind (AsPrimary ∷ others) = false
+
+pub one-behind : (others : List Remains) (one : Remains) → are_behind others ≡ true → Contains others one → (q : ℕ) × (one ≡ At q)
+one-behind others one behind is = by others behind is.0 is.1 is.2
+  where
+    by : (others : List Remains) → are_behind others ≡ true → (k : ℕ) → k < length others → get_or others k one ≡ one → (q : ℕ) × (one ≡ At q)
+    by [] behind k within at = absurd (omega (arith, within))
+    by (At q ∷ others) behind zero within at = (q, sym at)
+    by (At q ∷ others) behind (suc k) within at = by others behind k (omega (arith, within)) at
+    by (AsPrimary ∷ others) behind k within at = absurd (true≢false (sym behind))
+
+-- its image is a standby's in each world
+pub stays-behind : (old : Pair) (arrivals : Arrived) (node' : Node) (call : Cut) (k : ℕ) (picks : Vec ℕ Global) (fallen : HasFallen old call k picks node'.device)
+    → arrivals.delivered.items ≡ [] → arrivals.acknowledgements ≡ old.arrivals.acknowledgements
+    → ((first second : Holder) (w : World) (stands : NodesRefine first second old w) → (q : ℕ) × ((fallen.falls first second w stands).held.one ≡ At q))
+    → Cuts old (events.Crash node.Standby call k picks) (Ok true) (with_crashed_standby arrivals node' old)
+stays-behind old arrivals node' call k picks fallen lost told behind =
+    record {
+      came = refl;
+      did = refl;
+      shortened = shortened;
+      left = subst (λ (d : State). LeavesOf call k picks.items d node'.device) (sym (devices-are old fallen.whole).1) fallen.left;
+      frames = refl;
+      acknowledgements = ap (λ (acks : Vec (Vec ℕ Global) Global). acks.items) told;
+      calls = none-added _ _ refl;
+    }
+  where
+    shortened : (first second : Holder) (w : World) → NodesRefine first second old w → CutsStandby first second w call k picks old (with_crashed_standby arrivals node' old)
+    shortened first second w stands =
+        let calls = w.primary.calls in
+        let p = w.standby.position in
+        let image = image_of node'.device.words in
+        let it = fallen.falls first second w stands in
+        let at = behind first second w stands in
+        standby-cut old arrivals node' call k picks fallen.whole lost told first second w stands (fall-enabled call k picks stands.lives ∙ it.may) at.0
+        (subst (λ (one : Remains). Contains (may_remain w node.Standby call) one) at.1 it.held.is_one)
+        (kept-down second calls at.0 node'.device (subst (λ (one : Remains). KeepsAs second calls p one image) at.1 it.held.keeps) fallen.settled it.lines_are) it.leaves
+
+-- ---- it is a primary's
+
+finds-kept : (holder : Holder) (calls : List Call) (p : ℕ) (found : Option Record) (device : State) → Finds found device → holder.lines ≡ device.lines
+    → (held : KeepsAt holder calls p (image_of device.words)) → found ≡ Some held.contents.current
+finds-kept holder calls p found device finds lines held =
+    let size : held.contents.lines ≡ device.lines = held.contents_at.lines_are ∙ lines in
+    finds held.contents.current (omega (arith, size, held.lawful.many)) (omega (arith, size, held.lawful.few))
+    (subst (λ n. IsUndamaged n held.contents.current (image_of device.words)) size (lawful_undamaged held.contents (image_of device.words) held.lawful held.keeps))
+
+none_found : (found : Option Record) (r : Record) → found ≡ None → found ≡ Some r → ⊥
+none_found found r none some = cc
+
+same_found : (found : Option Record) (r s : Record) → found ≡ Some r → found ≡ Some s → r ≡ s
+same_found found r s in_r in_s = cc
+
+apart : role.Standby ≡ role.Primary → ⊥
+apart is = cc
+
+comes-forward : (old : Pair) (node' : Node) (call : Cut) (k : ℕ) (picks : Vec ℕ Global) (new : Pair) (found : Option Record) (r : Record) → HasFallen old call k picks node'.device → Finds found node'.device → found ≡ Some r
+    → r.role ≡ role.Primary → ComesForward r.position r.epoch (record old { standby = node' }) new → Cuts old (events.Crash node.Standby call k picks) (Ok true) new
+comes-forward old node' call k picks new found r fallen finds is_found own comes =
+    record {
+      came = refl;
+      did = refl;
+      shortened = shortened;
+      left = subst (λ (d : State). LeavesOf call k picks.items d (second_device new)) (sym (devices-are old fallen.whole).1)
+          (subst (λ (d : State). LeavesOf call k picks.items old.standby.device d) (sym second_is) fallen.left);
+      frames = comes.frames;
+      acknowledgements = ap (λ (acks : Vec (Vec ℕ Global) Global). acks.items) comes.told;
+      calls = comes.calls;
+    }
+  where
+    over : has_ended new.standby_condition ≡ true
+    over = ap has_ended comes.standby
+
+    second_is : second_device new ≡ node'.device
+    second_is = ap (λ b. if b then new.device else new.standby.device) over ∙ comes.taken
+
+    first_is : first_device new ≡ old.device
+    first_is = ap (λ b. if b then new.standby.device else new.device) over ∙ comes.given
+
+    -- in each world it is that of the primary
+    ahead : (first second : Holder) (w : World) → (stands : NodesRefine first second old w)
+        → ((fallen.falls first second w stands).held.one ≡ AsPrimary) × KeepsAt (promoted_holder second) w.primary.calls w.standby.position (image_of node'.device.words)
+    ahead first second w stands =
+        let it = fallen.falls first second w stands in
+        one_ahead second w.primary.calls w.standby.position (image_of node'.device.words) it.held.one it.held.keeps
+        (λ q here.
+        let told_as = same_found found r here.contents.current is_found (finds-kept second w.primary.calls q found node'.device finds it.lines_are here) in
+        apart (sym (here.contents_at.role_is ∙ stands.lives.second_role) ∙ sym (ap (λ (one : Record). one.role) told_as) ∙ own))
+
+    fallen-stands : (first second : Holder) (w : World) → NodesRefine first second old w → Step w (events.Crash node.Standby call k picks) true (promoted w)
+        → NodesRefine (promoted_holder second) (former_holder second) new (promoted w)
+    fallen-stands first second w stands step =
+        let calls = w.primary.calls in
+        let p = w.standby.position in
+        let lives = stands.lives in
+        let sound = stands.sound in
+        let it = fallen.falls first second w stands in
+        let held = (ahead first second w stands).1 in
+        let told_as = same_found found r held.contents.current is_found (finds-kept (promoted_holder second) calls p found node'.device finds it.lines_are held) in
+        let image : IsDown (promoted_holder second) calls p new.device =
+        subst (IsDown (promoted_holder second) calls p) (sym comes.taken) (kept-down (promoted_holder second) calls p node'.device held fallen.settled it.lines_are) in
+        let here : r.position ≡ p = ap (λ (one : Record). one.position) told_as ∙ held.contents_at.at in
+        let epoch : second.epoch + 1 ≡ w.standby.epoch + 1 = ap (λ n. n + 1) (lives.second_epoch ∙ sym sound.standby.epoch_is) in
+        let ours : new.link.epoch ≡ w.standby.epoch + 1 = comes.epoch_is ∙ ap (λ (one : Record). one.epoch) told_as ∙ held.contents_at.epoch_is ∙ epoch in
+        let less : old.link.epoch < new.link.epoch = omega (arith, ours, link-epoch stands.parts, sound.standby.epoch_is) in
+        let within : p ≤ position_of calls = standby-within w sound in
+        let down : DownRefine (promoted_holder second) (former_holder second) new (promoted w) =
+        record {
+          sessions = subst (λ n. SessionsRefine new.sessions new.transcript (map left w.primary.connections) (cut_at calls n)) here (comes.ends w (sessions-stand stands.parts));
+          unseated = comes.unseated;
+          committer = refl;
+          link = refl;
+          ends = omega (arith, position_of-cut_at calls p, within);
+          newest = refl;
+          none_told = refl;
+          image = IsDown-cut (promoted_holder second) calls p p new.device (omega arith) image;
+          opened = refl;
+          recalls = λ q from below. absurd (omega (arith, from, below));
+          epoch = ours;
+          frames = frames-earlier old.link.epoch new.link.epoch sound.sent calls (cut_at calls p) new.frames w.wire.frames less
+              (subst (λ e. All (IsFrameWithin e sound.sent) w.wire.frames) (sym (link-epoch stands.parts)) sound.wire.frames)
+              (subst (λ (texts : List (Vec ℕ Global)). AreFramesSent old.link.epoch calls texts w.wire.frames) (sym comes.frames) (frames-stand stands.parts));
+          own = λ still. absurd (true≢false (sym over ∙ still));
+          arrivals = record {
+            delivered = subst (λ (frames : List Frame). AreFramesRead new.link.epoch (cut_at calls p) frames []) (sym comes.lost) tt;
+            acknowledged = subst (λ (acks : Vec (Vec ℕ Global) Global). AreAcksSent acks.items w.wire.acknowledgements) (sym comes.told) (arrivals-stand stands.parts).acknowledged;
+          };
+          standby = record {
+            stands = λ up. absurd (true≢false (sym (sym (ap runs comes.standby) ∙ up)));
+            left = λ stopped. absurd (true≢false (sym (sym (ap has_stopped comes.standby) ∙ stopped)));
+            down = λ fell. absurd (true≢false (sym (sym (ap has_crashed comes.standby) ∙ fell)));
+          };
+        } in
+        let refines : EitherRefines (promoted_holder second) (former_holder second) new (promoted w) = inr (inl (ap has_crashed comes.primary, down)) in
+        record {
+          sound = sound-step w (events.Crash node.Standby call k picks) true (promoted w) step sound;
+          lives = record {
+            allowed_are = lives.allowed_are;
+            primary_disk = lives.standby_disk ∙ sym (ap primary_number comes.standby);
+            standby_disk = lives.standby_disk;
+            primary_failing = lives.standby_failing ∙ sym (ap (λ (asked : AskedFences). asked.primary) comes.asked);
+            standby_failing = lives.standby_failing ∙ sym (ap (λ (asked : AskedFences). asked.standby) comes.asked);
+            primary = sym (ap (λ (c : Condition). life_as c []) comes.primary);
+            standby = sym (ap (λ (c : Condition). life_as c []) comes.standby);
+            first_role = refl;
+            second_role = refl;
+            first_epoch = epoch;
+            second_epoch = epoch;
+          };
+          parts = refines;
+        }
+
+    shortened : (first second : Holder) (w : World) → NodesRefine first second old w → CutsStandby first second w call k picks old new
+    shortened first second w stands =
+        let it = fallen.falls first second w stands in
+        let others = torn w.standby.life ++ left_by w node.Standby call in
+        let step : Step w (events.Crash node.Standby call k picks) true (promoted w) =
+        record {
+          done = sym (fall-enabled call k picks stands.lives ∙ it.may);
+          happens = λ did. record { remain = AsPrimary; one = subst (λ (one : Remains). Contains (may_remain w node.Standby call) one) (ahead first second w stands).0 it.held.is_one; now = refl };
+          stands = λ did. absurd (true≢false did);
+        } in
+        record {
+          world = promoted w;
+          step = step;
+          began = fallen.whole;
+          goes = inr (record { former = former_holder second; stands = fallen-stands first second w stands step; ended = over });
+          leaves = subst (λ (d : State). LeavesOnly d (second_device new) (OpensNear second w.primary.calls w.standby.position others)) (sym (devices-are old fallen.whole).1)
+              (subst (λ (d : State). LeavesOnly old.standby.device d (OpensNear second w.primary.calls w.standby.position others)) (sym second_is) it.leaves);
+          first_stays = first_is ∙ sym (devices-are old fallen.whole).0;
+        }
+
+-- ---- it goes by its image
+
+which : (own : Role) → (own ≡ role.Primary) ⊎ (own ≢ role.Primary)
+which role.Primary = inl refl
+which role.Standby = inr (λ is. apart is)
+
+pub goes-by-image : (old : Pair) (node' : Node) (call : Cut) (k : ℕ) (picks : Vec ℕ Global) (new : Pair) → HasFallen old call k picks node'.device → GoesByImage (record old { standby = node' }) new
+    → Cuts old (events.Crash node.Standby call k picks) (Ok true) new
+goes-by-image old node' call k picks new fallen goes = by goes.found refl
+  where
+    behind : FallsBehind (record old { standby = node' }) new
+        → ((first second : Holder) (w : World) → NodesRefine first second old w → KeepsAt (promoted_holder second) w.primary.calls w.standby.position (image_of node'.device.words) → ⊥)
+        → Cuts old (events.Crash node.Standby call k picks) (Ok true) new
+    behind falls never =
+        subst (λ (pair : Pair). Cuts old (events.Crash node.Standby call k picks) (Ok true) pair) (sym falls.falls)
+        (stays-behind old new.arrivals node' call k picks fallen falls.lost falls.told
+        (λ first second w stands.
+        let held = (fallen.falls first second w stands).held in
+        one_at second w.primary.calls w.standby.position (image_of node'.device.words) held.one held.keeps (never first second w stands)))
+
+    finds : (first second : Holder) (w : World) (stands : NodesRefine first second old w) → (held : KeepsAt (promoted_holder second) w.primary.calls w.standby.position (image_of node'.device.words))
+        → goes.found ≡ Some held.contents.current
+    finds first second w stands held =
+        finds-kept (promoted_holder second) w.primary.calls w.standby.position goes.found node'.device goes.finds (fallen.falls first second w stands).lines_are held
+
+    by : (found : Option Record) → goes.found ≡ found → Cuts old (events.Crash node.Standby call k picks) (Ok true) new
+    by None is = behind (goes.none is) (λ first second w stands held. none_found goes.found held.contents.current is (finds first second w stands held))
+    by (Some r) is = elim (which r.role) [
+      | inl own ↦ comes-forward old node' call k picks new goes.found r fallen goes.finds is own (goes.serving r is own)
+      | inr other ↦
+          behind (goes.following r is other)
+          (λ first second w stands held.
+          let told_as = same_found goes.found r held.contents.current is (finds first second w stands held) in
+          other (ap (λ (one : Record). one.role) told_as ∙ held.contents_at.role_is))
+    ]

@@ -1,0 +1,201 @@
+-- A fence of the standby's device failed that was asked to: the standby stops.
+use Rattle.std.proofs.Common.{◌≡◌, inl, inr, ℕ, true, false, ◌&&◌, cond, List, [], Ok, Vec, Global, refl, sym, ap, subst, ◌∙◌, true≢false, le_refl, rules}
+use Rattle.std.proofs.lemmas.Bool.{and_parts}
+use Rattle.pmem.proofs.Leaving.{LeavesOnly-weaken}
+use Rattle.model.specs.Standing.{Holder}
+use Rattle.frames.specs.declared.frame.Frame.{Frame}
+use Rattle.machine.specs.declared.event.Cut.TheVariants as cuts
+use Rattle.machine.specs.declared.event.Event.{Event}
+use Rattle.machine.specs.declared.event.Event.TheVariants.{Apply, Promote, Reopen}
+use Rattle.machine.specs.declared.event.Node.TheVariants as node
+use Rattle.machine.specs.Event.{Allowed, Fails as MachineFails, Happens, Remains, Step, World, halted, is_crashed, is_enabled, is_retired, is_running, left_by, may_cut, torn}
+use Rattle.machine.specs.Row.{touches}
+use Rattle.machine.proofs.SoundEvents.{sound-step}
+use Rattle.world.specs.Condition.{has_ended, life_as}
+use Rattle.world.specs.declared.condition.AskedFences.{AskedFences}
+use Rattle.world.specs.declared.condition.Condition.{Condition}
+use Rattle.world.specs.declared.condition.Condition.TheVariants.{Stopped}
+use Rattle.world.specs.Link.{AreAcksSent, AreFramesRead}
+use Rattle.world.specs.Pair.{AreLives, EitherRefines, HasStandby, NodesRefine, Pair, StillRefine}
+use Rattle.world.specs.Remaining.{KeepsOne}
+use Rattle.world.specs.Standby.{Arrived, ArrivalsRefine, StandbyRefines}
+use Rattle.world.specs.Step.{IsStep}
+use Rattle.world.specs.Stopping.{BreaksPromotion, BreaksStandby, Fails, StopsStandby, call_of}
+use Rattle.world.proofs.LivesLemmas.{crashed-as, crashed-not-over, ended-still, not-over, retired-as, running-as, still-as}
+use Rattle.world.proofs.PairStandby.{arrivals-stand, standby-either, with_standby_as}
+use Rattle.world.proofs.RemainLemmas.{keeps-near, left-later}
+use Rattle.world.proofs.StepLemmas.{stopped-is}
+
+-- ---- the event
+
+-- in which the standby may stop
+pub record MayStop (event : Event) : Type 0 where
+  pub touched : touches node.Standby event ≡ true
+  pub happens : (w w' : World) → MachineFails w node.Standby (call_of event) w' → Happens w event w'
+  pub enabled : {first second : Holder} {pair : Pair} {w : World} → NodesRefine first second pair w → may_cut w node.Standby (call_of event) ≡ true → is_enabled w event ≡ true
+  pub began : {first second : Holder} {pair : Pair} {w : World} → NodesRefine first second pair w → may_cut w node.Standby (call_of event) ≡ true → HasStandby pair
+
+runs-on : {first second : Holder} {pair : Pair} {w : World} → NodesRefine first second pair w → is_running w.standby.life ≡ true → HasStandby pair
+runs-on {first} {second} {pair} {w} stands up = not-over pair.standby_condition (sym (ap is_running stands.lives.standby ∙ running-as pair.standby_condition (torn w.standby.life)) ∙ up)
+
+pub stops-applying : MayStop Apply
+stops-applying = record {
+  touched = refl;
+  happens = λ w w' fails. inr fails;
+  enabled = λ {first} {second} {pair} {w} stands may. may;
+  began = λ {first} {second} {pair} {w} stands may. runs-on stands (and_parts (is_running w.standby.life) _ may).0;
+}
+
+pub stops-opening : MayStop (Reopen node.Standby)
+stops-opening = record {
+  touched = refl;
+  happens = λ w w' fails. inr fails;
+  enabled = λ {first} {second} {pair} {w} stands may. ap (λ (a : Allowed). a.restarts && is_crashed w.standby.life) stands.lives.allowed_are ∙ may;
+  began = λ {first} {second} {pair} {w} stands may. crashed-not-over pair.standby_condition (sym (ap is_crashed stands.lives.standby ∙ crashed-as pair.standby_condition (torn w.standby.life)) ∙ may);
+}
+
+pub stops-promoting : MayStop Promote
+stops-promoting = record {
+  touched = refl;
+  happens = λ w w' fails. inr fails;
+  enabled = λ {first} {second} {pair} {w} stands may. ap (λ (a : Allowed). is_running w.standby.life && (a.promotions && is_retired w.primary.life)) stands.lives.allowed_are ∙ may;
+  began = λ {first} {second} {pair} {w} stands may. runs-on stands (and_parts (is_running w.standby.life) _ may).0;
+}
+
+-- ---- the standby
+
+-- what is left of it, and of what was delivered to it
+module _ (event : Event) (is : MayStop event) (old new : Pair) (lost : new.arrivals.delivered.items ≡ []) (told : new.arrivals.acknowledgements.items ≡ old.arrivals.acknowledgements.items)
+    (first second : Holder) (w : World) (stands : NodesRefine first second old w)
+    (fails : Fails (may_cut w node.Standby (call_of event)) (KeepsOne second w.primary.calls w.standby.position (left_by w node.Standby (call_of event))) old.standby.device new.standby.device)
+    (lines : old.standby.device.lines ≡ second.lines) where
+  abbrev others : List Remains
+  others = left_by w node.Standby (call_of event)
+
+  abbrev next : World
+  next = halted node.Standby others w
+
+  empty : ArrivalsRefine old.link.epoch w.primary.calls new.arrivals [] w.wire.acknowledgements
+  empty = record {
+    delivered = subst (λ (frames : List Frame). AreFramesRead old.link.epoch w.primary.calls frames []) (sym lost) tt;
+    acknowledged = subst (λ (acks : List (Vec ℕ Global)). AreAcksSent acks w.wire.acknowledgements) (sym told) (arrivals-stand stands.parts).acknowledged;
+  }
+
+  stopped : StandbyRefines second old.link.epoch w.primary.calls w.standby.position others new.standby Stopped
+  stopped = record {
+    stands = λ up. absurd (true≢false (sym up));
+    left = λ is. record { lines_are = fails.lines_are ∙ lines; each = λ image at. fails.leaves.each image (inl at) };
+    down = λ fell. absurd (true≢false (sym fell));
+  }
+
+  -- the pair stands for the world after it, if its primary does
+  stops-in : old.asked.standby ≡ true → new.primary_condition ≡ old.primary_condition → new.standby_condition ≡ Stopped → new.asked ≡ record (old.asked) { standby = false } → new.device ≡ old.device
+      → EitherRefines first second new next → StopsStandby first second w event old new
+  stops-in asked primary condition flags device parts =
+      let began = is.began stands fails.enabled in
+      let step : Step w event true next =
+      record { done = sym (is.enabled stands fails.enabled); happens = λ did. is.happens w next (record { asked = stands.lives.standby_failing ∙ asked; now = refl }); stands = λ did. absurd (true≢false did) } in
+      let old_lives = stands.lives in
+      let lives : AreLives first second new.primary_condition new.standby_condition new.asked next =
+      record {
+        allowed_are = old_lives.allowed_are;
+        primary_disk = old_lives.primary_disk ∙ ap (λ b. cond b 1 0) began ∙ sym (ap (λ (c : Condition). cond (has_ended c) 1 0) condition);
+        standby_disk = old_lives.standby_disk;
+        primary_failing = old_lives.primary_failing ∙ sym (ap (λ (a : AskedFences). a.primary) flags);
+        standby_failing = sym (ap (λ (a : AskedFences). a.standby) flags);
+        primary = old_lives.primary ∙ sym (ap (λ (c : Condition). life_as c (torn w.primary.life)) primary);
+        standby = sym (ap (λ (c : Condition). life_as c others) condition);
+        first_role = old_lives.first_role;
+        second_role = old_lives.second_role;
+        first_epoch = old_lives.first_epoch;
+        second_epoch = old_lives.second_epoch;
+      } in
+      record {
+        touched = is.touched;
+        world = next;
+        step = step;
+        stopped = refl;
+        stands = record { sound = sound-step w event true next step stands.sound; lives = lives; parts = parts };
+        began = began;
+        whole = ap has_ended condition;
+        leaves = LeavesOnly-weaken _ (keeps-near second w.primary.calls w.standby.position others) fails.leaves;
+        failures = fails.failures;
+        same_primary = device;
+      }
+
+-- of which devices a fence was asked to fail is nothing to its parts
+asked-either : (first second : Holder) (pair : Pair) (asked : AskedFences) (w : World) → EitherRefines first second pair w → EitherRefines first second (record pair { asked = asked }) w
+asked-either first second pair asked w parts = elim parts [
+  | inl up ↦ inl (up.0, search (rules, up.1))
+  | inr (inl down) ↦ inr (inl (down.0, search (rules, down.1)))
+  | inr (inr still) ↦ inr (inr (still.0, search (rules, still.1)))
+]
+
+abbrev pub with_stopped_standby : Arrived → Pair → Pair
+with_stopped_standby arrivals pair = record pair { arrivals = arrivals; standby_condition = Stopped; asked = record (pair.asked) { standby = false } }
+
+-- ---- in a call of its own
+
+pub standby-stops : (old : Pair) (event : Event) (mid : Pair) (arrivals : Arrived) → MayStop event → mid.asked.standby ≡ true → BreaksStandby (call_of event) old mid
+    → arrivals.delivered.items ≡ [] → arrivals.acknowledgements ≡ mid.arrivals.acknowledgements → IsStep old event (Ok true) (with_stopped_standby arrivals mid)
+standby-stops old event mid arrivals is flag breaks lost told =
+    subst (λ (pair : Pair). IsStep old event (Ok true) (with_stopped_standby arrivals pair)) (sym breaks.rest)
+    (stopped-is {old = old} {new = new} {event = event} {result = Ok true} (record { did = refl; stopped = λ first second w stands. inr (stopped-in first second w stands); frames = refl; acknowledgements = acks; transcript = refl }))
+  where
+    asked : old.asked.standby ≡ true
+    asked = sym (ap (λ (pair : Pair). pair.asked.standby) breaks.rest) ∙ flag
+
+    acks : arrivals.acknowledgements.items ≡ old.arrivals.acknowledgements.items
+    acks = ap (λ (all : Vec (Vec ℕ Global) Global). all.items) told ∙ breaks.acknowledgements
+
+    new : Pair
+    new = with_stopped_standby arrivals (record old { arrivals = mid.arrivals; standby = mid.standby })
+
+    stopped-in : (first second : Holder) (w : World) → NodesRefine first second old w → StopsStandby first second w event old new
+    stopped-in first second w stands =
+        let fails = breaks.fails first second w stands in
+        let lines = breaks.lines_are first second w stands in
+        let w' = halted node.Standby (left_by w node.Standby (call_of event)) w in
+        let parts : EitherRefines first second (with_standby_as arrivals mid.standby Stopped old) w' =
+        standby-either first second old arrivals mid.standby Stopped w w'.standby w.wire.acknowledgements (is.began stands fails.enabled) (le_refl w.standby.position) stands.parts
+        (empty event is old new lost acks first second w stands fails lines) (stopped event is old new lost acks first second w stands fails lines) in
+        stops-in event is old new lost acks first second w stands fails lines asked refl refl refl refl (asked-either first second (with_standby_as arrivals mid.standby Stopped old) new.asked w' parts)
+
+-- ---- in its promotion
+
+pub promotion-stops : (old mid : Pair) (arrivals : Arrived) → mid.asked.standby ≡ true → BreaksPromotion old mid → arrivals.delivered.items ≡ [] → arrivals.acknowledgements ≡ mid.arrivals.acknowledgements
+    → IsStep old Promote (Ok true) (with_stopped_standby arrivals mid)
+promotion-stops old mid arrivals flag breaks lost told =
+    subst (λ (pair : Pair). IsStep old Promote (Ok true) (with_stopped_standby arrivals pair)) (sym breaks.rest)
+    (stopped-is {old = old} {new = new} {event = Promote} {result = Ok true} (record { did = refl; stopped = λ first second w stands. inr (stopped-in first second w stands); frames = refl; acknowledgements = acks; transcript = refl }))
+  where
+    asked : old.asked.standby ≡ true
+    asked = sym (ap (λ (pair : Pair). pair.asked.standby) breaks.rest) ∙ flag
+
+    acks : arrivals.acknowledgements.items ≡ old.arrivals.acknowledgements.items
+    acks = ap (λ (all : Vec (Vec ℕ Global) Global). all.items) told ∙ ap (λ (pair : Pair). pair.arrivals.acknowledgements.items) breaks.rest
+
+    new : Pair
+    new = with_stopped_standby arrivals (record old { sequencer = mid.sequencer; committing = mid.committing; contents = mid.contents; is_faulted = mid.is_faulted; standby = mid.standby })
+
+    stopped-in : (first second : Holder) (w : World) → NodesRefine first second old w → StopsStandby first second w Promote old new
+    stopped-in first second w stands =
+        let fails = breaks.fails first second w stands in
+        let lines = breaks.lines_are first second w stands in
+        let w' = halted node.Standby (left_by w node.Standby cuts.Promote) w in
+        let over : has_ended old.primary_condition ≡ true =
+        sym (ap is_retired stands.lives.primary ∙ retired-as old.primary_condition (torn w.primary.life)) ∙ (and_parts (is_running w.standby.life) (is_retired w.primary.life) fails.enabled).1 in
+        let still = still-as (ended-still old.primary_condition over) stands in
+        let refined : StillRefine first second new w' =
+        record {
+          sessions = still.sessions;
+          lines_are = still.lines_are;
+          left = λ image at. left-later first w w' image refl (le_refl w.standby.position) (still.left image at);
+          epoch = still.epoch;
+          frames = still.frames;
+          own = λ whole. still.own (stops-promoting.began stands fails.enabled);
+          arrivals = empty Promote stops-promoting old new lost acks first second w stands fails lines;
+          standby = stopped Promote stops-promoting old new lost acks first second w stands fails lines;
+        } in
+        let parts : EitherRefines first second new w' = inr (inr (ended-still old.primary_condition over, refined)) in
+        stops-in Promote stops-promoting old new lost acks first second w stands fails lines asked refl refl refl refl parts

@@ -1,0 +1,152 @@
+-- What the image of a node may hold in which a fence failed: how it opens, and while the list grows or is cut.
+use Rattle.std.proofs.Common.{◌≡◌, ◌⊎◌, inl, inr, ℕ, zero, suc, ◌<◌, ◌≤◌, List, [], ◌∷◌, ◌++◌, length, get_or, append-nil, refl, sym, subst, arith, le_refl}
+use Rattle.std.specs.Prelude.{All, Contains}
+use Rattle.std.proofs.lemmas.List.Elements.{All-cons, All-contains}
+use Rattle.pmem.specs.Crash.{IsImage}
+use Rattle.pmem.specs.Device.{State}
+use Rattle.pmem.specs.Runs.{LeavesOnly}
+use Rattle.pmem.proofs.Leaving.{LeavesOnly-weaken, none_leaves}
+use Rattle.model.specs.declared.call.Call.{Call}
+use Rattle.model.specs.Call.{cut_at, position_of}
+use Rattle.model.specs.Image.{Image}
+use Rattle.model.specs.Standing.{Holder}
+use Rattle.machine.specs.declared.event.Cut.{Cut}
+use Rattle.machine.specs.declared.event.Cut.TheVariants as cut
+use Rattle.machine.specs.declared.event.Node.TheVariants as node
+use Rattle.machine.specs.Event.{AsPrimary, At, Primary, Remains, World, left_by, may_remain, torn}
+use Rattle.machine.specs.Sound.{IsStandbyLeft}
+use Rattle.world.specs.Cause.{OrLies, Stretch}
+use Rattle.primary.specs.Recalling.{RecallsEach}
+use Rattle.primary.proofs.RecallLemmas.{recalls-still}
+use Rattle.world.specs.Recalling.{past_of}
+use Rattle.world.specs.Committing.{AreContentsAt, Moves, Opens, OpensAt, OpensAtEither, promoted_holder}
+use Rattle.world.specs.Remaining.{KeepsAs, KeepsAt, KeepsOne, LeavesOne, LeftBy, MovesNear, OpensAs, OpensAsOne, OpensNear, Remain}
+use Rattle.world.proofs.CutLemmas.{AreContentsAt-cut}
+use Rattle.node_steps.proofs.EngineLemmas.{AreContentsAt-grows}
+use Rattle.world.proofs.EngineLemmas.{keeps-opens}
+
+-- ---- how it opens
+
+one-of : (first : Remains) (others : List Remains) (one : Remains) → Contains (first ∷ others) one → (first ≡ one) ⊎ Contains others one
+one-of first others one is = by is.0 is.1 is.2
+  where
+    by : (k : ℕ) → k < length (first ∷ others) → get_or (first ∷ others) k one ≡ one → (first ≡ one) ⊎ Contains others one
+    by zero within at = inl at
+    by (suc k) within at = inr (k, omega (arith, within), at)
+
+-- as what is one of these
+pub one-opens : (holder : Holder) (calls : List Call) (p : ℕ) (remains : List Remains) (one : Remains) (image : Image) → Contains remains one → OpensAs holder calls p image one → OpensAsOne holder calls p remains image
+one-opens holder calls p [] one image is opens = absurd (let within = is.1 in omega (arith, within))
+one-opens holder calls p (first ∷ others) one image is opens = elim (one-of first others one is) [
+  | inl same ↦ inl (subst (OpensAs holder calls p image) (sym same) opens)
+  | inr later ↦ inr (one-opens holder calls p others one image later opens)
+]
+
+-- as one of more
+pub opens-more : (holder : Holder) (calls : List Call) (p : ℕ) (before remains : List Remains) (image : Image) → OpensNear holder calls p remains image → OpensNear holder calls p (before ++ remains) image
+opens-more holder calls p before remains image (inl here) = inl here
+opens-more holder calls p before remains image (inr one) = inr (later before)
+  where
+    later : (before : List Remains) → OpensAsOne holder calls p (before ++ remains) image
+    later [] = one
+    later (first ∷ others) = inr (later others)
+
+pub kept-opens : (holder : Holder) (calls : List Call) (p : ℕ) (image : Image) → KeepsAt holder calls p image → OpensAt holder calls p image
+kept-opens holder calls p image held = keeps-opens holder calls p held.contents image held.contents_at held.lawful held.keeps
+
+kept-as : (holder : Holder) (calls : List Call) (p : ℕ) (one : Remains) (image : Image) → KeepsAs holder calls p one image → OpensAs holder calls p image one
+kept-as holder calls p (At q) image held = kept-opens holder calls q image held
+kept-as holder calls p AsPrimary image held = kept-opens (promoted_holder holder) calls p image held
+
+-- a standby's
+pub keeps-near : (holder : Holder) (calls : List Call) (p : ℕ) (others : List Remains) (image : Image) → KeepsOne holder calls p others image → OpensNear holder calls p others image
+keeps-near holder calls p others image held = one-opens holder calls p (At p ∷ others) held.one image held.is_one (kept-as holder calls p held.one image held.keeps)
+
+-- a primary's
+pub left-opens : (holder : Holder) (w : World) (call : Cut) (image : Image) → LeftBy holder w call image
+    → OpensNear holder w.primary.calls w.primary.committer.position (torn w.primary.life ++ left_by w node.Primary call) image
+left-opens holder w call image left =
+    one-opens holder w.primary.calls w.primary.committer.position (may_remain w node.Primary call) (At left.position) image left.one
+    (keeps-opens holder w.primary.calls left.position left.contents image left.contents_at left.lawful left.keeps)
+
+-- between two calls
+pub left-near : (holder : Holder) (w : World) (image : Image) → LeftBy holder w cut.Between image → OpensNear holder w.primary.calls w.primary.committer.position (torn w.primary.life) image
+left-near holder w image left =
+    subst (λ (others : List Remains). OpensNear holder w.primary.calls w.primary.committer.position others image) (append-nil (torn w.primary.life)) (left-opens holder w cut.Between image left)
+
+-- the standby went on meanwhile
+pub left-later : (holder : Holder) (w w' : World) (image : Image) → w'.primary ≡ w.primary → w.standby.position ≤ w'.standby.position → LeftBy holder w cut.Between image → LeftBy holder w' cut.Between image
+left-later holder w w' image same later left = record {
+  position = left.position;
+  one = subst (λ (x : Primary). Contains (At x.committer.position ∷ (torn x.life ++ [])) (At left.position)) (sym same) left.one;
+  rises = subst (λ (x : Primary). x.committer.position ≤ left.position) (sym same) left.rises;
+  within = subst (λ (x : Primary). left.position ≤ position_of x.calls) (sym same) left.within;
+  contents = left.contents;
+  contents_at = subst (λ (x : Primary). AreContentsAt holder x.calls left.position left.contents) (sym same) left.contents_at;
+  lawful = left.lawful;
+  keeps = left.keeps;
+  recalls = subst (λ (x : Primary). RecallsEach w'.standby.position left.position (past_of x.calls) left.contents) (sym same)
+      (recalls-still w.standby.position w'.standby.position left.position (past_of w.primary.calls) left.contents later left.recalls);
+}
+
+-- ---- of a device
+
+pub near-from : (holder : Holder) (calls : List Call) (p q : ℕ) (others : List Remains) (old new : State) → Moves holder calls p q old new → MovesNear holder calls p q others old new
+near-from holder calls p q others old new moves = record { leaves = LeavesOnly-weaken (OpensNear holder calls p (At q ∷ others)) either moves.leaves; failures = moves.failures }
+  where
+    either : (image : Image) → OpensAtEither holder calls p q image → OpensNear holder calls p (At q ∷ others) image
+    either image (inl here) = inl here
+    either image (inr there) = inr (inl there)
+
+-- nothing was done to it
+pub near-rest : (holder : Holder) (calls : List Call) (p q : ℕ) (others : List Remains) (old new : State) → new ≡ old → Remain holder calls p others old → MovesNear holder calls p q others old new
+near-rest holder calls p q others old new same remain =
+    subst (MovesNear holder calls p q others old) (sym same) (record { leaves = none_leaves old (OpensNear holder calls p (At q ∷ others)) (λ image is. more image (remain image is)); failures = refl })
+  where
+    more : (image : Image) → OpensNear holder calls p others image → OpensNear holder calls p (At q ∷ others) image
+    more image (inl here) = inl here
+    more image (inr one) = inr (inr one)
+
+pub near-same : (holder : Holder) (calls : List Call) (p : ℕ) (others : List Remains) (old new : State) → new ≡ old → Remain holder calls p others new → MovesNear holder calls p p others old new
+near-same holder calls p others old new same remain =
+    near-rest holder calls p p others old new same (subst (Remain holder calls p others) same remain)
+
+pub lies-still : (last : Stretch) (holder : Holder) (calls : List Call) (p next : ℕ) (others : List Remains) (old new : State) → new ≡ old → Remain holder calls p others old → OrLies last holder calls p next others old new
+lies-still last holder calls p next others old new same remain = inr (same, λ image is. remain image (subst (λ (d : State). IsImage d.words image) same is))
+
+pub remain-from : (holder : Holder) (calls : List Call) (p : ℕ) (others : List Remains) (device : State) → Opens holder calls p device → Remain holder calls p others device
+remain-from holder calls p others device opens = λ image is. inl (opens image is)
+
+-- ---- the list of a stopped standby
+
+-- another list is as this one up to there
+keeps-like : (holder : Holder) (calls calls' : List Call) (p high : ℕ) (others : List Remains) (image : Image) → p ≤ high → All (IsStandbyLeft p high) others
+    → ((h : Holder) (q : ℕ) → q ≤ high → KeepsAt h calls q image → KeepsAt h calls' q image) → KeepsOne holder calls p others image → KeepsOne holder calls' p others image
+keeps-like holder calls calls' p high others image le within like held = record { one = held.one; is_one = held.is_one; keeps = by held.one bounded held.keeps }
+  where
+    bounded : IsStandbyLeft p high held.one
+    bounded = All-contains (IsStandbyLeft p high) (At p ∷ others) held.one (All-cons (IsStandbyLeft p high) (At p) others (le_refl p, le) within) held.is_one
+
+    by : (one : Remains) → IsStandbyLeft p high one → KeepsAs holder calls p one image → KeepsAs holder calls' p one image
+    by (At q) bound keeps = like holder q bound.1 keeps
+    by AsPrimary bound keeps = like (promoted_holder holder) p le keeps
+
+pub KeepsAt-grows : (holder : Holder) (calls more : List Call) (p : ℕ) (image : Image) → p ≤ position_of calls → KeepsAt holder calls p image → KeepsAt holder (calls ++ more) p image
+KeepsAt-grows holder calls more p image le held = record { contents = held.contents; contents_at = AreContentsAt-grows holder calls more p held.contents le held.contents_at; lawful = held.lawful; keeps = held.keeps }
+
+pub KeepsAt-cut : (holder : Holder) (calls : List Call) (n p : ℕ) (image : Image) → p ≤ n → KeepsAt holder calls p image → KeepsAt holder (cut_at calls n) p image
+KeepsAt-cut holder calls n p image le held = record { contents = held.contents; contents_at = AreContentsAt-cut holder calls n p held.contents le held.contents_at; lawful = held.lawful; keeps = held.keeps }
+
+pub LeavesOne-grows : (holder : Holder) (calls more : List Call) (p high : ℕ) (others : List Remains) (device : State) → p ≤ high → high ≤ position_of calls → All (IsStandbyLeft p high) others
+    → LeavesOne holder calls p others device → LeavesOne holder (calls ++ more) p others device
+LeavesOne-grows holder calls more p high others device le within bound left = record {
+  lines_are = left.lines_are;
+  each = λ image is. keeps-like holder calls (calls ++ more) p high others image le bound (λ h q below. KeepsAt-grows h calls more q image (omega (arith, below, within))) (left.each image is);
+}
+
+pub LeavesOne-cut : (holder : Holder) (calls : List Call) (n p high : ℕ) (others : List Remains) (device : State) → p ≤ high → high ≤ n → All (IsStandbyLeft p high) others
+    → LeavesOne holder calls p others device → LeavesOne holder (cut_at calls n) p others device
+LeavesOne-cut holder calls n p high others device le within bound left = record {
+  lines_are = left.lines_are;
+  each = λ image is. keeps-like holder calls (cut_at calls n) p high others image le bound (λ h q below. KeepsAt-cut h calls n q image (omega (arith, below, within))) (left.each image is);
+}

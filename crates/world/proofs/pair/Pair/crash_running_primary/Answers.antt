@@ -1,0 +1,40 @@
+use Rattle.std.proofs.Common.{ℕ, List, ap, refl, ◌∙◌, sym}
+use Rattle.pmem.specs.Crash.{picked}
+use Rattle.world.proofs.PairCrash.{primary-crashed, primary-crashes}
+use Rattle.world.proofs.pair.Pair.crash_running_primary.Goals as goal
+
+pub returns-then-not-is_running-clause-does : goal.returns-then-not-is_running-clause-does
+returns-then-not-is_running-clause-does g c = λ after. primary-crashed _ after c.args.picks.now (sym c.is_running.ensures ∙ c.if-not-is_running.true) c.requires.whole
+
+pub returns-clause-does : goal.returns-clause-does
+returns-clause-does g c = λ after.
+    let E = g.E.Durable in
+    let engine = c.crash.new.self.committer.engine in
+    let crashed = c.crash.ensures in
+    let ended = c.crash-2.ensures in
+    primary-crashes _ c.crash-2.new.self c.crash-2.new.transcript (record { waiting = c.crash.new.self.work; aside = c.crash.new.self.committer.aside.items; stage = c.crash.new.self.committer.stage; local = c.crash.new.self.committer.local })
+    (E.device engine) (E.contents engine) (E.is_faulted engine) after c.args.picks.now c.position-position.result (sym c.is_running.ensures ∙ c.if-not-is_running.false) c.position-position.ensures
+    (record {
+      sized = g.met.E.Durable.sized c.args.self.now.primary.back.committer.engine;
+      settled = crashed.settled;
+      image = crashed.image;
+      lines_are = crashed.lines;
+      failures = crashed.failures;
+      moments = crashed.moments;
+    })
+    (λ w stand. ended.goes w.primary.connections w.primary.calls stand) ended.unseated ended.calls
+
+pub returns-clause-leaves : goal.returns-clause-leaves
+returns-clause-leaves g c = λ after.
+    let crashed = c.crash.ensures in
+    record {
+      primary = λ idle. cc;
+      standby = λ idle. refl;
+      frames = refl;
+      acknowledgements = refl;
+      effect = record {
+        settled = crashed.settled;
+        image = crashed.image;
+        picked_are = λ fed word. crashed.picked fed word ∙ ap (λ (picks : List ℕ). picked (g.E.Durable.device c.args.self.now.primary.back.committer.engine).words picks word) c.as_slice.ensures.value;
+      };
+    }

@@ -1,0 +1,33 @@
+use Rattle.std.proofs.Common.{ℕ, List, map, ap, subst, ◌∙◌}
+use Rattle.pmem.specs.Crash.{picked}
+use Rattle.model.specs.Call.{cut_at}
+use Rattle.machine.specs.Event.{left}
+use Rattle.connections.specs.Session.{SessionsRefine}
+use Rattle.world.proofs.PairStopped.{stopped-cut}
+use Rattle.world.proofs.pair.Pair.crash_stopped_primary.Goals as goal
+
+pub returns : goal.returns
+returns g c = λ after.
+    let E = g.E.Durable in
+    let committer = c.crash.new.self.committer in
+    let crashed = c.crash.ensures in
+    let ended = c.crash-2.ensures in
+    stopped-cut _ after c.args.picks.now c.crash-2.new.self c.crash-2.new.transcript (record { waiting = c.crash.new.self.work; aside = committer.aside.items; stage = committer.stage; local = committer.local })
+    (E.device committer.engine) (E.contents committer.engine) (E.is_faulted committer.engine) c.requires.stopped
+    (record {
+      sized = g.met.E.Durable.sized c.args.self.now.primary.back.committer.engine;
+      settled = crashed.settled;
+      image = crashed.image;
+      lines_are = crashed.lines;
+      failures = crashed.failures;
+      moments = crashed.moments;
+    })
+    (λ r many few undamaged machines list stand.
+    subst (λ n. SessionsRefine c.crash-2.new.self c.crash-2.new.transcript (map left machines) (cut_at list n)) (c.image_position-position.ensures r many few undamaged) (ended.goes machines list stand))
+    ended.unseated
+    (record {
+      settled = crashed.settled;
+      image = crashed.image;
+      picked_are = λ fed word. crashed.picked fed word ∙ ap (λ (picks : List ℕ). picked (E.device c.args.self.now.primary.back.committer.engine).words picks word) c.as_slice.ensures.value;
+    })
+    ended.calls

@@ -1,0 +1,81 @@
+-- What the image of a node may hold in which a fence failed, or a call of which was cut.
+use Rattle.std.specs.Prelude.{◌≡◌, ◌⊎◌, ℕ, ◌≤◌, List, [], ◌∷◌, Contains}
+use Rattle.pmem.specs.Crash.{IsImage}
+use Rattle.pmem.specs.Device.{State}
+use Rattle.pmem.specs.Runs.{LeavesOnly}
+use Rattle.model.specs.declared.call.Call.{Call}
+use Rattle.model.specs.Call.{position_of}
+use Rattle.model.specs.Group.{Contents}
+use Rattle.model.specs.Image.{Image}
+use Rattle.model.specs.Standing.{Holder}
+use Rattle.wbl_engine.specs.Contents.{Keeps}
+use Rattle.wbl_engine.specs.Lawful.{AreLawful}
+use Rattle.machine.specs.declared.event.Cut.{Cut}
+use Rattle.machine.specs.declared.event.Node.TheVariants as node
+use Rattle.machine.specs.Event.{At, AsPrimary, Remains, World, may_remain}
+use Rattle.primary.specs.Recalling.{RecallsEach}
+use Rattle.world.specs.Committing.{AreContentsAt, OpensAt, promoted_holder}
+use Rattle.world.specs.Recalling.{past_of}
+
+-- ---- how an image opens
+
+-- The image opens as what a cut call leaves: at a position of the list; or where the standby stands, as that of the primary which it becomes.
+abbrev pub OpensAs : Holder → List Call → ℕ → Image → Remains → Type 0
+OpensAs holder calls position image (At p) = OpensAt holder calls p image
+OpensAs holder calls position image AsPrimary = OpensAt (promoted_holder holder) calls position image
+
+-- as one of these
+abbrev pub OpensAsOne : Holder → List Call → ℕ → List Remains → Image → Type 0
+OpensAsOne holder calls position [] image = ⊥
+OpensAsOne holder calls position (one ∷ others) image = OpensAs holder calls position image one ⊎ OpensAsOne holder calls position others image
+
+-- the image opens where its node stands, or as one of these
+abbrev pub OpensNear : Holder → List Call → ℕ → List Remains → Image → Type 0
+OpensNear holder calls position others image = OpensAt holder calls position image ⊎ OpensAsOne holder calls position others image
+
+-- each crash now leaves an image that opens so
+abbrev pub Remain : Holder → List Call → ℕ → List Remains → State → Type 0
+Remain holder calls position others device = (image : Image) → IsImage device.words image → OpensNear holder calls position others image
+
+-- Each crash between these two states of a device leaves an image that opens at one of these two positions of the list, or as one of these, which a fence that failed before may have left;
+-- and no fence failed.
+pub record MovesNear (holder : Holder) (calls : List Call) (from to : ℕ) (others : List Remains) (old new : State) : Type 0 where
+  pub leaves : LeavesOnly old new (OpensNear holder calls from (At to ∷ others))
+  pub failures : new.failures ≡ old.failures
+
+-- ---- what it holds
+
+-- the image holds contents of the list at this position, which obey the rules
+pub record KeepsAt (holder : Holder) (calls : List Call) (position : ℕ) (image : Image) : Type 0 where
+  pub contents : Contents
+  pub contents_at : AreContentsAt holder calls position contents
+  pub lawful : AreLawful contents
+  pub keeps : Keeps contents image
+
+-- A primary's: it holds lawful contents at a position at which the call may leave it, and they recall what the standby may need to be told.
+pub record LeftBy (holder : Holder) (w : World) (call : Cut) (image : Image) : Type 0 where
+  pub position : ℕ
+  pub one : Contains (may_remain w node.Primary call) (At position)
+  pub rises : w.primary.committer.position ≤ position
+  pub within : position ≤ position_of w.primary.calls
+  pub contents : Contents
+  pub contents_at : AreContentsAt holder w.primary.calls position contents
+  pub lawful : AreLawful contents
+  pub keeps : Keeps contents image
+  pub recalls : RecallsEach w.standby.position position (past_of w.primary.calls) contents
+
+-- A standby's: at this position, or as that of the primary which it becomes.
+abbrev pub KeepsAs : Holder → List Call → ℕ → Remains → Image → Type 0
+KeepsAs holder calls position (At p) image = KeepsAt holder calls p image
+KeepsAs holder calls position AsPrimary image = KeepsAt (promoted_holder holder) calls position image
+
+-- what it may hold where it stands at this position, and a call may have left one of these
+pub record KeepsOne (holder : Holder) (calls : List Call) (position : ℕ) (others : List Remains) (image : Image) : Type 0 where
+  pub one : Remains
+  pub is_one : Contains (At position ∷ others) one
+  pub keeps : KeepsAs holder calls position one image
+
+-- each crash leaves such a one of a standby that stopped
+pub record LeavesOne (holder : Holder) (calls : List Call) (position : ℕ) (others : List Remains) (device : State) : Type 0 where
+  pub lines_are : device.lines ≡ holder.lines
+  pub each : (image : Image) → IsImage device.words image → KeepsOne holder calls position others image
