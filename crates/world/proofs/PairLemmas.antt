@@ -146,7 +146,7 @@ goes-steps first second w w' event did old new device device' before runs serves
 pub rests-primary : (first second : Holder) (old : Pair) (w : World) → NodesRefine first second old w
     → OrLies Resting first w.primary.calls w.primary.committer.position (next_primary w) (torn w.primary.life) old.device old.device
 rests-primary first second old w stands =
-    lies-still Resting first w.primary.calls w.primary.committer.position (next_primary w) (torn w.primary.life) old.device old.device refl (primary-stands first second old w stands.parts)
+    lies-still first w.primary.calls w.primary.committer.position (next_primary w) (torn w.primary.life) old.device old.device refl (primary-stands first second old w stands.parts)
 
 -- of one that runs
 pub rests-running : (first second : Holder) (old : Pair) (w : World) → PartsRefine first second old w → Rests first w.primary.calls w.primary.committer.position old.device old.device
@@ -155,7 +155,7 @@ rests-running first second old w parts = rests-same first w.primary.calls w.prim
 pub rests-standby : (first second : Holder) (old : Pair) (w : World) → NodesRefine first second old w → HasStandby old
     → OrLies Resting second w.primary.calls w.standby.position (next_standby w) (torn w.standby.life) old.standby.device old.standby.device
 rests-standby first second old w stands whole =
-    lies-still Resting second w.primary.calls w.standby.position (next_standby w) (torn w.standby.life) old.standby.device old.standby.device refl (standby-stands first second old w stands.parts whole)
+    lies-still second w.primary.calls w.standby.position (next_standby w) (torn w.standby.life) old.standby.device old.standby.device refl (standby-stands first second old w stands.parts whole)
 
 -- what an event that was cut did to both devices
 abbrev pub Led : Holder → Holder → Pair → Pair → World → Stretch → Stretch → Type 0
@@ -191,9 +191,9 @@ cut-same first second event refusal old new w asks memory device device' same no
     (subst (λ (r : Refusal). EndsBy r event (Led first second old new w)) (sym memory) (
       asks,
       (
-        lies-still Resting first w.primary.calls w.primary.committer.position (next_primary w) (torn w.primary.life) old.device new.device device (primary-stands first second old w stands.parts),
+        lies-still first w.primary.calls w.primary.committer.position (next_primary w) (torn w.primary.life) old.device new.device device (primary-stands first second old w stands.parts),
         λ whole.
-            lies-still Resting second w.primary.calls w.standby.position (next_standby w) (torn w.standby.life) old.standby.device new.standby.device device' (standby-stands first second old w stands.parts whole),
+            lies-still second w.primary.calls w.standby.position (next_standby w) (torn w.standby.life) old.standby.device new.standby.device device' (standby-stands first second old w stands.parts whole),
       ),
     ))
 

@@ -15,7 +15,7 @@ use Rattle.machine.specs.declared.event.Cut.TheVariants as cut
 use Rattle.machine.specs.declared.event.Node.TheVariants as node
 use Rattle.machine.specs.Event.{AsPrimary, At, Primary, Remains, World, left_by, may_remain, torn}
 use Rattle.machine.specs.Sound.{IsStandbyLeft}
-use Rattle.world.specs.Cause.{OrLies, Stretch}
+use Rattle.world.specs.Cause.{OrLies, Resting}
 use Rattle.primary.specs.Recalling.{RecallsEach}
 use Rattle.primary.proofs.RecallLemmas.{recalls-still}
 use Rattle.world.specs.Recalling.{past_of}
@@ -23,7 +23,7 @@ use Rattle.world.specs.Committing.{AreContentsAt, Moves, Opens, OpensAt, OpensAt
 use Rattle.world.specs.Remaining.{KeepsAs, KeepsAt, KeepsOne, LeavesOne, LeftBy, MovesNear, OpensAs, OpensAsOne, OpensNear, Remain}
 use Rattle.world.proofs.CutLemmas.{AreContentsAt-cut}
 use Rattle.node_steps.proofs.EngineLemmas.{AreContentsAt-grows}
-use Rattle.world.proofs.EngineLemmas.{keeps-opens}
+use Rattle.world.proofs.EngineLemmas.{keeps-opens, rests-same}
 
 -- ---- how it opens
 
@@ -111,8 +111,17 @@ pub near-same : (holder : Holder) (calls : List Call) (p : ℕ) (others : List R
 near-same holder calls p others old new same remain =
     near-rest holder calls p p others old new same (subst (Remain holder calls p others) same remain)
 
-pub lies-still : (last : Stretch) (holder : Holder) (calls : List Call) (p next : ℕ) (others : List Remains) (old new : State) → new ≡ old → Remain holder calls p others old → OrLies last holder calls p next others old new
-lies-still last holder calls p next others old new same remain = inr (same, λ image is. remain image (subst (λ (d : State). IsImage d.words image) same is))
+only-there : (holder : Holder) (calls : List Call) (p : ℕ) (image : Image) → OpensNear holder calls p [] image → OpensAt holder calls p image
+only-there holder calls p image (inl here) = here
+only-there holder calls p image (inr none) = absurd none
+
+-- nothing was done to it: it rests, or its node has stopped
+pub lies-still : (holder : Holder) (calls : List Call) (p next : ℕ) (others : List Remains) (old new : State) → new ≡ old → Remain holder calls p others old → OrLies Resting holder calls p next others old new
+lies-still holder calls p next [] old new same remain = inl (rests-same holder calls p old new same (λ image is. only-there holder calls p image (remain image is)))
+lies-still holder calls p next (one ∷ others) old new same remain = inr (same, (λ image is. remain image (subst (λ (d : State). IsImage d.words image) same is)), some)
+  where
+    some : (one ∷ others) ≡ [] → ⊥
+    some none = cc
 
 pub remain-from : (holder : Holder) (calls : List Call) (p : ℕ) (others : List Remains) (device : State) → Opens holder calls p device → Remain holder calls p others device
 remain-from holder calls p others device opens = λ image is. inl (opens image is)

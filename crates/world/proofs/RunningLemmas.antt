@@ -274,7 +274,7 @@ played-cut first_lines second_lines began events event refusal done pair release
           subst (Remain stands.serving w.primary.calls w.primary.committer.position (torn w.primary.life)) (sym here) (primary-stands stands.serving stands.following before w stands.stands.parts) in
           let first_rests : OrLies Resting (primary_holder first_lines w) w.primary.calls w.primary.committer.position (next_primary w) (torn w.primary.life) (first_device before) (first_device pair) =
           subst (λ (h : Holder). OrLies Resting h w.primary.calls w.primary.committer.position (next_primary w) (torn w.primary.life) (first_device before) (first_device pair)) (primary-holds stands.stands ∙ ap (λ n. primary_holder n w) lines)
-          (lies-still Resting stands.serving w.primary.calls w.primary.committer.position (next_primary w) (torn w.primary.life) (first_device before) (first_device pair) cut.first_stays remain) in
+          (lies-still stands.serving w.primary.calls w.primary.committer.position (next_primary w) (torn w.primary.life) (first_device before) (first_device pair) cut.first_stays remain) in
           let second_ends : OrLies (Promoting refusal) (standby_holder second_lines w) w.primary.calls w.standby.position (next_standby w) (torn w.standby.life) (second_device before) (second_device pair) =
           subst (λ (h : Holder). OrLies (Promoting refusal) h w.primary.calls w.standby.position (next_standby w) (torn w.standby.life) (second_device before) (second_device pair))
           (standby-holds stands.stands ∙ ap (λ n. standby_holder n w) (stands.following_lines whole)) (inl cut.cause) in

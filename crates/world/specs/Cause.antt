@@ -1,5 +1,5 @@
 -- Why a run may end before its last event, and what each cause leaves of the devices.
-use Rattle.std.specs.Prelude.{◌≡◌, ◌⊎◌, ℕ, ◌+◌, ◌-◌, ◌<◌, ◌≤◌, Bool, true, false, List, Option, Some, None}
+use Rattle.std.specs.Prelude.{◌≡◌, ◌⊎◌, ℕ, ◌+◌, ◌-◌, ◌<◌, ◌≤◌, Bool, true, false, List, [], Option, Some, None}
 use Rattle.pmem.specs.Device.{State}
 use Rattle.pmem.specs.Crash.{IsImage}
 use Rattle.kv_types.specs.declared.refusal.Refusal.{Refusal}
@@ -76,9 +76,10 @@ pub record RestsBeforeReopening (holder : Holder) (calls : List Call) (position 
   pub has_record : (image : Image) → IsImage new.words image → HasRecord holder.lines current image
   pub limit : ExhaustsReopening current
 
--- so of a device; or its node had stopped, where a fence that failed left these, and nothing was done to it
+-- so of a device; or a fence that failed before left these, other than where its node stands, and nothing was done to it: the node has stopped
 abbrev pub OrLies : Stretch → Holder → List Call → ℕ → ℕ → List Remains → State → State → Type 0
-OrLies last holder calls position next others old new = last holder calls position next old new ⊎ ((new ≡ old) × Remain holder calls position others new)
+OrLies last holder calls position next others old new =
+    last holder calls position next old new ⊎ ((new ≡ old) × Remain holder calls position others new × (others ≡ [] → ⊥))
 
 -- its refusal ends the run
 abbrev pub asks_memory : Event → Bool
