@@ -201,7 +201,7 @@ fn is_unknown(words: &[Bytes]) -> bool {
     }
 }
 
-/// Runs what waits, as one call; nothing where a request was refused or a watched key modified.
+/// Runs what waits, as one call; nothing where a request was refused or a watched key modified. Outside a transaction it changes nothing.
 fn exec(
     alloc: Global,
     records: &mut PlainRecords,
@@ -209,15 +209,15 @@ fn exec(
     reply: &mut Vec<u8>,
     touched: &mut Vec<Bytes>,
 ) -> Result<(), AllocError> {
+    let Some(queue) = session.queue.take() else {
+        return put_error(reply, EXEC_OUTSIDE);
+    };
     let Session {
-        queue,
+        queue: _none,
         is_spoiled,
         watched: _watched,
         is_modified,
     } = std::mem::replace(session, Session::new(alloc));
-    let Some(queue) = queue else {
-        return put_error(reply, EXEC_OUTSIDE);
-    };
     if is_spoiled {
         return put_error(reply, ABORTED);
     }
