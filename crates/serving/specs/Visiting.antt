@@ -90,10 +90,17 @@ pub record Admits (old new : Floor) : Type 0 where
   pub put : StaysListed connection connection.arrival.seat old new
   pub is_short : new.is_short ≡ old.is_short
 
+-- The entrance was asked once who waits there. Where nobody does, nothing is done.
+pub record AsksEntrance (asked asked' : List (Option ℕ)) (old new : Floor) : Type 0 where
+  pub answer : Option ℕ
+  pub asks : asked' ≡ asked ++ answer ∷ []
+  pub nobody : answer ≡ None → Stays old new
+
 -- Somebody may have been admitted; those who were not done are visited, and then those who were called.
 pub record ServesRound (before after : OpenConnections) (old new : Sequencing) : Type 0 where
   pub admitted : Floor
   pub admits : Admits (floor_of before old) admitted ⊎ Stays (floor_of before old) admitted
+  pub asks : AsksEntrance (answers_of before.callers.arrivals) (answers_of after.callers.arrivals) (floor_of before old) admitted
   pub visited : Floor
   pub visits : VisitsEach admitted.again (record admitted { is_short = false }) visited
   pub heeds : HeedsCalls (answers_of before.callers.answers) (answers_of after.callers.answers) visited (floor_of after new)

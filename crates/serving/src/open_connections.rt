@@ -1,17 +1,17 @@
 //! The connections that are open, as the node's thread knows them.
-ghost use Rattle.std.specs.Prelude.{◌≡◌, ◌⊎◌, ℕ, ◌≤◌, false, Some};
+ghost use Rattle.std.specs.Prelude.{◌≡◌, ◌⊎◌, ℕ, ◌≤◌, false, None, Some};
 ghost use Rattle.redis_core.specs.Sequencing.{Sequencing};
 ghost use Rattle.serving.specs.Callers.{answers_of};
 ghost use Rattle.serving.specs.Places.{PutsAt};
 ghost use Rattle.serving.specs.Serving.{HasRead, Serves, WaitsOnlyFor};
-ghost use Rattle.serving.specs.Visiting.{Admits, Floor, Heeds, HeedsCalls, Stays, StaysListed, Visits, VisitsEach, floor_of};
+ghost use Rattle.serving.specs.Visiting.{Admits, AsksEntrance, Floor, Heeds, HeedsCalls, Stays, StaysListed, Visits, VisitsEach, floor_of};
 ghost use Rattle.wakes.specs.Waiting.{MayWait};
 
 use crate::again::Again;
 use crate::callers::Callers;
 use crate::open_connection::OpenConnection;
 use crate::places::Places;
-use crate::shared_entrance::{SharedEntrance, leave, next_arrival};
+use crate::shared_entrance::SharedEntrance;
 use crate::turns::{Served, take_turns};
 use clients::{ReplyQueue, RequestQueue};
 use lobby::Arrival;
@@ -33,7 +33,6 @@ pub struct OpenConnections {
     again: Again,
     /// Whether a request that was looked at in this round waits for room that is on its way.
     is_short: bool,
-    entrance: Arc<SharedEntrance>,
     callers: Callers,
     due: DueIn,
 }
@@ -54,8 +53,7 @@ impl OpenConnections {
             places: Places::new(alloc)?,
             again: Again::new(alloc)?,
             is_short: false,
-            entrance,
-            callers: Callers::new(ready),
+            callers: Callers::new(ready, entrance),
             due,
         })
     }
@@ -69,10 +67,10 @@ impl OpenConnections {
     ) -> bool
         ensures serves { Serves front.old.sequencer front.new.sequencer }
         ensures admits { Admits (floor_of self.old front.old.sequencer) (floor_of self.new front.new.sequencer) ⊎ Stays (floor_of self.old front.old.sequencer) (floor_of self.new front.new.sequencer) }
-        ensures nobody { result ≡ false → Stays (floor_of self.old front.old.sequencer) (floor_of self.new front.new.sequencer) }
-        ensures callers { (self.new).callers ≡ (self.old).callers }
+        ensures asks { AsksEntrance (answers_of (self.old).callers.arrivals) (answers_of (self.new).callers.arrivals) (floor_of self.old front.old.sequencer) (floor_of self.new front.new.sequencer) }
+        ensures callers { (self.new).callers.answers ≡ (self.old).callers.answers }
     {
-        let Some(arrival) = next_arrival(rt, &self.entrance) else {
+        let Some(arrival) = self.callers.next_arrival(rt).arrival() else {
             return false;
         };
         match OpenConnection::open(alloc, front, arrival) {
@@ -97,6 +95,7 @@ impl OpenConnections {
         ensures short { WaitsOnlyFor (self.new).is_short is_working front.new.sequencer }
         ensures visits { (between : Floor) × VisitsEach (self.old).again (record (floor_of self.old front.old.sequencer) { is_short = false }) between
             × HeedsCalls (answers_of (self.old).callers.answers) (answers_of (self.new).callers.answers) between (floor_of self.new front.new.sequencer) }
+        ensures arrivals { (self.new).callers.arrivals ≡ (self.old).callers.arrivals }
     {
         self.is_short = false;
         let again = self.serve_unfinished(rt, alloc, front, is_working, marks);
@@ -149,10 +148,11 @@ impl OpenConnections {
         ensures read { HasRead marks.old marks.new }
         ensures short { WaitsOnlyFor (self.new).is_short is_working front.new.sequencer }
         ensures heeds { HeedsCalls (answers_of (self.old).callers.answers) (answers_of (self.new).callers.answers) (floor_of self.old front.old.sequencer) (floor_of self.new front.new.sequencer) }
+        ensures arrivals { (self.new).callers.arrivals ≡ (self.old).callers.arrivals }
     {
         let mut any = false;
         for _ in 0..MOST_CALLS {
-            let Some(number) = self.callers.next(rt) else {
+            let Some(number) = self.callers.next(rt).seat() else {
                 return any;
             };
             any |= self.serve_call(rt, alloc, front, is_working, marks, number);
@@ -261,7 +261,7 @@ impl OpenConnections {
         } = arrival;
         requests.flags.is_over.set();
         replies.writer.wake();
-        leave(rt, &self.entrance, seat);
+        self.callers.leave(rt, seat);
         drop(requests);
         drop(replies);
     }

@@ -1,8 +1,12 @@
 //! Where connections get their seats, and wait until the node's thread takes them in.
+ghost use Rattle.std.specs.Prelude.{◌≡◌};
+ghost use Rattle.serving.specs.Callers.{answer_of, seat_of};
+
 use clients::{ReplyQueue, RequestQueue};
 use lobby::{Arrival, Entrance};
 use pipes::Seat;
 use std::sync::{Arc, Mutex, Wait};
+use wakes::SeatNumber;
 
 /// Where connections get their seats, and wait until the node's thread takes them in.
 pub type SharedEntrance = Mutex<Entrance<RequestQueue, ReplyQueue>>;
@@ -26,10 +30,35 @@ pub(crate) fn arrive<R: Wait>(
     drop(entrance.lock(rt).arrive(arrival));
 }
 
-/// The connection that has waited longest, if one waits.
-pub(crate) fn next_arrival<R: Wait>(
-    rt: &R,
-    entrance: &Arc<SharedEntrance>,
-) -> Option<Arrival<RequestQueue, ReplyQueue>> {
-    entrance.lock(rt).waiting()
+/// What the entrance answered: the connection that has waited longest, or that none waits. Only `next_arrival` makes one, and it cannot be let go: whoever takes
+/// it has to take the connection.
+pub(crate) struct NextArrival {
+    arrival: Option<Arrival<RequestQueue, ReplyQueue>>,
+}
+
+impl NextArrival {
+    /// The connection, if one waited.
+    pub(crate) fn arrival(self) -> Option<Arrival<RequestQueue, ReplyQueue>>
+        ensures { result ≡ self.arrival }
+    {
+        let NextArrival { arrival } = self;
+        arrival
+    }
+
+    /// The number of its seat.
+    pub(crate) fn seat(&self) -> Option<SeatNumber>
+        ensures { answer_of result ≡ seat_of self.now.arrival }
+    {
+        match &self.arrival {
+            Some(arrival) => Some(SeatNumber::of(&arrival.seat)),
+            None => None,
+        }
+    }
+}
+
+/// Asks for the connection that has waited longest.
+pub(crate) fn next_arrival<R: Wait>(rt: &R, entrance: &Arc<SharedEntrance>) -> NextArrival {
+    NextArrival {
+        arrival: entrance.lock(rt).waiting(),
+    }
 }

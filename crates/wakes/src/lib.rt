@@ -15,7 +15,7 @@ pub use calls::{Called, Calls};
 pub use due::{DUE_ITEMS, Due, DueIn, DueOut, due_list};
 pub use flags::{ConnectionFlags, Flag};
 pub use idle::Idle;
-pub use ready_list::ReadyList;
+pub use ready_list::{NextReady, ReadyList};
 pub use seat_number::SeatNumber;
 pub use seat_waker::SeatWaker;
 pub use sleeper::{LONGEST_SLEEP_MILLISECONDS, Sleeper, new_sleeper};

@@ -10,6 +10,29 @@ use pipes::MAX_SEATS;
 use std::alloc::{AllocError, Global};
 use std::sync::Wait;
 
+/// What a `ReadyList` answered: the seat that has waited longest, or that none is listed. Only `ReadyList::next` makes one, and it cannot be let go: whoever
+/// takes it has to ask for its seat.
+pub struct NextReady {
+    seat: Option<SeatNumber>,
+}
+
+impl NextReady {
+    /// The number of the seat, if one was listed.
+    pub fn seat(self) -> Option<SeatNumber>
+        ensures { result ≡ self.seat }
+    {
+        let NextReady { seat } = self;
+        seat
+    }
+
+    /// The same, of one that is still to be asked for its seat.
+    pub fn peek(&self) -> Option<SeatNumber>
+        ensures { result ≡ self.now.seat }
+    {
+        self.seat
+    }
+}
+
 /// The seats whose connections have something for the thread that serves, the one that has waited longest first. Each seat is in the list
 /// at most once, so that connections with nothing to do cost a busy one nothing.
 #[derive(Drop)]
@@ -54,10 +77,12 @@ impl ReadyList {
 
     /// Takes out the number of the seat that has waited longest. From then on, and so before the caller looks what there is to do for it, the
     /// seat can be added again. So what comes too late for that look puts the seat back into the list.
-    pub fn next<R: Wait>(&self, rt: &R) -> Option<SeatNumber> {
-        let number = self.numbers.pop(rt)?;
-        self.is_listed[number.index()].take();
-        Some(number)
+    pub fn next<R: Wait>(&self, rt: &R) -> NextReady {
+        let seat = self.numbers.pop(rt);
+        if let Some(number) = &seat {
+            self.is_listed[number.index()].take();
+        }
+        NextReady { seat }
     }
 
     /// Wakes the thread that serves.

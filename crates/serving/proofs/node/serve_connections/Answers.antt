@@ -1,7 +1,7 @@
-use Rattle.std.proofs.Common.{subst}
+use Rattle.std.proofs.Common.{sym, subst, ◌∙◌, ap}
 use Rattle.serving.specs.Callers.{answers_of}
 use Rattle.serving.specs.Visiting.{HeedsCalls, floor_of}
-use Rattle.serving.specs.declared.callers.Callers.{Callers}
+use Rattle.serving.specs.declared.callers.Answers.{Answers}
 use Rattle.serving.proofs.TurnsLemmas.{serves-then}
 use Rattle.serving.proofs.node.serve_connections.Goals as goal
 
@@ -14,8 +14,13 @@ returns-clause-visits g c =
     record {
       admitted = floor_of c.admit-admitted.new.self c.admit-admitted.new.front.sequencer;
       admits = c.admit-admitted.ensures.admits;
+      asks = record {
+        answer = c.admit-admitted.ensures.asks.answer;
+        asks = ap answers_of c.serve-served.ensures.arrivals ∙ c.admit-admitted.ensures.asks.asks;
+        nobody = c.admit-admitted.ensures.asks.nobody;
+      };
       visited = visits.0;
       visits = visits.1;
-      heeds = subst (λ (callers : Callers). HeedsCalls (answers_of callers.answers) (answers_of c.serve-served.new.self.callers.answers) visits.0
+      heeds = subst (λ (answers : Answers). HeedsCalls (answers_of answers) (answers_of c.serve-served.new.self.callers.answers) visits.0
           (floor_of c.serve-served.new.self c.serve-served.new.front.sequencer)) c.admit-admitted.ensures.callers visits.2;
     }
