@@ -154,6 +154,22 @@ class Reports(ServingCases):
         for positions in ([it.position for it in reports()], [it.position for it in standby_reports(standby)]):
             self.assertEqual(positions, sorted(positions))
 
+    def test_connections_that_come_and_go(self):
+        """What they ask is counted, though none of them is there when the driver looks."""
+        self.started("--report", "1")
+        asked, end = 0, time.monotonic() + 4
+        while time.monotonic() < end:
+            with contextlib.closing(self.nodes.client()) as client:
+                for _ in range(20):
+                    client.ask("INCR", "a")
+                    asked += 1
+        reports = lambda: primary_reports(self.nodes.primary)
+        wait_until(lambda: [it for it in reports()[-1:] if (it.position, it.clients, it.requests) == (asked, 0, 0)], "a report of a primary that rests")
+        told = sum(it.requests for it in reports())
+        self.assertLessEqual(told, asked + 1)
+        # (a report of several seconds has fewer requests a second)
+        self.assertGreater(told, asked // (20 * common.BUSY))
+
     def test_how_often(self):
         self.started("--report", "3")
         time.sleep(10)

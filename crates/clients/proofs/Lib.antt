@@ -3,6 +3,7 @@ pub mod HoldsLemmas
 pub mod OutboxLemmas
 pub mod PlacesLemmas
 pub mod ReaderLemmas
+pub mod ReplyLemmas
 pub mod RequestLemmas
 pub mod RoundsLemmas
 pub mod SendsLemmas

@@ -1,5 +1,5 @@
 -- Lists of places, one place after another.
-use Rattle.std.proofs.Common.{◌≡◌, ◌≢◌, ℕ, zero, suc, ◌+◌, ◌<◌, ◌≤◌, ◌++◌, inl, inr, Bool, All, List, [], ◌∷◌, length, Option, Some, None, slice_set, nat_lt, true, false, refl, sym, ap, subst, ◌∙◌, arith}
+use Rattle.std.proofs.Common.{◌≡◌, ◌≢◌, ℕ, zero, suc, ◌+◌, ◌<◌, ◌≤◌, ◌++◌, inl, inr, Bool, All, List, [], ◌∷◌, length, Option, Some, None, slice_index_or, slice_set, nat_lt, true, false, refl, sym, ap, subst, ◌∙◌, arith}
 use Rattle.std.proofs.lemmas.List.{get_or_past, get_or-set_same, get_or-set_other}
 use Rattle.std.proofs.Common.{below_more}
 use Rattle.std.proofs.lemmas.Bool.{ltb-true, ltb-false}
@@ -9,7 +9,10 @@ use Rattle.std.proofs.lemmas.List.Elements.{All-append}
 use Rattle.mio.specs.declared.event.event.Event.{Event}
 use Rattle.mio.specs.Event.{event_token}
 use Rattle.clients.specs.declared.driven.DrivenConnection.{DrivenConnection}
-use Rattle.clients.specs.Places.{IsNoted, IsNotedAt, Notes, NotesPlace, connection_at}
+use Rattle.clients.specs.Driven.{StaysAt}
+use Rattle.clients.specs.Places.{IsHeardAs, IsHeardIn, IsNoted, Notes, NotesPlace, connection_at}
+use Rattle.clients.proofs.ReplyLemmas.{stays_written-same, stays_written-join}
+use Rattle.clients.proofs.RequestLemmas.{stays_read-same, stays_read-join}
 
 abbrev pub Place : Type 0
 Place = Option DrivenConnection
@@ -47,18 +50,33 @@ along-all R index before now past none along k = by-order (nat_lt k index) refl
 pub noted-stays : (before after : Place) → IsNoted before → NotesPlace before after → IsNoted after
 noted-stays None after noted notes = notes
 noted-stays (Some before) None noted notes = absurd notes
-noted-stays (Some before) (Some after) noted notes = notes.3 noted
+noted-stays (Some before) (Some after) noted notes = notes.noted noted
+
+pub stays_at-same : (connection : DrivenConnection) → StaysAt connection connection
+stays_at-same connection = record {
+  place = refl;
+  requests = stays_read-same connection.requests;
+  replies = stays_written-same connection.replies;
+  noted = λ noted. noted;
+}
+
+pub stays_at-join : (first second third : DrivenConnection) → StaysAt first second → StaysAt second third → StaysAt first third
+stays_at-join first second third stays then = record {
+  place = then.place ∙ stays.place;
+  requests = stays_read-join first.requests second.requests third.requests stays.requests then.requests;
+  replies = stays_written-join first.replies second.replies third.replies stays.replies then.replies;
+  noted = λ noted. then.noted (stays.noted noted);
+}
 
 pub notes-join : (first second third : Place) → NotesPlace first second → NotesPlace second third → NotesPlace first third
 notes-join None second third notes then = noted-stays second third notes then
 notes-join (Some first) None third notes then = absurd notes
 notes-join (Some first) (Some second) None notes then = absurd then
-notes-join (Some first) (Some second) (Some third) notes then =
-    (then.0 ∙ notes.0, then.1 ∙ notes.1, then.2 ∙ notes.2, λ noted. then.3 (notes.3 noted))
+notes-join (Some first) (Some second) (Some third) notes then = stays_at-join first second third notes then
 
 pub notes-same : (place : Place) → NotesPlace place place
 notes-same None = cc
-notes-same (Some place) = (refl, refl, refl, λ noted. noted)
+notes-same (Some place) = stays_at-same place
 
 pub notes-none : (places : List Place) → Notes places places
 notes-none places = λ k. notes-same (connection_at places k)
@@ -86,29 +104,50 @@ notes-set before now index new same lt here = λ k. elim (eqb_tells k index) [
       (notes-same (connection_at before k))
 ]
 
--- Of all events the first were heeded: who is at their places is noted.
-pub record Heeds (places : List Place) (all rest : List Event) : Type 0 where
+-- who is told of an event stays told
+pub heard-later : (event : Event) (start now later : Place) → IsHeardAs event start now → NotesPlace now later → IsHeardAs event start later
+heard-later event None now later heard notes = noted-stays now later heard notes
+heard-later event (Some start) None later heard notes = absurd heard
+heard-later event (Some start) (Some now) None heard notes = absurd notes
+heard-later event (Some start) (Some now) (Some later) heard notes =
+    (notes.noted heard.0, (λ is. notes.requests.ready (heard.1.0 is), λ is. notes.replies.ready (heard.1.1 is)))
+
+pub heard-earlier : (event : Event) (start now later : Place) → NotesPlace start now → IsHeardAs event now later → IsHeardAs event start later
+heard-earlier event None None later notes heard = heard
+heard-earlier event None (Some now) None notes heard = absurd heard
+heard-earlier event None (Some now) (Some later) notes heard = heard.0
+heard-earlier event (Some start) None later notes heard = absurd notes
+heard-earlier event (Some start) (Some now) None notes heard = heard
+heard-earlier event (Some start) (Some now) (Some later) notes heard = heard
+
+pub heard-all : (events : List Event) (start now later : List Place) → All (λ event. IsHeardIn event start now) events → Notes now later
+    → All (λ event. IsHeardIn event start later) events
+heard-all events start now later heard notes = λ k none lt. let event = slice_index_or events k none in heard-later event _ _ _ (heard k none lt) (notes (event_token event).0)
+
+-- Of all events the first were heeded: who was at their places is told.
+pub record Heeds (start places : List Place) (all rest : List Event) : Type 0 where
   pub first : List Event
   pub are : all ≡ first ++ rest
-  pub ready : All (λ event. IsNotedAt places ((event_token event).0)) first
+  pub ready : All (λ event. IsHeardIn event start places) first
 
-pub heeds-start : (places : List Place) (all : List Event) → Heeds places all all
-heeds-start places all = record { first = []; are = refl; ready = λ k d lt. absurd (omega (arith, lt)) }
+pub heeds-start : (start places : List Place) (all : List Event) → Heeds start places all all
+heeds-start start places all = record { first = []; are = refl; ready = λ k d lt. absurd (omega (arith, lt)) }
 
-pub heeds-next : (places places' : List Place) (all rest rest' : List Event) (event : Event) → rest ≡ event ∷ rest' → Heeds places all rest → Notes places places'
-    → IsNotedAt places' ((event_token event).0) → Heeds places' all rest'
-heeds-next places places' all rest rest' event is heeds notes here = record {
+pub heeds-next : (start places places' : List Place) (all rest rest' : List Event) (event : Event) → rest ≡ event ∷ rest' → Heeds start places all rest
+    → Notes start places → Notes places places' → IsHeardIn event places places' → Heeds start places' all rest'
+heeds-next start places places' all rest rest' event is heeds before notes here = record {
   first = heeds.first ++ event ∷ [];
   are = heeds.are ∙ ap (λ (more : List Event). heeds.first ++ more) is ∙ sym (append_assoc heeds.first (event ∷ []) rest');
-  ready = All-append (λ (event : Event). IsNotedAt places' ((event_token event).0)) heeds.first (event ∷ [])
-      (λ k d lt. noted-stays _ _ (heeds.ready k d lt) (notes _)) (only event here);
+  ready = All-append (λ (event : Event). IsHeardIn event start places') heeds.first (event ∷ [])
+      (heard-all heeds.first start places places' heeds.ready notes)
+      (only event (heard-earlier event _ _ _ (before _) here));
 }
   where
-    only : (event : Event) → IsNotedAt places' ((event_token event).0) → All (λ event. IsNotedAt places' ((event_token event).0)) (event ∷ [])
+    only : (event : Event) → IsHeardIn event start places' → All (λ event. IsHeardIn event start places') (event ∷ [])
     only event here zero d lt = here
     only event here (suc k) d lt = absurd (omega (arith, lt))
 
-pub heeds-all : (places : List Place) (all rest : List Event) → length rest ≡ 0 → Heeds places all rest → All (λ event. IsNotedAt places ((event_token event).0)) all
-heeds-all places all [] none heeds = subst (λ (events : List Event). All (λ event. IsNotedAt places ((event_token event).0)) events)
+pub heeds-all : (start places : List Place) (all rest : List Event) → length rest ≡ 0 → Heeds start places all rest → All (λ event. IsHeardIn event start places) all
+heeds-all start places all [] none heeds = subst (λ (events : List Event). All (λ event. IsHeardIn event start places) events)
     (sym (heeds.are ∙ append-nil heeds.first)) heeds.ready
-heeds-all places all (event ∷ rest) none heeds = cc
+heeds-all start places all (event ∷ rest) none heeds = cc

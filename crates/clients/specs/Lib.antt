@@ -1,4 +1,5 @@
 pub mod Asked
+pub mod Driven
 pub mod Piece
 pub mod Places
 pub mod Reader

@@ -1,4 +1,5 @@
 //! Why a reader broke off.
+use crate::signals::HasLeft;
 use kv_types::Refusal;
 use std::alloc::AllocError;
 use std::io;
@@ -10,8 +11,8 @@ pub enum BrokenOff {
     Memory,
     /// A read failed.
     Socket,
-    /// Nobody takes its requests any more.
-    Over,
+    /// An item waits for room, and nobody takes its requests any more.
+    Over(HasLeft),
 }
 
 impl From<AllocError> for BrokenOff {

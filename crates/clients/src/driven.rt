@@ -1,9 +1,12 @@
 //! A connection, as its driver has it.
 ghost use Rattle.std.specs.Prelude.{◌≡◌};
-ghost use Rattle.clients.specs.declared.reply_side.WritingState.TheVariants as state;
-ghost use Rattle.clients.specs.ReplySide.{IsVisited};
-ghost use Rattle.clients.specs.RequestSide.{Asks, KeepsRequests};
+ghost use Rattle.clients.specs.declared.reply_side.WritingState.TheVariants as writing;
+ghost use Rattle.clients.specs.declared.request_side.ReadingState.TheVariants as reading;
+ghost use Rattle.clients.specs.Driven.{Hears, IsVisit};
+ghost use Rattle.clients.specs.ReplySide.{IsVisited, StaysWritten};
+ghost use Rattle.clients.specs.RequestSide.{KeepsRequests, StaysRead};
 
+use crate::registration::{NotRegistered, register};
 use crate::reply_side::{ReplySide, Written};
 use crate::request_side::RequestSide;
 use crate::shown::Counted;
@@ -11,13 +14,10 @@ use crate::signals::Signals;
 use crate::stillness::Stillness;
 use crate::waits::{Measured, Standing, Waits};
 use kv_types::Seen;
+use mio::Registry;
 use mio::event::Event;
-use mio::unix::SourceFd;
-use mio::{Interest, Registry, Token};
 use pipes::Seat;
-use std::io;
 use std::net::{Shutdown, TcpStream};
-use std::os::fd::AsRawFd;
 use std::sync::Wait;
 use std::time::{Duration, Instant};
 
@@ -62,19 +62,16 @@ impl DrivenConnection {
     ///
     /// # Errors
     ///
-    /// As the system refuses it.
-    pub(crate) fn register(&self, registry: &Registry) -> io::Result<()> {
-        let descriptor = self.stream.as_raw_fd();
-        registry.register(
-            &mut SourceFd(&descriptor),
-            Token(self.place.number()),
-            Interest::READABLE | Interest::WRITABLE,
-        )
+    /// Only `NotRegistered`.
+    pub(crate) fn register(&self, registry: &Registry) -> Result<(), NotRegistered> {
+        register(registry, &self.stream, &self.place)
     }
 
     /// Notes for what the socket is ready.
     pub(crate) fn hear(&mut self, event: &Event)
-        ensures replies { (self.new.replies.outbox ≡ self.old.replies.outbox) × (self.new.replies.replies ≡ self.old.replies.replies) }
+        ensures heard { Hears event.now self.new }
+        ensures replies { StaysWritten self.old.replies self.new.replies }
+        ensures requests { StaysRead self.old.requests self.new.requests }
         ensures place { self.new.place ≡ self.old.place }
     {
         if event.is_readable() {
@@ -90,15 +87,15 @@ impl DrivenConnection {
 
     /// Goes on with all that it can do now, and notes how long a reply was waited for.
     pub(crate) fn visit<R: Wait>(&mut self, rt: &R, seen: &Seen, waits: &mut Waits) -> Next
-        ensures replies { IsVisited seen.now self.old.replies self.new.replies }
-        ensures requests { Asks self.old.requests self.new.requests }
-        ensures closes { result ≡ Next.Closes → self.new.replies.state ≡ state.Over }
+        ensures visits { IsVisit seen.now self.old.requests self.new.requests self.old.replies self.new.replies }
+        ensures closes { result ≡ Next.Closes → (self.new.requests.state ≡ reading.Over) × (self.new.replies.state ≡ writing.Over) }
         ensures place { self.new.place ≡ self.old.place }
     {
         let reads_on = self.requests.go_on(rt, &self.stream, &self.signals);
         let writes_on = self.write(rt, seen);
         self.measure(seen, waits);
         if self.requests.is_over() && self.replies.is_over() {
+            waits.note_end(self.requests.offered().wrapping_sub(self.counted));
             Next::Closes
         } else if reads_on | writes_on {
             Next::Busy
@@ -130,13 +127,14 @@ impl DrivenConnection {
     fn write<R: Wait>(&mut self, rt: &R, seen: &Seen) -> bool
         ensures requests { KeepsRequests self.old.requests self.new.requests }
         ensures replies { IsVisited seen.now self.old.replies self.new.replies }
+        ensures ends { self.old.requests.state ≡ reading.Open → (self.new.requests.state ≡ reading.Open → ⊥) → self.new.replies.state ≡ writing.Over }
         ensures place { self.new.place ≡ self.old.place }
     {
         match self.replies.go_on(rt, &self.stream, seen, &self.signals) {
             Written::Waits => false,
             Written::Busy => true,
             Written::Fails => {
-                self.break_off();
+                self.cut_off();
                 true
             }
             Written::Ends => {
@@ -146,14 +144,18 @@ impl DrivenConnection {
         }
     }
 
+    /// Nobody reports the socket. So nothing is written, and the peer's requests end.
+    pub(crate) fn break_off(&mut self, refused: &NotRegistered) {
+        self.replies.fail(refused);
+        self.cut_off();
+    }
+
     /// Nothing can be written any more. So the peer's requests end too.
-    pub(crate) fn break_off(&mut self)
-        ensures requests { KeepsRequests self.old.requests self.new.requests }
-        ensures kept { (self.new.replies.outbox ≡ self.old.replies.outbox) × (self.new.replies.replies ≡ self.old.replies.replies) }
-        ensures failed { self.new.replies.state ≡ state.Failed }
+    fn cut_off(&mut self)
+        ensures requests { StaysRead self.old.requests self.new.requests }
+        ensures replies { self.new.replies ≡ self.old.replies }
         ensures place { self.new.place ≡ self.old.place }
     {
-        self.replies.fail();
         let _ = self.stream.shutdown(Shutdown::Both);
         self.requests.ends();
     }
@@ -175,6 +177,7 @@ impl DrivenConnection {
     /// The driver looks at it, once a second, whether or not anybody called. Where nothing has come for too long, and nothing waits, its requests end as if
     /// the peer had ended them.
     pub(crate) fn look(&mut self, look: &Look, counted: &mut Counted)
+        ensures requests { StaysRead self.old.requests self.new.requests }
         ensures replies { self.new.replies ≡ self.old.replies }
         ensures place { self.new.place ≡ self.old.place }
     {
@@ -193,6 +196,7 @@ impl DrivenConnection {
 
     /// Where nothing has come for too long, and nothing waits, its requests end as if the peer had ended them. Answers whether they do.
     pub(crate) fn end_if_idle(&mut self, look: &Look) -> bool
+        ensures requests { StaysRead self.old.requests self.new.requests }
         ensures replies { self.new.replies ≡ self.old.replies }
         ensures place { self.new.place ≡ self.old.place }
         ensures noted { self.new.is_noted ≡ self.old.is_noted }
@@ -207,6 +211,7 @@ impl DrivenConnection {
 
     /// Whether nothing has come for too long, and nothing waits: each request has its reply, and each reply is written.
     fn is_idle(&mut self, look: &Look) -> bool
+        ensures requests { StaysRead self.old.requests self.new.requests }
         ensures replies { self.new.replies ≡ self.old.replies }
         ensures place { self.new.place ≡ self.old.place }
         ensures noted { self.new.is_noted ≡ self.old.is_noted }

@@ -1,6 +1,5 @@
 //! The connections of one driver, and the poll that reports which of their sockets are ready.
-ghost use Rattle.clients.specs.Places.{IsRound, Notes, Visits, seen_by, connection_at, IsQuiet, IsNotedAt};
-ghost use Rattle.mio.specs.Event.{event_token};
+ghost use Rattle.clients.specs.Places.{IsRound, Notes, Visits, seen_by, connection_at, IsQuiet, IsHeardIn};
 ghost use Rattle.mio.specs.Events.{items as events_in};
 ghost use Rattle.std.specs.Prelude.{◌≡◌, ℕ, All, false};
 
@@ -97,7 +96,7 @@ impl DrivenConnections {
     /// Notes the connections whose sockets are ready, for which somebody called, and once a second all.
     fn note<R: Wait + Clock>(&mut self, rt: &R)
         ensures notes { Notes self.old.places.items self.new.places.items }
-        ensures ready { All (λ event. IsNotedAt self.new.places.items ((event_token event).0)) (events_in self.old.events) }
+        ensures ready { All (λ event. IsHeardIn event self.old.places.items self.new.places.items) (events_in self.old.events) }
     {
         note_ready(&self.events, &mut self.places);
         if self.entrance.calls().take_any() {
@@ -178,8 +177,8 @@ impl DrivenConnections {
 /// Has the poll report the socket of a connection. Where the system refuses that, the connection ends.
 fn registered(connection: DrivenConnection, registry: &Registry) -> DrivenConnection {
     let mut connection = connection;
-    if connection.register(registry).is_err() {
-        connection.break_off();
+    if let Err(refused) = connection.register(registry) {
+        connection.break_off(&refused);
     }
     connection
 }

@@ -1,6 +1,6 @@
 //! The connections of a driver, each at its place, and which of them are visited next.
 ghost use Rattle.std.specs.Prelude.{◌≡◌, ℕ, All, Some, None, true, false, OnOk, vec_len};
-ghost use Rattle.clients.specs.Places.{IsNoted, IsNotedAt, IsQuiet, IsVisitOf, Notes, NotesPlace, Visits, VisitsPlace, connection_at};
+ghost use Rattle.clients.specs.Places.{IsHeardAs, IsHeardIn, IsNoted, IsNotedAt, IsQuiet, IsVisitOf, Notes, NotesPlace, Visits, VisitsPlace, connection_at};
 ghost use Rattle.mio.specs.Event.{event_token};
 ghost use Rattle.mio.specs.Events.{items as events_in};
 
@@ -17,7 +17,7 @@ use wakes::{Called, Calls};
 /// Notes each connection whose socket is ready.
 pub(crate) fn note_ready(events: &Events, places: &mut Vec<Option<DrivenConnection>>)
     ensures notes { Notes places.old.items places.new.items }
-    ensures ready { All (λ event. IsNotedAt places.new.items ((event_token event).0)) (events_in events.now) }
+    ensures ready { All (λ event. IsHeardIn event places.old.items places.new.items) (events_in events.now) }
 {
     for event in events.iter() {
         note_event(places, event);
@@ -27,7 +27,7 @@ pub(crate) fn note_ready(events: &Events, places: &mut Vec<Option<DrivenConnecti
 /// Notes the connection whose socket is ready, and for what it is.
 fn note_event(places: &mut Vec<Option<DrivenConnection>>, event: &Event)
     ensures notes { Notes places.old.items places.new.items }
-    ensures ready { IsNotedAt places.new.items ((event_token event.now).0) }
+    ensures ready { IsHeardIn event.now places.old.items places.new.items }
 {
     if let Some(place) = places.get_mut(event.token().0) {
         hear(place, event);
@@ -36,7 +36,7 @@ fn note_event(places: &mut Vec<Option<DrivenConnection>>, event: &Event)
 
 fn hear(place: &mut Option<DrivenConnection>, event: &Event)
     ensures notes { NotesPlace place.old place.new }
-    ensures noted { IsNoted place.new }
+    ensures heard { IsHeardAs event.now place.old place.new }
 {
     if let Some(connection) = place {
         connection.hear(event);

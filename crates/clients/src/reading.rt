@@ -3,7 +3,8 @@ ghost use Rattle.std.specs.Prelude.{◌≡◌, ℕ, List, [], ◌++◌, ◌∷�
 ghost use Rattle.std.specs.Io.KnownBytes.{IsAtEnd};
 ghost use Rattle.kv_types.specs.declared.item.Item.{Item};
 ghost use Rattle.clients.specs.Asked.{asked_by};
-ghost use Rattle.clients.specs.Reader.{owed, Offers, Reads};
+ghost use Rattle.clients.specs.Reader.{owed, Offers, Reads, OffersFor};
+ghost use Rattle.clients.specs.Reader as spec;
 
 use crate::block::Block;
 use crate::broken_off::BrokenOff;
@@ -51,6 +52,8 @@ pub struct RequestReader {
     held: Option<Item>,
     /// How many items were offered, modulo 2^64.
     offered: u64,
+    /// Whether a turn came to the end of the requests, or broke off.
+    is_done: bool,
 }
 
 impl RequestReader {
@@ -67,6 +70,7 @@ impl RequestReader {
             block: Block::new(alloc)?,
             held: None,
             offered: 0,
+            is_done: false,
         })
     }
 
@@ -96,8 +100,33 @@ impl RequestReader {
     ) -> Result<Progress, BrokenOff>
         requires may { (other : O) (item : Item) → O.is_same outlet.old other → O.may_offer other item }
         ensures reads { OnOk result (Reads (S.remaining stream.old) (S.remaining stream.new) self.old self.new (O.offered outlet.old) (O.offered outlet.new)) }
+        ensures offers { OffersFor self.old self.new (O.offered outlet.old) (O.offered outlet.new) }
         ensures all { IfOk result (λ progress. (progress ≡ Progress.Full → ⊥) → owed self.new [] ≡ []) }
         ensures end { IfOk result (λ progress. progress ≡ Progress.Ended → self.new.inbound.is_closed ≡ false → IsAtEnd (S.remaining stream.new)) }
+        ensures done { spec.is_last result ≡ true → self.new.is_done ≡ true }
+        ensures goes_on { spec.is_last result ≡ false → self.new.is_done ≡ self.old.is_done }
+        ensures same { O.is_same outlet.old outlet.new }
+    {
+        let progress = self.read_blocks(stream, outlet, signals);
+        if is_last(&progress) {
+            self.is_done = true;
+        }
+        progress
+    }
+
+    /// The same, of which nothing is noted.
+    fn read_blocks<S: Read, O: Outlet<Item = Item>>(
+        &mut self,
+        stream: &mut S,
+        outlet: &mut O,
+        signals: &Signals,
+    ) -> Result<Progress, BrokenOff>
+        requires may { (other : O) (item : Item) → O.is_same outlet.old other → O.may_offer other item }
+        ensures reads { OnOk result (Reads (S.remaining stream.old) (S.remaining stream.new) self.old self.new (O.offered outlet.old) (O.offered outlet.new)) }
+        ensures offers { OffersFor self.old self.new (O.offered outlet.old) (O.offered outlet.new) }
+        ensures all { IfOk result (λ progress. (progress ≡ Progress.Full → ⊥) → owed self.new [] ≡ []) }
+        ensures end { IfOk result (λ progress. progress ≡ Progress.Ended → self.new.inbound.is_closed ≡ false → IsAtEnd (S.remaining stream.new)) }
+        ensures done { self.new.is_done ≡ self.old.is_done }
         ensures same { O.is_same outlet.old outlet.new }
     {
         let mut progress = self.offer_all(outlet, signals)?;
@@ -120,8 +149,10 @@ impl RequestReader {
         requires may { (other : O) (item : Item) → O.is_same outlet.old other → O.may_offer other item }
         requires none_owed { owed self.old [] ≡ [] }
         ensures reads { OnOk result (Reads (S.remaining stream.old) (S.remaining stream.new) self.old self.new (O.offered outlet.old) (O.offered outlet.new)) }
+        ensures offers { OffersFor self.old self.new (O.offered outlet.old) (O.offered outlet.new) }
         ensures all { IfOk result (λ progress. (progress ≡ Progress.Full → ⊥) → owed self.new [] ≡ []) }
         ensures end { IfOk result (λ progress. progress ≡ Progress.Ended → self.new.inbound.is_closed ≡ false → IsAtEnd (S.remaining stream.new)) }
+        ensures done { self.new.is_done ≡ self.old.is_done }
         ensures same { O.is_same outlet.old outlet.new }
     {
         let room = self.block.make_room()?;
@@ -148,11 +179,12 @@ impl RequestReader {
         ensures offers { Offers self.old self.new (O.offered outlet.old) (O.offered outlet.new) }
         ensures all { IfOk result (λ progress. (progress ≡ Progress.Full → ⊥) → owed self.new [] ≡ []) }
         ensures end { IfOk result (λ progress. progress ≡ Progress.Ended → self.new.inbound.is_closed ≡ true) }
+        ensures done { self.new.is_done ≡ self.old.is_done }
         ensures same { O.is_same outlet.old outlet.new }
     {
         while self.hold_next()? {
             if !self.offer_held(outlet, signals) {
-                return Ok(Progress::Full);
+                return full(signals);
             }
         }
         if self.inbound.is_closed() {
@@ -167,6 +199,7 @@ impl RequestReader {
         ensures owes { (more : List ℕ) → owed self.old more ≡ owed self.new more }
         ensures held { IfOk result (λ is. is ≡ true → IsSome self.new.held) }
         ensures none { result ≡ Ok false → owed self.new [] ≡ [] }
+        ensures done { self.new.is_done ≡ self.old.is_done }
     {
         if self.held.is_none() {
             self.held = self.inbound.next()?;
@@ -180,6 +213,7 @@ impl RequestReader {
         requires held { IsSome self.old.held }
         ensures offers { Offers self.old self.new (O.offered outlet.old) (O.offered outlet.new) }
         ensures less { result ≡ true → length (owed self.new []) < length (owed self.old []) }
+        ensures done { self.new.is_done ≡ self.old.is_done }
         ensures same { O.is_same outlet.old outlet.new }
     {
         let Some(item) = self.held.take() else {
@@ -214,6 +248,26 @@ fn last_piece(piece: Option<Bytes>) -> LastPiece {
         None => LastPiece::NoneNow,
         Some(bytes) if bytes.is_empty() => LastPiece::End,
         Some(_) => LastPiece::Bytes,
+    }
+}
+
+/// Whether nothing more is asked of a reader after this.
+fn is_last(progress: &Result<Progress, BrokenOff>) -> bool
+    ensures { result ≡ spec.is_last progress.now }
+{
+    match progress {
+        Ok(progress) => *progress == Progress::Ended,
+        Err(_) => true,
+    }
+}
+
+/// An item waits for room. Where the thread that serves has left the connection, it waits in vain.
+fn full(signals: &Signals) -> Result<Progress, BrokenOff>
+    ensures { IfOk result (λ progress. progress ≡ Progress.Full) }
+{
+    match signals.has_left() {
+        Some(left) => Err(BrokenOff::Over(left)),
+        None => Ok(Progress::Full),
     }
 }
 

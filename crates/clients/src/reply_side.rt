@@ -1,9 +1,10 @@
 //! The replies of a connection, as its driver has them.
-ghost use Rattle.std.specs.Prelude.{◌≡◌, ◌⊎◌, [], true};
+ghost use Rattle.std.specs.Prelude.{◌≡◌, ◌<◌, [], length, true, false};
 ghost use Rattle.pipes.specs.Ring.{known_at};
-ghost use Rattle.clients.specs.ReplySide.{GoesOn, Says, Writes};
+ghost use Rattle.clients.specs.ReplySide.{GoesOn, Says, Stands, StaysWritten, Writes};
 
 use crate::outbox::Outbox;
+use crate::registration::NotRegistered;
 use crate::signals::{Signals, WasOver};
 use crate::writing::{Round, let_replies_go, write_round};
 use kv_types::{Held, Seen};
@@ -62,7 +63,7 @@ impl ReplySide {
     /// The socket may take bytes.
     pub(crate) fn is_writable(&mut self)
         ensures ready { self.new.is_ready ≡ true }
-        ensures kept { (self.new.outbox ≡ self.old.outbox) × (self.new.replies ≡ self.old.replies) × (self.new.state ≡ self.old.state) }
+        ensures kept { StaysWritten self.old self.new }
     {
         self.is_ready = true;
     }
@@ -125,7 +126,8 @@ impl ReplySide {
     ) -> Written
         ensures writes { Writes seen.now result self.old self.new }
         ensures over { result ≡ Written.Ends → over.is_over ≡ true }
-        ensures ends { self.new.state ≡ WritingState.Over → (self.old.state ≡ WritingState.Over) ⊎ (result ≡ Written.Ends) }
+        ensures stands { Stands result self.old.state self.new.state }
+        ensures ready { self.old.is_ready ≡ true → self.new.is_ready ≡ false → 0 < length self.new.outbox.gate.pending }
     {
         let mut socket = stream;
         let round = write_round(
@@ -142,8 +144,8 @@ impl ReplySide {
 
     /// What a round came to.
     fn after(&mut self, round: io::Result<Round>) -> Written
-        ensures says { Says round self.new.is_ready result }
-        ensures ends { self.new.state ≡ WritingState.Over → (self.old.state ≡ WritingState.Over) ⊎ (result ≡ Written.Ends) }
+        ensures says { Says round self.old.is_ready self.new.is_ready result }
+        ensures stands { Stands result self.old.state self.new.state }
         ensures kept { (self.new.outbox ≡ self.old.outbox) × (self.new.replies ≡ self.old.replies) }
     {
         match round {
@@ -158,17 +160,14 @@ impl ReplySide {
                 Written::Ends
             }
             Err(_) => {
-                self.fail();
+                self.state = WritingState::Failed;
                 Written::Fails
             }
         }
     }
 
-    /// Writes nothing more, and lets the replies go until the connection is over.
-    pub(crate) fn fail(&mut self)
-        ensures kept { (self.new.outbox ≡ self.old.outbox) × (self.new.replies ≡ self.old.replies) }
-        ensures failed { self.new.state ≡ WritingState.Failed }
-    {
+    /// Nobody reports for what the socket is ready. So nothing is written, and the replies are let go until the connection is over.
+    pub(crate) fn fail(&mut self, _refused: &NotRegistered) {
         self.state = WritingState::Failed;
     }
 
@@ -177,7 +176,8 @@ impl ReplySide {
         ensures outbox { self.new.outbox ≡ self.old.outbox }
         ensures over { result ≡ Written.Ends → over.is_over ≡ true }
         ensures none { result ≡ Written.Ends → known_at self.new.replies ≡ [] }
-        ensures ends { self.new.state ≡ WritingState.Over → (self.old.state ≡ WritingState.Over) ⊎ (result ≡ Written.Ends) }
+        ensures stands { Stands result self.old.state self.new.state }
+        ensures ready { self.new.is_ready ≡ self.old.is_ready }
     {
         if let_replies_go(&mut self.replies) {
             signals.made_room(rt);

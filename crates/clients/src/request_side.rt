@@ -1,7 +1,7 @@
 //! The requests of a connection, as its driver has them.
-ghost use Rattle.std.specs.Prelude.{◌≡◌};
+ghost use Rattle.std.specs.Prelude.{◌≡◌, true, false};
 ghost use Rattle.pipes.specs.Ring.{offered_at};
-ghost use Rattle.clients.specs.RequestSide.{Asks, ReadsOn};
+ghost use Rattle.clients.specs.RequestSide.{Asks, KeepsRequests, ReadsOn, StaysRead};
 
 use crate::reading::{LastPiece, Progress, RequestReader};
 use crate::signals::Signals;
@@ -62,7 +62,8 @@ impl RequestSide {
 
     /// The socket may have something to read.
     pub(crate) fn is_readable(&mut self)
-        ensures kept { (self.new.reader ≡ self.old.reader) × (self.new.items ≡ self.old.items) × (self.new.state ≡ self.old.state) }
+        ensures kept { StaysRead self.old self.new }
+        ensures ready { self.new.is_ready ≡ true }
     {
         self.is_ready = true;
         self.has_come = true;
@@ -75,7 +76,7 @@ impl RequestSide {
 
     /// Whether something came since this was asked last.
     pub(crate) fn take_has_come(&mut self) -> bool
-        ensures kept { (self.new.reader ≡ self.old.reader) × (self.new.items ≡ self.old.items) × (self.new.state ≡ self.old.state) }
+        ensures kept { StaysRead self.old self.new }
     {
         let has_come = self.has_come;
         self.has_come = false;
@@ -84,25 +85,31 @@ impl RequestSide {
 
     /// The peer will send no more.
     pub(crate) fn ends(&mut self)
-        ensures kept { (self.new.reader ≡ self.old.reader) × (self.new.items ≡ self.old.items) × (self.new.state ≡ self.old.state) }
+        ensures kept { StaysRead self.old self.new }
+        ensures ready { self.new.is_ready ≡ true }
     {
         self.is_ready = true;
         self.is_at_end = true;
     }
 
     /// Whether requests are still read.
-    pub(crate) fn is_open(&self) -> bool {
+    pub(crate) fn is_open(&self) -> bool
+        ensures { result ≡ false → self.now.state ≡ ReadingState.Open → ⊥ }
+    {
         self.state == ReadingState::Open
     }
 
     /// Whether nothing more is read.
-    pub(crate) fn is_over(&self) -> bool {
+    pub(crate) fn is_over(&self) -> bool
+        ensures { result ≡ true → self.now.state ≡ ReadingState.Over }
+    {
         self.state == ReadingState::Over
     }
 
     /// Goes on as far as it can. Says whether there may be more to do at once.
     pub(crate) fn go_on<R: Wait>(&mut self, rt: &R, stream: &TcpStream, signals: &Signals) -> bool
-        ensures { Asks self.old self.new }
+        ensures asks { Asks self.old self.new }
+        ensures ends { self.old.state ≡ ReadingState.Open → (self.new.state ≡ ReadingState.Open → ⊥) → self.new.reader.is_done ≡ true }
     {
         match self.state {
             ReadingState::Open => self.read(rt, stream, signals),
@@ -113,7 +120,9 @@ impl RequestSide {
 
     /// Reads and offers for one turn, and calls the thread that serves.
     fn read<R: Wait>(&mut self, rt: &R, stream: &TcpStream, signals: &Signals) -> bool
-        ensures reads { self.new.state ≡ ReadingState.Open → ReadsOn self.old self.new }
+        ensures reads { ReadsOn self.old self.new }
+        ensures ends { self.old.state ≡ ReadingState.Open → (self.new.state ≡ ReadingState.Open → ⊥) → self.new.reader.is_done ≡ true }
+        ensures was_open { self.new.state ≡ ReadingState.Open → self.old.state ≡ ReadingState.Open }
     {
         if !self.is_ready && !self.reader.is_held() {
             return false;
@@ -124,8 +133,8 @@ impl RequestSide {
         match progress {
             Ok(Progress::More) => true,
             Ok(Progress::Drained) => self.drained(),
-            Ok(Progress::Full) if !signals.is_over() => false,
-            _ => {
+            Ok(Progress::Full) => false,
+            Ok(Progress::Ended) | Err(_) => {
                 self.end(rt, signals);
                 true
             }
@@ -143,6 +152,7 @@ impl RequestSide {
 
     /// Offers nothing more, says so and calls the thread that serves.
     fn end<R: Wait>(&mut self, rt: &R, signals: &Signals)
+        ensures reader { self.new.reader ≡ self.old.reader }
         ensures items { self.new.items ≡ self.old.items }
         ensures state { self.new.state ≡ ReadingState.LetsGo }
     {
@@ -152,7 +162,7 @@ impl RequestSide {
 
     /// Reads nothing more.
     pub(crate) fn leave<R: Wait>(&mut self, rt: &R, signals: &Signals)
-        ensures items { self.new.items ≡ self.old.items }
+        ensures keeps { KeepsRequests self.old self.new }
         ensures state { self.new.state ≡ ReadingState.Over }
     {
         if self.is_open() {
@@ -194,9 +204,11 @@ impl RequestSide {
     }
 
     /// The driver looks, once a second. Where it waits for the last bytes of the peer, and none came since it looked last, nothing more is read.
-    pub(crate) fn look(&mut self, is_written: bool) {
+    pub(crate) fn look(&mut self, is_written: bool)
+        ensures kept { StaysRead self.old self.new }
+    {
         self.is_ready = true;
-        if is_written && self.is_quiet {
+        if is_written && self.is_quiet && !self.is_open() {
             self.state = ReadingState::Over;
         }
         self.is_quiet = is_written;

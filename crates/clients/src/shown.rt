@@ -28,7 +28,7 @@ impl Shown {
         self.connections.load(Ordering::SeqCst)
     }
 
-    /// How many requests have come since the program was started. Those of a connection's last second are not counted.
+    /// How many requests have come since the program was started, up to the driver's last look.
     pub fn requests(&self) -> u64 {
         self.requests.load(Ordering::SeqCst)
     }
@@ -67,11 +67,11 @@ pub(crate) struct Counted {
 }
 
 impl Counted {
-    /// None was looked at yet. In the visits since the last time there were these waits.
+    /// None was looked at yet. In the visits since the last time there were these waits, and connections ended to which requests had come.
     pub(crate) fn nothing(waits: Waits) -> Counted {
         Counted {
             connections: 0,
-            requests: 0,
+            requests: waits.uncounted,
             is_waiting: false,
             waits,
         }

@@ -1,5 +1,5 @@
 //! What the driver of a connection and the thread that serves signal to one another.
-ghost use Rattle.std.specs.Prelude.{◌≡◌};
+ghost use Rattle.std.specs.Prelude.{◌≡◌, true};
 
 use std::sync::{Arc, Wait};
 use wakes::{ConnectionFlags, ReadyList, SeatNumber};
@@ -27,6 +27,16 @@ impl Signals {
     pub fn was_over(&self) -> WasOver {
         WasOver {
             is_over: self.is_over(),
+        }
+    }
+
+    /// Asks whether it has, and says so only then.
+    pub(crate) fn has_left(&self) -> Option<HasLeft> {
+        let was = self.was_over();
+        if was.is_over() {
+            Some(HasLeft { was })
+        } else {
+            None
         }
     }
 
@@ -63,4 +73,11 @@ impl WasOver {
     {
         self.is_over
     }
+}
+
+/// The thread that serves has left a connection. Nobody can say so who has not asked, and found it so.
+#[derive(Clone, Copy, Debug, PartialEq, Eq)]
+pub struct HasLeft {
+    was: WasOver,
+    ghost found: { was.is_over ≡ true },
 }

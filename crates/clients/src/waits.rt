@@ -1,4 +1,6 @@
 //! How long connections wait for their replies.
+ghost use Rattle.std.specs.Prelude.{◌≡◌, ◌+◌, ◌%◌, ◌^◌};
+
 use kv_types::Seen;
 use std::time::{Duration, Instant};
 
@@ -88,11 +90,13 @@ impl Measured {
     }
 }
 
-/// The longest wait of the connections of a driver, and when its round began.
+/// The longest wait of the connections of a driver, when its round began, and what nobody can count any more.
 #[derive(Clone, Copy)]
 pub(crate) struct Waits {
     pub(crate) now: Option<Instant>,
     longest: Duration,
+    /// How many requests came on connections that have ended, since they were counted there last; modulo 2^64.
+    pub(crate) uncounted: u64,
 }
 
 impl Waits {
@@ -101,7 +105,15 @@ impl Waits {
         Waits {
             now: None,
             longest: Duration::from_secs(0),
+            uncounted: 0,
         }
+    }
+
+    /// Notes that a connection has ended, to which so many requests came since they were counted last.
+    pub(crate) fn note_end(&mut self, requests: u64)
+        ensures { (self.new).uncounted ≡ ((self.old).uncounted + requests) % 2 ^ 64 }
+    {
+        self.uncounted = self.uncounted.wrapping_add(requests);
     }
 
     /// Notes that somebody has waited so long.
@@ -111,11 +123,12 @@ impl Waits {
         }
     }
 
-    /// Nobody has waited since, in the same round.
+    /// Nobody has waited since, in the same round, and all that came is counted.
     pub(crate) fn over(self) -> Waits {
         Waits {
             now: self.now,
             longest: Duration::from_secs(0),
+            uncounted: 0,
         }
     }
 

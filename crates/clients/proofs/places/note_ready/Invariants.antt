@@ -6,5 +6,5 @@ use Rattle.clients.proofs.places.note_ready.Given as goal
 abbrev pub invariant-loop-event : goal.invariant-loop-event
 invariant-loop-event l = record {
   notes : Notes l.initial.places.items l.places.items;
-  heeds : Heeds l.places.items (events_in l.events) l.event-iterator.rest.now;
+  heeds : Heeds l.initial.places.items l.places.items (events_in l.events) l.event-iterator.rest.now;
 }
