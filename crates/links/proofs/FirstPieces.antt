@@ -1,5 +1,5 @@
 -- The standby's first acknowledgement, read in pieces, and the link that opens by it.
-use Rattle.std.proofs.Common.{◌≡◌, ⊎_elim, ℕ, ◌<◌, ◌≤◌, List, [], ◌∷◌, ◌++◌, Option, None, Some, Result, Ok, Err, sym, subst}
+use Rattle.std.proofs.Common.{◌≡◌, ◌⊎◌, inl, inr, ⊎_elim, ℕ, ◌<◌, ◌≤◌, List, [], ◌∷◌, ◌++◌, Option, None, Some, Result, Ok, Err, sym, subst}
 use Rattle.std.proofs.lemmas.Bool.{cases_lt}
 use Rattle.std.specs.Io.KnownBytes.{Consumes}
 use Rattle.kv_types.specs.declared.refusal.Refusal.{Refusal}
@@ -16,8 +16,8 @@ use Rattle.standby_stream.specs.Delta.{IsDelta}
 use Rattle.standby_stream.specs.Outgoing.{Notes}
 use Rattle.standby_stream.specs.declared.outgoing.Outgoing.{Outgoing}
 use Rattle.links.specs.declared.receiver.AckReceiver.{AckReceiver}
-use Rattle.links.specs.Hearing.{Takes}
-use Rattle.links.specs.Opening.{Opens, Reopens, SaysFirst}
+use Rattle.links.specs.Hearing.{RefusesAck, Takes}
+use Rattle.links.specs.Opening.{HearsLink, silent, refused, unopened, Opens, Reopens, SaysFirst}
 use Rattle.links.proofs.Serving.{Consumes-join, Consumes-none}
 
 -- of these messages as much is read
@@ -75,3 +75,10 @@ Opens-by ack position noted receiver hearing old middle new at again takes reope
   reopens = subst (λ (n : ℕ). Reopens n old middle) at reopens;
   notes = subst (λ (n : ℕ). Notes n middle new) again notes;
 }
+
+-- what a receiver made of a connection on which no link opened
+pub HearsLink-unopened : (old new : AckReceiver) (bytes left : Option (List ℕ))
+    → (new ≡ old) ⊎ ((ack : Ack) × (held : Option (List ℕ)) × SaysFirst bytes left ack held × (RefusesAck old ack new ⊎ Takes old ack new)) → HearsLink old new
+HearsLink-unopened old new bytes left (inl is) = subst (λ (receiver : AckReceiver). HearsLink old receiver) (sym is) (silent old)
+HearsLink-unopened old new bytes left (inr told) =
+    ⊎_elim (λ (refuses : RefusesAck old told.0 new). refused old new told.0 refuses) (λ (takes : Takes old told.0 new). unopened old new told.0 takes) told.3

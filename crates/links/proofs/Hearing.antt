@@ -12,10 +12,6 @@ use Rattle.links.specs.Reading.{Reads, ReadsPiece}
 use Rattle.links.specs.Hearing.{Takes, Refuses, Hears, nothing, more, StopsAt, HasHeard}
 use Rattle.links.proofs.Serving.{Consumes-join, Consumes-none}
 
-pub OnErr-always : {T E : Type 0} {P : Type 0} (result : Result T E) → P → OnErr result P
-OnErr-always (Ok x) told = tt
-OnErr-always (Err e) told = told
-
 -- ---- messages
 
 Hears-join : (first middle last : AckReceiver) (messages later : List Sent) → Hears first messages middle → Hears middle later last → Hears first (messages ++ later) last

@@ -1,5 +1,6 @@
 mod SentFrames
 mod Serving
+mod Says
 mod Hearing
 mod FirstPieces
 mod SentRounds

@@ -1,5 +1,5 @@
 -- What a standby's answer to one frame says of a run.
-use Rattle.std.proofs.Common.{◌≡◌, ◌≢◌, ℕ, Bool, ◌⊎◌, inl, inr, List, [], ◌∷◌, ◌++◌, Result, Ok, Err, IfErr, IsErrOf, OnOk, refl, sym, ap, subst, ◌∙◌, append-nil, append_assoc, Option, Some, None}
+use Rattle.std.proofs.Common.{◌≡◌, ◌≢◌, ℕ, Bool, ◌⊎◌, inl, inr, List, [], ◌∷◌, ◌++◌, Result, Ok, Err, IfErr, IsErrOf, OnOk, OnErr, refl, sym, ap, subst, ◌∙◌, append-nil, append_assoc, Option, Some, None}
 use Rattle.kv_types.specs.declared.refusal.Refusal.{Refusal}
 use Rattle.kv_types.specs.declared.refusal.Refusal.TheVariants.{Fault, Memory}
 use Rattle.pmem.specs.Device.{State}
@@ -20,12 +20,12 @@ use Rattle.stream_codec.specs.Scanning.{sent_of_all}
 use Rattle.std.specs.Io.KnownBytes.{Appends, Consumes}
 use Rattle.std.proofs.lemmas.Grind.{flat_map-append}
 use Rattle.stream_codec.specs.Stream.{begun as unfed, took, fed}
-use Rattle.links.specs.Serving.{Held, Acknowledges, Answers, IsFreed, IsTidied, Run, none, more, idle, Says, HasRun, Served, ack_text, acks_text, ends_by, held}
+use Rattle.links.specs.Serving.{Held, Acknowledges, Answers, IsFreed, IsTidied, Run, none, more, idle, HasRun, Served, ack_text, acks_text, ends_by, held}
 
 same_ack : {ack told : Ack} → ◌≡◌ {A = Result Ack Refusal} (Ok ack) (Ok told) → ack ≡ told
 same_ack is = cc
 
-not_refused : {ack : Ack} {refusal : Refusal} → ◌≡◌ {A = Result Ack Refusal} (Ok ack) (Err refusal) → ⊥
+pub not_refused : {ack : Ack} {refusal : Refusal} → ◌≡◌ {A = Result Ack Refusal} (Ok ack) (Err refusal) → ⊥
 not_refused is = cc
 
 -- what a node says of a frame that it acknowledged
@@ -100,6 +100,14 @@ pub OnOk-always : {T E : Type 0} {P : Type 0} (result : Result T E) → P → On
 OnOk-always (Ok x) told = told
 OnOk-always (Err e) told = tt
 
+pub OnErr-into : {T E : Type 0} {P Q : Type 0} (result : Result T E) → (P → Q) → OnErr result P → OnErr result Q
+OnErr-into (Ok x) into told = tt
+OnErr-into (Err e) into told = into told
+
+pub OnErr-always : {T E : Type 0} {P : Type 0} (result : Result T E) → P → OnErr result P
+OnErr-always (Ok x) told = tt
+OnErr-always (Err e) told = told
+
 -- what had ended is freed, or there was no memory to free it
 pub frees-by : {T : Type 0} (result : Result T Refusal) (before after : Held) → ¬ IsErrOf result Fault → IfErr result (λ refusal. (refusal ≡ Memory) ⊎ (refusal ≡ Fault))
     → OnOk result (IsFreed before after) → (IsErrOf result Memory → after ≡ before) → IsFreed before after
@@ -148,43 +156,16 @@ pub Appends-none : (before : Option (List ℕ)) → Appends before before []
 Appends-none None = tt
 Appends-none (Some b) = sym (append-nil b)
 
--- nothing was written
-pub says-none : (first : Held) (before : Option (List ℕ)) → Says first before before
-says-none first before = record { messages = []; acks = []; middle = first; run = none first; written = Appends-none before }
-
-pub begun : (first : Held) (before : Option (List ℕ)) → HasRun first [] before first before
-begun first before = record { acks = []; run = none first; written = Appends-none before }
-
-pub says-run : {first last : Held} {messages : List Sent} {before after : Option (List ℕ)} → HasRun first messages before last after → Says first before after
-says-run {first} {last} {messages} so_far = record { messages = messages; acks = so_far.acks; middle = last; run = so_far.run; written = so_far.written }
-
--- one frame was answered
-pub says-one : (first last : Held) (message : Sent) (ack : Ack) (before after : Option (List ℕ)) → Answers first message ack last → Appends before after (ack_text ack) → Says first before after
-says-one first last message ack before after answers written = record {
-  messages = message ∷ [];
-  acks = ack ∷ [];
-  middle = last;
-  run = more first first last [] [] message ack (none first) answers;
-  written = subst (λ (text : List ℕ). Appends before after text) (sym (append-nil (ack_text ack))) written;
-}
-
-pub says-frame : (first last : Held) (frame : Frame) (ack : Ack) (before after : Option (List ℕ)) → Acknowledges first frame ack last → Appends before after (ack_text ack) → Says first before after
-says-frame first last frame ack before after told written =
-    says-one first last (sent_of_frame frame) ack before after (record { frame = frame; is_frame = refl; acknowledges = told }) written
+pub begun-none : (first : Held) (before : Option (List ℕ)) → HasRun first [] before first before
+begun-none first before = record { acks = []; run = none first; written = Appends-none before }
 
 -- what was put alone was written
 pub sent-alone : (before after : Option (List ℕ)) (old out text : List ℕ) → old ≡ [] → out ≡ old ++ text → Appends before after out → Appends before after text
 sent-alone before after old out text empty put written = subst (λ (bytes : List ℕ). Appends before after bytes) (put ∙ ap (λ (bytes : List ℕ). bytes ++ text) empty) written
 
--- and what came after it
-pub says-then : (first middle : Held) (messages : List Sent) (before between after : Option (List ℕ)) → HasRun first messages before middle between → Says middle between after → Says first before after
-says-then first middle messages before between after so_far says = record {
-  messages = messages ++ says.messages;
-  acks = so_far.acks ++ says.acks;
-  middle = says.middle;
-  run = Run-join first middle says.middle messages says.messages so_far.acks says.acks so_far.run says.run;
-  written = subst (λ (text : List ℕ). Appends before after text) (sym (flat_map-append ack_text so_far.acks says.acks)) (Appends-join before between after (acks_text so_far.acks) (acks_text says.acks) so_far.written says.written);
-}
+-- what was put alone was written in part
+pub put_alone : (old out text part rest : List ℕ) → old ≡ [] → out ≡ old ++ text → out ≡ part ++ rest → text ≡ part ++ rest
+put_alone old out text part rest empty put split = sym (put ∙ ap (λ (bytes : List ℕ). bytes ++ text) empty) ∙ split
 
 pub one_more : (first middle last : Held) (messages : List Sent) (message : Sent) (ack : Ack) (before between after : Option (List ℕ))
     → HasRun first messages before middle between → Answers middle message ack last → Appends between after (ack_text ack) → HasRun first (messages ++ message ∷ []) before last after

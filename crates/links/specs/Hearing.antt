@@ -20,11 +20,13 @@ pub record Takes (old : AckReceiver) (ack : Ack) (new : AckReceiver) : Type 0 wh
   pub epoch : new.epoch ≡ old.epoch
 
 -- The receiver refused this acknowledgement, and the remote mark stayed: it does not count, or the standby was ahead before, or it is above the local mark as
--- it was read before.
+-- it was read before. By one that counts the standby is ahead from then on; any other says nothing of that.
 pub record RefusesAck (old : AckReceiver) (ack : Ack) (new : AckReceiver) : Type 0 where
   pub stays : new.marks.remote ≡ old.marks.remote
   pub epoch : new.epoch ≡ old.epoch
   pub why : (counts old.epoch ack ≡ false) ⊎ ((old.standing ≡ Ahead) ⊎ (new.marks.local < ack.position))
+  pub ahead : counts old.epoch ack ≡ true → new.standing ≡ Ahead
+  pub foreign : counts old.epoch ack ≡ false → new.standing ≡ old.standing
 
 -- the same of a message, or it is a group, which only a primary sends
 abbrev pub Refuses : AckReceiver → Sent → AckReceiver → Type 0
@@ -57,3 +59,7 @@ pub record HasHeard (first : AckReceiver) (held bytes : Option (List ℕ)) (last
   pub consumed : Consumes bytes left (text ++ lost)
   pub read : Reads held text messages unread
   pub heard : Hears first messages last ⊎ StopsAt first messages last
+
+-- the same of a connection of which no more is known than what the decoder held
+abbrev pub HasHeardBehind : AckReceiver → Option (List ℕ) → AckReceiver → Type 0
+HasHeardBehind first held last = (bytes : Option (List ℕ)) × (left : Option (List ℕ)) × HasHeard first held bytes last left

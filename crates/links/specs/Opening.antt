@@ -8,7 +8,7 @@ use Rattle.stream_codec.specs.Stream.{Reaches}
 use Rattle.standby_stream.specs.Delta.{IsDelta}
 use Rattle.standby_stream.specs.Outgoing.{Notes}
 use Rattle.standby_stream.specs.declared.outgoing.Outgoing.{Outgoing}
-use Rattle.links.specs.Hearing.{Takes}
+use Rattle.links.specs.Hearing.{HasHeardBehind, RefusesAck, Takes}
 use Rattle.links.specs.declared.receiver.AckReceiver.{AckReceiver}
 
 -- What was read is one acknowledgement and what came behind it in the same piece, which the decoder holds: nothing of it is lost.
@@ -29,3 +29,11 @@ pub record Opens (ack : Ack) (receiver hearing : AckReceiver) (old new : Outgoin
   pub middle : Outgoing
   pub reopens : Reopens ack.position old middle
   pub notes : Notes ack.position middle new
+
+-- What a receiver made of one connection: nothing, or of the first acknowledgement that came there, by which it opens, and then of all that came behind it.
+pub data HearsLink : AckReceiver → AckReceiver → Type 0 where
+  silent : (receiver : AckReceiver) → HearsLink receiver receiver
+  refused : (old new : AckReceiver) (ack : Ack) → RefusesAck old ack new → HearsLink old new
+  unopened : (old new : AckReceiver) (ack : Ack) → Takes old ack new → HearsLink old new
+  opened : (old hearing new : AckReceiver) (ack : Ack) (bytes left held : Option (List ℕ)) → SaysFirst bytes left ack held → Takes old ack hearing → HasHeardBehind hearing held new
+      → HearsLink old new

@@ -7,11 +7,11 @@ use Rattle.kv_types.specs.declared.refusal.Refusal.{Refusal}
 use Rattle.kv_types.specs.declared.refusal.Refusal.TheVariants.{Fault, Exhausted, PositionGap, WrongEpoch}
 use Rattle.model.specs.declared.record.Record.{Record}
 use Rattle.model.specs.Group.{Contents}
-use Rattle.mv_keyspace.specs.Table.{Table}
+use Rattle.mv_keyspace.specs.Table.{Table, records}
 use Rattle.frames.specs.declared.frame.Frame.{Frame}
 use Rattle.stream_codec.specs.declared.message.GroupHead.{GroupHead}
 use Rattle.frames.specs.declared.ack.Ack.{Ack}
-use Rattle.standby.specs.Following.{TakesEpoch, IsHeld, IsNext, IsRearranged, IsTakenNext, HasTaken}
+use Rattle.standby.specs.Following.{TakesEpoch, IsHeld, IsNext, IsRearranged, IsTakenNext, HasTaken, EndsAs}
 use Rattle.stream_codec.specs.Message.{Sent, sent_of_frame, sent_of_ack, sent_text}
 use Rattle.links.specs.declared.link_error.LinkError.{LinkError}
 use Rattle.links.specs.declared.link_error.LinkError.TheVariants.{Refused, Stops}
@@ -62,13 +62,32 @@ ack_text ack = sent_text (sent_of_ack ack)
 abbrev pub acks_text : List Ack → List ℕ
 acks_text = flat_map ack_text
 
--- What was written is the acknowledgements of a run that answered some messages.
-pub record Says (first : Held) (before after : Option (List ℕ)) : Type 0 where
-  pub messages : List Sent
+-- The same keyspace stands at the same position, perhaps rearranged.
+pub record IsLeft (before after : Held) : Type 0 where
+  pub rearranged : IsRearranged before.contents after.contents
+  pub keyspace : records after.table ≡ records before.table
+
+-- How a link that ends leaves a node that answered all before these messages: what it holds then, and which part of one more acknowledgement was written.
+pub data Leaves : Held → List Sent → List ℕ → Held → Type 0 where
+  -- it answered none of them
+  keeps : (node last : Held) (messages : List Sent) → IsLeft node last → Leaves node messages [] last
+  -- it answered the next one, whose acknowledgement was written in part, or not at all
+  cuts : (node last : Held) (message : Sent) (messages : List Sent) (ack : Ack) (part rest : List ℕ) → Answers node message ack last → ack_text ack ≡ part ++ rest
+      → Leaves node (message ∷ messages) part last
+  -- its device failed in the next frame, which it holds then, or does not
+  fails : (node last : Held) (frame : Frame) (messages : List Sent) → EndsAs frame node.contents node.table last.contents → Leaves node (sent_of_frame frame ∷ messages) [] last
+
+-- What was written where these messages came, whatever became of the link: the acknowledgements of those that the node answered, the first of them, in order;
+-- at most this part of one more; and nothing else.
+pub record Says (first : Held) (messages : List Sent) (before : Option (List ℕ)) (last : Held) (after : Option (List ℕ)) (part : List ℕ) : Type 0 where
+  pub done : List Sent
+  pub others : List Sent
   pub acks : List Ack
   pub middle : Held
-  pub run : Run first messages acks middle
-  pub written : Appends before after (acks_text acks)
+  pub are : messages ≡ done ++ others
+  pub run : Run first done acks middle
+  pub leaves : Leaves middle others part last
+  pub written : Appends before after (acks_text acks ++ part)
 
 -- What was written is the acknowledgements of a run that answered just these messages.
 pub record HasRun (first : Held) (messages : List Sent) (before : Option (List ℕ)) (last : Held) (after : Option (List ℕ)) : Type 0 where
@@ -86,6 +105,22 @@ pub record Served (first : Held) (bytes before : Option (List ℕ)) (last : Held
   pub read : Reaches text messages unread
   pub run : Run first messages acks last
   pub written : Appends before after (acks_text acks)
+
+-- What was read and written since a link began, whatever became of it: of the whole frames in what was read the first were answered.
+pub record HasSaid (first : Held) (bytes before : Option (List ℕ)) (last : Held) (left after : Option (List ℕ)) (part : List ℕ) : Type 0 where
+  pub text : List ℕ
+  pub messages : List Sent
+  pub unread : Option (List ℕ)
+  pub consumed : Consumes bytes left text
+  pub read : Reaches text messages unread
+  pub says : Says first messages before last after part
+
+-- The same of a link on which the node says first where it is. That may have been written in part, and then nothing was read.
+pub data LinkSays (opening : Ack) : Held → Option (List ℕ) → Option (List ℕ) → Held → Option (List ℕ) → Option (List ℕ) → List ℕ → Type 0 where
+  cut_off : (node : Held) (bytes before after : Option (List ℕ)) (part rest : List ℕ) → ack_text opening ≡ part ++ rest → Appends before after part
+      → LinkSays opening node bytes before node bytes after part
+  then_said : (first last : Held) (bytes before opened left after : Option (List ℕ)) (part : List ℕ) → Appends before opened (ack_text opening)
+      → HasSaid first bytes opened last left after part → LinkSays opening first bytes before last left after part
 
 -- how a link ends whose frame was refused
 abbrev pub ends_by : Refusal → LinkError

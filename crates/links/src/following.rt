@@ -1,8 +1,8 @@
 //! The standby's side: one link at a time.
-ghost use Rattle.std.specs.Prelude.{◌≡◌, ◌↔◌, ℕ, List, [], ◌++◌, OnOk, OnErr, Err, Ok, Option, None, Some, MatchOption, IfOk, IfErr, IfSome, IsErrOf};
+ghost use Rattle.std.specs.Prelude.{◌≡◌, ◌↔◌, ℕ, List, [], ◌∷◌, OnOk, OnErr, Err, Ok, Option, None, Some, MatchOption, IfOk, IfErr, IfSome, IsErrOf};
 ghost use Rattle.std.specs.Io.KnownBytes.{Appends, Consumes};
 ghost use Rattle.kv_types.specs.declared.refusal.Refusal.TheVariants.{Fault, Memory};
-ghost use Rattle.stream_codec.specs.Message.{sent_of};
+ghost use Rattle.stream_codec.specs.Message.{sent_of, sent_of_frame};
 ghost use Rattle.stream_codec.specs.Reading.{group_begun};
 ghost use Rattle.stream_codec.specs.Scanning.{sent_of_all};
 ghost use Rattle.stream_codec.specs.Stream.{fed};
@@ -11,14 +11,15 @@ ghost use Rattle.stream_codec.specs.declared.message.Message.TheVariants.{Ack as
 ghost use Rattle.links.specs.Reading.{piece_of};
 ghost use Rattle.placing.specs.Fill.{fill_of};
 ghost use Rattle.standby.specs.Taking.{Stands};
-ghost use Rattle.links.specs.Serving.{held, Acknowledges, Answers, HasRun, IsTidied, Says, Served, ack_text, refusal_of_ack, refusal_of_head};
+ghost use Rattle.links.specs.Serving.{held, Acknowledges, Answers, HasRun, HasSaid, IsTidied, Leaves, LinkSays, Says, Served, ack_text, refusal_of_ack, refusal_of_head};
 ghost use Rattle.links.specs.declared.link_error.LinkError.TheVariants.{Closed, Refused, Stops};
 
+use crate::acknowledging::say;
 use crate::fill_gauges::FillSetter;
 use crate::link_acceptor::LinkAcceptor;
 use crate::link_error::{LinkError, ends_by, refusal_of_ack, refusal_of_head};
 use crate::link_reader::LinkReader;
-use crate::link_writer::LinkWriter;
+use crate::link_writer::{LinkWriter, limit_writes};
 use crate::log::Log;
 use crate::progress::Progress;
 use frames::{Ack, Frame};
@@ -32,7 +33,7 @@ use std::io::{ErrorKind, Read, Write};
 use std::net::{IpAddr, TcpListener, TcpStream};
 use std::sync::Arc;
 use std::time::Clock;
-use stream_codec::{Decoder, GroupHead, Message, write_ack};
+use stream_codec::{Decoder, GroupHead, Message};
 use wbl_engine::Durable;
 
 /// How many bytes are read at once.
@@ -91,6 +92,7 @@ fn serve_next<C: Clock, E: Durable, K: Keyspace, W: Write>(
     requires stands { Stands E.device E.contents E.is_faulted K.table node.old }
     ensures stands { ¬ (result.1 ≡ Some Fault) → Stands E.device E.contents E.is_faulted K.table node.new }
 {
+    limit_writes(stream);
     let written = Cell::new(0);
     let mut from = LinkReader::new(stream, acceptor, &written);
     let mut to = LinkWriter::new(stream, &written, progress);
@@ -120,7 +122,8 @@ fn stop_of(served: Result<(), LinkError>) -> Option<Refusal>
 ///
 /// # Errors
 ///
-/// Why the link ended otherwise. The acknowledgements of the frames before a refused one were sent.
+/// Why the link ended otherwise. What was written is of the same, as far as it went: of no frame that was refused, and nothing else. Of the last
+/// acknowledgement the beginning may have been written where a write failed.
 pub fn serve_link<E: Durable, K: Keyspace, I: Read, O: Write>(
     alloc: Global,
     node: &mut Standby<E, K>,
@@ -133,24 +136,15 @@ pub fn serve_link<E: Durable, K: Keyspace, I: Read, O: Write>(
     ensures served { OnOk result ((opened : Option (List ℕ)) × (unread : Option (List ℕ))
         × Appends (O.contents to.old) opened (ack_text (record { epoch = (E.contents node.old.engine).current.epoch; position = (E.contents node.old.engine).current.position }))
         × Served (held (E.contents node.old.engine) (K.table node.old.keyspace)) (I.remaining from.old) opened (held (E.contents node.new.engine) (K.table node.new.keyspace)) (I.remaining from.new) (O.contents to.new) unread) }
+    ensures said { OnErr result ((part : List ℕ) × LinkSays (record { epoch = (E.contents node.old.engine).current.epoch; position = (E.contents node.old.engine).current.position })
+        (held (E.contents node.old.engine) (K.table node.old.keyspace)) (I.remaining from.old) (O.contents to.old) (held (E.contents node.new.engine) (K.table node.new.keyspace)) (I.remaining from.new) (O.contents to.new) part
+        × (¬ IsErrOf result Closed → part ≡ [])) }
     ensures shown { OnOk result (shown.new ≡ fill_of (K.table node.new.keyspace) node.new.heap) }
 {
     let mut block = new_block(alloc)?;
     let mut out = Vec::new(alloc);
-    say_position(node.ack(), to, &mut out)?;
-    answer_until_closed(alloc, node, from, to, shown, &mut block, &mut out)?;
-    Ok(())
-}
-
-/// Says where the node is.
-fn say_position<O: Write>(ack: Ack, to: &mut O, out: &mut Vec<u8>) -> Result<(), LinkError>
-    requires empty { out.old.items ≡ [] }
-    ensures said { OnOk result (Appends (O.contents to.old) (O.contents to.new) (ack_text ack)) }
-    ensures emptied { OnOk result (out.new.items ≡ []) }
-{
-    put_ack(ack, out)?;
-    send(to, out)?;
-    Ok(())
+    say(node.ack(), to, &mut out)?;
+    answer_until_closed(alloc, node, from, to, shown, &mut block, &mut out)
 }
 
 /// Room for what is read at once.
@@ -173,6 +167,8 @@ fn answer_until_closed<E: Durable, K: Keyspace, I: Read, O: Write>(
     ensures stands { ¬ IsErrOf result (Stops Fault) → Stands E.device E.contents E.is_faulted K.table node.new }
     ensures served { OnOk result ((unread : Option (List ℕ)) × Served (held (E.contents node.old.engine) (K.table node.old.keyspace)) (I.remaining from.old) (O.contents to.old)
         (held (E.contents node.new.engine) (K.table node.new.keyspace)) (I.remaining from.new) (O.contents to.new) unread) }
+    ensures said { OnErr result ((part : List ℕ) × HasSaid (held (E.contents node.old.engine) (K.table node.old.keyspace)) (I.remaining from.old) (O.contents to.old)
+        (held (E.contents node.new.engine) (K.table node.new.keyspace)) (I.remaining from.new) (O.contents to.new) part × (¬ IsErrOf result Closed → part ≡ [])) }
     ensures shown { OnOk result (shown.new ≡ fill_of (K.table node.new.keyspace) node.new.heap) }
 {
     let mut decoder = Decoder::new(alloc);
@@ -205,7 +201,9 @@ enum Came<'a> {
 
 /// Reads what has come.
 fn read_piece<'a, I: Read>(from: &mut I, block: &'a mut Vec<u8>) -> Result<Came<'a>, LinkError>
-    ensures { IfOk result (λ came. Consumes (I.remaining from.old) (I.remaining from.new) (piece_of came)) }
+    ensures read { IfOk result (λ came. Consumes (I.remaining from.old) (I.remaining from.new) (piece_of came)) }
+    ensures none { OnErr result (Consumes (I.remaining from.old) (I.remaining from.new) []) }
+    ensures cause { IfErr result (λ end. end ≡ Closed) }
 {
     match from.read(block) {
         Ok(0) => Ok(Came::End),
@@ -220,24 +218,10 @@ fn read_piece<'a, I: Read>(from: &mut I, block: &'a mut Vec<u8>) -> Result<Came<
 fn tidy<E: Durable, K: Keyspace>(alloc: Global, node: &mut Standby<E, K>) -> Result<(), LinkError>
     requires stands { Stands E.device E.contents E.is_faulted K.table node.old }
     ensures stands { ¬ IsErrOf result (Stops Fault) → Stands E.device E.contents E.is_faulted K.table node.new }
-    ensures tidied { OnOk result (IsTidied (held (E.contents node.old.engine) (K.table node.old.keyspace)) (held (E.contents node.new.engine) (K.table node.new.keyspace))) }
+    ensures tidied { IsTidied (held (E.contents node.old.engine) (K.table node.old.keyspace)) (held (E.contents node.new.engine) (K.table node.new.keyspace)) }
     ensures cause { IfErr result (λ end. end ≡ Stops Fault) }
 {
     only_fault(node.tidy(alloc))
-}
-
-/// Writes what was put into `out`, and empties it.
-fn send<O: Write>(to: &mut O, out: &mut Vec<u8>) -> Result<(), LinkError>
-    ensures written { OnOk result (Appends (O.contents to.old) (O.contents to.new) out.old.items) }
-    ensures emptied { out.new.items ≡ [] }
-    ensures cause { OnErr result (result ≡ Err LinkError.Closed) }
-{
-    let written = to.write_all(out);
-    out.clear();
-    match written {
-        Ok(()) => Ok(()),
-        Err(_) => Err(LinkError::Closed),
-    }
 }
 
 /// Answers the frames that are whole with this piece, in order. Nothing is left in `out`. A frame of which only the beginning is there is one that the
@@ -259,7 +243,8 @@ fn answer_piece<E: Durable, K: Keyspace, O: Write>(
     ensures begun { OnOk result (IfSome (group_begun decoder.new) (λ head.
         refusal_of_head (E.contents node.new.engine).current.epoch (E.contents node.new.engine).current.position head ≡ None)) }
     ensures emptied { OnOk result (out.new.items ≡ []) }
-    ensures says { ¬ IsErrOf result Closed → Says (held (E.contents node.old.engine) (K.table node.old.keyspace)) (O.contents to.old) (O.contents to.new) }
+    ensures says { OnErr result ((part : List ℕ) × Says (held (E.contents node.old.engine) (K.table node.old.keyspace)) (fed decoder.old piece.now).messages (O.contents to.old)
+        (held (E.contents node.new.engine) (K.table node.new.keyspace)) (O.contents to.new) part × (¬ IsErrOf result Closed → part ≡ [])) }
 {
     let messages = match decoder.feed(piece) {
         Ok(messages) => messages,
@@ -303,7 +288,8 @@ fn answer_all<E: Durable, K: Keyspace, O: Write>(
     ensures all { OnOk result (HasRun (held (E.contents node.old.engine) (K.table node.old.keyspace)) (sent_of_all messages.items) (O.contents to.old)
         (held (E.contents node.new.engine) (K.table node.new.keyspace)) (O.contents to.new)) }
     ensures emptied { OnOk result (out.new.items ≡ []) }
-    ensures says { ¬ IsErrOf result Closed → Says (held (E.contents node.old.engine) (K.table node.old.keyspace)) (O.contents to.old) (O.contents to.new) }
+    ensures says { OnErr result ((part : List ℕ) × Says (held (E.contents node.old.engine) (K.table node.old.keyspace)) (sent_of_all messages.items) (O.contents to.old)
+        (held (E.contents node.new.engine) (K.table node.new.keyspace)) (O.contents to.new) part × (¬ IsErrOf result Closed → part ≡ [])) }
 {
     for message in messages {
         answer(alloc, node, message, out, to)?;
@@ -326,7 +312,8 @@ fn answer<E: Durable, K: Keyspace, O: Write>(
     ensures answered { OnOk result ((ack : Told) × Answers (held (E.contents node.old.engine) (K.table node.old.keyspace)) (sent_of message) ack (held (E.contents node.new.engine) (K.table node.new.keyspace))
         × Appends (O.contents to.old) (O.contents to.new) (ack_text ack)) }
     ensures emptied { OnOk result (out.new.items ≡ []) }
-    ensures says { ¬ IsErrOf result Closed → Says (held (E.contents node.old.engine) (K.table node.old.keyspace)) (O.contents to.old) (O.contents to.new) }
+    ensures says { OnErr result ((part : List ℕ) × Says (held (E.contents node.old.engine) (K.table node.old.keyspace)) (sent_of message ∷ []) (O.contents to.old)
+        (held (E.contents node.new.engine) (K.table node.new.keyspace)) (O.contents to.new) part × (¬ IsErrOf result Closed → part ≡ [])) }
     ensures misplaced { (ack : Told) → message ≡ AckMessage ack
         → (result ≡ Err (Refused (refusal_of_ack (E.contents node.old.engine).current.epoch ack))) × (node.new ≡ node.old) × (to.new ≡ to.old) }
 {
@@ -350,12 +337,11 @@ fn answer_frame<E: Durable, K: Keyspace, O: Write>(
     ensures answered { OnOk result ((ack : Told) × Acknowledges (held (E.contents node.old.engine) (K.table node.old.keyspace)) frame ack (held (E.contents node.new.engine) (K.table node.new.keyspace))
         × Appends (O.contents to.old) (O.contents to.new) (ack_text ack)) }
     ensures emptied { OnOk result (out.new.items ≡ []) }
-    ensures says { ¬ IsErrOf result Closed → Says (held (E.contents node.old.engine) (K.table node.old.keyspace)) (O.contents to.old) (O.contents to.new) }
+    ensures says { OnErr result ((part : List ℕ) × Says (held (E.contents node.old.engine) (K.table node.old.keyspace)) (sent_of_frame frame ∷ []) (O.contents to.old)
+        (held (E.contents node.new.engine) (K.table node.new.keyspace)) (O.contents to.new) part × (¬ IsErrOf result Closed → part ≡ [])) }
 {
     let ack = take_frame(alloc, node, frame)?;
-    put_ack(ack, out)?;
-    send(to, out)?;
-    Ok(())
+    say(ack, to, out)
 }
 
 /// Takes a frame as `Standby::take_frame` does, and answers how the link ends where it is refused.
@@ -367,6 +353,7 @@ fn take_frame<E: Durable, K: Keyspace>(
     requires stands { Stands E.device E.contents E.is_faulted K.table node.old }
     ensures stands { ¬ IsErrOf result (Stops Fault) → Stands E.device E.contents E.is_faulted K.table node.new }
     ensures acknowledges { IfOk result (λ ack. Acknowledges (held (E.contents node.old.engine) (K.table node.old.keyspace)) frame ack (held (E.contents node.new.engine) (K.table node.new.keyspace))) }
+    ensures leaves { OnErr result (Leaves (held (E.contents node.old.engine) (K.table node.old.keyspace)) (sent_of_frame frame ∷ []) [] (held (E.contents node.new.engine) (K.table node.new.keyspace))) }
 {
     match node.take_frame(alloc, frame) {
         Ok(ack) => Ok(ack),
@@ -383,15 +370,4 @@ fn only_fault<T: Drop>(done: Result<T, Refusal>) -> Result<(), LinkError>
         Err(Refusal::Fault) => Err(LinkError::Stops(Refusal::Fault)),
         _ => Ok(()),
     }
-}
-
-/// Puts an acknowledgement last, or nothing where memory is refused.
-#[tactic(auto, unfolding(crate::specs::Serving::ack_text))]
-fn put_ack(ack: Ack, out: &mut Vec<u8>) -> Result<(), LinkError>
-    ensures put { OnOk result (out.new.items ≡ out.old.items ++ ack_text ack) }
-    ensures refused { OnErr result (out.new.items ≡ out.old.items) }
-    ensures cause { IfErr result (λ end. end ≡ Refused Memory) }
-{
-    write_ack(ack, out)?;
-    Ok(())
 }

@@ -1,6 +1,7 @@
 //! The link between the two nodes: the threads that serve it.
 #![tactic(auto)]
 
+mod acknowledging;
 mod fill_gauges;
 mod filling;
 mod following;

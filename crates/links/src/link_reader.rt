@@ -1,4 +1,6 @@
 //! A standby's link, which ends where nothing comes of it and another connection waits.
+ghost use Rattle.std.specs.Prelude.{◌≡◌};
+
 use crate::link_acceptor::LinkAcceptor;
 use std::cell::Cell;
 use std::io::{self, ErrorKind, Read, Write};
@@ -13,10 +15,10 @@ const LEAST_BYTES: u64 = 65_536;
 
 /// What comes on a link. A read answers `WouldBlock` where nothing has come for a second. It fails with `TimedOut` where another connection waits and nothing
 /// has come for a second, or no frame was acknowledged and few bytes came for some: a host that vanished tells nobody that its link is over, and one who
-/// says nothing, or next to nothing, keeps no other out.
+/// says nothing, or next to nothing, keeps no other out. What is left to read is what the stream has left.
 #[derive(Drop)]
-pub(crate) struct LinkReader<'a, 'b, C, W> {
-    stream: &'a TcpStream,
+pub(crate) struct LinkReader<'a, 'b, S, C, W> {
+    stream: S,
     acceptor: &'a mut LinkAcceptor<'b, C, W>,
     newer: Option<TcpStream>,
     /// How many acknowledgements were written.
@@ -27,14 +29,15 @@ pub(crate) struct LinkReader<'a, 'b, C, W> {
     bytes: u64,
 }
 
-impl<'a, 'b, C: Clock, W: Write> LinkReader<'a, 'b, C, W> {
-    /// What comes on this link, with what accepts the others. A write that is not taken for some seconds fails from now on.
+impl<'a, 'b, S, C: Clock, W: Write> LinkReader<'a, 'b, S, C, W> {
+    /// What comes on this link, with what accepts the others.
     pub(crate) fn new(
-        stream: &'a TcpStream,
+        stream: S,
         acceptor: &'a mut LinkAcceptor<'b, C, W>,
         written: &'a Cell<u64>,
-    ) -> LinkReader<'a, 'b, C, W> {
-        let _ = stream.set_write_timeout(Some(Duration::from_secs(PATIENCE_SECONDS)));
+    ) -> LinkReader<'a, 'b, S, C, W>
+        ensures { result.stream ≡ stream }
+    {
         LinkReader {
             stream,
             acceptor,
@@ -47,12 +50,17 @@ impl<'a, 'b, C: Clock, W: Write> LinkReader<'a, 'b, C, W> {
     }
 
     /// The connection for which the link was left, if it was.
-    pub(crate) fn into_newer(self) -> Option<TcpStream> {
+    pub(crate) fn into_newer(self) -> Option<TcpStream>
+    where
+        S: Drop,
+    {
         self.newer
     }
 
     /// Whether another connection waits that may be a link, and is kept then.
-    fn finds_newer(&mut self) -> bool {
+    fn finds_newer(&mut self) -> bool
+        ensures { self.new.stream ≡ self.old.stream }
+    {
         if let Some(newer) = self.acceptor.waiting() {
             if self.acceptor.admits(&newer) {
                 self.newer = Some(newer);
@@ -63,7 +71,9 @@ impl<'a, 'b, C: Clock, W: Write> LinkReader<'a, 'b, C, W> {
     }
 
     /// Whether nothing has come of the link for some seconds. It is looked at anew after something has.
-    fn makes_no_way(&mut self) -> bool {
+    fn makes_no_way(&mut self) -> bool
+        ensures { self.new.stream ≡ self.old.stream }
+    {
         let Ok(now) = Instant::now(self.acceptor.clock()) else {
             return false;
         };
@@ -82,21 +92,24 @@ impl<'a, 'b, C: Clock, W: Write> LinkReader<'a, 'b, C, W> {
     }
 
     /// Begins to look at the link.
-    fn look_anew(&mut self, now: Instant) {
+    fn look_anew(&mut self, now: Instant)
+        ensures { self.new.stream ≡ self.old.stream }
+    {
         self.since = Some(now);
         self.written_then = self.written.get();
         self.bytes = 0;
     }
 }
 
-impl<C: Clock, W: Write> Read for LinkReader<'_, '_, C, W> {
+impl<S: Read, C: Clock, W: Write> Read for LinkReader<'_, '_, S, C, W> {
+    ghost remaining = { λ reader. S.remaining reader.stream };
+
     fn read(&mut self, buf: &mut [u8]) -> io::Result<usize> {
         if self.makes_no_way() && self.finds_newer() {
             return Err(io::Error::from(ErrorKind::TimedOut));
         }
         for _ in 0..u64::MAX {
-            let mut stream = self.stream;
-            match stream.read(buf) {
+            match self.stream.read(buf) {
                 Err(error) if error.kind() == ErrorKind::WouldBlock && self.finds_newer() => {
                     return Err(io::Error::from(ErrorKind::TimedOut));
                 }

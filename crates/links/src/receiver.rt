@@ -20,10 +20,10 @@ const BLOCK_BYTES: usize = 4_096;
 /// What takes acknowledgements: each raises the remote mark and wakes whoever may go on by it.
 #[derive(Drop)]
 pub struct AckReceiver {
-    /// The marks, of which it raises the remote one.
-    pub marks: ThreadMarks,
-    /// How the standby stands to this node.
-    pub standing: Standing,
+    /// The marks, of which it raises the remote one, as nobody else does.
+    marks: ThreadMarks,
+    /// How the standby stands to this node. Nobody else sets it, since what was once ahead is so for good.
+    standing: Standing,
     /// The writers that wait for both marks.
     pub due: DueOut,
     /// The primary's epoch.
@@ -44,7 +44,7 @@ impl AckReceiver {
     ghost use Rattle.stream_codec.specs.Message.{sent_of, sent_of_ack};
     ghost use Rattle.stream_codec.specs.Scanning.{sent_of_all};
     ghost use Rattle.standby_stream.specs.Stream.{counts};
-    ghost use Rattle.links.specs.Hearing.{HasHeard, Hears, Refuses, RefusesAck, StopsAt, Takes};
+    ghost use Rattle.links.specs.Hearing.{HasHeard, HasHeardBehind, Hears, Refuses, RefusesAck, StopsAt, Takes};
     ghost use Rattle.links.specs.Marking.{StaysFinal};
     ghost use Rattle.links.specs.declared.standing.Standing.TheVariants.{Ahead, Behind};
 
@@ -77,7 +77,7 @@ impl AckReceiver {
     pub fn run(self, alloc: Global, stream: Arc<TcpStream>, decoder: Decoder) -> AckReceiver
         ensures stays { StaysFinal self result }
         ensures epoch { result.epoch ≡ self.epoch }
-        ensures heard { (bytes : Option (List ℕ)) × (left : Option (List ℕ)) × HasHeard self decoder bytes result left }
+        ensures heard { HasHeardBehind self decoder result }
     {
         let mut own = self;
         own.hear_link(alloc, &mut &*stream, decoder);

@@ -1,9 +1,10 @@
 //! The thread that opens the link to the standby and sends on it.
-ghost use Rattle.std.specs.Prelude.{◌≡◌, OnOk, IfOk};
+ghost use Rattle.std.specs.Prelude.{◌≡◌, ℕ, List, Option, OnErr, OnOk, IfOk};
 ghost use Rattle.frames.specs.declared.ack.Ack.{Ack as Told};
 ghost use Rattle.links.specs.Ends.{AreOfOneEpoch};
+ghost use Rattle.links.specs.Hearing.{HasHeardBehind};
 ghost use Rattle.links.specs.Marking.{StaysFinal};
-ghost use Rattle.links.specs.Opening.{Opens};
+ghost use Rattle.links.specs.Opening.{HearsLink, Opens, SaysFirst};
 ghost use Rattle.links.specs.declared.standing.Standing.TheVariants.{Behind};
 
 use crate::log::{Log, Lost, News};
@@ -191,6 +192,7 @@ impl LinkSender {
         requires { AreOfOneEpoch self.old receiver }
         ensures epoch { AreOfOneEpoch self.new result.0 }
         ensures stays { StaysFinal receiver result.0 }
+        ensures heard { HearsLink receiver result.0 }
     {
         let mut receiver = receiver;
         match self.open(rt, alloc, &mut receiver) {
@@ -217,6 +219,7 @@ impl LinkSender {
         requires { AreOfOneEpoch self.old receiver }
         ensures epoch { AreOfOneEpoch self.new result.0 }
         ensures stays { StaysFinal receiver result.0 }
+        ensures heard { HasHeardBehind receiver opened.decoder result.0 }
     {
         let known = self.outgoing.known();
         let Opened {
@@ -227,7 +230,10 @@ impl LinkSender {
         } = opened;
         telling.tell_open(self.address.as_str(), position);
         self.is_broken.take();
-        let same = SameEnd(Snapshot::of(&receiver));
+        let same = SameEnd {
+            receiver: Snapshot::of(&receiver),
+            decoder: Snapshot::of(&decoder),
+        };
         match thread::spawn_with(rt, same, move || receiver.run(alloc, theirs, decoder)) {
             Ok(child) => {
                 let (has_sent, why) = self.send_on(rt, alloc, &stream);
@@ -291,7 +297,9 @@ impl LinkSender {
         ensures epoch { AreOfOneEpoch self.old receiver.old → AreOfOneEpoch self.new receiver.new }
         ensures stays { StaysFinal receiver.old receiver.new }
         ensures behind { OnOk result (receiver.old.standing ≡ Behind) }
-        ensures opened { IfOk result (λ opened. (ack : Told) × (opened.position ≡ ack.position) × Opens ack receiver.old receiver.new self.old.outgoing self.new.outgoing) }
+        ensures opened { IfOk result (λ opened. (ack : Told) × (bytes : Option (List ℕ)) × (left : Option (List ℕ)) × SaysFirst bytes left ack opened.decoder
+            × (opened.position ≡ ack.position) × Opens ack receiver.old receiver.new self.old.outgoing self.new.outgoing) }
+        ensures lost { OnErr result (HearsLink receiver.old receiver.new) }
     {
         let Ok(stream) = dial(rt, &self.address) else {
             return Err(Lost::Unreachable);

@@ -1,7 +1,9 @@
-use Rattle.std.proofs.Common.{ℕ, List, [], Option, rules, sym, subst}
+use Rattle.std.proofs.Common.{Err, ℕ, List, [], Option, rules, ap, refl, sym, subst, ◌∙◌}
+use Rattle.std.proofs.lemmas.Result.{err_from_is_err_and}
 use Rattle.std.specs.Io.KnownBytes.{Consumes}
 use Rattle.links.specs.Serving.{Served, held}
-use Rattle.links.proofs.Serving.{Served-begun, Served-more, Served-ended, Served-tidied, not_stopped}
+use Rattle.links.proofs.Says.{HasSaid-err, HasSaid-left, HasSaid-more, IsLeft-refl, IsLeft-tidied}
+use Rattle.links.proofs.Serving.{Served-begun, Served-more, Served-ended, Served-tidied, not_stopped, same_end}
 use Rattle.links.proofs.following.answer_until_closed.Goals as goal
 
 pub loop-init : goal.loop-init
@@ -49,3 +51,22 @@ loop-preserved-in-Nothing g c =
       shown = search rules;
       served = Served-tidied _ (held (g.E.Durable.contents c.loop.node.engine) (g.K.Keyspace.table c.loop.node.keyspace)) _ _ _ _ _ _ _ c.loop.invariant.served nothing c.in_ok-tidy-in-Nothing.ensures.tidied;
     }
+
+-- ---- what was written
+
+pub returns-in_err-piece-clause-said : goal.returns-in_err-piece-clause-said
+returns-in_err-piece-clause-said g c =
+    HasSaid-err _ [] (HasSaid-left _ _ _ _ _ _ _ _ c.loop.decoder c.loop.invariant.served c.in_err-piece.ensures.none (IsLeft-refl _)) (λ _. refl)
+
+pub returns-in_err-tidy-in-Nothing-clause-said : goal.returns-in_err-tidy-in-Nothing-clause-said
+returns-in_err-tidy-in-Nothing-clause-said g c =
+    let nothing : Consumes (g.I.Read.remaining c.loop.from) (g.I.Read.remaining c.read_piece.new.from) [] = search rules in
+    HasSaid-err _ [] (HasSaid-left _ _ _ _ _ _ _ _ c.loop.decoder c.loop.invariant.served nothing (IsLeft-tidied _ _ c.tidy.ensures.tidied)) (λ _. refl)
+
+pub returns-in_err-answer_piece-clause-said : goal.returns-in_err-answer_piece-clause-said
+returns-in_err-answer_piece-clause-said g c =
+    let consumed : Consumes (g.I.Read.remaining c.loop.from) (g.I.Read.remaining c.read_piece.new.from) c.in-Piece.piece.now = search rules in
+    let exit = err_from_is_err_and c.from_residual-in_err-answer_piece.result c.from_residual-in_err-answer_piece.ensures.1 in
+    let says = c.in_err-answer_piece.ensures.says in
+    HasSaid-err _ says.0 (HasSaid-more _ _ _ _ _ _ _ _ _ c.loop.decoder c.in-Piece.piece.now says.0 c.loop.invariant.served consumed says.1)
+    (λ unclosed. says.2 (λ is. unclosed (exit.1 ∙ ap Err (exit.2 ∙ same_end _ _ is))))

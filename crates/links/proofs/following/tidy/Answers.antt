@@ -1,6 +1,5 @@
 use Rattle.std.proofs.Common.{IsErrOf, ap}
 use Rattle.kv_types.specs.declared.refusal.Refusal.TheVariants.{Fault}
-use Rattle.links.proofs.Serving.{OnOk-always}
 use Rattle.links.proofs.following.tidy.Goals as goal
 
 pub returns-clause-stands : goal.returns-clause-stands
@@ -9,5 +8,4 @@ returns-clause-stands g c = λ goes_on.
     record { follows = c.tidy.ensures.still no_fault; sound = (c.tidy.ensures.sound no_fault).0; durable = c.tidy.ensures.durable no_fault }
 
 pub returns-clause-tidied : goal.returns-clause-tidied
-returns-clause-tidied g c =
-    OnOk-always c.only_fault.result (record { rearranged = c.tidy.ensures.rearranged; table_is = ap g.K.Keyspace.table c.tidy.ensures.keyspace })
+returns-clause-tidied g c = record { rearranged = c.tidy.ensures.rearranged; table_is = ap g.K.Keyspace.table c.tidy.ensures.keyspace }
