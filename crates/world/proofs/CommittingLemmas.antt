@@ -1,5 +1,5 @@
 -- The committer and its engine still refine the machine's after each step.
-use Rattle.std.proofs.Common.{rules, ◌≡◌, ◌⊎◌, inl, inr, true≢false, ℕ, ◌+◌, ◌-◌, ◌<◌, ◌≤◌, ◌++◌, Bool, true, false, List, [], ◌∷◌, length, map, Result, Err, IfErr, IsErrOf, refl, sym, ap, ap₂, subst, ◌∙◌, arith}
+use Rattle.std.proofs.Common.{◌≡◌, ◌⊎◌, inl, inr, true≢false, ℕ, ◌+◌, ◌-◌, ◌<◌, ◌≤◌, ◌++◌, Bool, true, false, List, [], ◌∷◌, length, map, Result, Err, IfErr, IsErrOf, refl, sym, ap, ap₂, subst, ◌∙◌, arith}
 use Rattle.std.proofs.lemmas.List.{map-append}
 use Rattle.pmem.specs.Device.{State}
 use Rattle.pmem.specs.Crash.{IsImage}
@@ -32,7 +32,7 @@ use Rattle.group_commit.proofs.GroupsLemmas.{Same-is}
 use Rattle.group_commit.proofs.WorkLemmas.{AreWork-behind, groups_of-lists}
 use Rattle.machine.specs.declared.event.TheConstants.{PIPE_ITEMS}
 use Rattle.machine.specs.declared.event.Event.TheVariants.{Commit, Hand, RaiseLocal}
-use Rattle.machine.specs.Event.{Committer as Machine, Commits, Frees, Stage as MachineStage, Span, Work as MachineWork, World, committed_first, from_group, handed, lists_before, may_happen, is_durable, is_shown, raised_local, ready_again, shown}
+use Rattle.machine.specs.Event.{Committer as Machine, Stage as MachineStage, Span, Work as MachineWork, World, committed_first, from_group, handed, may_happen, is_durable, is_shown, raised_local, ready_again, shown}
 use Rattle.machine.specs.World as machine_stage
 use Rattle.machine.specs.Sound.{HasRoomFor, Sound}
 use Rattle.world.specs.Cause.{IsAtLimit, EndsBy}
@@ -44,7 +44,7 @@ use Rattle.primary.proofs.RecallParts.{remembers-committed}
 use Rattle.world.specs.Recalling.{past_of}
 use Rattle.world.proofs.EngineLemmas.{AreContentsAt-after_group, Opens-engine, keeps-opens, rests-same}
 use Rattle.node_steps.proofs.CommittingLemmas.{FirstGroup, first-group}
-use Rattle.node_steps.proofs.GroupSpanLemmas.{AreGroupsOf-push, IsGroupOf-grows, length-groups}
+use Rattle.node_steps.proofs.GroupSpanLemmas.{AreGroupsOf-push, length-groups}
 use Rattle.primary.proofs.LeadsLemmas.{leads-after}
 
 -- ---- a group that waits behind free lists

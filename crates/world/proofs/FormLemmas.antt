@@ -1,5 +1,5 @@
 -- New images, the tables and heaps with which they begin, and a primary that nothing waits for.
-use Rattle.std.proofs.Common.{rules, ◌≡◌, ℕ, ◌<◌, ◌≤◌, ◌⊎◌, ◌↔◌, Bool, true, false, true≢false, IsTrue, ◌∙◌, List, ◌∷◌, length, Ok, Err, refl, sym, ap, subst, arith, inl, inr, Vec, Global, []}
+use Rattle.std.proofs.Common.{rules, ◌≡◌, ℕ, ◌<◌, ◌≤◌, ◌⊎◌, ◌↔◌, Bool, false, true≢false, IsTrue, ◌∙◌, List, ◌∷◌, length, Ok, Err, refl, sym, ap, subst, arith, inl, inr, Vec, Global, []}
 use Rattle.std.proofs.lemmas.Bool.{cases_lt}
 use Rattle.model.specs.Image.{entries_of_lines, first_extent_line}
 use Rattle.model.specs.declared.image.TheConstants.{MAX_LINES, MIN_LINES}
@@ -38,20 +38,18 @@ use Rattle.group_commit.specs.declared.stage.Stage.TheVariants.{Ready}
 use Rattle.world.specs.Committing.{Committing, CommittingRefines, FormattingOnly, EngineStands, Leads, StageRefines}
 use Rattle.node_steps.specs.GroupSpan.{AreGroupsOf, AreWorkOf, positions_of_lists}
 use Rattle.world.specs.Link.{AreFramesSent, IsOwn, LinkRefines}
-use Rattle.connections.specs.Session.{ConnectionsRefine, SessionsRefine, SequencerRefines, SeatsFollow, seats_of}
+use Rattle.connections.specs.Session.{ConnectionsRefine, SequencerRefines, SeatsFollow, seats_of}
 use Rattle.connections.specs.declared.connection.Connection.{Connection}
 use Rattle.world.specs.Standby.{Node, StandbyStands, ArrivalsRefine}
 use Rattle.world.specs.Headline.{start}
 use Rattle.world.specs.Condition.{has_crashed, life_as, runs, has_stopped}
 use Rattle.world.specs.declared.condition.Condition.TheVariants as condition
-use Rattle.world.specs.declared.condition.Condition.{Condition}
 use Rattle.std.proofs.lemmas.List.Elements.{All-nil}
-use Rattle.world.specs.Pair.{NodesRefine, Pair, allowed, primary_number}
+use Rattle.world.specs.Pair.{NodesRefine, Pair, allowed, primary_number, ClientsRefine, Lives}
 use Rattle.primary.specs.Recalling.{Remembers}
 use Rattle.primary.proofs.RecallLemmas.{remembers-new}
 use Rattle.world.specs.Recalling.{past_of}
 use Rattle.world.proofs.OpeningLemmas.{opening-none}
-use Rattle.world.specs.declared.condition.AskedFences.{AskedFences}
 
 -- ---- the sequencer
 
@@ -138,50 +136,50 @@ none-seated : (codes : List Connection) → ConnectionsRefine [] codes [] → (s
 none-seated [] stand s = record { by_call = λ c seat has shut. cc; session = λ c seat has. cc }
 none-seated (code ∷ codes) stand s = absurd stand
 
-pub pair-starts : (first second : Holder) (pair : Pair) → SessionsRefine pair.sessions pair.transcript [] [] → SequencerRefines [] 0 pair.sequencer
-    → (pair.sequencer.ended ≡ []) × (pair.sequencer.newest ≡ 0)
-    → pair.committing.waiting.items ≡ [] → pair.committing.aside ≡ [] → pair.committing.stage ≡ Ready → pair.committing.local ≡ 0 → pair.notices ≡ [] → EngineStands first [] 0 pair.device pair.contents pair.is_faulted
-    → pair.contents.current.gaps.items ≡ [] → IsAheadOf pair.sequencer pair.contents → Expects pair.sequencer pair.contents [] [] → pair.link ≡ new_stream FIRST_EPOCH → pair.handed.items ≡ [] → pair.remote ≡ 0 → pair.opening.position ≡ 0 → pair.frames ≡ []
-    → ((epoch : ℕ) → ArrivalsRefine epoch [] pair.arrivals [] []) → StandbyStands second pair.link.epoch [] 0 pair.standby
-    → first.role ≡ Role.Primary → second.role ≡ Role.Standby → first.epoch ≡ FIRST_EPOCH → second.epoch ≡ FIRST_EPOCH → pair.primary_condition ≡ condition.Running → pair.standby_condition ≡ condition.Running
-    → pair.asked ≡ record { primary = false; standby = false } → NodesRefine first second pair start
-pair-starts first second pair sessions sequencer none_ended none none_aside ready mark none_told engine no_gap ahead expects link no_group remote never_opened no_frame arrivals standby first_role second_role first_epoch second_epoch serves follows none_asked =
+pub pair-starts : (first second : Holder) (pair : Pair) → ClientsRefine pair.clients [] [] → SequencerRefines [] 0 pair.primary.sequencer
+    → (pair.primary.sequencer.ended ≡ []) × (pair.primary.sequencer.newest ≡ 0)
+    → pair.primary.committing.waiting.items ≡ [] → pair.primary.committing.aside ≡ [] → pair.primary.committing.stage ≡ Ready → pair.primary.committing.local ≡ 0 → pair.primary.notices ≡ [] → EngineStands first [] 0 pair.primary.device pair.primary.contents pair.primary.is_faulted
+    → pair.primary.contents.current.gaps.items ≡ [] → IsAheadOf pair.primary.sequencer pair.primary.contents → Expects pair.primary.sequencer pair.primary.contents [] [] → pair.wire.link ≡ new_stream FIRST_EPOCH → pair.primary.handed.items ≡ [] → pair.wire.remote ≡ 0 → pair.wire.opening.position ≡ 0 → pair.wire.frames ≡ []
+    → ((epoch : ℕ) → ArrivalsRefine epoch [] pair.wire.arrivals [] []) → StandbyStands second pair.wire.link.epoch [] 0 pair.standby
+    → first.role ≡ Role.Primary → second.role ≡ Role.Standby → first.epoch ≡ FIRST_EPOCH → second.epoch ≡ FIRST_EPOCH
+    → pair.lives ≡ record { primary = condition.Running; standby = condition.Running; asked = record { primary = false; standby = false } } → NodesRefine first second pair start
+pair-starts first second pair sessions sequencer none_ended none none_aside ready mark none_told engine no_gap ahead expects link no_group remote never_opened no_frame arrivals standby first_role second_role first_epoch second_epoch live =
     record {
       sound = sound-start allowed;
       lives = record {
         allowed_are = refl;
-        primary_disk = ap (λ (c : Condition). primary_number c) (sym follows);
+        primary_disk = ap (λ (l : Lives). primary_number l.standby) (sym live);
         standby_disk = refl;
-        primary_failing = ap (λ (fences : AskedFences). fences.primary) (sym none_asked);
-        standby_failing = ap (λ (fences : AskedFences). fences.standby) (sym none_asked);
-        primary = sym (ap (λ c. life_as c []) serves);
-        standby = sym (ap (λ c. life_as c []) follows);
+        primary_failing = ap (λ (l : Lives). l.asked.primary) (sym live);
+        standby_failing = ap (λ (l : Lives). l.asked.standby) (sym live);
+        primary = sym (ap (λ (l : Lives). life_as l.primary []) live);
+        standby = sym (ap (λ (l : Lives). life_as l.standby []) live);
         first_role = first_role;
         second_role = second_role;
         first_epoch = first_epoch;
         second_epoch = second_epoch;
       };
       parts = inl (
-        ap runs serves,
+        ap (λ (l : Lives). runs l.primary) live,
         record {
           sessions = sessions;
           sequencer = sequencer;
-          follow = none-seated pair.sessions.connections.items sessions.connections_stand pair.sequencer;
-          committing = committing-nothing [] 0 pair.committing none none_aside ready mark;
+          follow = none-seated pair.clients.sessions.connections.items sessions.connections_stand pair.primary.sequencer;
+          committing = committing-nothing [] 0 pair.primary.committing none none_aside ready mark;
           engine = engine;
-          leads = leads-nothing pair.contents pair.committing.waiting.items pair.committing.aside pair.sequencer pair.notices none none_aside none_told ahead expects
-              (subst (AreEnded pair.contents) (sym none_ended.0) tt);
+          leads = leads-nothing pair.primary.contents pair.primary.committing.waiting.items pair.primary.committing.aside pair.primary.sequencer pair.primary.notices none none_aside none_told ahead expects
+              (subst (AreEnded pair.primary.contents) (sym none_ended.0) tt);
           freeing = record {
             ended = ap (λ (entries : List EntryNo). length entries) none_ended.0;
             newest = none_ended.1;
             notices_are = ap (λ (notices : List Freed). length notices) none_told;
             gaps = ap (λ (gaps : List Gap). length gaps) no_gap;
           };
-          remembers = subst (λ (items : List Work). Remembers 0 0 (past_of []) pair.contents items pair.committing.aside pair.sequencer) (sym none)
-              (subst (λ (lists : List FreeList). Remembers 0 0 (past_of []) pair.contents [] lists pair.sequencer) (sym none_aside) (remembers-new (past_of []) pair.contents pair.sequencer 0));
-          opening = opening-none 0 [] pair.opening never_opened;
+          remembers = subst (λ (items : List Work). Remembers 0 0 (past_of []) pair.primary.contents items pair.primary.committing.aside pair.primary.sequencer) (sym none)
+              (subst (λ (lists : List FreeList). Remembers 0 0 (past_of []) pair.primary.contents [] lists pair.primary.sequencer) (sym none_aside) (remembers-new (past_of []) pair.primary.contents pair.primary.sequencer 0));
+          opening = opening-none 0 [] pair.wire.opening never_opened;
           epoch = ap (λ (s : Stream). s.epoch) link;
-          link = subst (λ (s : Stream). LinkRefines [] s pair.handed pair.remote start.primary.link) (sym link)
+          link = subst (λ (s : Stream). LinkRefines [] s pair.primary.handed pair.wire.remote start.primary.link) (sym link)
               (record {
                 waiting = subst (λ (groups : List Group). AreGroupsOf [] groups []) (sym no_group) tt;
                 none_pending = refl;
@@ -192,10 +190,10 @@ pair-starts first second pair sessions sequencer none_ended none none_aside read
                 known = refl;
                 remote_is = remote;
               });
-          frames = subst (λ (texts : List (Vec ℕ Global)). AreFramesSent pair.link.epoch [] texts []) (sym no_frame) tt;
-          own = λ whole. All-nil (IsOwn pair.link.epoch);
-          arrivals = arrivals pair.link.epoch;
-          standby = record { stands = λ runs. standby; left = λ stopped. absurd (true≢false (sym stopped ∙ ap has_stopped follows)); down = λ down. absurd (true≢false (sym down ∙ ap has_crashed follows)) };
+          frames = subst (λ (texts : List (Vec ℕ Global)). AreFramesSent pair.wire.link.epoch [] texts []) (sym no_frame) tt;
+          own = λ whole. All-nil (IsOwn pair.wire.link.epoch);
+          arrivals = arrivals pair.wire.link.epoch;
+          standby = record { stands = λ runs. standby; left = λ stopped. absurd (true≢false (sym stopped ∙ ap (λ (l : Lives). has_stopped l.standby) live)); down = λ down. absurd (true≢false (sym down ∙ ap (λ (l : Lives). has_crashed l.standby) live)) };
         },
       );
     }

@@ -1,6 +1,6 @@
 -- What freeing, and clearing a gap, leave of the primary's engine.
 use mathlib.Core.Path.{fun_ext}
-use Rattle.std.proofs.Common.{rules, ◌≡◌, ◌⊎◌, ◌+◌, ◌-◌, ◌<◌, ℕ, inl, inr, Bool, true, false, ◌||◌, List, refl, sym, ap, subst, ◌∙◌, true≢false, [], ◌∷◌}
+use Rattle.std.proofs.Common.{rules, ◌≡◌, ◌⊎◌, ◌+◌, ◌<◌, ℕ, inl, inr, Bool, true, false, ◌||◌, List, refl, sym, ap, subst, ◌∙◌, true≢false, [], ◌∷◌}
 use Rattle.std.specs.List.{IsDistinct}
 use Rattle.kv_types.specs.declared.place.EntryNo.{EntryNo}
 use Rattle.pmem.specs.Device.{State}
@@ -22,8 +22,8 @@ use Rattle.group_commit.proofs.GroupsLemmas.{Same-is}
 use Rattle.machine.specs.declared.event.Event.{Event}
 use Rattle.machine.specs.Event.{World, Happens, Step, may_happen, At, torn}
 use Rattle.machine.proofs.SoundEvents.{sound-step}
-use Rattle.world.specs.Committing.{AreContentsAt, EngineStands, OpensAt, OpensAtEither}
-use Rattle.world.specs.Pair.{Pair, PairRefines, PartsRefine, Steps}
+use Rattle.world.specs.Committing.{AreContentsAt, EngineStands, OpensAt}
+use Rattle.world.specs.Pair.{Lives, Pair, PairRefines, PartsRefine, Steps}
 use Rattle.world.proofs.EngineLemmas.{keeps-opens}
 use Rattle.world.proofs.RemainLemmas.{near-rest}
 use Rattle.world.specs.Remaining.{OpensNear}
@@ -119,19 +119,16 @@ cleared-moments holder calls p device device' contents are lawful room moments =
 -- ---- an event of it
 
 -- its image stands where it stood
-pub primary-steps : (event : Event) (first second : Holder) (w w' : World) (old new : Pair) → is_own event ≡ true → SameLives w w' → PairRefines first second old w → new.primary_condition ≡ old.primary_condition
-    → new.standby_condition ≡ old.standby_condition → new.asked ≡ old.asked → new.standby.device ≡ old.standby.device → new.device.failures ≡ old.device.failures → Happens w event w' → true ≡ may_happen w event
-    → LeavesOnly old.device new.device (OpensAt first w.primary.calls w'.primary.committer.position) → PartsRefine first second new w' → Steps first second w event true old new
-primary-steps event first second w w' old new own same stands runs follows fences device' failures happens may moments parts =
-    let lives : Runs first second new.primary_condition new.standby_condition new.asked w event =
-    subst (λ serves. Runs first second serves new.standby_condition new.asked w event) (sym runs)
-    (subst (λ follows. Runs first second old.primary_condition follows new.asked w event) (sym follows)
-    (subst (λ fences. Runs first second old.primary_condition old.standby_condition fences w event) (sym fences) (own-runs stands event own))) in
+pub primary-steps : (event : Event) (first second : Holder) (w w' : World) (old new : Pair) → is_own event ≡ true → SameLives w w' → PairRefines first second old w → new.lives ≡ old.lives
+    → new.standby.device ≡ old.standby.device → new.primary.device.failures ≡ old.primary.device.failures → Happens w event w' → true ≡ may_happen w event
+    → LeavesOnly old.primary.device new.primary.device (OpensAt first w.primary.calls w'.primary.committer.position) → PartsRefine first second new w' → Steps first second w event true old new
+primary-steps event first second w w' old new own same stands live device' failures happens may moments parts =
+    let lives : Runs first second new.lives w event = subst (λ (l : Lives). Runs first second l w event) (sym live) (own-runs stands event own) in
     let step : Step w event true w' = record { done = may ∙ sym (enabled-is lives); happens = λ did. happens; stands = λ did. absurd (true≢false did) } in
     record {
       world = w';
       step = step;
-      stands = record { sound = sound-step w event true w' step stands.sound; lives = lives-like same lives.lives; parts = inl (ap condition.runs runs ∙ stands.serves, parts) };
+      stands = record { sound = sound-step w event true w' step stands.sound; lives = lives-like same lives.lives; parts = inl (ap (λ (l : Lives). condition.runs l.primary) live ∙ stands.serves, parts) };
       moves = record {
         primary = record {
           leaves = LeavesOnly-weaken (OpensNear first w.primary.calls w.primary.committer.position (At w'.primary.committer.position ∷ torn w.primary.life)) (λ image at. inr (inl at)) moments;

@@ -54,8 +54,8 @@ untouched-if true did never = never refl
 untouched-if false did never = refl
 
 -- a node that is over is retired
-pub ended-life : {first second : Holder} {pair : Pair} {w : World} → NodesRefine first second pair w → has_ended pair.standby_condition ≡ true → is_retired w.standby.life ≡ true
-ended-life {first} {second} {pair} {w} stands ended = ap is_retired stands.lives.standby ∙ retired-as pair.standby_condition (torn w.standby.life) ∙ ended
+pub ended-life : {first second : Holder} {pair : Pair} {w : World} → NodesRefine first second pair w → has_ended pair.lives.standby ≡ true → is_retired w.standby.life ≡ true
+ended-life {first} {second} {pair} {w} stands ended = ap is_retired stands.lives.standby ∙ retired-as pair.lives.standby (torn w.standby.life) ∙ ended
 
 pub not-ended : (c : Condition) → ¬ (has_ended c ≡ true) → has_ended c ≡ false
 not-ended condition.Running never = refl
@@ -83,7 +83,7 @@ has-gone-ahead w new call k picks step other =
 abbrev pub place : ℕ → Bool → Option Node
 place number ended = if nat_eq (if ended then 1 else 0) number then Some node.Primary else (if nat_eq 1 number then Some node.Standby else None)
 
-pub placed : {first second : Holder} {pair : Pair} {w : World} → NodesRefine first second pair w → (number : ℕ) → node_on number w ≡ place number (has_ended pair.standby_condition)
+pub placed : {first second : Holder} {pair : Pair} {w : World} → NodesRefine first second pair w → (number : ℕ) → node_on number w ≡ place number (has_ended pair.lives.standby)
 placed {first} {second} {pair} {w} stands number =
     ap₂ (λ (p s : ℕ). if nat_eq p number then Some node.Primary else (if nat_eq s number then Some node.Standby else None)) stands.lives.primary_disk stands.lives.standby_disk
 
@@ -116,10 +116,10 @@ module _ (first_lines second_lines : ℕ) where
   -- an event after which each node has the device that it had, and what it did to both
   module _ (pair pair' : Pair) (event : Event) (did : Bool) (w world : World) (stands : StandsIn first_lines second_lines pair w) (step : Step w event did world)
       (next : NodesRefine stands.serving stands.following pair' world)
-      (primary_on : (lines : ℕ) → stands.serving ≡ primary_holder lines w → stands.serving ≡ primary_holder lines world → MovesOn lines w event world node.Primary (Some node.Primary) pair.device pair'.device)
+      (primary_on : (lines : ℕ) → stands.serving ≡ primary_holder lines w → stands.serving ≡ primary_holder lines world → MovesOn lines w event world node.Primary (Some node.Primary) pair.primary.device pair'.primary.device)
       (standby_on : (lines : ℕ) → HasStandby pair → stands.following ≡ standby_holder lines w → stands.following ≡ standby_holder lines world
       → MovesOn lines w event world node.Standby (Some node.Standby) pair.standby.device pair'.standby.device)
-      (primary_stays : (touches_primary event && did) ≡ false → pair'.device ≡ pair.device) (standby_stays : (touches_standby event && did) ≡ false → pair'.standby.device ≡ pair.standby.device) where
+      (primary_stays : (touches_primary event && did) ≡ false → pair'.primary.device ≡ pair.primary.device) (standby_stays : (touches_standby event && did) ≡ false → pair'.standby.device ≡ pair.standby.device) where
     -- the epoch is the same, as the holders are
     same-epoch : world.primary.epoch ≡ w.primary.epoch
     same-epoch = sym next.lives.first_epoch ∙ stands.stands.lives.first_epoch
@@ -130,25 +130,25 @@ module _ (first_lines second_lines : ℕ) where
       | inr promoted ↦ absurd (omega (arith, promoted, same-epoch, stands.stands.sound.standby.epoch_is))
     ]
 
-    same-end : has_ended pair'.standby_condition ≡ has_ended pair.standby_condition
+    same-end : has_ended pair'.lives.standby ≡ has_ended pair.lives.standby
     same-end =
-        one-number (has_ended pair'.standby_condition) (has_ended pair.standby_condition)
+        one-number (has_ended pair'.lives.standby) (has_ended pair.lives.standby)
         (sym next.lives.primary_disk ∙ same-nodes.primary_disk ∙ stands.stands.lives.primary_disk)
 
     -- nothing happened to a node that was promoted
-    former-still : has_ended pair.standby_condition ≡ true → pair'.standby.device ≡ pair.standby.device
+    former-still : has_ended pair.lives.standby ≡ true → pair'.standby.device ≡ pair.standby.device
     former-still ended = standby_stays (untouched-if (touches_standby event) did (λ touched. step.done ∙ retired-still w event (ended-life stands.stands ended) touched))
 
-    primary-moved : (lines : ℕ) → stands.serving.lines ≡ lines → MovesOn lines w event world node.Primary (Some node.Primary) pair.device pair'.device
+    primary-moved : (lines : ℕ) → stands.serving.lines ≡ lines → MovesOn lines w event world node.Primary (Some node.Primary) pair.primary.device pair'.primary.device
     primary-moved lines is = primary_on lines (primary-holds stands.stands ∙ ap (λ n. primary_holder n w) is) (primary-holds next ∙ ap (λ n. primary_holder n world) is)
 
-    first-moved : (b : Bool) → has_ended pair.standby_condition ≡ b → stands.serving.lines ≡ (if b then second_lines else first_lines)
-        → MovedAs first_lines w world event did (place 0 b) (place 0 b) (if b then pair.standby.device else pair.device) (if b then pair'.standby.device else pair'.device)
+    first-moved : (b : Bool) → has_ended pair.lives.standby ≡ b → stands.serving.lines ≡ (if b then second_lines else first_lines)
+        → MovedAs first_lines w world event did (place 0 b) (place 0 b) (if b then pair.standby.device else pair.primary.device) (if b then pair'.standby.device else pair'.primary.device)
     first-moved true is lines = (refl, former-still is, λ idle. former-still is)
     first-moved false is lines = (inl (refl, same-epoch), primary-moved first_lines lines, primary_stays)
 
-    second-moved : (b : Bool) → has_ended pair.standby_condition ≡ b → stands.serving.lines ≡ (if b then second_lines else first_lines)
-        → MovedAs second_lines w world event did (place 1 b) (place 1 b) (if b then pair.device else pair.standby.device) (if b then pair'.device else pair'.standby.device)
+    second-moved : (b : Bool) → has_ended pair.lives.standby ≡ b → stands.serving.lines ≡ (if b then second_lines else first_lines)
+        → MovedAs second_lines w world event did (place 1 b) (place 1 b) (if b then pair.primary.device else pair.standby.device) (if b then pair'.primary.device else pair'.standby.device)
     second-moved true is lines = (inl (refl, same-epoch), primary-moved second_lines lines, primary_stays)
     second-moved false is lines =
         let other = stands.following_lines is in (
@@ -160,7 +160,7 @@ module _ (first_lines second_lines : ℕ) where
     stays-on : GoesOn pair pair' event did w
     stays-on =
         let before = stands.stands in
-        let over = has_ended pair.standby_condition in
+        let over = has_ended pair.lives.standby in
         let first = first-moved over refl stands.serving_lines in
         let second = second-moved over refl stands.serving_lines in
         record {
@@ -173,25 +173,25 @@ module _ (first_lines second_lines : ℕ) where
             serving_lines = stands.serving_lines ∙ ap (λ b. if b then second_lines else first_lines) (sym same-end);
             following_lines = λ whole. stands.following_lines (sym same-end ∙ whole);
           };
-          first_moved = subst (λ (b : Bool). Moved 0 first_lines w world event did (first_device pair) (if b then pair'.standby.device else pair'.device)) (sym same-end)
-              (subst (λ (o : Option Node). MovedAs first_lines w world event did o (node_on 0 world) (first_device pair) (if over then pair'.standby.device else pair'.device)) (sym (placed before 0))
-              (subst (λ (o : Option Node). MovedAs first_lines w world event did (place 0 over) o (first_device pair) (if over then pair'.standby.device else pair'.device)) (sym (placed next 0 ∙ ap (place 0) same-end)) first));
-          second_moved = subst (λ (b : Bool). Moved 1 second_lines w world event did (second_device pair) (if b then pair'.device else pair'.standby.device)) (sym same-end)
-              (subst (λ (o : Option Node). MovedAs second_lines w world event did o (node_on 1 world) (second_device pair) (if over then pair'.device else pair'.standby.device)) (sym (placed before 1))
-              (subst (λ (o : Option Node). MovedAs second_lines w world event did (place 1 over) o (second_device pair) (if over then pair'.device else pair'.standby.device)) (sym (placed next 1 ∙ ap (place 1) same-end)) second));
+          first_moved = subst (λ (b : Bool). Moved 0 first_lines w world event did (first_device pair) (if b then pair'.standby.device else pair'.primary.device)) (sym same-end)
+              (subst (λ (o : Option Node). MovedAs first_lines w world event did o (node_on 0 world) (first_device pair) (if over then pair'.standby.device else pair'.primary.device)) (sym (placed before 0))
+              (subst (λ (o : Option Node). MovedAs first_lines w world event did (place 0 over) o (first_device pair) (if over then pair'.standby.device else pair'.primary.device)) (sym (placed next 0 ∙ ap (place 0) same-end)) first));
+          second_moved = subst (λ (b : Bool). Moved 1 second_lines w world event did (second_device pair) (if b then pair'.primary.device else pair'.standby.device)) (sym same-end)
+              (subst (λ (o : Option Node). MovedAs second_lines w world event did o (node_on 1 world) (second_device pair) (if over then pair'.primary.device else pair'.standby.device)) (sym (placed before 1))
+              (subst (λ (o : Option Node). MovedAs second_lines w world event did (place 1 over) o (second_device pair) (if over then pair'.primary.device else pair'.standby.device)) (sym (placed next 1 ∙ ap (place 1) same-end)) second));
         }
 
   pub steps-on : (pair pair' : Pair) (event : Event) (did : Bool) (w : World) → (stands : StandsIn first_lines second_lines pair w) → Steps stands.serving stands.following w event did pair pair'
-      → ((touches_primary event && did) ≡ false → pair'.device ≡ pair.device) → ((touches_standby event && did) ≡ false → pair'.standby.device ≡ pair.standby.device) → GoesOn pair pair' event did w
+      → ((touches_primary event && did) ≡ false → pair'.primary.device ≡ pair.primary.device) → ((touches_standby event && did) ≡ false → pair'.standby.device ≡ pair.standby.device) → GoesOn pair pair' event did w
   steps-on pair pair' event did w stands next primary_stays standby_stays =
       stays-on pair pair' event did w next.world stands next.step next.stands
-      (λ lines here there. on-same lines w event next.world node.Primary stands.serving pair.device pair'.device here there next.moves.primary)
+      (λ lines here there. on-same lines w event next.world node.Primary stands.serving pair.primary.device pair'.primary.device here there next.moves.primary)
       (λ lines whole here there. on-same lines w event next.world node.Standby stands.following pair.standby.device pair'.standby.device here there (next.moves.standby whole))
       primary_stays standby_stays
 
   -- the standby's image has become that of the primary
   goes-ahead : (pair pair' : Pair) (event : Event) (w world : World) (stands : StandsIn first_lines second_lines pair w) → Step w event true world → touches node.Standby event ≡ true
-      → (former : Holder) → NodesRefine (promoted_holder stands.following) former pair' world → HasStandby pair → has_ended pair'.standby_condition ≡ true
+      → (former : Holder) → NodesRefine (promoted_holder stands.following) former pair' world → HasStandby pair → has_ended pair'.lives.standby ≡ true
       → (world.primary.committer.position ≡ w.standby.position) × (world.primary.calls ≡ cut_at w.primary.calls w.standby.position)
       → first_device pair' ≡ first_device pair
       → (stands.following ≡ standby_holder second_lines w → promoted_holder stands.following ≡ primary_holder second_lines world
@@ -200,7 +200,7 @@ module _ (first_lines second_lines : ℕ) where
   goes-ahead pair pair' event w world stands step touched former next began ended at first_stays second_on =
       let before = stands.stands in
       let lines = stands.serving_lines ∙ ap (λ b. if b then second_lines else first_lines) began in
-      let here : first_device pair ≡ pair.device = ap (λ b. if b then pair.standby.device else pair.device) began in
+      let here : first_device pair ≡ pair.primary.device = ap (λ b. if b then pair.standby.device else pair.primary.device) began in
       let remain : Remain stands.serving w.primary.calls w.primary.committer.position (torn w.primary.life) (first_device pair) =
       subst (Remain stands.serving w.primary.calls w.primary.committer.position (torn w.primary.life)) (sym here) (primary-stands stands.serving stands.following pair w before.parts) in
       let first : MovedAs first_lines w world event true (Some node.Primary) None (first_device pair) (first_device pair') = (
@@ -246,13 +246,13 @@ module _ (first_lines second_lines : ℕ) where
       })
 
   -- a crash came inside a call of the primary, or once it had stopped
-  cuts-primary : (pair pair' : Pair) (call : Cut) (k : ℕ) (picks : Vec ℕ Global) (w : World) → LeavesOf call k picks.items pair.device pair'.device → (stands : StandsIn first_lines second_lines pair w)
+  cuts-primary : (pair pair' : Pair) (call : Cut) (k : ℕ) (picks : Vec ℕ Global) (w : World) → LeavesOf call k picks.items pair.primary.device pair'.primary.device → (stands : StandsIn first_lines second_lines pair w)
       → CutsPrimary stands.serving stands.following w call k picks pair pair' → GoesOn pair pair' (Crash node.Primary call k picks) true w
   cuts-primary pair pair' call k picks w left stands cuts =
       let event = Crash node.Primary call k picks in
       let still = ap (λ (n : Following). n.device) cuts.same_standby.0 in
       stays-on pair pair' event true w cuts.world stands cuts.step cuts.stands
-      (λ lines here there. on-cut lines w event cuts.world node.Primary (Some node.Primary) stands.serving pair.device pair'.device here (cut-or-still call k picks.items pair.device pair'.device left) cuts.leaves)
+      (λ lines here there. on-cut lines w event cuts.world node.Primary (Some node.Primary) stands.serving pair.primary.device pair'.primary.device here (cut-or-still call k picks.items pair.primary.device pair'.primary.device left) cuts.leaves)
       (λ lines whole here there. on-still lines w event cuts.world node.Standby (Some node.Standby) stands.following pair.standby.device pair'.standby.device here
       (standby-stands stands.serving stands.following pair w stands.stands.parts whole) still)
       (λ idle. absurd (true≢false idle)) (λ idle. still)
@@ -262,11 +262,11 @@ module _ (first_lines second_lines : ℕ) where
       → (cuts : CutsStandby stands.serving stands.following w call k picks pair pair') → StaysBehind stands.serving stands.following pair' cuts.world → GoesOn pair pair' (Crash node.Standby call k picks) true w
   cuts-behind pair pair' call k picks w left stands cuts behind =
       let event = Crash node.Standby call k picks in
-      let here : first_device pair ≡ pair.device = ap (λ b. if b then pair.standby.device else pair.device) cuts.began in
-      let here' : first_device pair' ≡ pair'.device = ap (λ b. if b then pair'.standby.device else pair'.device) behind.whole in
-      let there : second_device pair ≡ pair.standby.device = ap (λ b. if b then pair.device else pair.standby.device) cuts.began in
-      let there' : second_device pair' ≡ pair'.standby.device = ap (λ b. if b then pair'.device else pair'.standby.device) behind.whole in
-      let still : pair'.device ≡ pair.device = sym here' ∙ cuts.first_stays ∙ here in
+      let here : first_device pair ≡ pair.primary.device = ap (λ b. if b then pair.standby.device else pair.primary.device) cuts.began in
+      let here' : first_device pair' ≡ pair'.primary.device = ap (λ b. if b then pair'.standby.device else pair'.primary.device) behind.whole in
+      let there : second_device pair ≡ pair.standby.device = ap (λ b. if b then pair.primary.device else pair.standby.device) cuts.began in
+      let there' : second_device pair' ≡ pair'.standby.device = ap (λ b. if b then pair'.primary.device else pair'.standby.device) behind.whole in
+      let still : pair'.primary.device ≡ pair.primary.device = sym here' ∙ cuts.first_stays ∙ here in
       let near = OpensNear stands.following w.primary.calls w.standby.position (torn w.standby.life ++ cut_short w event node.Standby) in
       let leaves : LeavesOnly pair.standby.device pair'.standby.device near =
       subst (λ (d : State). LeavesOnly d pair'.standby.device near) there (subst (λ (d : State). LeavesOnly (second_device pair) d near) there' cuts.leaves) in
@@ -274,7 +274,7 @@ module _ (first_lines second_lines : ℕ) where
       subst (λ (d : State). (is_cut event ≡ true) ⊎ (pair'.standby.device.failures ≡ d.failures)) there
       (subst (λ (d : State). (is_cut event ≡ true) ⊎ (d.failures ≡ (second_device pair).failures)) there' (cut-or-still call k picks.items (second_device pair) (second_device pair') left)) in
       stays-on pair pair' event true w cuts.world stands cuts.step behind.stands
-      (λ lines holds holds'. on-still lines w event cuts.world node.Primary (Some node.Primary) stands.serving pair.device pair'.device holds (primary-stands stands.serving stands.following pair w stands.stands.parts) still)
+      (λ lines holds holds'. on-still lines w event cuts.world node.Primary (Some node.Primary) stands.serving pair.primary.device pair'.primary.device holds (primary-stands stands.serving stands.following pair w stands.stands.parts) still)
       (λ lines whole holds holds'. on-cut lines w event cuts.world node.Standby (Some node.Standby) stands.following pair.standby.device pair'.standby.device holds failed leaves)
       (λ idle. still) (λ idle. absurd (true≢false idle))
 
@@ -284,7 +284,7 @@ module _ (first_lines second_lines : ℕ) where
   cuts-ahead pair pair' call k picks w left stands cuts ahead =
       let event = Crash node.Standby call k picks in
       let other : ¬ (cuts.world.primary.disk.number ≡ w.primary.disk.number) = λ same.
-      true≢false (sym ahead.ended ∙ one-number (has_ended pair'.standby_condition) (has_ended pair.standby_condition) (sym ahead.stands.lives.primary_disk ∙ same ∙ stands.stands.lives.primary_disk) ∙ cuts.began) in
+      true≢false (sym ahead.ended ∙ one-number (has_ended pair'.lives.standby) (has_ended pair.lives.standby) (sym ahead.stands.lives.primary_disk ∙ same ∙ stands.stands.lives.primary_disk) ∙ cuts.began) in
       goes-ahead pair pair' event w cuts.world stands cuts.step refl ahead.former ahead.stands cuts.began ahead.ended (has-gone-ahead w cuts.world call k picks cuts.step other) cuts.first_stays
       (λ here there. on-cut second_lines w event cuts.world node.Standby (Some node.Primary) stands.following (second_device pair) (second_device pair') here
       (cut-or-still call k picks.items (second_device pair) (second_device pair') left) cuts.leaves)
@@ -303,7 +303,7 @@ module _ (first_lines second_lines : ℕ) where
       let still = ap (λ (n : Following). n.device) stops.same_standby.0 in
       let there = stops-primary w event stops.world stands.stands.sound stops.touched stops.step stops.stopped in
       stays-on pair pair' event true w stops.world stands stops.step stops.stands
-      (λ lines here here'. on-stop lines w event stops.world node.Primary stands.serving pair.device pair'.device here here' there stops.stopped stops.leaves)
+      (λ lines here here'. on-stop lines w event stops.world node.Primary stands.serving pair.primary.device pair'.primary.device here here' there stops.stopped stops.leaves)
       (λ lines whole here here'. on-still lines w event stops.world node.Standby (Some node.Standby) stands.following pair.standby.device pair'.standby.device here
       (standby-stands stands.serving stands.following pair w stands.stands.parts whole) still)
       (λ idle. absurd (true≢false (sym (ap (λ b. b && true) stops.touched) ∙ idle))) (λ idle. still)
@@ -313,7 +313,7 @@ module _ (first_lines second_lines : ℕ) where
   stops-second pair pair' event w stands stops =
       let there = stops-standby w event stops.world stops.touched stops.step stops.stopped in
       stays-on pair pair' event true w stops.world stands stops.step stops.stands
-      (λ lines here here'. on-still lines w event stops.world node.Primary (Some node.Primary) stands.serving pair.device pair'.device here
+      (λ lines here here'. on-still lines w event stops.world node.Primary (Some node.Primary) stands.serving pair.primary.device pair'.primary.device here
       (primary-stands stands.serving stands.following pair w stands.stands.parts) stops.same_primary)
       (λ lines whole here here'. on-stop lines w event stops.world node.Standby stands.following pair.standby.device pair'.standby.device here here' there stops.stopped stops.leaves)
       (λ idle. stops.same_primary) (λ idle. absurd (true≢false (sym (ap (λ b. b && true) stops.touched) ∙ idle)))

@@ -56,16 +56,16 @@ left-next holder w contents image up rises within are lawful recalls keeps = rec
 }
 
 -- what the primary holds while it runs
-pub left-running : (first second : Holder) (pair : Pair) (w : World) (call : Cut) (image : Image) → Sound w → PartsRefine first second pair w → Keeps pair.contents image → LeftBy first w call image
+pub left-running : (first second : Holder) (pair : Pair) (w : World) (call : Cut) (image : Image) → Sound w → PartsRefine first second pair w → Keeps pair.primary.contents image → LeftBy first w call image
 left-running first second pair w call image sound parts keeps =
-    left-there first w call pair.contents image sound parts.engine.contents_at parts.engine.lawful
-    (recalls-each w.standby.position w.primary.committer.position (past_of w.primary.calls) pair.contents pair.committing.waiting.items pair.committing.aside pair.sequencer parts.remembers) keeps
+    left-there first w call pair.primary.contents image sound parts.engine.contents_at parts.engine.lawful
+    (recalls-each w.standby.position w.primary.committer.position (past_of w.primary.calls) pair.primary.contents pair.primary.committing.waiting.items pair.primary.committing.aside pair.primary.sequencer parts.remembers) keeps
 
 -- nothing was done to the device
-pub left-still : (first second : Holder) (pair : Pair) (w : World) (call : Cut) (new : State) → Sound w → PartsRefine first second pair w → new ≡ pair.device → LeavesOnly pair.device new (LeftBy first w call)
+pub left-still : (first second : Holder) (pair : Pair) (w : World) (call : Cut) (new : State) → Sound w → PartsRefine first second pair w → new ≡ pair.primary.device → LeavesOnly pair.primary.device new (LeftBy first w call)
 left-still first second pair w call new sound parts same =
-    subst (λ (d : State). LeavesOnly pair.device d (LeftBy first w call)) (sym same)
-    (none_leaves pair.device (LeftBy first w call) (λ image is. left-running first second pair w call image sound parts (parts.engine.durable image is)))
+    subst (λ (d : State). LeavesOnly pair.primary.device d (LeftBy first w call)) (sym same)
+    (none_leaves pair.primary.device (LeftBy first w call) (λ image is. left-running first second pair w call image sound parts (parts.engine.durable image is)))
 
 -- ---- the primary stops, and is crashed later
 

@@ -5,9 +5,8 @@ use Rattle.machine.specs.declared.event.Event.{Event}
 use Rattle.machine.specs.declared.event.Event.TheVariants.{Turn, CloseGroup, Commit, Free, ClearGap, OpenLink, Deliver, Apply, AckDelivered, FailFence, Crash, Reopen, Fence, Promote}
 use Rattle.machine.specs.World as machine
 use Rattle.machine.specs.Event.{Acknowledgement, Disk, Frame, Life, Remains, Standby, World, Happens, Takes, is_crashed, is_enabled, is_retired, is_running, is_stopped, may_happen, nodes_run, told, torn, with_link}
-use Rattle.world.specs.Pair.{AreLives, NodesRefine, Pair, PairRefines, StillRefine}
+use Rattle.world.specs.Pair.{AreLives, Lives, NodesRefine, Pair, PairRefines, StillRefine}
 use Rattle.world.specs.Condition.{has_crashed, has_ended, has_stopped, is_still, life_as, runs}
-use Rattle.world.specs.declared.condition.AskedFences.{AskedFences}
 use Rattle.world.specs.declared.condition.Condition.{Condition}
 use Rattle.world.specs.declared.condition.Condition.TheVariants.{Running, Stopped, Crashed, Ended}
 
@@ -102,19 +101,19 @@ plain-happens w event new plain h = of w _ new h (record { allowed = refl; prima
 life-like : (condition : Condition) {life life' : Life} → life' ≡ life → life ≡ life_as condition (torn life) → life' ≡ life_as condition (torn life')
 life-like condition same is = same ∙ is ∙ ap (λ (l : Life). life_as condition (torn l)) (sym same)
 
-pub lives-like : {first second : Holder} {serves follows : Condition} {fences : AskedFences} {w w' : World} → SameLives w w' → AreLives first second serves follows fences w → AreLives first second serves follows fences w'
-lives-like {first} {second} {serves} {follows} same lives = record {
-  allowed_are = same.allowed ∙ lives.allowed_are;
-  primary_disk = ap (λ (d : Disk). d.number) same.primary_disk ∙ lives.primary_disk;
-  standby_disk = ap (λ (d : Disk). d.number) same.standby_disk ∙ lives.standby_disk;
-  primary_failing = ap (λ (d : Disk). d.failing) same.primary_disk ∙ lives.primary_failing;
-  standby_failing = ap (λ (d : Disk). d.failing) same.standby_disk ∙ lives.standby_failing;
-  primary = life-like serves same.primary lives.primary;
-  standby = life-like follows same.standby lives.standby;
-  first_role = lives.first_role;
-  second_role = lives.second_role;
-  first_epoch = lives.first_epoch ∙ sym same.epoch;
-  second_epoch = lives.second_epoch ∙ sym same.epoch;
+pub lives-like : {first second : Holder} {lives : Lives} {w w' : World} → SameLives w w' → AreLives first second lives w → AreLives first second lives w'
+lives-like {first} {second} {lives} same are = record {
+  allowed_are = same.allowed ∙ are.allowed_are;
+  primary_disk = ap (λ (d : Disk). d.number) same.primary_disk ∙ are.primary_disk;
+  standby_disk = ap (λ (d : Disk). d.number) same.standby_disk ∙ are.standby_disk;
+  primary_failing = ap (λ (d : Disk). d.failing) same.primary_disk ∙ are.primary_failing;
+  standby_failing = ap (λ (d : Disk). d.failing) same.standby_disk ∙ are.standby_failing;
+  primary = life-like lives.primary same.primary are.primary;
+  standby = life-like lives.standby same.standby are.standby;
+  first_role = are.first_role;
+  second_role = are.second_role;
+  first_epoch = are.first_epoch ∙ sym same.epoch;
+  second_epoch = are.second_epoch ∙ sym same.epoch;
 }
 
 -- a call that failed has left nothing of a node that runs, nor of one that crashed
@@ -136,17 +135,17 @@ stopped-as Ended remains = refl
 -- ---- an event whose nodes run
 
 -- the nodes that take part in the event run
-pub record Runs (first second : Holder) (serves follows : Condition) (fences : AskedFences) (w : World) (event : Event) : Type 0 where
-  pub lives : AreLives first second serves follows fences w
+pub record Runs (first second : Holder) (live : Lives) (w : World) (event : Event) : Type 0 where
+  pub lives : AreLives first second live w
   pub nodes : nodes_run w event ≡ true
 
 -- what has something to do is enabled
-pub enabled-is : {first second : Holder} {serves follows : Condition} {fences : AskedFences} {w : World} {event : Event} → Runs first second serves follows fences w event → is_enabled w event ≡ may_happen w event
-enabled-is {first} {second} {serves} {follows} {fences} {w} {event} runs = ap (λ b. b && may_happen w event) runs.nodes
+pub enabled-is : {first second : Holder} {lives : Lives} {w : World} {event : Event} → Runs first second lives w event → is_enabled w event ≡ may_happen w event
+enabled-is {first} {second} {lives} {w} {event} runs = ap (λ b. b && may_happen w event) runs.nodes
 
 -- the same nodes run afterwards
-pub lives-step : {first second : Holder} {serves follows : Condition} {fences : AskedFences} {w w' : World} {event : Event} → Runs first second serves follows fences w event → is_plain event ≡ true → Happens w event w' → AreLives first second serves follows fences w'
-lives-step {first} {second} {serves} {follows} {fences} {w} {w'} {event} runs plain happens = lives-like (plain-happens w event w' plain happens) runs.lives
+pub lives-step : {first second : Holder} {lives : Lives} {w w' : World} {event : Event} → Runs first second lives w event → is_plain event ≡ true → Happens w event w' → AreLives first second lives w'
+lives-step {first} {second} {lives} {w} {w'} {event} runs plain happens = lives-like (plain-happens w event w' plain happens) runs.lives
 
 pub running-life : (condition : Condition) (remains : List Remains) → runs condition ≡ true → life_as condition remains ≡ machine.Running
 running-life Running remains up = refl
@@ -155,10 +154,10 @@ running-life Crashed remains up = absurd (true≢false (sym up))
 running-life Ended remains up = absurd (true≢false (sym up))
 
 pub serving : {first second : Holder} {pair : Pair} {w : World} → PairRefines first second pair w → w.primary.life ≡ machine.Running
-serving {first} {second} {pair} {w} stands = stands.lives.primary ∙ running-life pair.primary_condition (torn w.primary.life) stands.serves
+serving {first} {second} {pair} {w} stands = stands.lives.primary ∙ running-life pair.lives.primary (torn w.primary.life) stands.serves
 
 -- an event that needs the primary alone
-pub own-runs : {first second : Holder} {pair : Pair} {w : World} → PairRefines first second pair w → (event : Event) → is_own event ≡ true → Runs first second pair.primary_condition pair.standby_condition pair.asked w event
+pub own-runs : {first second : Holder} {pair : Pair} {w : World} → PairRefines first second pair w → (event : Event) → is_own event ≡ true → Runs first second pair.lives w event
 own-runs {first} {second} {pair} {w} stands event own = record { lives = stands.lives; nodes = own-nodes w event own (serving stands) }
 
 pub nodes-refine : {first second : Holder} {pair : Pair} {w : World} → PairRefines first second pair w → NodesRefine first second pair w
@@ -240,22 +239,22 @@ pub still-not-crashed : (condition : Condition) → is_still condition ≡ true 
 still-not-crashed condition still down = true≢false (sym still ∙ crashed-whole condition down)
 
 -- a pair whose primary runs
-pub serves-as : {first second : Holder} {pair : Pair} {w : World} → runs pair.primary_condition ≡ true → NodesRefine first second pair w → PairRefines first second pair w
+pub serves-as : {first second : Holder} {pair : Pair} {w : World} → runs pair.lives.primary ≡ true → NodesRefine first second pair w → PairRefines first second pair w
 serves-as {first} {second} {pair} {w} up stands = record {
   sound = stands.sound;
   lives = stands.lives;
   serves = up;
   parts = elim stands.parts [
     | inl whole ↦ whole.1
-    | inr (inl down) ↦ absurd (not-crashed pair.primary_condition up down.0)
-    | inr (inr still) ↦ absurd (not-still pair.primary_condition up still.0)
+    | inr (inl down) ↦ absurd (not-crashed pair.lives.primary up down.0)
+    | inr (inr still) ↦ absurd (not-still pair.lives.primary up still.0)
   ];
 }
 
 -- one whose primary has stopped or was fenced
-pub still-as : {first second : Holder} {pair : Pair} {w : World} → is_still pair.primary_condition ≡ true → NodesRefine first second pair w → StillRefine first second pair w
+pub still-as : {first second : Holder} {pair : Pair} {w : World} → is_still pair.lives.primary ≡ true → NodesRefine first second pair w → StillRefine first second pair w
 still-as {first} {second} {pair} {w} still stands = elim stands.parts [
-  | inl whole ↦ absurd (not-still pair.primary_condition whole.0 still)
-  | inr (inl down) ↦ absurd (still-not-crashed pair.primary_condition still down.0)
+  | inl whole ↦ absurd (not-still pair.lives.primary whole.0 still)
+  | inr (inl down) ↦ absurd (still-not-crashed pair.lives.primary still down.0)
   | inr (inr is) ↦ is.1
 ]

@@ -22,11 +22,11 @@ use Rattle.world.specs.Recalling.{past_of}
 -- ---- the sequencer is told
 
 abbrev pub with_accepted : Sequencing → List Freed → Pair → Pair
-with_accepted sequencer notices pair = record pair { sequencer = sequencer; notices = notices }
+with_accepted sequencer notices pair = record pair { primary = record pair.primary { sequencer = sequencer; notices = notices } }
 
-pub accept-does : (old : Pair) (sequencer : Sequencing) (notice : Freed) (rest : List Freed) → old.notices ≡ notice ∷ rest
-    → TakesBack old.sequencer notice.entries.items notice.extents.items sequencer
-    → ((c : Contents) (e : List EntryNo) (x : List Extent) → IsAheadOf old.sequencer c → Expects old.sequencer c (notice.entries.items ++ e) (notice.extents.items ++ x) → IsAheadOf sequencer c × Expects sequencer c e x)
+pub accept-does : (old : Pair) (sequencer : Sequencing) (notice : Freed) (rest : List Freed) → old.primary.notices ≡ notice ∷ rest
+    → TakesBack old.primary.sequencer notice.entries.items notice.extents.items sequencer
+    → ((c : Contents) (e : List EntryNo) (x : List Extent) → IsAheadOf old.primary.sequencer c → Expects old.primary.sequencer c (notice.entries.items ++ e) (notice.extents.items ++ x) → IsAheadOf sequencer c × Expects sequencer c e x)
     → Does old events.AcceptFreed (Ok true) (with_accepted sequencer rest old)
 accept-does old sequencer notice rest told takes expected = record { steps = steps; cut = tt; calls = none-added _ _ refl }
   where
@@ -36,17 +36,17 @@ accept-does old sequencer notice rest told takes expected = record { steps = ste
         let many = ap length (sym told) ∙ parts.freeing.notices_are in
         let newest = ap (λ (s : Sequencing). s.newest) takes.after in
         let ended = ap (λ (s : Sequencing). s.ended) takes.after in
-        let freeing : FreeingRefines sequencer rest old.contents (machine.accepted w).primary =
+        let freeing : FreeingRefines sequencer rest old.primary.contents (machine.accepted w).primary =
         record { ended = ap length ended ∙ parts.freeing.ended; newest = newest ∙ parts.freeing.newest; notices_are = omega (arith, many); gaps = parts.freeing.gaps } in
-        let stand : SequencerRefines calls w.primary.committer.closed (record old.sequencer { room = sequencer.room }) = search (rules, parts.sequencer) in
+        let stand : SequencerRefines calls w.primary.committer.closed (record old.primary.sequencer { room = sequencer.room }) = search (rules, parts.sequencer) in
         search (
           rules,
           freeing,
           subst (SequencerRefines calls w.primary.committer.closed) (sym takes.after) stand,
-          subst (SeatsFollow calls (seats_of old.sessions.connections.items)) (sym takes.after) (record { by_call = parts.follow.by_call; session = parts.follow.session }),
-          Leads-accepted old.contents old.committing.waiting.items old.committing.aside old.sequencer sequencer notice rest
-              (subst (Leads old.contents old.committing.waiting.items old.committing.aside old.sequencer) told parts.leads) takes expected,
-          remembers-on w.standby.position w.standby.position w.primary.committer.position (past_of calls) old.contents old.committing.waiting.items old.committing.aside old.sequencer sequencer
+          subst (SeatsFollow calls (seats_of old.clients.sessions.connections.items)) (sym takes.after) (record { by_call = parts.follow.by_call; session = parts.follow.session }),
+          Leads-accepted old.primary.contents old.primary.committing.waiting.items old.primary.committing.aside old.primary.sequencer sequencer notice rest
+              (subst (Leads old.primary.contents old.primary.committing.waiting.items old.primary.committing.aside old.primary.sequencer) told parts.leads) takes expected,
+          remembers-on w.standby.position w.standby.position w.primary.committer.position (past_of calls) old.primary.contents old.primary.committing.waiting.items old.primary.committing.aside old.primary.sequencer sequencer
               (le_refl w.standby.position) ended newest parts.remembers,
         )
 
@@ -61,8 +61,8 @@ no_notices [] none = refl
 no_notices (notice ∷ notices) none = absurd (omega (arith, none))
 
 -- there was no notice
-pub accept-none : (old : Pair) (notices : List Freed) → old.notices ≡ [] → notices ≡ [] → Does old events.AcceptFreed (Ok false) (record old { notices = notices })
+pub accept-none : (old : Pair) (notices : List Freed) → old.primary.notices ≡ [] → notices ≡ [] → Does old events.AcceptFreed (Ok false) (record old { primary = record old.primary { notices = notices } })
 accept-none old notices none none' =
-    subst (λ (told : List Freed). Does old events.AcceptFreed (Ok false) (record old { notices = told })) (none ∙ sym none')
+    subst (λ (told : List Freed). Does old events.AcceptFreed (Ok false) (record old { primary = record old.primary { notices = told } })) (none ∙ sym none')
     (stays-does old events.AcceptFreed refl (λ first second w stands.
     let few = ap length (sym none) ∙ stands.parts.freeing.notices_are in sym (le-ltb 0 w.primary.notices (omega (arith, few)))))

@@ -26,20 +26,20 @@ use Rattle.world.proofs.PairLemmas.{cut-same, goes-steps, none-added, stays-does
 
 -- what waits for the committer, and the sequencer
 abbrev pub with_work : Waiting Work → Sequencing → Pair → Pair
-with_work waiting sequencer pair = record pair { committing = record pair.committing { waiting = waiting }; sequencer = sequencer }
+with_work waiting sequencer pair = record pair { primary = record pair.primary { committing = record pair.primary.committing { waiting = waiting }; sequencer = sequencer } }
 
 -- ---- a group
 
 group-committing : (first second : Holder) (old : Pair) (waiting : Waiting Work) (sequencer : Sequencing) (w : World) → PartsRefine first second old w
-    → ClosesGroup old.sequencer old.committing.waiting sequencer waiting
-    → CommittingRefines w.primary.calls (record old.committing { waiting = waiting }) (closed_group (position_of w.primary.calls) w.primary.committer)
+    → ClosesGroup old.primary.sequencer old.primary.committing.waiting sequencer waiting
+    → CommittingRefines w.primary.calls (record old.primary.committing { waiting = waiting }) (closed_group (position_of w.primary.calls) w.primary.committer)
 group-committing first second old waiting sequencer w parts closes =
     let machine = w.primary.committer in
     let last : MachineWork = Commits (record { before = machine.closed; after = position_of w.primary.calls }) in
     record {
       work = subst (λ (items : List Work). AreWorkOf w.primary.calls items (closed_group (position_of w.primary.calls) machine).waiting) (sym closes.last)
-          (AreWorkOf-push w.primary.calls old.committing.waiting.items machine.waiting (work.Commit closes.group) last parts.committing.work
-          (IsGroupOf-handed w.primary.calls machine.closed old.sequencer sequencer closes.group parts.sequencer closes.hands));
+          (AreWorkOf-push w.primary.calls old.primary.committing.waiting.items machine.waiting (work.Commit closes.group) last parts.committing.work
+          (IsGroupOf-handed w.primary.calls machine.closed old.primary.sequencer sequencer closes.group parts.sequencer closes.hands));
       aside = parts.committing.aside;
       stage_is = parts.committing.stage_is;
       local_is = parts.committing.local_is;
@@ -47,11 +47,11 @@ group-committing first second old waiting sequencer w parts closes =
 
 group-parts : (first second : Holder) (old : Pair) (waiting : Waiting Work) (sequencer : Sequencing) (w : World)
     → IsChain w.primary.committer.position (spans_of w.primary.committer.waiting) w.primary.committer.closed → PartsRefine first second old w
-    → ClosesGroup old.sequencer old.committing.waiting sequencer waiting → PartsRefine first second (with_work waiting sequencer old) (grouped old.sequencer w)
+    → ClosesGroup old.primary.sequencer old.primary.committing.waiting sequencer waiting → PartsRefine first second (with_work waiting sequencer old) (grouped old.primary.sequencer w)
 group-parts first second old waiting sequencer w chain parts closes =
-    let s = old.sequencer in
+    let s = old.primary.sequencer in
     let after = closes.hands.after in
-    let freeing : FreeingRefines sequencer old.notices old.contents (grouped s w).primary =
+    let freeing : FreeingRefines sequencer old.primary.notices old.primary.contents (grouped s w).primary =
     record {
       ended = ap (λ (now : Sequencing). length now.ended) after ∙ length-append s.ended (ended_by_parts s.waiting) ∙ ap (λ n. n + length (ended_by_parts s.waiting)) parts.freeing.ended;
       newest = ap (λ (now : Sequencing). now.newest) after;
@@ -62,23 +62,23 @@ group-parts first second old waiting sequencer w chain parts closes =
       rules,
       freeing,
       sequencer-handed w.primary.calls w.primary.committer.closed s sequencer closes.group parts.sequencer closes.hands,
-      follow-handed w.primary.calls (seats_of old.sessions.connections.items) s sequencer closes.group closes.hands parts.follow,
+      follow-handed w.primary.calls (seats_of old.clients.sessions.connections.items) s sequencer closes.group closes.hands parts.follow,
       group-committing first second old waiting sequencer w parts closes,
-      Leads-group old.contents old.committing.waiting waiting old.committing.aside s sequencer old.notices parts.engine.contents_at.consistent parts.leads closes,
-      remembers-group w.standby.position w.primary.committer.position (past_of w.primary.calls) old.contents old.committing.waiting waiting old.committing.aside s sequencer old.notices
+      Leads-group old.primary.contents old.primary.committing.waiting waiting old.primary.committing.aside s sequencer old.primary.notices parts.engine.contents_at.consistent parts.leads closes,
+      remembers-group w.standby.position w.primary.committer.position (past_of w.primary.calls) old.primary.contents old.primary.committing.waiting waiting old.primary.committing.aside s sequencer old.primary.notices
           parts.engine.contents_at.at parts.engine.contents_at.consistent parts.leads closes (waits-along w.primary.calls w.primary.committer.closed s parts.sequencer) parts.remembers,
     )
 
 -- ---- a free list
 
 list-committing : (first second : Holder) (old : Pair) (waiting : Waiting Work) (sequencer : Sequencing) (w : World) → PartsRefine first second old w
-    → ClosesList old.sequencer old.committing.waiting sequencer waiting
-    → CommittingRefines w.primary.calls (record old.committing { waiting = waiting }) (closed_list w.primary.newest w.primary.committer)
+    → ClosesList old.primary.sequencer old.primary.committing.waiting sequencer waiting
+    → CommittingRefines w.primary.calls (record old.primary.committing { waiting = waiting }) (closed_list w.primary.newest w.primary.committer)
 list-committing first second old waiting sequencer w parts closes =
     let machine = w.primary.committer in
     record {
       work = subst (λ (items : List Work). AreWorkOf w.primary.calls items (closed_list w.primary.newest machine).waiting) (sym closes.last)
-          (AreWorkOf-push w.primary.calls old.committing.waiting.items machine.waiting (work.Free closes.list) (Frees w.primary.newest) parts.committing.work
+          (AreWorkOf-push w.primary.calls old.primary.committing.waiting.items machine.waiting (work.Free closes.list) (Frees w.primary.newest) parts.committing.work
           (closes.hands.position ∙ parts.freeing.newest));
       aside = parts.committing.aside;
       stage_is = parts.committing.stage_is;
@@ -86,11 +86,11 @@ list-committing first second old waiting sequencer w parts closes =
     }
 
 list-parts : (first second : Holder) (old : Pair) (waiting : Waiting Work) (sequencer : Sequencing) (w : World) → PartsRefine first second old w
-    → ClosesList old.sequencer old.committing.waiting sequencer waiting → PartsRefine first second (with_work waiting sequencer old) (listed w)
+    → ClosesList old.primary.sequencer old.primary.committing.waiting sequencer waiting → PartsRefine first second (with_work waiting sequencer old) (listed w)
 list-parts first second old waiting sequencer w parts closes =
-    let s = old.sequencer in
+    let s = old.primary.sequencer in
     let after = closes.hands.after in
-    let freeing : FreeingRefines sequencer old.notices old.contents (listed w).primary =
+    let freeing : FreeingRefines sequencer old.primary.notices old.primary.contents (listed w).primary =
     record {
       ended = ap (λ (now : Sequencing). length now.ended) after;
       newest = ap (λ (now : Sequencing). now.newest) after ∙ parts.freeing.newest;
@@ -101,45 +101,45 @@ list-parts first second old waiting sequencer w parts closes =
       rules,
       freeing,
       sequencer-listed w.primary.calls w.primary.committer.closed s sequencer closes.list parts.sequencer closes.hands,
-      follow-listed w.primary.calls (seats_of old.sessions.connections.items) s sequencer closes.list closes.hands parts.follow,
+      follow-listed w.primary.calls (seats_of old.clients.sessions.connections.items) s sequencer closes.list closes.hands parts.follow,
       list-committing first second old waiting sequencer w parts closes,
-      Leads-list old.contents old.committing.waiting waiting old.committing.aside s sequencer old.notices parts.leads closes,
-      remembers-list w.standby.position w.primary.committer.position (past_of w.primary.calls) old.contents old.committing.waiting waiting old.committing.aside s sequencer old.notices
+      Leads-list old.primary.contents old.primary.committing.waiting waiting old.primary.committing.aside s sequencer old.primary.notices parts.leads closes,
+      remembers-list w.standby.position w.primary.committer.position (past_of w.primary.calls) old.primary.contents old.primary.committing.waiting waiting old.primary.committing.aside s sequencer old.primary.notices
           parts.engine.contents_at.at parts.engine.contents_at.consistent parts.leads closes parts.remembers,
     )
 
 -- ---- one of the two, or none
 
-close-happens : (first second : Holder) (old : Pair) (w : World) → PairRefines first second old w → MayClose old.sequencer old.committing.waiting → may_happen w events.CloseGroup ≡ true
+close-happens : (first second : Holder) (old : Pair) (w : World) → PairRefines first second old w → MayClose old.primary.sequencer old.primary.committing.waiting → may_happen w events.CloseGroup ≡ true
 close-happens first second old w stands may =
-    may-close w old.committing.waiting old.sequencer stands.parts.committing.work stands.parts.sequencer stands.parts.freeing.ended may
+    may-close w old.primary.committing.waiting old.primary.sequencer stands.parts.committing.work stands.parts.sequencer stands.parts.freeing.ended may
 
-close-to : (first second : Holder) (old : Pair) (waiting : Waiting Work) (sequencer : Sequencing) (w new : World) → PairRefines first second old w → MayClose old.sequencer old.committing.waiting
+close-to : (first second : Holder) (old : Pair) (waiting : Waiting Work) (sequencer : Sequencing) (w new : World) → PairRefines first second old w → MayClose old.primary.sequencer old.primary.committing.waiting
     → Closes w new → PartsRefine first second (with_work waiting sequencer old) new → Steps first second w events.CloseGroup true old (with_work waiting sequencer old)
 close-to first second old waiting sequencer w new stands may closes parts =
     goes-steps first second w new events.CloseGroup true old (with_work waiting sequencer old) refl refl (nodes-refine stands) (own-runs stands events.CloseGroup refl) stands.serves refl closes
     (record { done = sym (close-happens first second old w stands may); goes = λ did. parts; stays = λ did. absurd (true≢false did) })
 
 close-steps : (first second : Holder) (old : Pair) (waiting : Waiting Work) (sequencer : Sequencing) (w : World) → PairRefines first second old w
-    → MayClose old.sequencer old.committing.waiting → ClosesOne old.sequencer old.committing.waiting sequencer waiting
+    → MayClose old.primary.sequencer old.primary.committing.waiting → ClosesOne old.primary.sequencer old.primary.committing.waiting sequencer waiting
     → Steps first second w events.CloseGroup true old (with_work waiting sequencer old)
 close-steps first second old waiting sequencer w stands may (inl group) =
-    close-to first second old waiting sequencer w (grouped old.sequencer w) stands may (closes-group w old.sequencer stands.parts.sequencer stands.parts.freeing.newest group.some)
+    close-to first second old waiting sequencer w (grouped old.primary.sequencer w) stands may (closes-group w old.primary.sequencer stands.parts.sequencer stands.parts.freeing.newest group.some)
     (group-parts first second old waiting sequencer w stands.sound.committer.waiting stands.parts group)
 close-steps first second old waiting sequencer w stands may (inr list) =
-    close-to first second old waiting sequencer w (listed w) stands may (closes-list w old.sequencer stands.parts.sequencer list.none)
+    close-to first second old waiting sequencer w (listed w) stands may (closes-list w old.primary.sequencer stands.parts.sequencer list.none)
     (list-parts first second old waiting sequencer w stands.parts list)
 
 pub close-does : (old : Pair) (waiting : Waiting Work) (sequencer : Sequencing) (result : Result Bool Refusal)
-    → IfOk result (λ did. did ≡ true → MayClose old.sequencer old.committing.waiting × ClosesOne old.sequencer old.committing.waiting sequencer waiting)
-    → IfOk result (λ did. did ≡ false → (¬ MayClose old.sequencer old.committing.waiting) × (sequencer ≡ old.sequencer) × (waiting ≡ old.committing.waiting))
-    → IfErr result (λ refusal. refusal ≡ Memory) → OnErr result (MayClose old.sequencer old.committing.waiting × (sequencer ≡ old.sequencer) × (waiting.items ≡ old.committing.waiting.items))
+    → IfOk result (λ did. did ≡ true → MayClose old.primary.sequencer old.primary.committing.waiting × ClosesOne old.primary.sequencer old.primary.committing.waiting sequencer waiting)
+    → IfOk result (λ did. did ≡ false → (¬ MayClose old.primary.sequencer old.primary.committing.waiting) × (sequencer ≡ old.primary.sequencer) × (waiting ≡ old.primary.committing.waiting))
+    → IfErr result (λ refusal. refusal ≡ Memory) → OnErr result (MayClose old.primary.sequencer old.primary.committing.waiting × (sequencer ≡ old.primary.sequencer) × (waiting.items ≡ old.primary.committing.waiting.items))
     → Does old events.CloseGroup result (with_work waiting sequencer old)
 close-does old waiting sequencer (Err refusal) closed none memory refused =
     record {
       steps = tt;
       cut = λ first second w stands.
-          cut-same first second events.CloseGroup refusal old (with_work waiting sequencer old) w refl memory refl refl (tells old.transcript) refl (own-runs stands events.CloseGroup refl)
+          cut-same first second events.CloseGroup refusal old (with_work waiting sequencer old) w refl memory refl refl (tells old.clients.transcript) refl (own-runs stands events.CloseGroup refl)
           (close-happens first second old w stands refused.0) (nodes-refine stands);
       calls = none-added _ _ refl;
     }
@@ -151,4 +151,4 @@ close-does old waiting sequencer (Ok false) closed none memory refused =
     let same : with_work waiting sequencer old ≡ old = ap₂ (λ items s. with_work items s old) stayed.2 stayed.1 in
     subst (Does old events.CloseGroup (Ok false)) (sym same)
     (stays-does old events.CloseGroup refl (λ first second w stands.
-    let parts = stands.parts in sym (may-not-close w old.committing.waiting old.sequencer parts.committing.work parts.sequencer parts.freeing.ended stayed.0)))
+    let parts = stands.parts in sym (may-not-close w old.primary.committing.waiting old.primary.sequencer parts.committing.work parts.sequencer parts.freeing.ended stayed.0)))

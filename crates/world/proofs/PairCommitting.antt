@@ -36,9 +36,9 @@ ends-commit Exhausted P Q both ends = both RestsAtLimit ends
 ends-commit refusal P Q both ends = absurd ends
 
 -- the first group that waits has committed
-pub commit-steps : (first second : Holder) (w : World) (old new : Pair) → new.standby.device ≡ old.standby.device → new.standby_condition ≡ old.standby_condition → Sound w → Runs first second new.primary_condition new.standby_condition new.asked w events.Commit
-    → runs new.primary_condition ≡ true → new.device.failures ≡ old.device.failures
-    → NearOnly first w.primary.calls w.primary.committer.position (next_primary w) old.device new.device → true ≡ may_happen w events.Commit
+pub commit-steps : (first second : Holder) (w : World) (old new : Pair) → new.standby.device ≡ old.standby.device → new.lives.standby ≡ old.lives.standby → Sound w → Runs first second new.lives w events.Commit
+    → runs new.lives.primary ≡ true → new.primary.device.failures ≡ old.primary.device.failures
+    → NearOnly first w.primary.calls w.primary.committer.position (next_primary w) old.primary.device new.primary.device → true ≡ may_happen w events.Commit
     → PartsRefine first second new (with_committer (committed_first (from_group w.primary.committer.waiting) w.primary.committer) w) → Steps first second w events.Commit true old new
 commit-steps first second w old new device' same sound runs serves failures only done parts =
     let committer = committed_first (from_group w.primary.committer.waiting) w.primary.committer in
@@ -49,9 +49,9 @@ commit-steps first second w old new device' same sound runs serves failures only
       step = step;
       stands = record { sound = sound-step w events.Commit true w' step sound; lives = lives-like (record { allowed = refl; primary_disk = refl; standby_disk = refl; primary = refl; standby = refl; epoch = refl }) runs.lives; parts = inl (serves, parts) };
       moves = record {
-        primary = near-from first w.primary.calls w.primary.committer.position (next_primary w) (torn w.primary.life) old.device new.device (record { leaves = only; failures = failures });
+        primary = near-from first w.primary.calls w.primary.committer.position (next_primary w) (torn w.primary.life) old.primary.device new.primary.device (record { leaves = only; failures = failures });
         standby = λ whole. near-same second w.primary.calls w.standby.position (torn w.standby.life) old.standby.device new.standby.device device'
-            (Remain-standby second new.link.epoch w.primary.calls w.standby.position (torn w.standby.life) new.standby new.standby_condition (ap has_ended same ∙ whole) parts.standby);
+            (Remain-standby second new.wire.link.epoch w.primary.calls w.standby.position (torn w.standby.life) new.standby new.lives.standby (ap has_ended same ∙ whole) parts.standby);
       };
     }
 
@@ -63,27 +63,27 @@ same_closed (Frees position ∷ works) w = refl
 -- ---- a group shown
 
 abbrev pub with_committing : Committing → Pair → Pair
-with_committing committing pair = record pair { committing = committing }
+with_committing committing pair = record pair { primary = record pair.primary { committing = committing } }
 
-pub shown-parts : (first second : Holder) (old : Pair) (committing : Committing) (w : World) (committer : MachineCommitter) → PartsRefine first second old w → committing.waiting ≡ old.committing.waiting
-    → committing.aside ≡ old.committing.aside → CommittingRefines w.primary.calls committing committer → committer.closed ≡ w.primary.committer.closed → committer.position ≡ w.primary.committer.position
+pub shown-parts : (first second : Holder) (old : Pair) (committing : Committing) (w : World) (committer : MachineCommitter) → PartsRefine first second old w → committing.waiting ≡ old.primary.committing.waiting
+    → committing.aside ≡ old.primary.committing.aside → CommittingRefines w.primary.calls committing committer → committer.closed ≡ w.primary.committer.closed → committer.position ≡ w.primary.committer.position
     → PartsRefine first second (with_committing committing old) (with_committer committer w)
 shown-parts first second old committing w committer parts waiting aside committing_stands closed position =
     search (
       rules,
-      subst (λ n. SequencerRefines w.primary.calls n old.sequencer) (sym closed) parts.sequencer,
-      subst (λ p. EngineStands first w.primary.calls p old.device old.contents old.is_faulted) (sym position) parts.engine,
-      subst (λ (waits : Waiting Work). Leads old.contents waits.items committing.aside old.sequencer old.notices) (sym waiting)
-          (subst (λ (lists : List FreeList). Leads old.contents old.committing.waiting.items lists old.sequencer old.notices) (sym aside) parts.leads),
-      subst (λ p. Remembers w.standby.position p (past_of w.primary.calls) old.contents committing.waiting.items committing.aside old.sequencer) (sym position)
-          (subst (λ (waits : Waiting Work). Remembers w.standby.position w.primary.committer.position (past_of w.primary.calls) old.contents waits.items committing.aside old.sequencer) (sym waiting)
-          (subst (λ (lists : List FreeList). Remembers w.standby.position w.primary.committer.position (past_of w.primary.calls) old.contents old.committing.waiting.items lists old.sequencer) (sym aside) parts.remembers)),
+      subst (λ n. SequencerRefines w.primary.calls n old.primary.sequencer) (sym closed) parts.sequencer,
+      subst (λ p. EngineStands first w.primary.calls p old.primary.device old.primary.contents old.primary.is_faulted) (sym position) parts.engine,
+      subst (λ (waits : Waiting Work). Leads old.primary.contents waits.items committing.aside old.primary.sequencer old.primary.notices) (sym waiting)
+          (subst (λ (lists : List FreeList). Leads old.primary.contents old.primary.committing.waiting.items lists old.primary.sequencer old.primary.notices) (sym aside) parts.leads),
+      subst (λ p. Remembers w.standby.position p (past_of w.primary.calls) old.primary.contents committing.waiting.items committing.aside old.primary.sequencer) (sym position)
+          (subst (λ (waits : Waiting Work). Remembers w.standby.position w.primary.committer.position (past_of w.primary.calls) old.primary.contents waits.items committing.aside old.primary.sequencer) (sym waiting)
+          (subst (λ (lists : List FreeList). Remembers w.standby.position w.primary.committer.position (past_of w.primary.calls) old.primary.contents old.primary.committing.waiting.items lists old.primary.sequencer) (sym aside) parts.remembers)),
     )
 
 pub raise-does : (old : Pair) (committing : Committing) (did : Bool)
-    → ((w : World) → CommittingRefines w.primary.calls old.committing w.primary.committer → old.contents.current.position ≡ w.primary.committer.position
+    → ((w : World) → CommittingRefines w.primary.calls old.primary.committing w.primary.committer → old.primary.contents.current.position ≡ w.primary.committer.position
     → Goes (may_happen w events.RaiseLocal) did (CommittingRefines w.primary.calls committing (raised_local w.primary.committer)) (CommittingRefines w.primary.calls committing w.primary.committer))
-    → committing.waiting ≡ old.committing.waiting → committing.aside ≡ old.committing.aside → Does old events.RaiseLocal (Ok did) (with_committing committing old)
+    → committing.waiting ≡ old.primary.committing.waiting → committing.aside ≡ old.primary.committing.aside → Does old events.RaiseLocal (Ok did) (with_committing committing old)
 raise-does old committing did go waiting aside =
     record {
       steps = λ first second w stands.
@@ -100,14 +100,14 @@ raise-does old committing did go waiting aside =
 
 -- what waits for the link, and the committer
 abbrev pub with_handed : Committing → Waiting Group → Pair → Pair
-with_handed committing handed pair = record pair { committing = committing; handed = handed }
+with_handed committing handed pair = record pair { primary = record pair.primary { committing = committing; handed = handed } }
 
 pub hand-does : (old : Pair) (committing : Committing) (waiting : Waiting Group) (did : Bool)
-    → ((w : World) → Sound w → CommittingRefines w.primary.calls old.committing w.primary.committer → AreGroupsOf w.primary.calls old.handed.items w.primary.link.waiting
+    → ((w : World) → Sound w → CommittingRefines w.primary.calls old.primary.committing w.primary.committer → AreGroupsOf w.primary.calls old.primary.handed.items w.primary.link.waiting
     → Goes (may_happen w events.Hand) did
     (CommittingRefines w.primary.calls committing (ready_again w.primary.committer) × AreGroupsOf w.primary.calls waiting.items (w.primary.link.waiting ++ handed w.primary.committer.stage))
     (CommittingRefines w.primary.calls committing w.primary.committer × AreGroupsOf w.primary.calls waiting.items w.primary.link.waiting))
-    → committing.waiting ≡ old.committing.waiting → committing.aside ≡ old.committing.aside → Does old events.Hand (Ok did) (with_handed committing waiting old)
+    → committing.waiting ≡ old.primary.committing.waiting → committing.aside ≡ old.primary.committing.aside → Does old events.Hand (Ok did) (with_handed committing waiting old)
 hand-does old committing waiting did go same aside =
     record {
       steps = λ first second w stands.
@@ -121,15 +121,15 @@ hand-does old committing waiting did go same aside =
       calls = none-added _ _ refl;
     }
   where
-    waits : (link : MachineLink) (w : World) → LinkRefines w.primary.calls old.link old.handed old.remote w.primary.link → record w.primary.link { waiting = link.waiting } ≡ link
-        → AreGroupsOf w.primary.calls waiting.items link.waiting → LinkRefines w.primary.calls old.link waiting old.remote link
+    waits : (link : MachineLink) (w : World) → LinkRefines w.primary.calls old.wire.link old.primary.handed old.wire.remote w.primary.link → record w.primary.link { waiting = link.waiting } ≡ link
+        → AreGroupsOf w.primary.calls waiting.items link.waiting → LinkRefines w.primary.calls old.wire.link waiting old.wire.remote link
     waits link w stands same_rest groups =
-        subst (λ (l : MachineLink). LinkRefines w.primary.calls old.link waiting old.remote l) same_rest
+        subst (λ (l : MachineLink). LinkRefines w.primary.calls old.wire.link waiting old.wire.remote l) same_rest
         (search (rules, stands))
 
     on : {first second : Holder} (w : World) (committer : MachineCommitter) (link : MachineLink) → PartsRefine first second old w → CommittingRefines w.primary.calls committing committer → committer.closed ≡ w.primary.committer.closed
         → committer.position ≡ w.primary.committer.position → record w.primary.link { waiting = link.waiting } ≡ link → AreGroupsOf w.primary.calls waiting.items link.waiting
         → PartsRefine first second (with_handed committing waiting old) (with_link link (with_committer committer w))
     on {first} {second} w committer link parts stands closed position same_rest groups =
-        link-alone first second (with_committing committing old) waiting old.link old.remote (with_committer committer w) link (shown-parts first second old committing w committer parts same aside stands closed position) refl
+        link-alone first second (with_committing committing old) waiting old.wire.link old.wire.remote (with_committer committer w) link (shown-parts first second old committing w committer parts same aside stands closed position) refl
         (waits link w parts.link same_rest groups)

@@ -1,12 +1,11 @@
 -- What a crash of a node does to the pair.
-use Rattle.std.proofs.Common.{cond, rules, le_refl, ◌≡◌, inl, inr, ℕ, ◌≤◌, Bool, true, false, ◌&&◌, ◌||◌, List, map, Ok, Vec, Global, All, refl, sym, ap, subst, ◌∙◌, arith, true≢false, []}
+use Rattle.std.proofs.Common.{cond, rules, le_refl, ◌≡◌, inl, inr, ℕ, ◌≤◌, true, false, ◌&&◌, ◌||◌, List, map, Ok, Vec, Global, All, refl, sym, ap, subst, ◌∙◌, arith, true≢false, []}
 use Rattle.pmem.specs.Device.{State}
 use Rattle.pmem.specs.Crash.{IsImage, IsSettled, image_of}
 use Rattle.pmem.specs.Runs.{LeavesOnly}
 use Rattle.model.specs.declared.call.Call.{Call}
 use Rattle.model.specs.Call.{cut_at, position_of}
 use Rattle.model.proofs.CallsLemmas.{position_of-cut_at}
-use Rattle.model.specs.Group.{Contents}
 use Rattle.model.specs.Standing.{Holder}
 use Rattle.machine.specs.declared.event.Event.TheVariants as events
 use Rattle.machine.specs.declared.event.Cut.TheVariants as cuts
@@ -14,16 +13,12 @@ use Rattle.machine.specs.declared.event.Node.TheVariants as node
 use Rattle.machine.specs.Event.{Allowed, World, At, Life, Step, crashed, is_enabled, is_running, is_stopped, left, torn, Remains}
 use Rattle.machine.specs.Sound.{IsFrameWithin, IsStandbyLeft}
 use Rattle.machine.proofs.SoundEvents.{sound-step}
-use Rattle.world.specs.Committing.{Committing}
-use Rattle.connections.specs.Session.{AddsOne, HasSeat, SessionsRefine, seats_of}
+use Rattle.connections.specs.Session.{AddsOne, HasSeat, seats_of}
 use Rattle.world.specs.Standby.{Arrived, ArrivalsRefine, Node, StandbyRefines}
-use Rattle.world.specs.Pair.{Acts, AreLives, DownRefine, EitherRefines, NodesRefine, Pair, Steps}
-use Rattle.connections.specs.declared.connections.Connections.{Connections}
-use Rattle.connections.specs.declared.transcript.Transcript.{Transcript}
+use Rattle.world.specs.Pair.{Acts, AreLives, DownRefine, EitherRefines, NodesRefine, Pair, Steps, Lives, Clients, ClientsRefine, Serving}
 use Rattle.world.proofs.CutLemmas.{AreFramesSent-cut, ArrivalsRefine-cut, IsDown-cut, StandbyStands-cut}
 use Rattle.machine.proofs.GroupLemmas.{chain-le, frames_within-weaker}
 use Rattle.world.proofs.DownLemmas.{crash-moves, down-crashed}
-use Rattle.world.proofs.EngineLemmas.{moves-same}
 use Rattle.world.proofs.LivesLemmas.{not-over, serves-as}
 use Rattle.world.proofs.PairLemmas.{none-added, primary-stands, primary-within, standby-stands}
 use Rattle.world.proofs.PairLives.{stays-acts}
@@ -32,7 +27,6 @@ use Rattle.world.proofs.RecallLemmas.{recalls-crashed}
 use Rattle.frames.specs.declared.frame.Frame.{Frame}
 use Rattle.world.specs.Link.{AreAcksSent, AreFramesRead}
 use Rattle.world.specs.Condition.{life_as, runs, has_stopped}
-use Rattle.world.specs.declared.condition.AskedFences.{AskedFences}
 use Rattle.world.specs.declared.condition.Condition.{Condition}
 use Rattle.world.specs.declared.condition.Condition.TheVariants.{Running, Stopped, Crashed, Ended}
 use Rattle.world.proofs.RemainLemmas.{near-rest, near-from, LeavesOne-cut}
@@ -46,13 +40,13 @@ goes-as Crashed remains = refl
 goes-as Ended remains = refl
 
 -- to crash a node is enabled where it runs or has stopped
-pub crash-enabled : {first second : Holder} {serves follows : Condition} {fences : AskedFences} {w : World} (k : ℕ) (picks : Vec ℕ Global) → AreLives first second serves follows fences w
-    → (is_enabled w (events.Crash node.Primary cuts.Between k picks) ≡ (runs serves || has_stopped serves)) × (is_enabled w (events.Crash node.Standby cuts.Between k picks) ≡ (runs follows || has_stopped follows))
-crash-enabled {first} {second} {serves} {follows} {fences} {w} k picks lives = (
-  ap (λ (a : Allowed). a.restarts && (is_running w.primary.life || is_stopped w.primary.life)) lives.allowed_are ∙ ap (λ (l : Life). is_running l || is_stopped l) lives.primary
-      ∙ goes-as serves (torn w.primary.life),
-  ap (λ (a : Allowed). a.restarts && (is_running w.standby.life || is_stopped w.standby.life)) lives.allowed_are ∙ ap (λ (l : Life). is_running l || is_stopped l) lives.standby
-      ∙ goes-as follows (torn w.standby.life),
+pub crash-enabled : {first second : Holder} {lives : Lives} {w : World} (k : ℕ) (picks : Vec ℕ Global) → AreLives first second lives w
+    → (is_enabled w (events.Crash node.Primary cuts.Between k picks) ≡ (runs lives.primary || has_stopped lives.primary)) × (is_enabled w (events.Crash node.Standby cuts.Between k picks) ≡ (runs lives.standby || has_stopped lives.standby))
+crash-enabled {first} {second} {lives} {w} k picks are = (
+  ap (λ (a : Allowed). a.restarts && (is_running w.primary.life || is_stopped w.primary.life)) are.allowed_are ∙ ap (λ (l : Life). is_running l || is_stopped l) are.primary
+      ∙ goes-as lives.primary (torn w.primary.life),
+  ap (λ (a : Allowed). a.restarts && (is_running w.standby.life || is_stopped w.standby.life)) are.allowed_are ∙ ap (λ (l : Life). is_running l || is_stopped l) are.standby
+      ∙ goes-as lives.standby (torn w.standby.life),
 )
 
 neither : (condition : Condition) → runs condition ≡ false → has_stopped condition ≡ false → (runs condition || has_stopped condition) ≡ false
@@ -61,13 +55,13 @@ neither condition down whole = ap (λ b. b || has_stopped condition) down ∙ wh
 goes : (condition : Condition) → runs condition ≡ true → (runs condition || has_stopped condition) ≡ true
 goes condition up = ap (λ b. b || has_stopped condition) up
 
-pub primary-crashed : (old : Pair) (k : ℕ) (picks : Vec ℕ Global) → runs old.primary_condition ≡ false → has_stopped old.primary_condition ≡ false → Acts old (events.Crash node.Primary cuts.Between k picks) (Ok false) old
+pub primary-crashed : (old : Pair) (k : ℕ) (picks : Vec ℕ Global) → runs old.lives.primary ≡ false → has_stopped old.lives.primary ≡ false → Acts old (events.Crash node.Primary cuts.Between k picks) (Ok false) old
 primary-crashed old k picks down whole =
-    stays-acts old (events.Crash node.Primary cuts.Between k picks) (λ first second w stands. (crash-enabled k picks stands.lives).0 ∙ neither old.primary_condition down whole)
+    stays-acts old (events.Crash node.Primary cuts.Between k picks) (λ first second w stands. (crash-enabled k picks stands.lives).0 ∙ neither old.lives.primary down whole)
 
-pub standby-crashed : (old : Pair) (k : ℕ) (picks : Vec ℕ Global) → runs old.standby_condition ≡ false → has_stopped old.standby_condition ≡ false → Acts old (events.Crash node.Standby cuts.Between k picks) (Ok false) old
+pub standby-crashed : (old : Pair) (k : ℕ) (picks : Vec ℕ Global) → runs old.lives.standby ≡ false → has_stopped old.lives.standby ≡ false → Acts old (events.Crash node.Standby cuts.Between k picks) (Ok false) old
 standby-crashed old k picks down whole =
-    stays-acts old (events.Crash node.Standby cuts.Between k picks) (λ first second w stands. (crash-enabled k picks stands.lives).1 ∙ neither old.standby_condition down whole)
+    stays-acts old (events.Crash node.Standby cuts.Between k picks) (λ first second w stands. (crash-enabled k picks stands.lives).1 ∙ neither old.lives.standby down whole)
 
 -- ---- the device that crashed
 
@@ -82,10 +76,9 @@ pub record HasCrashed (lines : ℕ) (old new : State) : Type 0 where
 
 -- ---- the primary
 
--- its sessions, its transcript, its committer and its engine once it crashed
-abbrev pub with_crashed_primary : Connections → Transcript → Committing → State → Contents → Bool → Pair → Pair
-with_crashed_primary sessions transcript committing device contents is_faulted pair =
-    record pair { sessions = sessions; transcript = transcript; committing = committing; device = device; contents = contents; is_faulted = is_faulted; primary_condition = Crashed }
+-- what is left of the clients, and of what serves, once it crashed
+abbrev pub with_crashed_primary : Clients → Serving → Pair → Pair
+with_crashed_primary clients serving pair = record pair { clients = clients; primary = serving; lives = record pair.lives { primary = Crashed } }
 
 pub StandbyRefines-cut : (holder : Holder) (epoch : ℕ) (calls : List Call) (p n high : ℕ) (remains : List Remains) (node : Node) (condition : Condition) → p ≤ high → high ≤ n → All (IsStandbyLeft p high) remains
     → StandbyRefines holder epoch calls p remains node condition → StandbyRefines holder epoch (cut_at calls n) p remains node condition
@@ -97,34 +90,33 @@ StandbyRefines-cut holder epoch calls p n high remains node condition le within 
       down = λ down. IsDown-cut holder calls n p node.device reached (refines.down down);
     }
 
-pub primary-crashes : (old : Pair) (sessions : Connections) (transcript : Transcript) (committing : Committing) (device : State) (contents : Contents) (is_faulted : Bool) (k : ℕ) (picks : Vec ℕ Global) (position : ℕ)
-    → runs old.primary_condition ≡ true → position ≡ old.contents.current.position → HasCrashed old.contents.lines old.device device
-    → ((w : World) → SessionsRefine old.sessions old.transcript w.primary.connections w.primary.calls → SessionsRefine sessions transcript (map left w.primary.connections) (cut_at w.primary.calls position))
-    → ((c seat : ℕ) → ¬ HasSeat (seats_of sessions.connections.items) c seat) → AddsOne old.transcript.calls transcript.calls
-    → Acts old (events.Crash node.Primary cuts.Between k picks) (Ok true) (with_crashed_primary sessions transcript committing device contents is_faulted old)
-primary-crashes old sessions transcript committing device contents is_faulted k picks position runs at has ends unseated added =
+pub primary-crashes : (old : Pair) (clients : Clients) (serving : Serving) (k : ℕ) (picks : Vec ℕ Global) (position : ℕ)
+    → runs old.lives.primary ≡ true → position ≡ old.primary.contents.current.position → HasCrashed old.primary.contents.lines old.primary.device serving.device
+    → ((w : World) → ClientsRefine old.clients w.primary.connections w.primary.calls → ClientsRefine clients (map left w.primary.connections) (cut_at w.primary.calls position))
+    → ((c seat : ℕ) → ¬ HasSeat (seats_of clients.sessions.connections.items) c seat) → AddsOne old.clients.transcript.calls clients.transcript.calls
+    → Acts old (events.Crash node.Primary cuts.Between k picks) (Ok true) (with_crashed_primary clients serving old)
+primary-crashes old clients serving k picks position runs at has ends unseated added =
     record { steps = steps; cut = tt; calls = added }
   where
     new : Pair
-    new = with_crashed_primary sessions transcript committing device contents is_faulted old
+    new = with_crashed_primary clients serving old
 
     steps : (first second : Holder) (w : World) → NodesRefine first second old w → Steps first second w (events.Crash node.Primary cuts.Between k picks) true old new
     steps first second w stands =
         let event = events.Crash node.Primary cuts.Between k picks in
-        let serving = serves-as runs stands in
-        let parts = serving.parts in
+        let parts = (serves-as runs stands).parts in
         let sound = stands.sound in
         let calls = w.primary.calls in
         let p = w.primary.committer.position in
         let here : position ≡ p = at ∙ parts.engine.contents_at.at in
         let w' = crashed node.Primary (At p) w in
-        let step : Step w event true w' = record { done = sym ((crash-enabled k picks stands.lives).0 ∙ goes old.primary_condition runs); happens = λ did. record { remain = At p; one = (0, omega arith, refl); now = refl }; stands = λ did. absurd (true≢false did) } in
+        let step : Step w event true w' = record { done = sym ((crash-enabled k picks stands.lives).0 ∙ goes old.lives.primary runs); happens = λ did. record { remain = At p; one = (0, omega arith, refl); now = refl }; stands = λ did. absurd (true≢false did) } in
         let behind : sound.sent ≤ p = chain-le _ _ _ sound.link.waiting in
         let within : p ≤ position_of calls = primary-within w sound in
-        let image = IsDown-cut first calls p p device (omega arith) (down-crashed first calls p old.device device old.contents old.is_faulted parts.engine has.sized has.settled has.image has.lines_are) in
+        let image = IsDown-cut first calls p p serving.device (omega arith) (down-crashed first calls p old.primary.device serving.device old.primary.contents old.primary.is_faulted parts.engine has.sized has.settled has.image has.lines_are) in
         let down : DownRefine first second new w' =
         record {
-          sessions = subst (λ n. SessionsRefine sessions transcript (map left w.primary.connections) (cut_at calls n)) here (ends w parts.sessions);
+          sessions = subst (λ n. ClientsRefine clients (map left w.primary.connections) (cut_at calls n)) here (ends w parts.sessions);
           unseated = unseated;
           committer = refl;
           link = refl;
@@ -133,14 +125,14 @@ primary-crashes old sessions transcript committing device contents is_faulted k 
           none_told = refl;
           image = image;
           opened = refl;
-          recalls = recalls-crashed w.standby.position p calls old.contents old.committing.waiting.items old.committing.aside old.sequencer parts.remembers;
+          recalls = recalls-crashed w.standby.position p calls old.primary.contents old.primary.committing.waiting.items old.primary.committing.aside old.primary.sequencer parts.remembers;
           epoch = parts.epoch;
           own = parts.own;
-          frames = AreFramesSent-cut old.link.epoch calls p old.frames w.wire.frames
+          frames = AreFramesSent-cut old.wire.link.epoch calls p old.wire.frames w.wire.frames
               (subst (λ e. All (IsFrameWithin e p) w.wire.frames) (sym parts.epoch) (frames_within-weaker w.primary.epoch sound.sent p w.wire.frames behind sound.wire.frames)) parts.frames;
-          arrivals = ArrivalsRefine-cut old.link.epoch calls p old.arrivals w.standby.waiting w.wire.acknowledgements
+          arrivals = ArrivalsRefine-cut old.wire.link.epoch calls p old.wire.arrivals w.standby.waiting w.wire.acknowledgements
               (subst (λ e. All (IsFrameWithin e p) w.standby.waiting) (sym parts.epoch) (frames_within-weaker w.primary.epoch sound.sent p w.standby.waiting behind sound.standby.frames)) parts.arrivals;
-          standby = StandbyRefines-cut second old.link.epoch calls w.standby.position p sound.sent (torn w.standby.life) old.standby old.standby_condition sound.standby.behind behind sound.standby_left parts.standby;
+          standby = StandbyRefines-cut second old.wire.link.epoch calls w.standby.position p sound.sent (torn w.standby.life) old.standby old.lives.standby sound.standby.behind behind sound.standby_left parts.standby;
         } in
         let refines : EitherRefines first second new w' = inr (inl (refl, down)) in
         record {
@@ -152,7 +144,7 @@ primary-crashes old sessions transcript committing device contents is_faulted k 
             parts = refines;
           };
           moves = record {
-            primary = near-from first calls p p (torn w.primary.life) old.device device (crash-moves first calls p old.device device old.contents old.is_faulted parts.engine has.moments has.failures);
+            primary = near-from first calls p p (torn w.primary.life) old.primary.device serving.device (crash-moves first calls p old.primary.device serving.device old.primary.contents old.primary.is_faulted parts.engine has.moments has.failures);
             standby = λ whole. near-rest second calls w.standby.position w.standby.position (torn w.standby.life) old.standby.device old.standby.device refl (standby-stands first second old w stands.parts whole);
           };
         }
@@ -160,10 +152,10 @@ primary-crashes old sessions transcript committing device contents is_faulted k 
 -- ---- the standby
 
 abbrev pub with_crashed_standby : Arrived → Node → Pair → Pair
-with_crashed_standby arrivals node pair = record pair { arrivals = arrivals; standby = node; standby_condition = Crashed }
+with_crashed_standby arrivals node pair = record pair { wire = record pair.wire { arrivals = arrivals }; standby = node; lives = record pair.lives { standby = Crashed } }
 
-pub standby-crashes : (old : Pair) (arrivals : Arrived) (node' : Node) (k : ℕ) (picks : Vec ℕ Global) → runs old.standby_condition ≡ true → HasCrashed old.standby.contents.lines old.standby.device node'.device
-    → arrivals.delivered.items ≡ [] → arrivals.acknowledgements ≡ old.arrivals.acknowledgements
+pub standby-crashes : (old : Pair) (arrivals : Arrived) (node' : Node) (k : ℕ) (picks : Vec ℕ Global) → runs old.lives.standby ≡ true → HasCrashed old.standby.contents.lines old.standby.device node'.device
+    → arrivals.delivered.items ≡ [] → arrivals.acknowledgements ≡ old.wire.arrivals.acknowledgements
     → Acts old (events.Crash node.Standby cuts.Between k picks) (Ok true) (with_crashed_standby arrivals node' old)
 standby-crashes old arrivals node' k picks follows has lost told =
     record { steps = steps; cut = tt; calls = none-added _ _ refl }
@@ -178,25 +170,25 @@ standby-crashes old arrivals node' k picks follows has lost told =
         let p = w.standby.position in
         let stood = follower follows stands.parts in
         let w' = crashed node.Standby (At p) w in
-        let step : Step w event true w' = record { done = sym ((crash-enabled k picks stands.lives).1 ∙ goes old.standby_condition follows); happens = λ did. record { remain = At p; one = (0, omega arith, refl); now = refl }; stands = λ did. absurd (true≢false did) } in
+        let step : Step w event true w' = record { done = sym ((crash-enabled k picks stands.lives).1 ∙ goes old.lives.standby follows); happens = λ did. record { remain = At p; one = (0, omega arith, refl); now = refl }; stands = λ did. absurd (true≢false did) } in
         let image = down-crashed second calls p old.standby.device node'.device old.standby.contents old.standby.is_faulted stood.engine has.sized has.settled has.image has.lines_are in
-        let empty : ArrivalsRefine old.link.epoch calls arrivals [] w.wire.acknowledgements =
+        let empty : ArrivalsRefine old.wire.link.epoch calls arrivals [] w.wire.acknowledgements =
         record {
-          delivered = subst (λ (frames : List Frame). AreFramesRead old.link.epoch calls frames []) (sym lost) tt;
+          delivered = subst (λ (frames : List Frame). AreFramesRead old.wire.link.epoch calls frames []) (sym lost) tt;
           acknowledged = subst (λ (acks : Vec (Vec ℕ Global) Global). AreAcksSent acks.items w.wire.acknowledgements) (sym told) (arrivals-stand stands.parts).acknowledged;
         } in
-        let down : StandbyRefines second old.link.epoch calls p [] node' Crashed = record { stands = λ up. absurd (true≢false (sym up)); left = λ stopped. absurd (true≢false (sym stopped)); down = λ is. image } in
-        let refines : EitherRefines first second new w' = standby-either first second old arrivals node' Crashed w w'.standby w.wire.acknowledgements (not-over old.standby_condition follows) (le_refl p) stands.parts empty down in
+        let down : StandbyRefines second old.wire.link.epoch calls p [] node' Crashed = record { stands = λ up. absurd (true≢false (sym up)); left = λ stopped. absurd (true≢false (sym stopped)); down = λ is. image } in
+        let refines : EitherRefines first second new w' = standby-either first second old arrivals node' Crashed w w'.standby w.wire.acknowledgements (not-over old.lives.standby follows) (le_refl p) stands.parts empty down in
         record {
           world = w';
           step = step;
           stands = record {
             sound = sound-step w event true w' step stands.sound;
-            lives = search (rules, stands.lives, stands.lives.primary_disk ∙ ap (λ b. cond b 1 0) (not-over old.standby_condition follows));
+            lives = search (rules, stands.lives, stands.lives.primary_disk ∙ ap (λ b. cond b 1 0) (not-over old.lives.standby follows));
             parts = refines;
           };
           moves = record {
-            primary = near-rest first calls w.primary.committer.position w.primary.committer.position (torn w.primary.life) old.device old.device refl (primary-stands first second old w stands.parts);
+            primary = near-rest first calls w.primary.committer.position w.primary.committer.position (torn w.primary.life) old.primary.device old.primary.device refl (primary-stands first second old w stands.parts);
             standby = λ whole. near-from second calls p p (torn w.standby.life) old.standby.device node'.device
                 (crash-moves second calls p old.standby.device node'.device old.standby.contents old.standby.is_faulted stood.engine has.moments has.failures);
           };

@@ -17,10 +17,10 @@ use Rattle.world.proofs.PairFallen.{HasFallen}
 use Rattle.world.proofs.PairLemmas.{standby-refines}
 use Rattle.world.proofs.RemainLemmas.{keeps-near}
 
-pub stopped-falls : (old : Pair) (last : State) (k : ℕ) (picks : Vec ℕ Global) → has_stopped old.standby_condition ≡ true → LeavesPicked picks.items old.standby.device last
+pub stopped-falls : (old : Pair) (last : State) (k : ℕ) (picks : Vec ℕ Global) → has_stopped old.lives.standby ≡ true → LeavesPicked picks.items old.standby.device last
     → last.lines ≡ old.standby.device.lines → last.failures ≡ old.standby.device.failures → LeavesOnly old.standby.device last (IsImage old.standby.device.words) → HasFallen old cuts.Between k picks last
 stopped-falls old last k picks stopped picked lines failures moments = record {
-  whole = stopped-not-over old.standby_condition stopped;
+  whole = stopped-not-over old.lives.standby stopped;
   settled = picked.settled;
   left = (picked, failures);
   falls = λ first second w stands.
@@ -29,7 +29,7 @@ stopped-falls old last k picks stopped picked lines failures moments = record {
       let others = torn w.standby.life in
       let left = (standby-refines stands.parts).left stopped in
       record {
-        may = or_right (is_running w.standby.life) (is_stopped w.standby.life) (ap is_stopped stands.lives.standby ∙ stopped-as old.standby_condition others ∙ stopped);
+        may = or_right (is_running w.standby.life) (is_stopped w.standby.life) (ap is_stopped stands.lives.standby ∙ stopped-as old.lives.standby others ∙ stopped);
         lines_are = sym left.lines_are ∙ sym lines;
         held = subst (λ (remains : List Remains). KeepsOne second calls p remains (image_of last.words)) (sym (append-nil others)) (left.each (image_of last.words) picked.image);
         leaves = subst (λ (remains : List Remains). LeavesOnly old.standby.device last (OpensNear second calls p remains)) (sym (append-nil others))

@@ -1,5 +1,5 @@
 -- What a crash inside a call of the primary does to the pair.
-use Rattle.std.proofs.Common.{rules, ◌≡◌, ℕ, ◌<◌, ◌≤◌, Bool, true, false, ◌&&◌, ◌||◌, List, ◌++◌, map, Ok, Vec, Global, All, inl, inr, refl, sym, ap, subst, ◌∙◌, arith, true≢false}
+use Rattle.std.proofs.Common.{rules, ◌≡◌, ℕ, ◌<◌, ◌≤◌, true, false, ◌&&◌, ◌||◌, List, ◌++◌, map, Ok, Vec, Global, All, inl, inr, refl, sym, ap, subst, ◌∙◌, arith, true≢false}
 use Rattle.pmem.specs.Device.{IsOlder, Older, Only, State, Word}
 use Rattle.pmem.specs.Crash.{IsSettled, image_of}
 use Rattle.pmem.specs.Crash as crash
@@ -10,15 +10,12 @@ use Rattle.model.specs.declared.image.TheConstants.{MAX_LINES, MIN_LINES}
 use Rattle.model.specs.declared.record.Record.{Record}
 use Rattle.model.specs.Call.{cut_at}
 use Rattle.model.proofs.CallsLemmas.{position_of-cut_at}
-use Rattle.model.specs.declared.group.Group.{Group}
 use Rattle.model.specs.Group.{Contents}
 use Rattle.model.specs.Standing.{Holder}
 use Rattle.wbl_engine.specs.Contents.{Keeps}
 use Rattle.wbl_engine.specs.Lawful.{IsUndamaged}
 use Rattle.wbl_engine.specs.Reopening.{StaysReadable}
 use Rattle.wbl_engine.proofs.LawfulLemmas.{lawful_from, lawful_undamaged}
-use Rattle.pipes.specs.Waiting.{Waiting}
-use Rattle.redis_core.specs.Sequencing.{Sequencing}
 use Rattle.machine.specs.declared.event.Cut.{Cut}
 use Rattle.machine.specs.declared.event.Cut.TheVariants as cut
 use Rattle.machine.specs.declared.event.Event.TheVariants as events
@@ -30,26 +27,21 @@ use Rattle.machine.proofs.GroupLemmas.{chain-le, frames_within-weaker}
 use Rattle.machine.proofs.SoundEvents.{sound-step}
 use Rattle.standby_stream.specs.Delta.{Recalls}
 use Rattle.primary.specs.Recalling.{RecallsEach}
-use Rattle.connections.specs.Session.{AddsOne, HasSeat, SessionsRefine, seats_of}
-use Rattle.connections.specs.declared.connections.Connections.{Connections}
-use Rattle.connections.specs.declared.transcript.Transcript.{Transcript}
-use Rattle.world.specs.Committing.{AreContentsAt, Committing, IsDown}
+use Rattle.connections.specs.Session.{AddsOne, HasSeat, seats_of}
+use Rattle.world.specs.Committing.{AreContentsAt, IsDown}
 use Rattle.world.specs.Condition.{has_crashed}
 use Rattle.world.specs.Cutting.{CutsPrimary, LeavesCut, LeavesOf, OpensNear}
-use Rattle.world.specs.Pair.{AreLives, DownRefine, EitherRefines, HasWorld, NodesRefine, Pair}
+use Rattle.world.specs.Pair.{AreLives, DownRefine, EitherRefines, HasWorld, NodesRefine, Pair, Lives, Clients, ClientsRefine, Serving}
 use Rattle.world.specs.Recalling.{past_of}
 use Rattle.world.specs.Step.{CutsOrStays, Leaves}
 use Rattle.world.specs.Stopping.{BreaksPrimary}
-use Rattle.world.specs.declared.condition.AskedFences.{AskedFences}
-use Rattle.world.specs.declared.condition.Condition.{Condition}
-use Rattle.world.specs.declared.condition.Condition.TheVariants.{Crashed}
 use Rattle.world.proofs.CutLemmas.{AreFramesSent-cut, ArrivalsRefine-cut, IsDown-cut, keyspace_after-cut_at-cut}
 use Rattle.world.proofs.KeptLemmas.{CrashedIn, crash-leaves, leaves-cut, left-is}
 use Rattle.world.specs.Remaining.{LeftBy}
 use Rattle.world.proofs.LeftLemmas.{left-there}
 use Rattle.world.proofs.LivesLemmas.{crashed-as}
 use Rattle.world.proofs.OpenedLemmas.{StaysSo}
-use Rattle.world.proofs.PairCrash.{StandbyRefines-cut}
+use Rattle.world.proofs.PairCrash.{StandbyRefines-cut, with_crashed_primary}
 use Rattle.world.proofs.PairLemmas.{sessions-stand, standby-refines}
 use Rattle.world.proofs.PairLives.{stays-acts}
 use Rattle.world.proofs.PairReopen.{fallen-parts}
@@ -59,10 +51,10 @@ use Rattle.world.proofs.RemainLemmas.{left-opens}
 -- ---- a node that is in no such call
 
 -- a crash inside a call is enabled where the node is in it
-pub cut-enabled : {first second : Holder} {serves follows : Condition} {fences : AskedFences} {w : World} (n : Node) (call : Cut) (k : ℕ) (picks : Vec ℕ Global) → is_between call ≡ false → AreLives first second serves follows fences w
+pub cut-enabled : {first second : Holder} {lives : Lives} {w : World} (n : Node) (call : Cut) (k : ℕ) (picks : Vec ℕ Global) → is_between call ≡ false → AreLives first second lives w
     → is_enabled w (events.Crash n call k picks) ≡ may_cut w n call
-cut-enabled {first} {second} {serves} {follows} {fences} {w} n call k picks inside lives =
-    ap (λ (a : Allowed). a.restarts && ((is_between call || a.cuts) && may_cut w n call)) lives.allowed_are ∙ ap (λ b. (b || true) && may_cut w n call) inside
+cut-enabled {first} {second} {lives} {w} n call k picks inside are =
+    ap (λ (a : Allowed). a.restarts && ((is_between call || a.cuts) && may_cut w n call)) are.allowed_are ∙ ap (λ b. (b || true) && may_cut w n call) inside
 
 crash-still : (n : Node) (call : Cut) (k : ℕ) (picks : Vec ℕ Global) (pair : Pair) → Leaves (events.Crash n call k picks) (Ok false) pair pair
 crash-still node.Primary call k picks pair = record { primary = λ idle. refl; standby = λ idle. refl; frames = refl; acknowledgements = refl; effect = tt }
@@ -85,41 +77,23 @@ none-between call inside is = true≢false (ap is_between (sym is) ∙ inside)
 
 -- ---- the primary
 
--- what it has once a call of it was cut
-abbrev pub with_cut_primary : Connections → Transcript → Sequencing → Committing → State → Contents → Bool → Waiting Group → Pair → Pair
-with_cut_primary sessions transcript sequencer committing device contents is_faulted handed pair =
-    record pair {
-      sessions = sessions;
-      transcript = transcript;
-      sequencer = sequencer;
-      committing = committing;
-      device = device;
-      contents = contents;
-      is_faulted = is_faulted;
-      handed = handed;
-      primary_condition = Crashed;
-    }
-
 -- The sessions ended, and the list keeps the calls up to where the image stands.
-abbrev pub EndsThere : State → Connections → Transcript → Connections → Transcript → Type 0
-EndsThere device old transcript new transcript' =
-    (r : Record) → MIN_LINES ≤ device.lines → device.lines ≤ MAX_LINES → IsUndamaged device.lines r (image_of device.words) → (machines : List Connection) (list : List Call) → SessionsRefine old transcript machines list
-    → SessionsRefine new transcript' (map left machines) (cut_at list r.position)
+abbrev pub EndsThere : State → Clients → Clients → Type 0
+EndsThere device old new =
+    (r : Record) → MIN_LINES ≤ device.lines → device.lines ≤ MAX_LINES → IsUndamaged device.lines r (image_of device.words) → (machines : List Connection) (list : List Call) → ClientsRefine old machines list
+    → ClientsRefine new (map left machines) (cut_at list r.position)
 
 -- What is left of a primary that crashed in this call, or had stopped: its image tells up to where the list keeps the calls.
-module _ (old : Pair) (call : Cut) (k : ℕ) (picks : Vec ℕ Global)
-    (sessions : Connections) (transcript : Transcript) (sequencer : Sequencing) (committing : Committing) (device : State) (contents : Contents) (is_faulted : Bool) (handed : Waiting Group)
-    (settled : IsSettled device.words)
-    (ends : EndsThere device old.sessions old.transcript sessions transcript)
-    (unseated : (c seat : ℕ) → ¬ HasSeat (seats_of sessions.connections.items) c seat) where
+module _ (old : Pair) (call : Cut) (k : ℕ) (picks : Vec ℕ Global) (clients : Clients) (serving : Serving)
+    (settled : IsSettled serving.device.words) (ends : EndsThere serving.device old.clients clients) (unseated : (c seat : ℕ) → ¬ HasSeat (seats_of clients.sessions.connections.items) c seat) where
   abbrev fallen : Pair
-  fallen = with_cut_primary sessions transcript sequencer committing device contents is_faulted handed old
+  fallen = with_crashed_primary clients serving old
 
-  pub falls : (first second : Holder) (w : World) → NodesRefine first second old w → is_enabled w (events.Crash node.Primary call k picks) ≡ true → first.lines ≡ device.lines
-      → LeftBy first w call (image_of device.words) → LeavesOnly old.device device (LeftBy first w call) → CutsPrimary first second w call k picks old fallen
+  pub falls : (first second : Holder) (w : World) → NodesRefine first second old w → is_enabled w (events.Crash node.Primary call k picks) ≡ true → first.lines ≡ serving.device.lines
+      → LeftBy first w call (image_of serving.device.words) → LeavesOnly old.primary.device serving.device (LeftBy first w call) → CutsPrimary first second w call k picks old fallen
   falls first second w stands enabled lines_are left-it leaves =
       let event = events.Crash node.Primary call k picks in
-      let image = image_of device.words in
+      let image = image_of serving.device.words in
       let sound = stands.sound in
       let calls = w.primary.calls in
       let p = left-it.position in
@@ -130,34 +104,34 @@ module _ (old : Pair) (call : Cut) (k : ℕ) (picks : Vec ℕ Global)
         happens = λ did. record { remain = At p; one = left-it.one; now = refl };
         stands = λ did. absurd (true≢false did);
       } in
-      let sized : left-it.contents.lines ≡ device.lines = left-it.contents_at.lines_are ∙ lines_are in
-      let down : IsDown first calls p device =
+      let sized : left-it.contents.lines ≡ serving.device.lines = left-it.contents_at.lines_are ∙ lines_are in
+      let down : IsDown first calls p serving.device =
       record { contents = left-it.contents; contents_at = left-it.contents_at; lawful = left-it.lawful; keeps = left-it.keeps; settled = settled; sized = sized } in
-      let undamaged : IsUndamaged device.lines left-it.contents.current image =
+      let undamaged : IsUndamaged serving.device.lines left-it.contents.current image =
       subst (λ n. IsUndamaged n left-it.contents.current image) sized (lawful_undamaged left-it.contents image left-it.lawful left-it.keeps) in
-      let ended : SessionsRefine sessions transcript (map left w.primary.connections) (cut_at calls left-it.contents.current.position) =
+      let ended : ClientsRefine clients (map left w.primary.connections) (cut_at calls left-it.contents.current.position) =
       ends left-it.contents.current (omega (arith, sized, left-it.lawful.many)) (omega (arith, sized, left-it.lawful.few)) undamaged w.primary.connections calls (sessions-stand stands.parts) in
       let behind : sound.sent ≤ p = omega (arith, chain-le _ _ _ sound.link.waiting, left-it.rises) in
       let epoch = link-epoch stands.parts in
       let parts : DownRefine first second fallen w' =
       record {
-        sessions = subst (λ n. SessionsRefine sessions transcript (map left w.primary.connections) (cut_at calls n)) left-it.contents_at.at ended;
+        sessions = subst (λ n. ClientsRefine clients (map left w.primary.connections) (cut_at calls n)) left-it.contents_at.at ended;
         unseated = unseated;
         committer = refl;
         link = refl;
         ends = omega (arith, position_of-cut_at calls p, left-it.within);
         newest = refl;
         none_told = refl;
-        image = IsDown-cut first calls p p device (omega arith) down;
+        image = IsDown-cut first calls p p serving.device (omega arith) down;
         opened = refl;
         recalls = λ q from below. subst (Recalls left-it.contents.versions (λ i. Unit {0}) q) (sym (keyspace_after-cut_at-cut calls p q (omega (arith, below)))) (left-it.recalls q from below);
         epoch = epoch;
         own = own-frames stands.parts;
-        frames = AreFramesSent-cut old.link.epoch calls p old.frames w.wire.frames
+        frames = AreFramesSent-cut old.wire.link.epoch calls p old.wire.frames w.wire.frames
             (subst (λ e. All (IsFrameWithin e p) w.wire.frames) (sym epoch) (frames_within-weaker w.primary.epoch sound.sent p w.wire.frames behind sound.wire.frames)) (frames-stand stands.parts);
-        arrivals = ArrivalsRefine-cut old.link.epoch calls p old.arrivals w.standby.waiting w.wire.acknowledgements
+        arrivals = ArrivalsRefine-cut old.wire.link.epoch calls p old.wire.arrivals w.standby.waiting w.wire.acknowledgements
             (subst (λ e. All (IsFrameWithin e p) w.standby.waiting) (sym epoch) (frames_within-weaker w.primary.epoch sound.sent p w.standby.waiting behind sound.standby.frames)) (arrivals-stand stands.parts);
-        standby = StandbyRefines-cut second old.link.epoch calls w.standby.position p sound.sent (torn w.standby.life) old.standby old.standby_condition sound.standby.behind behind sound.standby_left (standby-refines stands.parts);
+        standby = StandbyRefines-cut second old.wire.link.epoch calls w.standby.position p sound.sent (torn w.standby.life) old.standby old.lives.standby sound.standby.behind behind sound.standby_left (standby-refines stands.parts);
       } in
       let refines : EitherRefines first second fallen w' = inr (inl (refl, parts)) in
       record {
@@ -169,8 +143,8 @@ module _ (old : Pair) (call : Cut) (k : ℕ) (picks : Vec ℕ Global)
       }
 
   -- so of all worlds that the pair stood for
-  pub primary-falls : ((first second : Holder) (w : World) → NodesRefine first second old w → CutsPrimary first second w call k picks old fallen) → LeavesOf call k picks.items old.device device
-      → AddsOne old.transcript.calls transcript.calls → CutsOrStays old (events.Crash node.Primary call k picks) true fallen
+  pub primary-falls : ((first second : Holder) (w : World) → NodesRefine first second old w → CutsPrimary first second w call k picks old fallen) → LeavesOf call k picks.items old.primary.device serving.device
+      → AddsOne old.clients.transcript.calls clients.transcript.calls → CutsOrStays old (events.Crash node.Primary call k picks) true fallen
   primary-falls shortened left-of added = record {
     came = refl;
     did = refl;
@@ -192,25 +166,23 @@ leaves-of : (call : Cut) (k : ℕ) (picks : List ℕ) (old new : State) → is_b
 leaves-of cut.Between k picks old new inside left-cut = absurd (true≢false inside)
 leaves-of call k picks old new inside left-cut = left-cut
 
-module _ (old : Pair) (call : Cut) (k : ℕ) (picks : Vec ℕ Global) (kept last : State)
-    (sessions : Connections) (transcript : Transcript) (sequencer : Sequencing) (committing : Committing) (device : State) (contents : Contents) (is_faulted : Bool) (handed : Waiting Group)
-    (inside : is_between call ≡ false) (off : CrashedIn k picks.items old.device kept last device) (lines : last.lines ≡ kept.lines)
-    (cut-in : (first second : Holder) (w : World) → NodesRefine first second old w → CutIn first w call old.device.lines kept last)
-    (ends : EndsThere device old.sessions old.transcript sessions transcript)
-    (unseated : (c seat : ℕ) → ¬ HasSeat (seats_of sessions.connections.items) c seat) where
+module _ (old : Pair) (call : Cut) (k : ℕ) (picks : Vec ℕ Global) (kept last : State) (clients : Clients) (serving : Serving)
+    (inside : is_between call ≡ false) (off : CrashedIn k picks.items old.primary.device kept last serving.device) (lines : last.lines ≡ kept.lines)
+    (cut-in : (first second : Holder) (w : World) → NodesRefine first second old w → CutIn first w call old.primary.device.lines kept last)
+    (ends : EndsThere serving.device old.clients clients) (unseated : (c seat : ℕ) → ¬ HasSeat (seats_of clients.sessions.connections.items) c seat) where
   abbrev new : Pair
-  new = with_cut_primary sessions transcript sequencer committing device contents is_faulted handed old
+  new = with_crashed_primary clients serving old
 
   shortens : (first second : Holder) (w : World) → NodesRefine first second old w → CutsPrimary first second w call k picks old new
   shortens first second w stands =
       let it = cut-in first second w stands in
-      falls old call k picks sessions transcript sequencer committing device contents is_faulted handed off.settled ends unseated first second w stands
+      falls old call k picks clients serving off.settled ends unseated first second w stands
       (cut-enabled node.Primary call k picks inside stands.lives ∙ it.may) (it.lines_are ∙ sym (off.lines_are ∙ lines ∙ off.keeps.lines)) (left-is off it.leaves) (crash-leaves off it.leaves)
 
-  pub primary-cut : HasWorld old → AddsOne old.transcript.calls transcript.calls → CutsOrStays old (events.Crash node.Primary call k picks) true new
+  pub primary-cut : HasWorld old → AddsOne old.clients.transcript.calls clients.transcript.calls → CutsOrStays old (events.Crash node.Primary call k picks) true new
   primary-cut has added =
-      primary-falls old call k picks sessions transcript sequencer committing device contents is_faulted handed off.settled ends unseated shortens
-      (leaves-of call k picks.items old.device device inside (leaves-cut off (cut-in has.first has.second has.world has.stands).leaves)) added
+      primary-falls old call k picks clients serving off.settled ends unseated shortens
+      (leaves-of call k picks.items old.primary.device serving.device inside (leaves-cut off (cut-in has.first has.second has.world has.stands).leaves)) added
 
 -- ---- while it is opened
 
@@ -245,10 +217,10 @@ opening-left holder w device device' sound down recalls stays =
     left-there holder w cut.Reopen now image sound there (lawful_from c now it.undamaged.current.lawful refl (λ i. refl) down.lawful) recalls keeps)
     (stays c.current (subst (λ n. IsUndamaged n c.current (image_of device.words)) down.sized (lawful_undamaged c (image_of device.words) down.lawful down.keeps)))
 
-opens-cut : {first second : Holder} {serves follows : Condition} {fences : AskedFences} {w : World} → AreLives first second serves follows fences w → may_cut w node.Primary cut.Reopen ≡ has_crashed serves
-opens-cut {first} {second} {serves} {follows} {fences} {w} lives = ap is_crashed lives.primary ∙ crashed-as serves (torn w.primary.life)
+opens-cut : {first second : Holder} {lives : Lives} {w : World} → AreLives first second lives w → may_cut w node.Primary cut.Reopen ≡ has_crashed lives.primary
+opens-cut {first} {second} {lives} {w} are = ap is_crashed are.primary ∙ crashed-as lives.primary (torn w.primary.life)
 
-pub opening-stays : (old : Pair) (k : ℕ) (picks : Vec ℕ Global) → has_crashed old.primary_condition ≡ false → CutsOrStays old (events.Crash node.Primary cut.Reopen k picks) false old
+pub opening-stays : (old : Pair) (k : ℕ) (picks : Vec ℕ Global) → has_crashed old.lives.primary ≡ false → CutsOrStays old (events.Crash node.Primary cut.Reopen k picks) false old
 opening-stays old k picks whole = cut-stays old node.Primary cut.Reopen k picks refl (λ first second w stands. opens-cut stands.lives ∙ whole)
 
 settled-only : (words : ℕ → Word) → IsSettled words → (word : ℕ) → Only (words word) (image_of words word)
@@ -260,7 +232,7 @@ settled-only words settled word = record {
 }
 
 -- the device from whose image it is opened, which was asked to keep a moment
-module _ (old : Pair) (t : ℕ) (kept : State) (fallen : has_crashed old.primary_condition ≡ true) (keeps : crash.Keeps old.device kept t) where
+module _ (old : Pair) (t : ℕ) (kept : State) (fallen : has_crashed old.lives.primary ≡ true) (keeps : crash.Keeps old.primary.device kept t) where
   -- with the contents that its image had
   abbrev kept-down : {first second : Holder} {w : World} → NodesRefine first second old w → IsDown first w.primary.calls w.primary.committer.position kept
   kept-down stands =
@@ -277,7 +249,7 @@ module _ (old : Pair) (t : ℕ) (kept : State) (fallen : has_crashed old.primary
   pub asked-settled : HasWorld old → (word : ℕ) → Only (kept.words word) (image_of kept.words word)
   asked-settled has = settled-only kept.words (kept-down has.stands).settled
 
-  pub opening-cut-in : (last : State) → StaysSo kept last → (first second : Holder) (w : World) → NodesRefine first second old w → CutIn first w cut.Reopen old.device.lines kept last
+  pub opening-cut-in : (last : State) → StaysSo kept last → (first second : Holder) (w : World) → NodesRefine first second old w → CutIn first w cut.Reopen old.primary.device.lines kept last
   opening-cut-in last stays first second w stands =
       let lost = fallen-parts old fallen stands.parts in
       record {
@@ -287,15 +259,14 @@ module _ (old : Pair) (t : ℕ) (kept : State) (fallen : has_crashed old.primary
       }
 
 -- a fence failed in it
-pub opening-breaks : (old : Pair) (sequencer : Sequencing) (committing : Committing) (device : State) (contents : Contents) (is_faulted : Bool) → has_crashed old.primary_condition ≡ true → StaysSo old.device device
-    → old.device.failures < device.failures → device.lines ≡ old.device.lines
-    → BreaksPrimary cut.Reopen old (record old { sequencer = sequencer; committing = committing; device = device; contents = contents; is_faulted = is_faulted })
-opening-breaks old sequencer committing device contents is_faulted fallen stays failed lines = record {
+pub opening-breaks : (old : Pair) (serving : Serving) → has_crashed old.lives.primary ≡ true → StaysSo old.primary.device serving.device → old.primary.device.failures < serving.device.failures
+    → serving.device.lines ≡ old.primary.device.lines → BreaksPrimary cut.Reopen old (record old { primary = serving })
+opening-breaks old serving fallen stays failed lines = record {
   fails = λ first second w stands.
       let lost = fallen-parts old fallen stands.parts in
       record {
         enabled = opens-cut stands.lives ∙ fallen;
-        leaves = opening-left first w old.device device stands.sound lost.image lost.recalls stays;
+        leaves = opening-left first w old.primary.device serving.device stands.sound lost.image lost.recalls stays;
         failures = failed;
         lines_are = lines;
       };

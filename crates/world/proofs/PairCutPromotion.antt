@@ -29,17 +29,17 @@ use Rattle.world.proofs.PromotionLemmas.{promotion-keeps}
 
 -- ---- which crash may come
 
-is-promoted : {first second : Holder} {pair : Pair} {w : World} → NodesRefine first second pair w → may_cut w node.Standby cuts.Promote ≡ (runs pair.standby_condition && has_ended pair.primary_condition)
+is-promoted : {first second : Holder} {pair : Pair} {w : World} → NodesRefine first second pair w → may_cut w node.Standby cuts.Promote ≡ (runs pair.lives.standby && has_ended pair.lives.primary)
 is-promoted {first} {second} {pair} {w} stands =
-    ap₂ (λ a b. a && b) (ap is_running stands.lives.standby ∙ running-as pair.standby_condition (torn w.standby.life)) (ap is_retired stands.lives.primary ∙ retired-as pair.primary_condition (torn w.primary.life))
+    ap₂ (λ a b. a && b) (ap is_running stands.lives.standby ∙ running-as pair.lives.standby (torn w.standby.life)) (ap is_retired stands.lives.primary ∙ retired-as pair.lives.primary (torn w.primary.life))
 
 -- a primary that was not fenced is not succeeded
-pub promotion-unfenced : (old : Pair) (k : ℕ) (picks : Vec ℕ Global) → has_ended old.primary_condition ≡ false → Acts old (events.Crash node.Standby cuts.Promote k picks) (Ok false) old
-promotion-unfenced old k picks unfenced = call-idle old cuts.Promote k picks (λ first second w stands. is-promoted stands ∙ and_right (runs old.standby_condition) (has_ended old.primary_condition) unfenced)
+pub promotion-unfenced : (old : Pair) (k : ℕ) (picks : Vec ℕ Global) → has_ended old.lives.primary ≡ false → Acts old (events.Crash node.Standby cuts.Promote k picks) (Ok false) old
+promotion-unfenced old k picks unfenced = call-idle old cuts.Promote k picks (λ first second w stands. is-promoted stands ∙ and_right (runs old.lives.standby) (has_ended old.lives.primary) unfenced)
 
 -- nor by a standby that does not run
-pub promotion-idle : (old : Pair) (k : ℕ) (picks : Vec ℕ Global) → runs old.standby_condition ≡ false → Acts old (events.Crash node.Standby cuts.Promote k picks) (Ok false) old
-promotion-idle old k picks down = call-idle old cuts.Promote k picks (λ first second w stands. is-promoted stands ∙ ap (λ b. b && has_ended old.primary_condition) down)
+pub promotion-idle : (old : Pair) (k : ℕ) (picks : Vec ℕ Global) → runs old.lives.standby ≡ false → Acts old (events.Crash node.Standby cuts.Promote k picks) (Ok false) old
+promotion-idle old k picks down = call-idle old cuts.Promote k picks (λ first second w stands. is-promoted stands ∙ ap (λ b. b && has_ended old.lives.primary) down)
 
 -- ---- the image
 
@@ -50,13 +50,13 @@ promotion-lines (Err refusal) contents after moved stays = stays.lines
 
 -- A promotion was cut, and its device crashed: the facts of the calls.
 pub record IsPromotionCutShort (old : Pair) (k : ℕ) (picks : Vec ℕ Global) (kept mid last : State) : Type 0 where
-  pub fenced : has_ended old.primary_condition ≡ true
-  pub follows : runs old.standby_condition ≡ true
+  pub fenced : has_ended old.lives.primary ≡ true
+  pub follows : runs old.lives.standby ≡ true
   pub crashed_in : CrashedIn k picks.items old.standby.device kept mid last
   pub sized : old.standby.contents.lines ≡ old.standby.device.lines
   pub lines : mid.lines ≡ old.standby.device.lines
   pub token : ℕ
-  pub token_is : token ≡ old.link.epoch
+  pub token_is : token ≡ old.wire.link.epoch
   pub full : token ≡ old.standby.contents.current.epoch → old.standby.is_faulted ≡ false → ExhaustsPromotion old.standby.contents.current → mid ≡ kept
   pub moments : token ≡ old.standby.contents.current.epoch → old.standby.is_faulted ≡ false → LeavesOnly kept mid (IsBeforeOrPromoted old.standby.contents)
   pub any : HasWorld old
@@ -67,7 +67,7 @@ promotion-cuts old node' new kept mid k picks cut goes = goes-by-image old node'
   where
     fallen : HasFallen old cuts.Promote k picks node'.device
     fallen =
-        cut-falls old cuts.Promote kept mid node'.device k picks refl (not-over old.standby_condition cut.follows) (runs-whole old.standby_condition cut.follows) cut.crashed_in
+        cut-falls old cuts.Promote kept mid node'.device k picks refl (not-over old.lives.standby cut.follows) (runs-whole old.lives.standby cut.follows) cut.crashed_in
         (λ first second w stands.
         let calls = w.primary.calls in
         let p = w.standby.position in

@@ -34,12 +34,12 @@ use Rattle.world.proofs.RemainLemmas.{keeps-near}
 -- ---- which crash may come
 
 -- it takes a frame
-takes-frame : {first second : Holder} {pair : Pair} {w : World} → NodesRefine first second pair w → may_cut w node.Standby cuts.Apply ≡ (runs pair.standby_condition && is_nonempty w.standby.waiting)
-takes-frame {first} {second} {pair} {w} stands = ap (λ b. b && is_nonempty w.standby.waiting) (ap is_running stands.lives.standby ∙ running-as pair.standby_condition (torn w.standby.life))
+takes-frame : {first second : Holder} {pair : Pair} {w : World} → NodesRefine first second pair w → may_cut w node.Standby cuts.Apply ≡ (runs pair.lives.standby && is_nonempty w.standby.waiting)
+takes-frame {first} {second} {pair} {w} stands = ap (λ b. b && is_nonempty w.standby.waiting) (ap is_running stands.lives.standby ∙ running-as pair.lives.standby (torn w.standby.life))
 
 -- its image is opened
-is-opened : {first second : Holder} {pair : Pair} {w : World} → NodesRefine first second pair w → may_cut w node.Standby cuts.Reopen ≡ has_crashed pair.standby_condition
-is-opened {first} {second} {pair} {w} stands = ap is_crashed stands.lives.standby ∙ crashed-as pair.standby_condition (torn w.standby.life)
+is-opened : {first second : Holder} {pair : Pair} {w : World} → NodesRefine first second pair w → may_cut w node.Standby cuts.Reopen ≡ has_crashed pair.lives.standby
+is-opened {first} {second} {pair} {w} stands = ap is_crashed stands.lives.standby ∙ crashed-as pair.lives.standby (torn w.standby.life)
 
 -- a call in which it is not
 pub call-idle : (old : Pair) (call : Cut) (k : ℕ) (picks : Vec ℕ Global) → ((first second : Holder) (w : World) → NodesRefine first second old w → may_cut w node.Standby call ≡ false)
@@ -47,11 +47,11 @@ pub call-idle : (old : Pair) (call : Cut) (k : ℕ) (picks : Vec ℕ Global) →
 call-idle old call k picks never = stays-acts old (events.Crash node.Standby call k picks) (λ first second w stands. fall-enabled call k picks stands.lives ∙ never first second w stands)
 
 -- a standby that does not run takes no frame
-pub frame-idle : (old : Pair) (k : ℕ) (picks : Vec ℕ Global) → runs old.standby_condition ≡ false → Acts old (events.Crash node.Standby cuts.Apply k picks) (Ok false) old
+pub frame-idle : (old : Pair) (k : ℕ) (picks : Vec ℕ Global) → runs old.lives.standby ≡ false → Acts old (events.Crash node.Standby cuts.Apply k picks) (Ok false) old
 frame-idle old k picks down = call-idle old cuts.Apply k picks (λ first second w stands. takes-frame stands ∙ ap (λ b. b && is_nonempty w.standby.waiting) down)
 
-none_wait : {first second : Holder} {pair : Pair} {w : World} → length pair.arrivals.delivered.items ≡ 0 → NodesRefine first second pair w → is_nonempty w.standby.waiting ≡ false
-none_wait {first} {second} {pair} {w} none stands = none_of pair.link.epoch w.primary.calls pair.arrivals.delivered.items w.standby.waiting none (arrivals-stand stands.parts).delivered
+none_wait : {first second : Holder} {pair : Pair} {w : World} → length pair.wire.arrivals.delivered.items ≡ 0 → NodesRefine first second pair w → is_nonempty w.standby.waiting ≡ false
+none_wait {first} {second} {pair} {w} none stands = none_of pair.wire.link.epoch w.primary.calls pair.wire.arrivals.delivered.items w.standby.waiting none (arrivals-stand stands.parts).delivered
   where
     none_of : (epoch : ℕ) (calls : List Call) (frames : List Frame) (waiting : List Sent) → length frames ≡ 0 → AreFramesRead epoch calls frames waiting → is_nonempty waiting ≡ false
     none_of epoch calls [] [] none are = refl
@@ -59,12 +59,12 @@ none_wait {first} {second} {pair} {w} none stands = none_of pair.link.epoch w.pr
     none_of epoch calls [] (one ∷ waiting) none are = absurd are
 
 -- nor does one to which none came
-pub frame-none : (old : Pair) (k : ℕ) (picks : Vec ℕ Global) → length old.arrivals.delivered.items ≡ 0 → Acts old (events.Crash node.Standby cuts.Apply k picks) (Ok false) old
+pub frame-none : (old : Pair) (k : ℕ) (picks : Vec ℕ Global) → length old.wire.arrivals.delivered.items ≡ 0 → Acts old (events.Crash node.Standby cuts.Apply k picks) (Ok false) old
 frame-none old k picks none =
-    call-idle old cuts.Apply k picks (λ first second w stands. takes-frame stands ∙ and_right (runs old.standby_condition) (is_nonempty w.standby.waiting) (none_wait none stands))
+    call-idle old cuts.Apply k picks (λ first second w stands. takes-frame stands ∙ and_right (runs old.lives.standby) (is_nonempty w.standby.waiting) (none_wait none stands))
 
 -- nor is one opened that is not crashed
-pub opening-idle : (old : Pair) (k : ℕ) (picks : Vec ℕ Global) → has_crashed old.standby_condition ≡ false → Acts old (events.Crash node.Standby cuts.Reopen k picks) (Ok false) old
+pub opening-idle : (old : Pair) (k : ℕ) (picks : Vec ℕ Global) → has_crashed old.lives.standby ≡ false → Acts old (events.Crash node.Standby cuts.Reopen k picks) (Ok false) old
 opening-idle old k picks up = call-idle old cuts.Reopen k picks (λ first second w stands. is-opened stands ∙ up)
 
 -- ---- the device
@@ -80,7 +80,7 @@ pub record GoesThrough (second : Holder) (w : World) (call : Cut) (kept mid last
   pub keeps : LeavesOnly kept mid (KeepsOne second w.primary.calls w.standby.position (left_by w node.Standby call))
 
 -- it was cut
-pub cut-falls : (old : Pair) (call : Cut) (kept mid last : State) (k : ℕ) (picks : Vec ℕ Global) → is_between call ≡ false → HasStandby old → is_still old.standby_condition ≡ false
+pub cut-falls : (old : Pair) (call : Cut) (kept mid last : State) (k : ℕ) (picks : Vec ℕ Global) → is_between call ≡ false → HasStandby old → is_still old.lives.standby ≡ false
     → CrashedIn k picks.items old.standby.device kept mid last → ((first second : Holder) (w : World) → NodesRefine first second old w → GoesThrough second w call kept mid last)
     → HasWorld old → HasFallen old call k picks last
 cut-falls old call kept mid last k picks inside began whole is goes any = record {
@@ -92,7 +92,7 @@ cut-falls old call kept mid last k picks inside began whole is goes any = record
       let calls = w.primary.calls in
       let p = w.standby.position in
       let others = left_by w node.Standby call in
-      let none : [] ≡ torn w.standby.life = sym (whole-torn old.standby_condition stands.lives.standby whole) in
+      let none : [] ≡ torn w.standby.life = sym (whole-torn old.lives.standby stands.lives.standby whole) in
       record {
         may = it.may;
         lines_are = it.lines_are;
@@ -104,8 +104,8 @@ cut-falls old call kept mid last k picks inside began whole is goes any = record
 
 -- ---- a frame
 
-pub frame-cuts : (old : Pair) (arrivals : Arrived) (node' : Node) (kept mid : State) (k : ℕ) (picks : Vec ℕ Global) → runs old.standby_condition ≡ true → 0 < length old.arrivals.delivered.items
-    → arrivals.delivered.items ≡ [] → arrivals.acknowledgements ≡ old.arrivals.acknowledgements → CrashedIn k picks.items old.standby.device kept mid node'.device
+pub frame-cuts : (old : Pair) (arrivals : Arrived) (node' : Node) (kept mid : State) (k : ℕ) (picks : Vec ℕ Global) → runs old.lives.standby ≡ true → 0 < length old.wire.arrivals.delivered.items
+    → arrivals.delivered.items ≡ [] → arrivals.acknowledgements ≡ old.wire.arrivals.acknowledgements → CrashedIn k picks.items old.standby.device kept mid node'.device
     → old.standby.contents.lines ≡ old.standby.device.lines → mid.lines ≡ old.standby.device.lines
     → ((first second : Holder) (w : World) → NodesRefine first second old w → LeavesOnly kept mid (KeepsOne second w.primary.calls w.standby.position (At (next_standby w) ∷ [])))
     → HasWorld old → Cuts old (events.Crash node.Standby cuts.Apply k picks) (Ok true) (with_crashed_standby arrivals node' old)
@@ -114,32 +114,32 @@ frame-cuts old arrivals node' kept mid k picks follows some lost told is sized l
     (λ first second w stands.
     let held = (fallen.falls first second w stands).held in
     one-behind (may_remain w node.Standby cuts.Apply) held.one
-    (ap (λ (remains : List Remains). are_behind (remains ++ At (next_standby w) ∷ [])) (whole-torn old.standby_condition stands.lives.standby (runs-whole old.standby_condition follows))) held.is_one)
+    (ap (λ (remains : List Remains). are_behind (remains ++ At (next_standby w) ∷ [])) (whole-torn old.lives.standby stands.lives.standby (runs-whole old.lives.standby follows))) held.is_one)
   where
     fallen : HasFallen old cuts.Apply k picks node'.device
     fallen =
-        cut-falls old cuts.Apply kept mid node'.device k picks refl (not-over old.standby_condition follows) (runs-whole old.standby_condition follows) is
+        cut-falls old cuts.Apply kept mid node'.device k picks refl (not-over old.lives.standby follows) (runs-whole old.lives.standby follows) is
         (λ first second w stands. record {
-          may = takes-frame stands ∙ ap₂ (λ a b. a && b) follows (some-wait old.link.epoch w old.arrivals some (arrivals-stand stands.parts));
+          may = takes-frame stands ∙ ap₂ (λ a b. a && b) follows (some-wait old.wire.link.epoch w old.wire.arrivals some (arrivals-stand stands.parts));
           lines_are = sym (follower follows stands.parts).engine.contents_at.lines_are ∙ sized ∙ sym lines ∙ sym is.lines_are;
           keeps = only first second w stands;
         }) any
 
 -- ---- its opening
 
-pub opening-cuts : (old : Pair) (arrivals : Arrived) (node' : Node) (kept mid : State) (k : ℕ) (picks : Vec ℕ Global) → has_crashed old.standby_condition ≡ true
-    → arrivals.delivered.items ≡ [] → arrivals.acknowledgements ≡ old.arrivals.acknowledgements → CrashedIn k picks.items old.standby.device kept mid node'.device
+pub opening-cuts : (old : Pair) (arrivals : Arrived) (node' : Node) (kept mid : State) (k : ℕ) (picks : Vec ℕ Global) → has_crashed old.lives.standby ≡ true
+    → arrivals.delivered.items ≡ [] → arrivals.acknowledgements ≡ old.wire.arrivals.acknowledgements → CrashedIn k picks.items old.standby.device kept mid node'.device
     → mid.lines ≡ kept.lines → StaysSo kept mid → HasWorld old → Cuts old (events.Crash node.Standby cuts.Reopen k picks) (Ok true) (with_crashed_standby arrivals node' old)
 opening-cuts old arrivals node' kept mid k picks down lost told is lines stays any =
     stays-behind old arrivals node' cuts.Reopen k picks fallen lost told
     (λ first second w stands.
     let held = (fallen.falls first second w stands).held in
     one-behind (may_remain w node.Standby cuts.Reopen) held.one
-    (ap (λ (remains : List Remains). are_behind (remains ++ [])) (whole-torn old.standby_condition stands.lives.standby (crashed-whole old.standby_condition down))) held.is_one)
+    (ap (λ (remains : List Remains). are_behind (remains ++ [])) (whole-torn old.lives.standby stands.lives.standby (crashed-whole old.lives.standby down))) held.is_one)
   where
     fallen : HasFallen old cuts.Reopen k picks node'.device
     fallen =
-        cut-falls old cuts.Reopen kept mid node'.device k picks refl (crashed-not-over old.standby_condition down) (crashed-whole old.standby_condition down) is
+        cut-falls old cuts.Reopen kept mid node'.device k picks refl (crashed-not-over old.lives.standby down) (crashed-whole old.lives.standby down) is
         (λ first second w stands.
         let calls = w.primary.calls in
         let p = w.standby.position in

@@ -1,5 +1,5 @@
 -- What a crash of the standby, inside a call of it or once it had stopped, does to the pair: its image is a standby's still, or that of the primary which it becomes.
-use Rattle.std.proofs.Common.{◌≡◌, ◌≢◌, ◌⊎◌, inl, inr, ℕ, zero, suc, ◌+◌, ◌<◌, ◌≤◌, Bool, true, false, ◌||◌, ◌&&◌, cond, if◌then◌else◌, List, [], ◌∷◌, ◌++◌, length, get_or, map, Option, Some, None, All, Ok, Vec, Global, refl, sym, ap, subst, ◌∙◌, arith, true≢false}
+use Rattle.std.proofs.Common.{rules, ◌≡◌, ◌≢◌, ◌⊎◌, inl, inr, ℕ, zero, suc, ◌+◌, ◌<◌, ◌≤◌, Bool, true, false, ◌||◌, ◌&&◌, cond, if◌then◌else◌, List, [], ◌∷◌, ◌++◌, length, get_or, map, Option, Some, None, All, Ok, Vec, Global, refl, sym, ap, subst, ◌∙◌, arith, true≢false}
 use Rattle.std.proofs.lemmas.Bool.{or_right}
 use Rattle.std.specs.Prelude.{Contains}
 use Rattle.pmem.specs.Device.{State}
@@ -23,7 +23,6 @@ use Rattle.machine.specs.Event.{Allowed, AsPrimary, At, Remains, Step, World, cr
 use Rattle.machine.specs.Sound.{IsFrameWithin}
 use Rattle.machine.proofs.GrowLemmas.{grows-step}
 use Rattle.machine.proofs.SoundEvents.{sound-step}
-use Rattle.connections.specs.Session.{SessionsRefine}
 use Rattle.world.specs.Committing.{IsDown, promoted_holder}
 use Rattle.world.specs.Condition.{has_crashed, has_ended, has_stopped, life_as, runs}
 use Rattle.world.specs.Cutting.{ComesForward, Cuts, CutsStandby, FallsBehind, Finds, GoesByImage, LeavesOf, OpensNear}
@@ -31,7 +30,7 @@ use Rattle.world.specs.declared.condition.AskedFences.{AskedFences}
 use Rattle.world.specs.declared.condition.Condition.{Condition}
 use Rattle.world.specs.declared.condition.Condition.TheVariants.{Crashed}
 use Rattle.world.specs.Link.{AreAcksSent, AreFramesRead, AreFramesSent}
-use Rattle.world.specs.Pair.{AreLives, DownRefine, EitherRefines, HasStandby, NodesRefine, Pair, first_device, primary_number, second_device}
+use Rattle.world.specs.Pair.{AreLives, DownRefine, EitherRefines, HasStandby, NodesRefine, Pair, first_device, primary_number, second_device, Lives, ClientsRefine}
 use Rattle.world.specs.Remaining.{KeepsAs, KeepsAt, KeepsOne}
 use Rattle.world.specs.Standby.{Arrived, ArrivalsRefine, Node, StandbyRefines}
 use Rattle.world.proofs.CutLemmas.{IsDown-cut}
@@ -44,10 +43,10 @@ use Rattle.world.proofs.PromotionLemmas.{former_holder, frames-earlier}
 -- ---- which crash may come
 
 -- one of the standby is enabled where it may come
-pub fall-enabled : {first second : Holder} {serves follows : Condition} {fences : AskedFences} {w : World} (call : Cut) (k : ℕ) (picks : Vec ℕ Global) → AreLives first second serves follows fences w
+pub fall-enabled : {first second : Holder} {lives : Lives} {w : World} (call : Cut) (k : ℕ) (picks : Vec ℕ Global) → AreLives first second lives w
     → is_enabled w (events.Crash node.Standby call k picks) ≡ may_cut w node.Standby call
-fall-enabled {first} {second} {serves} {follows} {fences} {w} call k picks lives =
-    ap (λ (a : Allowed). a.restarts && ((is_between call || a.cuts) && may_cut w node.Standby call)) lives.allowed_are ∙ ap (λ b. b && may_cut w node.Standby call) (or_right (is_between call) true refl)
+fall-enabled {first} {second} {lives} {w} call k picks are =
+    ap (λ (a : Allowed). a.restarts && ((is_between call || a.cuts) && may_cut w node.Standby call)) are.allowed_are ∙ ap (λ b. b && may_cut w node.Standby call) (or_right (is_between call) true refl)
 
 -- ---- what it left
 
@@ -66,8 +65,8 @@ pub record HasFallen (old : Pair) (call : Cut) (k : ℕ) (picks : Vec ℕ Global
   pub falls : (first second : Holder) (w : World) → NodesRefine first second old w → FallsIn second w call old.standby.device last
 
 -- the devices of a pair whose standby was not promoted
-pub devices-are : (pair : Pair) → HasStandby pair → (first_device pair ≡ pair.device) × (second_device pair ≡ pair.standby.device)
-devices-are pair whole = (ap (λ b. if b then pair.standby.device else pair.device) whole, ap (λ b. if b then pair.device else pair.standby.device) whole)
+pub devices-are : (pair : Pair) → HasStandby pair → (first_device pair ≡ pair.primary.device) × (second_device pair ≡ pair.standby.device)
+devices-are pair whole = (ap (λ b. if b then pair.standby.device else pair.primary.device) whole, ap (λ b. if b then pair.primary.device else pair.standby.device) whole)
 
 one_at : (holder : Holder) (calls : List Call) (p : ℕ) (image : Image) (one : Remains) → KeepsAs holder calls p one image → (KeepsAt (promoted_holder holder) calls p image → ⊥) → (q : ℕ) × (one ≡ At q)
 one_at holder calls p image (At q) held never = (q, refl)
@@ -81,7 +80,7 @@ one_ahead holder calls p image AsPrimary held never = (refl, held)
 -- ---- the standby stays
 
 -- what is left of the standby is its image, at a position that the call may leave
-standby-cut : (old : Pair) (arrivals : Arrived) (node' : Node) (call : Cut) (k : ℕ) (picks : Vec ℕ Global) → HasStandby old → arrivals.delivered.items ≡ [] → arrivals.acknowledgements ≡ old.arrivals.acknowledgements
+standby-cut : (old : Pair) (arrivals : Arrived) (node' : Node) (call : Cut) (k : ℕ) (picks : Vec ℕ Global) → HasStandby old → arrivals.delivered.items ≡ [] → arrivals.acknowledgements ≡ old.wire.arrivals.acknowledgements
     → (first second : Holder) (w : World) → NodesRefine first second old w → is_enabled w (events.Crash node.Standby call k picks) ≡ true
     → (p : ℕ) → Contains (may_remain w node.Standby call) (At p) → IsDown second w.primary.calls p node'.device
     → LeavesOnly old.standby.device node'.device (OpensNear second w.primary.calls w.standby.position (torn w.standby.life ++ left_by w node.Standby call))
@@ -92,29 +91,16 @@ standby-cut old arrivals node' call k picks whole lost told first second w stand
     let calls = w.primary.calls in
     let w' = crashed node.Standby (At p) w in
     let step : Step w event true w' = record { done = sym enabled; happens = λ did. record { remain = At p; one = may; now = refl }; stands = λ did. absurd (true≢false did) } in
-    let empty : ArrivalsRefine old.link.epoch calls arrivals [] w.wire.acknowledgements =
+    let empty : ArrivalsRefine old.wire.link.epoch calls arrivals [] w.wire.acknowledgements =
     record {
-      delivered = subst (λ (frames : List Frame). AreFramesRead old.link.epoch calls frames []) (sym lost) tt;
+      delivered = subst (λ (frames : List Frame). AreFramesRead old.wire.link.epoch calls frames []) (sym lost) tt;
       acknowledged = subst (λ (acks : Vec (Vec ℕ Global) Global). AreAcksSent acks.items w.wire.acknowledgements) (sym told) (arrivals-stand stands.parts).acknowledged;
     } in
-    let down : StandbyRefines second old.link.epoch calls p [] node' Crashed =
+    let down : StandbyRefines second old.wire.link.epoch calls p [] node' Crashed =
     record { stands = λ up. absurd (true≢false (sym up)); left = λ stopped. absurd (true≢false (sym stopped)); down = λ is. image } in
     let later : w.standby.position ≤ p = (grows-step w event true w' step stands.sound).safe in
     let refines : EitherRefines first second new w' = standby-either first second old arrivals node' Crashed w w'.standby w.wire.acknowledgements whole later stands.parts empty down in
-    let lives : AreLives first second old.primary_condition Crashed old.asked w' =
-    record {
-      allowed_are = stands.lives.allowed_are;
-      primary_disk = stands.lives.primary_disk ∙ ap (λ b. cond b 1 0) whole;
-      standby_disk = stands.lives.standby_disk;
-      primary_failing = stands.lives.primary_failing;
-      standby_failing = stands.lives.standby_failing;
-      primary = stands.lives.primary;
-      standby = refl;
-      first_role = stands.lives.first_role;
-      second_role = stands.lives.second_role;
-      first_epoch = stands.lives.first_epoch;
-      second_epoch = stands.lives.second_epoch;
-    } in
+    let lives : AreLives first second new.lives w' = search (rules, stands.lives, stands.lives.primary_disk ∙ ap (λ b. cond b 1 0) whole) in
     record {
       world = w';
       step = step;
@@ -141,7 +127,7 @@ one-behind others one behind is = by others behind is.0 is.1 is.2
 
 -- its image is a standby's in each world
 pub stays-behind : (old : Pair) (arrivals : Arrived) (node' : Node) (call : Cut) (k : ℕ) (picks : Vec ℕ Global) (fallen : HasFallen old call k picks node'.device)
-    → arrivals.delivered.items ≡ [] → arrivals.acknowledgements ≡ old.arrivals.acknowledgements
+    → arrivals.delivered.items ≡ [] → arrivals.acknowledgements ≡ old.wire.arrivals.acknowledgements
     → ((first second : Holder) (w : World) (stands : NodesRefine first second old w) → (q : ℕ) × ((fallen.falls first second w stands).held.one ≡ At q))
     → Cuts old (events.Crash node.Standby call k picks) (Ok true) (with_crashed_standby arrivals node' old)
 stays-behind old arrivals node' call k picks fallen lost told behind =
@@ -198,14 +184,14 @@ comes-forward old node' call k picks new found r fallen finds is_found own comes
       calls = comes.calls;
     }
   where
-    over : has_ended new.standby_condition ≡ true
+    over : has_ended new.lives.standby ≡ true
     over = ap has_ended comes.standby
 
     second_is : second_device new ≡ node'.device
-    second_is = ap (λ b. if b then new.device else new.standby.device) over ∙ comes.taken
+    second_is = ap (λ b. if b then new.primary.device else new.standby.device) over ∙ comes.taken
 
-    first_is : first_device new ≡ old.device
-    first_is = ap (λ b. if b then new.standby.device else new.device) over ∙ comes.given
+    first_is : first_device new ≡ old.primary.device
+    first_is = ap (λ b. if b then new.standby.device else new.primary.device) over ∙ comes.given
 
     -- in each world it is that of the primary
     ahead : (first second : Holder) (w : World) → (stands : NodesRefine first second old w)
@@ -227,32 +213,32 @@ comes-forward old node' call k picks new found r fallen finds is_found own comes
         let it = fallen.falls first second w stands in
         let held = (ahead first second w stands).1 in
         let told_as = same_found found r held.contents.current is_found (finds-kept (promoted_holder second) calls p found node'.device finds it.lines_are held) in
-        let image : IsDown (promoted_holder second) calls p new.device =
+        let image : IsDown (promoted_holder second) calls p new.primary.device =
         subst (IsDown (promoted_holder second) calls p) (sym comes.taken) (kept-down (promoted_holder second) calls p node'.device held fallen.settled it.lines_are) in
         let here : r.position ≡ p = ap (λ (one : Record). one.position) told_as ∙ held.contents_at.at in
         let epoch : second.epoch + 1 ≡ w.standby.epoch + 1 = ap (λ n. n + 1) (lives.second_epoch ∙ sym sound.standby.epoch_is) in
-        let ours : new.link.epoch ≡ w.standby.epoch + 1 = comes.epoch_is ∙ ap (λ (one : Record). one.epoch) told_as ∙ held.contents_at.epoch_is ∙ epoch in
-        let less : old.link.epoch < new.link.epoch = omega (arith, ours, link-epoch stands.parts, sound.standby.epoch_is) in
+        let ours : new.wire.link.epoch ≡ w.standby.epoch + 1 = comes.epoch_is ∙ ap (λ (one : Record). one.epoch) told_as ∙ held.contents_at.epoch_is ∙ epoch in
+        let less : old.wire.link.epoch < new.wire.link.epoch = omega (arith, ours, link-epoch stands.parts, sound.standby.epoch_is) in
         let within : p ≤ position_of calls = standby-within w sound in
         let down : DownRefine (promoted_holder second) (former_holder second) new (promoted w) =
         record {
-          sessions = subst (λ n. SessionsRefine new.sessions new.transcript (map left w.primary.connections) (cut_at calls n)) here (comes.ends w (sessions-stand stands.parts));
+          sessions = subst (λ n. ClientsRefine new.clients (map left w.primary.connections) (cut_at calls n)) here (comes.ends w (sessions-stand stands.parts));
           unseated = comes.unseated;
           committer = refl;
           link = refl;
           ends = omega (arith, position_of-cut_at calls p, within);
           newest = refl;
           none_told = refl;
-          image = IsDown-cut (promoted_holder second) calls p p new.device (omega arith) image;
+          image = IsDown-cut (promoted_holder second) calls p p new.primary.device (omega arith) image;
           opened = refl;
           recalls = λ q from below. absurd (omega (arith, from, below));
           epoch = ours;
-          frames = frames-earlier old.link.epoch new.link.epoch sound.sent calls (cut_at calls p) new.frames w.wire.frames less
+          frames = frames-earlier old.wire.link.epoch new.wire.link.epoch sound.sent calls (cut_at calls p) new.wire.frames w.wire.frames less
               (subst (λ e. All (IsFrameWithin e sound.sent) w.wire.frames) (sym (link-epoch stands.parts)) sound.wire.frames)
-              (subst (λ (texts : List (Vec ℕ Global)). AreFramesSent old.link.epoch calls texts w.wire.frames) (sym comes.frames) (frames-stand stands.parts));
+              (subst (λ (texts : List (Vec ℕ Global)). AreFramesSent old.wire.link.epoch calls texts w.wire.frames) (sym comes.frames) (frames-stand stands.parts));
           own = λ still. absurd (true≢false (sym over ∙ still));
           arrivals = record {
-            delivered = subst (λ (frames : List Frame). AreFramesRead new.link.epoch (cut_at calls p) frames []) (sym comes.lost) tt;
+            delivered = subst (λ (frames : List Frame). AreFramesRead new.wire.link.epoch (cut_at calls p) frames []) (sym comes.lost) tt;
             acknowledged = subst (λ (acks : Vec (Vec ℕ Global) Global). AreAcksSent acks.items w.wire.acknowledgements) (sym comes.told) (arrivals-stand stands.parts).acknowledged;
           };
           standby = record {
@@ -315,7 +301,7 @@ goes-by-image old node' call k picks new fallen goes = by goes.found refl
         → Cuts old (events.Crash node.Standby call k picks) (Ok true) new
     behind falls never =
         subst (λ (pair : Pair). Cuts old (events.Crash node.Standby call k picks) (Ok true) pair) (sym falls.falls)
-        (stays-behind old new.arrivals node' call k picks fallen falls.lost falls.told
+        (stays-behind old new.wire.arrivals node' call k picks fallen falls.lost falls.told
         (λ first second w stands.
         let held = (fallen.falls first second w stands).held in
         one_at second w.primary.calls w.standby.position (image_of node'.device.words) held.one held.keeps (never first second w stands)))

@@ -1,5 +1,5 @@
 -- What the fence of the primary does to the pair.
-use Rattle.std.proofs.Common.{◌≡◌, inl, inr, true, false, not, ◌&&◌, Ok, refl, sym, ap, subst, ◌∙◌, true≢false}
+use Rattle.std.proofs.Common.{rules, ◌≡◌, inl, inr, true, false, not, ◌&&◌, Ok, refl, sym, ap, subst, ◌∙◌, true≢false}
 use Rattle.pmem.specs.Crash.{IsImage}
 use Rattle.model.specs.Image.{Image}
 use Rattle.model.specs.Standing.{Holder}
@@ -11,10 +11,8 @@ use Rattle.machine.specs.Event.{Allowed, Life, Retired, World, Step, is_enabled,
 use Rattle.machine.proofs.SoundEvents.{sound-step}
 use Rattle.world.specs.Condition.{has_ended}
 use Rattle.world.specs.Remaining.{LeftBy}
-use Rattle.world.specs.declared.condition.AskedFences.{AskedFences}
-use Rattle.world.specs.declared.condition.Condition.{Condition}
 use Rattle.world.specs.declared.condition.Condition.TheVariants.{Ended}
-use Rattle.world.specs.Pair.{Acts, AreLives, EitherRefines, NodesRefine, Pair, StillRefine, Steps}
+use Rattle.world.specs.Pair.{Acts, AreLives, EitherRefines, NodesRefine, Pair, StillRefine, Steps, Lives}
 use Rattle.world.proofs.DownLemmas.{settled-image}
 use Rattle.world.proofs.LeftLemmas.{left-fenced, left-running, left-there}
 use Rattle.world.proofs.LivesLemmas.{retired-as}
@@ -23,36 +21,36 @@ use Rattle.world.proofs.PairLives.{stays-acts}
 use Rattle.world.proofs.PairStandby.{arrivals-stand, frames-stand, link-epoch, own-frames}
 
 -- it is enabled where the primary was not fenced
-fence-enabled : {first second : Holder} {serves follows : Condition} {fences : AskedFences} {w : World} → AreLives first second serves follows fences w → is_enabled w Fence ≡ not (has_ended serves)
-fence-enabled {first} {second} {serves} {follows} {fences} {w} lives =
-    ap (λ (a : Allowed). a.fencing && not (is_retired w.primary.life)) lives.allowed_are ∙ ap (λ (l : Life). not (is_retired l)) lives.primary ∙ ap not (retired-as serves (torn w.primary.life))
+fence-enabled : {first second : Holder} {lives : Lives} {w : World} → AreLives first second lives w → is_enabled w Fence ≡ not (has_ended lives.primary)
+fence-enabled {first} {second} {lives} {w} are =
+    ap (λ (a : Allowed). a.fencing && not (is_retired w.primary.life)) are.allowed_are ∙ ap (λ (l : Life). not (is_retired l)) are.primary ∙ ap not (retired-as lives.primary (torn w.primary.life))
 
-pub primary-fenced : (old : Pair) → has_ended old.primary_condition ≡ true → Acts old Fence (Ok false) old
+pub primary-fenced : (old : Pair) → has_ended old.lives.primary ≡ true → Acts old Fence (Ok false) old
 primary-fenced old fenced = stays-acts old Fence (λ first second w stands. fence-enabled stands.lives ∙ ap not fenced)
 
 abbrev pub with_fenced_primary : Pair → Pair
-with_fenced_primary pair = record pair { primary_condition = Ended }
+with_fenced_primary pair = record pair { lives = record pair.lives { primary = Ended } }
 
 -- its device may hold what a crash may leave of it now
-primary-left : (first second : Holder) (old : Pair) (w : World) → NodesRefine first second old w → (image : Image) → IsImage old.device.words image → LeftBy first w cut.Between image
+primary-left : (first second : Holder) (old : Pair) (w : World) → NodesRefine first second old w → (image : Image) → IsImage old.primary.device.words image → LeftBy first w cut.Between image
 primary-left first second old w stands image is = elim stands.parts [
   | inl up ↦ left-running first second old w cut.Between image stands.sound up.1 (up.1.engine.durable image is)
   | inr (inl down) ↦
       let there = down.1.image in
       left-there first w cut.Between there.contents image stands.sound there.contents_at there.lawful down.1.recalls
-      (subst (Keeps there.contents) (sym (settled-image old.device.words image there.settled is)) there.keeps)
+      (subst (Keeps there.contents) (sym (settled-image old.primary.device.words image there.settled is)) there.keeps)
   | inr (inr still) ↦ still.1.left image is
 ]
 
 -- and has the lines of its holder
-primary-lines : (first second : Holder) (old : Pair) (w : World) → old.contents.lines ≡ old.device.lines → NodesRefine first second old w → old.device.lines ≡ first.lines
+primary-lines : (first second : Holder) (old : Pair) (w : World) → old.primary.contents.lines ≡ old.primary.device.lines → NodesRefine first second old w → old.primary.device.lines ≡ first.lines
 primary-lines first second old w sized stands = elim stands.parts [
   | inl up ↦ sym sized ∙ up.1.engine.contents_at.lines_are
   | inr (inl down) ↦ sym down.1.image.sized ∙ down.1.image.contents_at.lines_are
   | inr (inr still) ↦ still.1.lines_are
 ]
 
-pub primary-fences : (old : Pair) → has_ended old.primary_condition ≡ false → old.contents.lines ≡ old.device.lines → Acts old Fence (Ok true) (with_fenced_primary old)
+pub primary-fences : (old : Pair) → has_ended old.lives.primary ≡ false → old.primary.contents.lines ≡ old.primary.device.lines → Acts old Fence (Ok true) (with_fenced_primary old)
 primary-fences old unfenced sized = record { steps = steps; cut = tt; calls = none-added _ _ refl }
   where
     new : Pair
@@ -75,23 +73,9 @@ primary-fences old unfenced sized = record { steps = steps; cut = tt; calls = no
           standby = standby-refines stands.parts;
         } in
         let refines : EitherRefines first second new w' = inr (inr (refl, still)) in
-        let now : AreLives first second new.primary_condition new.standby_condition new.asked w' =
-        record {
-          allowed_are = lives.allowed_are;
-          primary_disk = lives.primary_disk;
-          standby_disk = lives.standby_disk;
-          primary_failing = lives.primary_failing;
-          standby_failing = lives.standby_failing;
-          primary = refl;
-          standby = lives.standby;
-          first_role = lives.first_role;
-          second_role = lives.second_role;
-          first_epoch = lives.first_epoch;
-          second_epoch = lives.second_epoch;
-        } in
         record {
           world = w';
           step = step;
-          stands = record { sound = sound-step w Fence true w' step stands.sound; lives = now; parts = refines };
+          stands = record { sound = sound-step w Fence true w' step stands.sound; lives = search (rules, lives); parts = refines };
           moves = untouched first second old new w w' refl refl stands.parts;
         }

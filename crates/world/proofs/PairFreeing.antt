@@ -1,5 +1,5 @@
 -- What freeing a list does to the pair, of what it does to its parts.
-use Rattle.std.proofs.Common.{rules, ◌≡◌, ◌⊎◌, ◌<◌, ◌≤◌, ℕ, inl, inr, Bool, true, false, cond, List, ◌∷◌, ◌++◌, length, drop, Result, Ok, Err, Vec, Global, refl, sym, ap, subst, ◌∙◌, arith, length-append, true≢false, []}
+use Rattle.std.proofs.Common.{rules, ◌≡◌, ◌⊎◌, ◌<◌, ◌≤◌, inl, inr, Bool, true, false, cond, List, ◌∷◌, ◌++◌, length, drop, Result, Ok, Err, refl, sym, ap, subst, ◌∙◌, arith, length-append, true≢false, []}
 use Rattle.kv_types.specs.declared.refusal.Refusal.{Refusal}
 use Rattle.kv_types.specs.declared.refusal.Refusal.TheVariants.{Memory, Fault}
 use Rattle.pmem.specs.Device.{State}
@@ -17,9 +17,6 @@ use Rattle.wbl_engine.specs.declared.freeing.Freed.{Freed}
 use Rattle.wbl_engine.specs.Freeing.{KeepsWithoutSome}
 use Rattle.wbl_engine.proofs.WithoutLemmas.{AllEnded, lawful_without}
 use Rattle.pipes.specs.Waiting.{Waiting}
-use Rattle.redis_core.specs.Sequencing.{Sequencing}
-use Rattle.standby_stream.specs.declared.opening.Opening.{Opening}
-use Rattle.standby_stream.specs.Stream.{Stream}
 use Rattle.group_commit.specs.Due.{due_now, left_by}
 use Rattle.group_commit.specs.Working.{FreesReached, entries_of_lists}
 use Rattle.group_commit.specs.declared.committer.Committer.{Committer}
@@ -44,9 +41,6 @@ use Rattle.primary.proofs.KeptTurns.{remembers-reached}
 use Rattle.primary.proofs.RecallLemmas.{recalls-without, remembers-freed}
 use Rattle.primary.proofs.RecallParts.{recalls-more}
 use Rattle.world.specs.Recalling.{past_of}
-use Rattle.world.specs.Standby.{Arrived, Node}
-use Rattle.connections.specs.declared.connections.Connections.{Connections}
-use Rattle.connections.specs.declared.transcript.Transcript.{Transcript}
 use Rattle.primary.specs.Leading.{AreLaid}
 use Rattle.primary.specs.Standing.{notices_of}
 use Rattle.primary.proofs.AheadLemmas.{laid-engine}
@@ -55,12 +49,10 @@ use Rattle.primary.proofs.TurnedLemmas.{Leads-reached}
 use Rattle.world.proofs.LivesLemmas.{enabled-is, is_own, nodes-refine, own-runs}
 use Rattle.world.proofs.PairLemmas.{Led, cut-for, cut-same, none-added, rests-standby, stays-does, tells}
 use Rattle.world.proofs.QueueLemmas.{free-disabled, free-enabled, reached-positions, room-link}
-use Rattle.world.proofs.PairTurns.{Took, Waiting-same, pair_of}
+use Rattle.world.proofs.PairTurns.{Took, Waiting-same, pair_of, pair_with}
 use Rattle.world.proofs.FreeingLemmas.{contents-without, engine-freed, freed-moments, primary-steps}
 use Rattle.world.specs.Remaining.{LeftBy}
 use Rattle.world.proofs.LeftLemmas.{left-still, left-there}
-use Rattle.world.specs.declared.condition.Condition.{Condition}
-use Rattle.world.specs.declared.condition.AskedFences.{AskedFences}
 
 -- ---- what a turn reaches
 
@@ -74,42 +66,44 @@ work_left calls room room' items works same are = subst (λ (b : Bool). AreWorkO
 
 -- ---- a turn of a committer that is ready
 
-module _ {E : Type 0} (device : E → State) (contents : E → Contents) (is_faulted : E → Bool) (sessions : Connections) (transcript : Transcript) (sequencer : Sequencing) (link : Stream) (opening : Opening) (remote : ℕ) (frames : List (Vec ℕ Global)) (arrivals : Arrived) (standby : Node) (primary_condition standby_condition : Condition) (fences : AskedFences) where
-  -- a pair with this committer, with this work waiting for it, with these notices and with these groups at the link
-  abbrev pub pair_with : Committer E → Waiting Work → List Freed → Waiting Group → Pair
-  pair_with committer waiting notices handed =
-      pair_of device contents is_faulted sessions transcript sequencer notices link opening remote frames arrivals standby primary_condition standby_condition fences committer waiting handed
+module _ {E : Type 0} (device : E → State) (contents : E → Contents) (is_faulted : E → Bool) (pair : Pair) where
+  -- the pair with this committer, with this work waiting for it, with these notices and with these groups at the link
+  abbrev freed_with : Committer E → Waiting Work → List Freed → Waiting Group → Pair
+  freed_with = pair_with device contents is_faulted pair
+
+  abbrev freed_of : Committer E → Waiting Work → Waiting Group → Pair
+  freed_of = pair_of device contents is_faulted pair
 
   -- memory was refused, and the engine was not touched
-  pub refused-does : (event : Event) → is_own event ≡ true → asks_memory event ≡ true → (before after : Committer E) (waiting waiting' : Waiting Work) (notices notices' : List Freed) (handed handed' : Waiting Group) (refusal : Refusal)
+  pub refused-does : (event : Event) → is_own event ≡ true → asks_memory event ≡ true → (before after : Committer E) (waiting waiting' : Waiting Work) (notices' : List Freed) (handed handed' : Waiting Group) (refusal : Refusal)
       → refusal ≡ Memory → after.engine ≡ before.engine
-      → ((first second : Holder) (w : World) → PairRefines first second (pair_with before waiting notices handed) w → may_happen w event ≡ true)
-      → Does (pair_with before waiting notices handed) event (Err refusal) (pair_with after waiting' notices' handed')
-  refused-does event own asks before after waiting waiting' notices notices' handed handed' refusal memory same enabled =
+      → ((first second : Holder) (w : World) → PairRefines first second (freed_of before waiting handed) w → may_happen w event ≡ true)
+      → Does (freed_of before waiting handed) event (Err refusal) (freed_with after waiting' notices' handed')
+  refused-does event own asks before after waiting waiting' notices' handed handed' refusal memory same enabled =
       record {
         steps = tt;
         cut = λ first second w stands.
-            cut-same first second event refusal (pair_with before waiting notices handed) (pair_with after waiting' notices' handed') w asks memory (ap device same) refl (tells transcript) refl
+            cut-same first second event refusal (freed_of before waiting handed) (freed_with after waiting' notices' handed') w asks memory (ap device same) refl (tells pair.clients.transcript) refl
             (own-runs stands event own) (enabled first second w stands) (nodes-refine stands);
         calls = none-added _ _ refl;
       }
 
   -- a fence of the engine's device failed
-  pub fault-does : (event : Event) → is_own event ≡ true → (before after : Committer E) (waiting waiting' : Waiting Work) (notices : List Freed) (handed : Waiting Group) (refusal : Refusal)
+  pub fault-does : (event : Event) → is_own event ≡ true → (before after : Committer E) (waiting waiting' : Waiting Work) (handed : Waiting Group) (refusal : Refusal)
       → refusal ≡ Fault
       → ((first second : Holder) (w : World) (old new : Pair) → Led first second old new w Breaks Resting → EndsBy Fault event (Led first second old new w))
       → (is_faulted before.engine ≡ true) ⊎ ((device before.engine).failures < (device after.engine).failures)
-      → ((first second : Holder) (w : World) → PairRefines first second (pair_with before waiting notices handed) w → may_happen w event ≡ true)
-      → ((first second : Holder) (w : World) → PartsRefine first second (pair_with before waiting notices handed) w
+      → ((first second : Holder) (w : World) → PairRefines first second (freed_of before waiting handed) w → may_happen w event ≡ true)
+      → ((first second : Holder) (w : World) → PartsRefine first second (freed_of before waiting handed) w
       → LeavesOnly (device before.engine) (device after.engine) (OpensAt first w.primary.calls w.primary.committer.position))
-      → Does (pair_with before waiting notices handed) event (Err refusal) (pair_with after waiting' notices handed)
-  fault-does event own before after waiting waiting' notices handed refusal fault breaks fails enabled moments = record { steps = tt; cut = cut; calls = none-added _ _ refl }
+      → Does (freed_of before waiting handed) event (Err refusal) (freed_of after waiting' handed)
+  fault-does event own before after waiting waiting' handed refusal fault breaks fails enabled moments = record { steps = tt; cut = cut; calls = none-added _ _ refl }
     where
       old : Pair
-      old = pair_with before waiting notices handed
+      old = freed_of before waiting handed
 
       new : Pair
-      new = pair_with after waiting' notices handed
+      new = freed_of after waiting' handed
 
       cut : (first second : Holder) (w : World) → PairRefines first second old w → IsCut first second event refusal old new w
       cut first second w stands =
@@ -119,40 +113,40 @@ module _ {E : Type 0} (device : E → State) (contents : E → Contents) (is_fau
             | inr now ↦ now
           ] in
           let leaves = LeavesOnly-weaken (OpensAtEither first w.primary.calls w.primary.committer.position (next_primary w)) (λ image at. inl at) (moments first second w stands.parts) in
-          cut-for first second event refusal old new w (nodes-refine stands) (tells transcript) refl (enabled-is (own-runs stands event own) ∙ enabled first second w stands)
+          cut-for first second event refusal old new w (nodes-refine stands) (tells pair.clients.transcript) refl (enabled-is (own-runs stands event own) ∙ enabled first second w stands)
           (subst (λ (r : Refusal). EndsBy r event (Led first second old new w)) (sym fault)
           (breaks first second w old new (inl (record { leaves = leaves; failures = failed }), rests-standby first second old w (nodes-refine stands))))
 
   -- ---- a list is freed
 
-  module _ (before : Committer E) (waiting : Waiting Work) (notices : List Freed) (handed : Waiting Group)
-      (is : due_now contents before waiting (link_has_room handed.items) remote ≡ due.Free) where
+  module _ (before : Committer E) (waiting : Waiting Work) (handed : Waiting Group)
+      (is : due_now contents before waiting (link_has_room handed.items) pair.wire.remote ≡ due.Free) where
     abbrev old : Pair
-    old = pair_with before waiting notices handed
+    old = freed_of before waiting handed
 
     free_may : (first second : Holder) (w : World) → PairRefines first second old w → may_happen w events.Free ≡ true
     free_may first second w stands =
-        free-enabled w old.committing handed.items stands.parts.committing stands.parts.link.waiting remote (length (contents before.engine).current.gaps.items) stands.parts.link.remote_is is
+        free-enabled w old.primary.committing handed.items stands.parts.committing stands.parts.link.waiting pair.wire.remote (length (contents before.engine).current.gaps.items) stands.parts.link.remote_is is
 
-    may : FreeIsDue before.stage before.aside.items waiting.items (link_has_room handed.items) remote
-    may = free-now contents before waiting (link_has_room handed.items) remote is
+    may : FreeIsDue before.stage before.aside.items waiting.items (link_has_room handed.items) pair.wire.remote
+    may = free-now contents before waiting (link_has_room handed.items) pair.wire.remote is
 
     -- the first list that was reached was freed, or that came to this
     abbrev Frees : Committer E → Waiting Work → Result Done Refusal → Type 0
-    Frees after waiting' result = FreesReached device contents is_faulted (link_has_room handed.items) remote before waiting result after waiting'
+    Frees after waiting' result = FreesReached device contents is_faulted (link_has_room handed.items) pair.wire.remote before waiting result after waiting'
 
     module _ (after : Committer E) (waiting' : Waiting Work) where
       -- what stood aside then is lawful
       leads-then : (result : Result Done Refusal) (frees : Frees after waiting' result) (first second : Holder) (w : World) → PartsRefine first second old w
-          → Leads old.contents waiting'.items (frees.list ∷ frees.rest) sequencer notices
+          → Leads old.primary.contents waiting'.items (frees.list ∷ frees.rest) pair.primary.sequencer pair.primary.notices
       leads-then result frees first second w parts =
           rw frees.left
-          (subst (λ (xs : List FreeList). Leads old.contents (left_by (link_has_room handed.items) waiting.items) xs sequencer notices) frees.reached
-          (Leads-reached old.contents (link_has_room handed.items) waiting.items before.aside.items sequencer notices may.none parts.leads))
+          (subst (λ (xs : List FreeList). Leads old.primary.contents (left_by (link_has_room handed.items) waiting.items) xs pair.primary.sequencer pair.primary.notices) frees.reached
+          (Leads-reached old.primary.contents (link_has_room handed.items) waiting.items before.aside.items pair.primary.sequencer pair.primary.notices may.none parts.leads))
 
-      ended-then : (result : Result Done Refusal) (frees : Frees after waiting' result) (first second : Holder) (w : World) → PartsRefine first second old w → AreEnded old.contents frees.list.entries.items
+      ended-then : (result : Result Done Refusal) (frees : Frees after waiting' result) (first second : Holder) (w : World) → PartsRefine first second old w → AreEnded old.primary.contents frees.list.entries.items
       ended-then result frees first second w parts =
-          AreEnded-first old.contents frees.list.entries.items (entries_of_lists frees.rest) (leads-then result frees first second w parts).aside_ended
+          AreEnded-first old.primary.contents frees.list.entries.items (entries_of_lists frees.rest) (leads-then result frees first second w parts).aside_ended
 
       -- the standby has passed it
       passed-then : (result : Result Done Refusal) (frees : Frees after waiting' result) (first second : Holder) (w : World) → PairRefines first second old w → frees.list.position ≤ w.standby.position
@@ -163,11 +157,11 @@ module _ {E : Type 0} (device : E → State) (contents : E → Contents) (is_fau
       moments-then : (result : Result Done Refusal) (frees : Frees after waiting' result) (first second : Holder) (w : World) → PartsRefine first second old w
           → LeavesOnly (device before.engine) (device after.engine) (OpensAt first w.primary.calls w.primary.committer.position)
       moments-then result frees first second w parts =
-          freed-moments first w.primary.calls w.primary.committer.position (device before.engine) (device after.engine) old.contents frees.list.entries.items
+          freed-moments first w.primary.calls w.primary.committer.position (device before.engine) (device after.engine) old.primary.contents frees.list.entries.items
           (ended-then result frees first second w parts) parts.engine.contents_at parts.engine.lawful (frees.frees.moments parts.engine.sound)
 
       free-parts : (ok : Done) (frees : Frees after waiting' (Ok ok)) (first second : Holder) (w : World) → PairRefines first second old w
-          → PartsRefine first second (pair_with after waiting' (notices ++ frees.frees.answer.0 ∷ []) handed) (machine.freed w)
+          → PartsRefine first second (freed_with after waiting' (pair.primary.notices ++ frees.frees.answer.0 ∷ []) handed) (machine.freed w)
       free-parts ok frees first second w stands =
           let parts = stands.parts in
           let calls = w.primary.calls in
@@ -178,14 +172,14 @@ module _ {E : Type 0} (device : E → State) (contents : E → Contents) (is_fau
           let answer = it.answer in
           let places = answer.0 in
           let consistent = parts.engine.contents_at.consistent in
-          let laid : AreLaid old.contents = laid-engine old.device old.contents consistent parts.engine.lawful parts.engine.durable in
+          let laid : AreLaid old.primary.contents = laid-engine old.primary.device old.primary.contents consistent parts.engine.lawful parts.engine.durable in
           let ended = ended-then (Ok ok) frees first second w parts in
-          let new = pair_with after waiting' (notices ++ places ∷ []) handed in
-          let moved = Same-is (after_free entries old.contents) (contents after.engine) it.moved in
+          let new = freed_with after waiting' (pair.primary.notices ++ places ∷ []) handed in
+          let moved = Same-is (after_free entries old.primary.contents) (contents after.engine) it.moved in
           let reached_is : positions_of_lists (frees.list ∷ frees.rest) ≡ reached_lists w =
-          ap positions_of_lists (sym frees.reached) ∙ reached-positions w old.committing handed.items parts.committing parts.link.waiting in
+          ap positions_of_lists (sym frees.reached) ∙ reached-positions w old.primary.committing handed.items parts.committing parts.link.waiting in
           let many = parts.freeing.notices_are in
-          let committing : CommittingRefines calls new.committing (machine.freed w).primary.committer =
+          let committing : CommittingRefines calls new.primary.committing (machine.freed w).primary.committer =
           record {
             work = subst (λ (items : List Work). AreWorkOf calls items (cond (has_room w.primary.link.waiting) [] w.primary.committer.waiting)) (sym frees.left)
                 (work_left calls (link_has_room handed.items) (has_room w.primary.link.waiting) waiting.items w.primary.committer.waiting (room-link calls handed.items w.primary.link.waiting parts.link.waiting)
@@ -194,76 +188,76 @@ module _ {E : Type 0} (device : E → State) (contents : E → Contents) (is_fau
             stage_is = subst (λ (stage : Stage). StageRefines calls stage w.primary.committer.stage) (may.ready ∙ sym it.stage) parts.committing.stage_is;
             local_is = it.local ∙ parts.committing.local_is;
           } in
-          let freeing : FreeingRefines sequencer new.notices new.contents (machine.freed w).primary =
+          let freeing : FreeingRefines pair.primary.sequencer new.primary.notices new.primary.contents (machine.freed w).primary =
           record {
             ended = parts.freeing.ended;
             newest = parts.freeing.newest;
-            notices_are = let one = length-append notices (places ∷ []) in omega (arith, one, many);
+            notices_are = let one = length-append pair.primary.notices (places ∷ []) in omega (arith, one, many);
             gaps = ap (λ (r : Record). length r.gaps.items) it.moved.current ∙ parts.freeing.gaps;
           } in
-          let leads : Leads new.contents waiting'.items after.aside.items sequencer new.notices =
+          let leads : Leads new.primary.contents waiting'.items after.aside.items pair.primary.sequencer new.primary.notices =
           rw (moved, it.aside)
-          (Leads-freed old.contents waiting'.items frees.list frees.rest sequencer notices places consistent laid (leads-then (Ok ok) frees first second w parts) answer.2 answer.3) in
-          let remembers : Remembers low p (past_of calls) new.contents waiting'.items after.aside.items sequencer =
+          (Leads-freed old.primary.contents waiting'.items frees.list frees.rest pair.primary.sequencer pair.primary.notices places consistent laid (leads-then (Ok ok) frees first second w parts) answer.2 answer.3) in
+          let remembers : Remembers low p (past_of calls) new.primary.contents waiting'.items after.aside.items pair.primary.sequencer =
           rw (moved, it.aside)
-          (remembers-freed low p (past_of calls) old.contents waiting'.items frees.list frees.rest sequencer (passed-then (Ok ok) frees first second w stands) ended
+          (remembers-freed low p (past_of calls) old.primary.contents waiting'.items frees.list frees.rest pair.primary.sequencer (passed-then (Ok ok) frees first second w stands) ended
           (rw frees.left
-          (subst (λ (xs : List FreeList). Remembers low p (past_of calls) old.contents (left_by (link_has_room handed.items) waiting.items) xs sequencer) frees.reached
-          (remembers-reached (link_has_room handed.items) low p (past_of calls) old.contents waiting.items before.aside.items sequencer may.none parts.remembers)))) in
+          (subst (λ (xs : List FreeList). Remembers low p (past_of calls) old.primary.contents (left_by (link_has_room handed.items) waiting.items) xs pair.primary.sequencer) frees.reached
+          (remembers-reached (link_has_room handed.items) low p (past_of calls) old.primary.contents waiting.items before.aside.items pair.primary.sequencer may.none parts.remembers)))) in
           search (
             rules,
             parts,
             committing,
-            engine-freed first calls p (device before.engine) (device after.engine) old.contents (contents after.engine) (is_faulted before.engine) (is_faulted after.engine) entries
+            engine-freed first calls p (device before.engine) (device after.engine) old.primary.contents (contents after.engine) (is_faulted before.engine) (is_faulted after.engine) entries
                 ended it.moved it.durable it.sound.0 parts.engine,
             leads,
             freeing,
             remembers,
           )
 
-      freed-does : (ok : Done) (frees : Frees after waiting' (Ok ok)) → Does old events.Free (Ok true) (pair_with after waiting' (notices ++ frees.frees.answer.0 ∷ []) handed)
+      freed-does : (ok : Done) (frees : Frees after waiting' (Ok ok)) → Does old events.Free (Ok true) (freed_with after waiting' (pair.primary.notices ++ frees.frees.answer.0 ∷ []) handed)
       freed-does ok frees = record {
         steps = λ first second w stands.
-            primary-steps events.Free first second w (machine.freed w) old (pair_with after waiting' (notices ++ frees.frees.answer.0 ∷ []) handed) refl
+            primary-steps events.Free first second w (machine.freed w) old (freed_with after waiting' (pair.primary.notices ++ frees.frees.answer.0 ∷ []) handed) refl
             (record { allowed = refl; primary_disk = refl; standby_disk = refl; primary = refl; standby = refl; epoch = refl })
-            stands refl refl refl refl frees.frees.sound.1 (inl refl)
+            stands refl refl frees.frees.sound.1 (inl refl)
             (sym (free_may first second w stands)) (moments-then (Ok ok) frees first second w stands.parts) (free-parts ok frees first second w stands);
         cut = tt;
         calls = none-added _ _ refl;
       }
 
-      broke-does : (refusal : Refusal) → Frees after waiting' (Err refusal) → Does old events.Free (Err refusal) (pair_with after waiting' notices handed)
+      broke-does : (refusal : Refusal) → Frees after waiting' (Err refusal) → Does old events.Free (Err refusal) (freed_of after waiting' handed)
       broke-does refusal frees = elim frees.frees.causes [
-        | inl fault ↦ fault-does events.Free refl before after waiting waiting' notices handed refusal fault (λ first second w old' new leads. leads) (frees.frees.fault (ap Err fault)) free_may
+        | inl fault ↦ fault-does events.Free refl before after waiting waiting' handed refusal fault (λ first second w old' new leads. leads) (frees.frees.fault (ap Err fault)) free_may
             (moments-then (Err refusal) frees)
-        | inr memory ↦ refused-does events.Free refl refl before after waiting waiting' notices notices handed handed refusal memory (frees.frees.memory (ap Err memory)) free_may
+        | inr memory ↦ refused-does events.Free refl refl before after waiting waiting' pair.primary.notices handed handed refusal memory (frees.frees.memory (ap Err memory)) free_may
       ]
 
       -- it did so, and tells of that
-      pub free-done : (handed' : Waiting Group) (answer : Done) → Took device contents is_faulted due.Free (link_has_room handed.items) remote before waiting handed (Ok answer) after waiting' handed'
-          → Does old events.Free (Ok true) (pair_with after waiting' (notices ++ notices_of answer) handed')
-          × FreesOldest (reached_now before.aside.items waiting.items handed.items) (contents before.engine) notices (contents after.engine) (notices ++ notices_of answer)
+      pub free-done : (handed' : Waiting Group) (answer : Done) → Took device contents is_faulted due.Free (link_has_room handed.items) pair.wire.remote before waiting handed (Ok answer) after waiting' handed'
+          → Does old events.Free (Ok true) (freed_with after waiting' (pair.primary.notices ++ notices_of answer) handed')
+          × FreesOldest (reached_now before.aside.items waiting.items handed.items) (contents before.engine) pair.primary.notices (contents after.engine) (pair.primary.notices ++ notices_of answer)
       free-done handed' answer (offered, inl frees) =
           let told = frees.frees.answer in
-          let all : notices ++ notices_of answer ≡ notices ++ told.0 ∷ [] = ap (λ (came : Done). notices ++ notices_of came) told.1 in (
-            subst (λ (xs : List Freed). Does old events.Free (Ok true) (pair_with after waiting' xs handed')) (sym all)
-                (subst (λ (h : Waiting Group). Does old events.Free (Ok true) (pair_with after waiting' (notices ++ told.0 ∷ []) h)) (Waiting-same handed handed' (sym offered.offered_is)) (freed-does answer frees)),
+          let all : pair.primary.notices ++ notices_of answer ≡ pair.primary.notices ++ told.0 ∷ [] = ap (λ (came : Done). pair.primary.notices ++ notices_of came) told.1 in (
+            subst (λ (xs : List Freed). Does old events.Free (Ok true) (freed_with after waiting' xs handed')) (sym all)
+                (subst (λ (h : Waiting Group). Does old events.Free (Ok true) (freed_with after waiting' (pair.primary.notices ++ told.0 ∷ []) h)) (Waiting-same handed handed' (sym offered.offered_is)) (freed-does answer frees)),
             record { list = frees.list; rest = frees.rest; lists_are = frees.reached; freed = frees.frees.moved; places = told.0; told = all; entries = told.2; extents = told.3 },
           )
       free-done handed' answer (offered, inr lacks) = absurd (let no = lacks.answer in cc)
 
       -- it was refused
-      pub free-ends : (handed' : Waiting Group) (refusal : Refusal) → Took device contents is_faulted due.Free (link_has_room handed.items) remote before waiting handed (Err refusal) after waiting' handed'
-          → Does old events.Free (Err refusal) (pair_with after waiting' notices handed')
+      pub free-ends : (handed' : Waiting Group) (refusal : Refusal) → Took device contents is_faulted due.Free (link_has_room handed.items) pair.wire.remote before waiting handed (Err refusal) after waiting' handed'
+          → Does old events.Free (Err refusal) (freed_of after waiting' handed')
       free-ends handed' refusal (offered, came) =
-          subst (λ (h : Waiting Group). Does old events.Free (Err refusal) (pair_with after waiting' notices h)) (Waiting-same handed handed' (sym offered.offered_is))
+          subst (λ (h : Waiting Group). Does old events.Free (Err refusal) (freed_of after waiting' h)) (Waiting-same handed handed' (sym offered.offered_is))
           (elim came [
             | inl frees ↦ broke-does refusal frees
-            | inr lacks ↦ refused-does events.Free refl refl before after waiting waiting' notices notices handed handed refusal (let is = lacks.answer in cc) lacks.engine free_may
+            | inr lacks ↦ refused-does events.Free refl refl before after waiting waiting' pair.primary.notices handed handed refusal (let is = lacks.answer in cc) lacks.engine free_may
           ])
 
       -- at any moment of it a crash leaves what one that cuts it may leave
-      pub free-left : (handed' : Waiting Group) (result : Result Done Refusal) → Took device contents is_faulted due.Free (link_has_room handed.items) remote before waiting handed result after waiting' handed'
+      pub free-left : (handed' : Waiting Group) (result : Result Done Refusal) → Took device contents is_faulted due.Free (link_has_room handed.items) pair.wire.remote before waiting handed result after waiting' handed'
           → (first second : Holder) (w : World) → PairRefines first second old w → LeavesOnly (device before.engine) (device after.engine) (LeftBy first w cut.Free)
       free-left handed' result (offered, came) first second w stands =
           elim came [
@@ -271,35 +265,35 @@ module _ {E : Type 0} (device : E → State) (contents : E → Contents) (is_fau
             | inr lacks ↦ left-still first second old w cut.Free (device after.engine) stands.sound stands.parts (ap device lacks.engine)
           ]
         where
-          some : (frees : Frees after waiting' result) (image : Image) → KeepsWithoutSome frees.list.entries.items old.contents image → LeftBy first w cut.Free image
+          some : (frees : Frees after waiting' result) (image : Image) → KeepsWithoutSome frees.list.entries.items old.primary.contents image → LeftBy first w cut.Free image
           some frees image (gone, listed, held) =
               let parts = stands.parts in
               let calls = w.primary.calls in
               let low = w.standby.position in
               let p = w.primary.committer.position in
               let ended = ended-then result frees first second w parts in
-              let all : AllEnded gone old.contents.versions = λ i is. AllEnded-listed old.contents frees.list.entries.items ended i (listed i is) in
-              let remembers : Remembers low p (past_of calls) old.contents waiting'.items (frees.list ∷ frees.rest) sequencer =
+              let all : AllEnded gone old.primary.contents.versions = λ i is. AllEnded-listed old.primary.contents frees.list.entries.items ended i (listed i is) in
+              let remembers : Remembers low p (past_of calls) old.primary.contents waiting'.items (frees.list ∷ frees.rest) pair.primary.sequencer =
               rw frees.left
-              (subst (λ (xs : List FreeList). Remembers low p (past_of calls) old.contents (left_by (link_has_room handed.items) waiting.items) xs sequencer) frees.reached
-              (remembers-reached (link_has_room handed.items) low p (past_of calls) old.contents waiting.items before.aside.items sequencer may.none parts.remembers)) in
-              left-there first w cut.Free (without gone old.contents) image stands.sound (contents-without first calls p old.contents gone all parts.engine.contents_at)
-              (lawful_without old.contents gone all parts.engine.lawful)
+              (subst (λ (xs : List FreeList). Remembers low p (past_of calls) old.primary.contents (left_by (link_has_room handed.items) waiting.items) xs pair.primary.sequencer) frees.reached
+              (remembers-reached (link_has_room handed.items) low p (past_of calls) old.primary.contents waiting.items before.aside.items pair.primary.sequencer may.none parts.remembers)) in
+              left-there first w cut.Free (without gone old.primary.contents) image stands.sound (contents-without first calls p old.primary.contents gone all parts.engine.contents_at)
+              (lawful_without old.primary.contents gone all parts.engine.lawful)
               (λ q from below.
-              recalls-more (without gone old.contents).versions _ (λ i. Unit {0}) q (past_of calls q) (λ i held. tt)
-              (recalls-without low p (past_of calls) old.contents waiting'.items frees.list frees.rest sequencer (passed-then result frees first second w stands) ended remembers gone listed q from below)) held
+              recalls-more (without gone old.primary.contents).versions _ (λ i. Unit {0}) q (past_of calls q) (λ i held. tt)
+              (recalls-without low p (past_of calls) old.primary.contents waiting'.items frees.list frees.rest pair.primary.sequencer (passed-then result frees first second w stands) ended remembers gone listed q from below)) held
 
   -- room for the notice was refused
-  pub free-roomless : (before : Committer E) (waiting : Waiting Work) (notices notices' : List Freed) (handed : Waiting Group) (refusal : Refusal) → refusal ≡ Memory
-      → due_now contents before waiting (link_has_room handed.items) remote ≡ due.Free
-      → Does (pair_with before waiting notices handed) events.Free (Err refusal) (pair_with before waiting notices' handed)
-  free-roomless before waiting notices notices' handed refusal memory is =
-      refused-does events.Free refl refl before before waiting waiting notices notices' handed handed refusal memory refl (free_may before waiting notices handed is)
+  pub free-roomless : (before : Committer E) (waiting : Waiting Work) (notices' : List Freed) (handed : Waiting Group) (refusal : Refusal) → refusal ≡ Memory
+      → due_now contents before waiting (link_has_room handed.items) pair.wire.remote ≡ due.Free
+      → Does (freed_of before waiting handed) events.Free (Err refusal) (freed_with before waiting notices' handed)
+  free-roomless before waiting notices' handed refusal memory is =
+      refused-does events.Free refl refl before before waiting waiting notices' handed handed refusal memory refl (free_may before waiting handed is)
 
   -- another step is due
-  pub free-idle : (before : Committer E) (waiting : Waiting Work) (notices : List Freed) (handed : Waiting Group) → (due_now contents before waiting (link_has_room handed.items) remote ≡ due.Free → ⊥)
-      → Does (pair_with before waiting notices handed) events.Free (Ok false) (pair_with before waiting notices handed)
-  free-idle before waiting notices handed never =
-      stays-does (pair_with before waiting notices handed) events.Free refl (λ first second w stands.
-      free-disabled w (pair_with before waiting notices handed).committing handed.items stands.parts.committing stands.parts.link.waiting remote (length (contents before.engine).current.gaps.items)
+  pub free-idle : (before : Committer E) (waiting : Waiting Work) (handed : Waiting Group) → (due_now contents before waiting (link_has_room handed.items) pair.wire.remote ≡ due.Free → ⊥)
+      → Does (freed_of before waiting handed) events.Free (Ok false) (freed_of before waiting handed)
+  free-idle before waiting handed never =
+      stays-does (freed_of before waiting handed) events.Free refl (λ first second w stands.
+      free-disabled w (freed_of before waiting handed).primary.committing handed.items stands.parts.committing stands.parts.link.waiting pair.wire.remote (length (contents before.engine).current.gaps.items)
       stands.parts.link.remote_is never)

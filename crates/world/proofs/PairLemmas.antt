@@ -20,8 +20,8 @@ use Rattle.connections.specs.Going.{Goes}
 use Rattle.world.specs.Cause.{OrLies, Stretch, EndsBy, asks_memory, Resting}
 use Rattle.world.specs.Committing.{Rests, next_primary, next_standby}
 use Rattle.world.specs.Remaining.{Remain}
-use Rattle.connections.specs.Session.{IsListOf, SessionsRefine, SequencerRefines, SeatsFollow, KeepsSeats, AddsOne, StandsStill, TakesTurn, TellsTheSame, seats_of}
-use Rattle.world.specs.Pair.{HasStandby, Pair, EitherRefines, NodesRefine, PartsRefine, PairRefines, IsCut, MovesBoth, Steps, Does}
+use Rattle.connections.specs.Session.{IsListOf, SequencerRefines, SeatsFollow, KeepsSeats, AddsOne, StandsStill, TakesTurn, TellsTheSame, seats_of}
+use Rattle.world.specs.Pair.{Clients, ClientsRefine, HasStandby, Pair, EitherRefines, NodesRefine, PartsRefine, PairRefines, IsCut, MovesBoth, Steps, Does}
 use Rattle.world.specs.Standby.{Node, StandbyRefines}
 use Rattle.world.proofs.LivesLemmas.{Runs, enabled-is, is_own, is_plain, lives-step, nodes-refine, own-runs}
 use Rattle.primary.specs.Standing.{StandsOver}
@@ -58,11 +58,11 @@ goes-map goes moved stayed = record { done = goes.done; goes = λ did. moved (go
 
 -- what is in hand leads to what the sequencer holds, once it is told of the notices
 pub back-stands : {first second : Holder} {pair : Pair} {w : World} → PartsRefine first second pair w
-    → StandsOver pair.device pair.contents pair.committing.waiting.items pair.committing.aside pair.sequencer pair.notices
+    → StandsOver pair.primary.device pair.primary.contents pair.primary.committing.waiting.items pair.primary.committing.aside pair.primary.sequencer pair.primary.notices
 back-stands {first} {second} {pair} {w} parts =
     let engine = parts.engine in
     let consistent = engine.contents_at.consistent in
-    record { leads = parts.leads; consistent = consistent; laid = laid-engine pair.device pair.contents consistent engine.lawful engine.durable; durable = engine.durable }
+    record { leads = parts.leads; consistent = consistent; laid = laid-engine pair.primary.device pair.primary.contents consistent engine.lawful engine.durable; durable = engine.durable }
 
 pub Remain-standby : (holder : Holder) (epoch : ℕ) (calls : List Call) (position : ℕ) (remains : List Remains) (node : Node) (condition : Condition) → has_ended condition ≡ false
     → StandbyRefines holder epoch calls position remains node condition → Remain holder calls position remains node.device
@@ -72,7 +72,7 @@ Remain-standby holder epoch calls position remains node Crashed whole refines = 
 Remain-standby holder epoch calls position remains node Ended whole refines = absurd (true≢false whole)
 
 -- the standby, whether the primary runs or not
-pub standby-refines : {first second : Holder} {pair : Pair} {w : World} → EitherRefines first second pair w → StandbyRefines second pair.link.epoch w.primary.calls w.standby.position (torn w.standby.life) pair.standby pair.standby_condition
+pub standby-refines : {first second : Holder} {pair : Pair} {w : World} → EitherRefines first second pair w → StandbyRefines second pair.wire.link.epoch w.primary.calls w.standby.position (torn w.standby.life) pair.standby pair.lives.standby
 standby-refines parts = elim parts [
   | inl up ↦ up.1.standby
   | inr (inl down) ↦ down.1.standby
@@ -80,16 +80,16 @@ standby-refines parts = elim parts [
 ]
 
 pub standby-stands : (first second : Holder) (pair : Pair) (w : World) → EitherRefines first second pair w → HasStandby pair → Remain second w.primary.calls w.standby.position (torn w.standby.life) pair.standby.device
-standby-stands first second pair w parts whole = Remain-standby second pair.link.epoch w.primary.calls w.standby.position (torn w.standby.life) pair.standby pair.standby_condition whole (standby-refines parts)
+standby-stands first second pair w parts whole = Remain-standby second pair.wire.link.epoch w.primary.calls w.standby.position (torn w.standby.life) pair.standby pair.lives.standby whole (standby-refines parts)
 
-pub primary-stands : (first second : Holder) (pair : Pair) (w : World) → EitherRefines first second pair w → Remain first w.primary.calls w.primary.committer.position (torn w.primary.life) pair.device
+pub primary-stands : (first second : Holder) (pair : Pair) (w : World) → EitherRefines first second pair w → Remain first w.primary.calls w.primary.committer.position (torn w.primary.life) pair.primary.device
 primary-stands first second pair w parts = elim parts [
-  | inl up ↦ remain-from first w.primary.calls w.primary.committer.position (torn w.primary.life) pair.device (Opens-engine _ _ _ _ _ _ up.1.engine)
-  | inr (inl down) ↦ remain-from first w.primary.calls w.primary.committer.position (torn w.primary.life) pair.device (Opens-down first w.primary.calls w.primary.committer.position pair.device down.1.image)
+  | inl up ↦ remain-from first w.primary.calls w.primary.committer.position (torn w.primary.life) pair.primary.device (Opens-engine _ _ _ _ _ _ up.1.engine)
+  | inr (inl down) ↦ remain-from first w.primary.calls w.primary.committer.position (torn w.primary.life) pair.primary.device (Opens-down first w.primary.calls w.primary.committer.position pair.primary.device down.1.image)
   | inr (inr still) ↦ λ image is. left-near first w image (still.1.left image is)
 ]
 
-pub sessions-stand : {first second : Holder} {pair : Pair} {w : World} → EitherRefines first second pair w → SessionsRefine pair.sessions pair.transcript w.primary.connections w.primary.calls
+pub sessions-stand : {first second : Holder} {pair : Pair} {w : World} → EitherRefines first second pair w → ClientsRefine pair.clients w.primary.connections w.primary.calls
 sessions-stand parts = elim parts [
   | inl up ↦ up.1.sessions
   | inr (inl down) ↦ down.1.sessions
@@ -97,7 +97,7 @@ sessions-stand parts = elim parts [
 ]
 
 -- of what was asked of the devices nothing is said there
-pub asked-either : (first second : Holder) (pair : Pair) (fences : AskedFences) (w : World) → EitherRefines first second pair w → EitherRefines first second (record pair { asked = fences }) w
+pub asked-either : (first second : Holder) (pair : Pair) (fences : AskedFences) (w : World) → EitherRefines first second pair w → EitherRefines first second (record pair { lives = record pair.lives { asked = fences } }) w
 asked-either first second pair fences w parts = elim parts [
   | inl up ↦ inl (up.0, search (rules, up.1))
   | inr (inl down) ↦ inr (inl (down.0, search (rules, down.1)))
@@ -107,16 +107,16 @@ asked-either first second pair fences w parts = elim parts [
 -- ---- steps
 
 -- neither device was touched
-pub untouched : (first second : Holder) (old new : Pair) (w w' : World) → new.device ≡ old.device → new.standby.device ≡ old.standby.device → EitherRefines first second old w → MovesBoth first second old new w w'
+pub untouched : (first second : Holder) (old new : Pair) (w w' : World) → new.primary.device ≡ old.primary.device → new.standby.device ≡ old.standby.device → EitherRefines first second old w → MovesBoth first second old new w w'
 untouched first second old new w w' device device' parts =
     record {
-      primary = near-rest first w.primary.calls w.primary.committer.position w'.primary.committer.position (torn w.primary.life) old.device new.device device (primary-stands first second old w parts);
+      primary = near-rest first w.primary.calls w.primary.committer.position w'.primary.committer.position (torn w.primary.life) old.primary.device new.primary.device device (primary-stands first second old w parts);
       standby = λ whole. near-rest second w.primary.calls w.standby.position w'.standby.position (torn w.standby.life) old.standby.device new.standby.device device' (standby-stands first second old w parts whole);
     }
 
 -- an event that touches no device
-pub goes-either : (first second : Holder) (w w' : World) (event : Event) (did : Bool) (old new : Pair) → new.device ≡ old.device → new.standby.device ≡ old.standby.device → NodesRefine first second old w
-    → Runs first second new.primary_condition new.standby_condition new.asked w event → is_plain event ≡ true → Happens w event w'
+pub goes-either : (first second : Holder) (w w' : World) (event : Event) (did : Bool) (old new : Pair) → new.primary.device ≡ old.primary.device → new.standby.device ≡ old.standby.device → NodesRefine first second old w
+    → Runs first second new.lives w event → is_plain event ≡ true → Happens w event w'
     → Goes (may_happen w event) did (EitherRefines first second new w') (EitherRefines first second new w) → Steps first second w event did old new
 goes-either first second w w' event true old new device device' before runs plain happens goes =
     let step : Step w event true w' = record { done = goes.done ∙ sym (enabled-is runs); happens = λ did. happens; stands = λ did. absurd (true≢false did) } in
@@ -135,8 +135,8 @@ goes-either first second w w' event false old new device device' before runs pla
     }
 
 -- of one whose primary runs
-pub goes-steps : (first second : Holder) (w w' : World) (event : Event) (did : Bool) (old new : Pair) → new.device ≡ old.device → new.standby.device ≡ old.standby.device → NodesRefine first second old w
-    → Runs first second new.primary_condition new.standby_condition new.asked w event → runs new.primary_condition ≡ true → is_plain event ≡ true → Happens w event w'
+pub goes-steps : (first second : Holder) (w w' : World) (event : Event) (did : Bool) (old new : Pair) → new.primary.device ≡ old.primary.device → new.standby.device ≡ old.standby.device → NodesRefine first second old w
+    → Runs first second new.lives w event → runs new.lives.primary ≡ true → is_plain event ≡ true → Happens w event w'
     → Goes (may_happen w event) did (PartsRefine first second new w') (PartsRefine first second new w) → Steps first second w event did old new
 goes-steps first second w w' event did old new device device' before runs serves plain happens goes =
     goes-either first second w w' event did old new device device' before runs plain happens (goes-map goes (λ moved. inl (serves, moved)) (λ stayed. inl (serves, stayed)))
@@ -144,13 +144,13 @@ goes-steps first second w w' event did old new device device' before runs serves
 -- ---- cuts
 
 pub rests-primary : (first second : Holder) (old : Pair) (w : World) → NodesRefine first second old w
-    → OrLies Resting first w.primary.calls w.primary.committer.position (next_primary w) (torn w.primary.life) old.device old.device
+    → OrLies Resting first w.primary.calls w.primary.committer.position (next_primary w) (torn w.primary.life) old.primary.device old.primary.device
 rests-primary first second old w stands =
-    lies-still first w.primary.calls w.primary.committer.position (next_primary w) (torn w.primary.life) old.device old.device refl (primary-stands first second old w stands.parts)
+    lies-still first w.primary.calls w.primary.committer.position (next_primary w) (torn w.primary.life) old.primary.device old.primary.device refl (primary-stands first second old w stands.parts)
 
 -- of one that runs
-pub rests-running : (first second : Holder) (old : Pair) (w : World) → PartsRefine first second old w → Rests first w.primary.calls w.primary.committer.position old.device old.device
-rests-running first second old w parts = rests-same first w.primary.calls w.primary.committer.position old.device old.device refl (Opens-engine _ _ _ _ _ _ parts.engine)
+pub rests-running : (first second : Holder) (old : Pair) (w : World) → PartsRefine first second old w → Rests first w.primary.calls w.primary.committer.position old.primary.device old.primary.device
+rests-running first second old w parts = rests-same first w.primary.calls w.primary.committer.position old.primary.device old.primary.device refl (Opens-engine _ _ _ _ _ _ parts.engine)
 
 pub rests-standby : (first second : Holder) (old : Pair) (w : World) → NodesRefine first second old w → HasStandby old
     → OrLies Resting second w.primary.calls w.standby.position (next_standby w) (torn w.standby.life) old.standby.device old.standby.device
@@ -160,38 +160,38 @@ rests-standby first second old w stands whole =
 -- what an event that was cut did to both devices
 abbrev pub Led : Holder → Holder → Pair → Pair → World → Stretch → Stretch → Type 0
 Led first second old new w first_last second_last =
-    OrLies first_last first w.primary.calls w.primary.committer.position (next_primary w) (torn w.primary.life) old.device new.device
+    OrLies first_last first w.primary.calls w.primary.committer.position (next_primary w) (torn w.primary.life) old.primary.device new.primary.device
     × (HasStandby old → OrLies second_last second w.primary.calls w.standby.position (next_standby w) (torn w.standby.life) old.standby.device new.standby.device)
 
-pub cut-for : (first second : Holder) (event : Event) (refusal : Refusal) (old new : Pair) (w : World) → NodesRefine first second old w → TellsTheSame old.transcript new.transcript
-    → has_ended new.standby_condition ≡ has_ended old.standby_condition → is_enabled w event ≡ true → EndsBy refusal event (Led first second old new w) → IsCut first second event refusal old new w
+pub cut-for : (first second : Holder) (event : Event) (refusal : Refusal) (old new : Pair) (w : World) → NodesRefine first second old w → TellsTheSame old.clients.transcript new.clients.transcript
+    → has_ended new.lives.standby ≡ has_ended old.lives.standby → is_enabled w event ≡ true → EndsBy refusal event (Led first second old new w) → IsCut first second event refusal old new w
 cut-for first second event refusal old new w stands same nodes enabled cause =
     let told = (sessions-stand stands.parts).told in
     record {
       enabled = enabled;
       calls = same.calls ∙ told.calls_are;
-      released = λ c. ap (λ (all : List (List ℕ)). slice_index_or all c []) same.released ∙ released-told w.primary.calls old.transcript w.primary.connections told c;
+      released = λ c. ap (λ (all : List (List ℕ)). slice_index_or all c []) same.released ∙ released-told w.primary.calls old.clients.transcript w.primary.connections told c;
       count = omega (
         arith,
-        length-released w.primary.calls old.transcript w.primary.connections told,
+        length-released w.primary.calls old.clients.transcript w.primary.connections told,
         ap length same.released,
-        length-map old.transcript.released.items (λ (bytes : Vec ℕ Global). bytes.items),
-        length-map new.transcript.released.items (λ (bytes : Vec ℕ Global). bytes.items),
+        length-map old.clients.transcript.released.items (λ (bytes : Vec ℕ Global). bytes.items),
+        length-map new.clients.transcript.released.items (λ (bytes : Vec ℕ Global). bytes.items),
       );
       standby = nodes;
       cause = cause;
     }
 
 -- memory was refused, and neither device was touched
-pub cut-same : (first second : Holder) (event : Event) (refusal : Refusal) (old new : Pair) (w : World) → asks_memory event ≡ true → refusal ≡ Memory → new.device ≡ old.device
-    → new.standby.device ≡ old.standby.device → TellsTheSame old.transcript new.transcript → has_ended new.standby_condition ≡ has_ended old.standby_condition → Runs first second old.primary_condition old.standby_condition old.asked w event → may_happen w event ≡ true → NodesRefine first second old w
+pub cut-same : (first second : Holder) (event : Event) (refusal : Refusal) (old new : Pair) (w : World) → asks_memory event ≡ true → refusal ≡ Memory → new.primary.device ≡ old.primary.device
+    → new.standby.device ≡ old.standby.device → TellsTheSame old.clients.transcript new.clients.transcript → has_ended new.lives.standby ≡ has_ended old.lives.standby → Runs first second old.lives w event → may_happen w event ≡ true → NodesRefine first second old w
     → IsCut first second event refusal old new w
 cut-same first second event refusal old new w asks memory device device' same nodes runs enabled stands =
     cut-for first second event refusal old new w stands same nodes (enabled-is runs ∙ enabled)
     (subst (λ (r : Refusal). EndsBy r event (Led first second old new w)) (sym memory) (
       asks,
       (
-        lies-still first w.primary.calls w.primary.committer.position (next_primary w) (torn w.primary.life) old.device new.device device (primary-stands first second old w stands.parts),
+        lies-still first w.primary.calls w.primary.committer.position (next_primary w) (torn w.primary.life) old.primary.device new.primary.device device (primary-stands first second old w stands.parts),
         λ whole.
             lies-still second w.primary.calls w.standby.position (next_standby w) (torn w.standby.life) old.standby.device new.standby.device device' (standby-stands first second old w stands.parts whole),
       ),
@@ -221,42 +221,45 @@ stays-does old event own never =
 
 -- ---- what the connections do
 
-abbrev pub with_sessions : Connections → Transcript → Pair → Pair
-with_sessions sessions transcript pair = record pair { sessions = sessions; transcript = transcript }
+abbrev pub with_clients : Clients → Pair → Pair
+with_clients clients pair = record pair { clients = clients }
 
-abbrev pub with_turn : Connections → Transcript → Sequencing → Pair → Pair
-with_turn sessions transcript sequencer pair = record pair { sessions = sessions; transcript = transcript; sequencer = sequencer }
+-- with these connections
+abbrev pub of_sessions : Connections → Clients → Clients
+of_sessions sessions clients = record clients { sessions = sessions }
 
-seats-parts : (first second : Holder) (old : Pair) (sessions : Connections) (transcript : Transcript) (sequencer : Sequencing) (connections : List Connection) (w : World) → PartsRefine first second old w
-    → SessionsRefine sessions transcript connections w.primary.calls → SequencerRefines w.primary.calls w.primary.committer.closed sequencer → SeatsFollow w.primary.calls (seats_of sessions.connections.items) sequencer
-    → StandsStill old.sequencer sequencer → PartsRefine first second (with_turn sessions transcript sequencer old) (with_connections connections w)
-seats-parts first second old sessions transcript sequencer connections w parts stand sequencer_stands follow still =
+abbrev pub with_turn : Clients → Sequencing → Pair → Pair
+with_turn clients sequencer pair = record pair { clients = clients; primary = record pair.primary { sequencer = sequencer } }
+
+seats-parts : (first second : Holder) (old : Pair) (clients : Clients) (sequencer : Sequencing) (connections : List Connection) (w : World) → PartsRefine first second old w
+    → ClientsRefine clients connections w.primary.calls → SequencerRefines w.primary.calls w.primary.committer.closed sequencer → SeatsFollow w.primary.calls (seats_of clients.sessions.connections.items) sequencer
+    → StandsStill old.primary.sequencer sequencer → PartsRefine first second (with_turn clients sequencer old) (with_connections connections w)
+seats-parts first second old clients sequencer connections w parts stand sequencer_stands follow still =
     search (
       rules,
-      leads-still old.contents old.committing.waiting.items old.committing.aside old.sequencer sequencer old.notices still parts.leads,
-      freeing-still old.sequencer sequencer old.notices old.contents w.primary (with_connections connections w).primary still refl refl refl refl parts.freeing,
-      remembers-on w.standby.position w.standby.position w.primary.committer.position (past_of w.primary.calls) old.contents old.committing.waiting.items old.committing.aside old.sequencer sequencer (le_refl w.standby.position) still.ended still.newest parts.remembers,
+      leads-still old.primary.contents old.primary.committing.waiting.items old.primary.committing.aside old.primary.sequencer sequencer old.primary.notices still parts.leads,
+      freeing-still old.primary.sequencer sequencer old.primary.notices old.primary.contents w.primary (with_connections connections w).primary still refl refl refl refl parts.freeing,
+      remembers-on w.standby.position w.standby.position w.primary.committer.position (past_of w.primary.calls) old.primary.contents old.primary.committing.waiting.items old.primary.committing.aside old.primary.sequencer sequencer (le_refl w.standby.position) still.ended still.newest parts.remembers,
     )
 
-sessions-parts : (first second : Holder) (old : Pair) (sessions : Connections) (transcript : Transcript) (connections : List Connection) (w : World) → PartsRefine first second old w
-    → KeepsSeats old.sessions.connections.items sessions.connections.items → SessionsRefine sessions transcript connections w.primary.calls → PartsRefine first second (with_sessions sessions transcript old) (with_connections connections w)
-sessions-parts first second old sessions transcript connections w parts keeps stand =
-    seats-parts first second old sessions transcript old.sequencer connections w parts stand parts.sequencer
-    (follow-kept w.primary.calls old.sessions.connections.items sessions.connections.items old.sequencer keeps parts.follow) (still-same old.sequencer old.sequencer refl)
+sessions-parts : (first second : Holder) (old : Pair) (clients : Clients) (connections : List Connection) (w : World) → PartsRefine first second old w
+    → KeepsSeats old.clients.sessions.connections.items clients.sessions.connections.items → ClientsRefine clients connections w.primary.calls → PartsRefine first second (with_clients clients old) (with_connections connections w)
+sessions-parts first second old clients connections w parts keeps stand =
+    seats-parts first second old clients old.primary.sequencer connections w parts stand parts.sequencer
+    (follow-kept w.primary.calls old.clients.sessions.connections.items clients.sessions.connections.items old.primary.sequencer keeps parts.follow) (still-same old.primary.sequencer old.primary.sequencer refl)
 
 -- a transcript with more room stands for the same world
-pub roomier-stands : (first second : Holder) (old : Pair) (transcript : Transcript) (w : World) → PartsRefine first second old w → IsRoomier old.transcript transcript
-    → PartsRefine first second (with_sessions old.sessions transcript old) w
+pub roomier-stands : (first second : Holder) (old : Pair) (transcript : Transcript) (w : World) → PartsRefine first second old w → IsRoomier old.clients.transcript transcript
+    → PartsRefine first second (with_clients (record old.clients { transcript = transcript }) old) w
 roomier-stands first second old transcript w parts roomier =
     let stand = parts.sessions in
-    sessions-parts first second old old.sessions transcript w.primary.connections w parts (λ c seat has. has)
+    sessions-parts first second old (record old.clients { transcript = transcript }) w.primary.connections w parts (λ c seat has. has)
     (record { seats = stand.seats; connections_stand = stand.connections_stand; told = roomier.stands w.primary.connections w.primary.calls stand.told; no_reply = stand.no_reply })
 
 -- What the sessions did, of all connections and every list that they stood for: they changed the connections so just where that was enabled.
-abbrev pub SessionsGo : (List Connection → Bool) → (List Connection → List Connection) → Bool → Connections → Transcript → Connections → Transcript → Type 0
-SessionsGo enabled change did old transcript new transcript' =
-    (machines : List Connection) (list : List Call) → SessionsRefine old transcript machines list
-    → Goes (enabled machines) did (SessionsRefine new transcript' (change machines) list) (SessionsRefine new transcript' machines list)
+abbrev pub SessionsGo : (List Connection → Bool) → (List Connection → List Connection) → Bool → Clients → Clients → Type 0
+SessionsGo enabled change did old new =
+    (machines : List Connection) (list : List Call) → ClientsRefine old machines list → Goes (enabled machines) did (ClientsRefine new (change machines) list) (ClientsRefine new machines list)
 
 -- an event of the primary that is enabled by its connections alone, and changes nothing else
 pub record IsOfConnections (event : Event) (enabled : List Connection → Bool) (change : List Connection → List Connection) : Type 0 where
@@ -273,55 +276,58 @@ list-of w sound = record {
 }
 
 sessions-steps : (event : Event) (enabled : List Connection → Bool) (change : List Connection → List Connection) → IsOfConnections event enabled change
-    → (old : Pair) (sessions : Connections) (transcript : Transcript) (did : Bool) → SessionsGo enabled change did old.sessions old.transcript sessions transcript → KeepsSeats old.sessions.connections.items sessions.connections.items
-    → (first second : Holder) (w : World) → PairRefines first second old w → Steps first second w event did old (with_sessions sessions transcript old)
-sessions-steps event enabled change is old sessions transcript did go keeps first second w stands =
+    → (old : Pair) (clients : Clients) (did : Bool) → SessionsGo enabled change did old.clients clients → KeepsSeats old.clients.sessions.connections.items clients.sessions.connections.items
+    → (first second : Holder) (w : World) → PairRefines first second old w → Steps first second w event did old (with_clients clients old)
+sessions-steps event enabled change is old clients did go keeps first second w stands =
     let went = go w.primary.connections w.primary.calls stands.parts.sessions in
-    goes-steps first second w (with_connections (change w.primary.connections) w) event did old (with_sessions sessions transcript old) refl refl (nodes-refine stands) (own-runs stands event is.own) stands.serves is.plain (is.happens w)
+    goes-steps first second w (with_connections (change w.primary.connections) w) event did old (with_clients clients old) refl refl (nodes-refine stands) (own-runs stands event is.own) stands.serves is.plain (is.happens w)
     (goes-map (record { done = went.done ∙ sym (is.may w); goes = went.goes; stays = went.stays })
-    (sessions-parts first second old sessions transcript (change w.primary.connections) w stands.parts keeps)
-    (sessions-parts first second old sessions transcript w.primary.connections w stands.parts keeps))
+    (sessions-parts first second old clients (change w.primary.connections) w stands.parts keeps)
+    (sessions-parts first second old clients w.primary.connections w stands.parts keeps))
 
 pub sessions-do : (event : Event) (enabled : List Connection → Bool) (change : List Connection → List Connection) → IsOfConnections event enabled change → asks_memory event ≡ true
-    → (old : Pair) (sessions : Connections) (transcript : Transcript) (result : Result Bool Refusal) → IfOk result (λ did. SessionsGo enabled change did old.sessions old.transcript sessions transcript)
-    → OnErr result (TellsTheSame old.transcript transcript) → IfErr result (λ refusal. refusal ≡ Memory)
-    → OnErr result ((machines : List Connection) (list : List Call) → SessionsRefine old.sessions old.transcript machines list → enabled machines ≡ true)
-    → KeepsSeats old.sessions.connections.items sessions.connections.items → transcript.calls ≡ old.transcript.calls → Does old event result (with_sessions sessions transcript old)
-sessions-do event enabled change is asks old sessions transcript (Ok did) go same memory may keeps calls =
-    record { steps = sessions-steps event enabled change is old sessions transcript did go keeps; cut = tt; calls = none-added _ _ calls }
-sessions-do event enabled change is asks old sessions transcript (Err refusal) go same memory may keeps calls =
+    → (old : Pair) (clients : Clients) (result : Result Bool Refusal) → IfOk result (λ did. SessionsGo enabled change did old.clients clients)
+    → OnErr result (TellsTheSame old.clients.transcript clients.transcript) → IfErr result (λ refusal. refusal ≡ Memory)
+    → OnErr result ((machines : List Connection) (list : List Call) → ClientsRefine old.clients machines list → enabled machines ≡ true)
+    → KeepsSeats old.clients.sessions.connections.items clients.sessions.connections.items → clients.transcript.calls ≡ old.clients.transcript.calls → Does old event result (with_clients clients old)
+sessions-do event enabled change is asks old clients (Ok did) go same memory may keeps calls =
+    record { steps = sessions-steps event enabled change is old clients did go keeps; cut = tt; calls = none-added _ _ calls }
+sessions-do event enabled change is asks old clients (Err refusal) go same memory may keeps calls =
     record {
       steps = tt;
       cut = λ first second w stands.
-          cut-same first second event refusal old (with_sessions sessions transcript old) w asks memory refl refl same refl (own-runs stands event is.own)
+          cut-same first second event refusal old (with_clients clients old) w asks memory refl refl same refl (own-runs stands event is.own)
           (is.may w ∙ may w.primary.connections w.primary.calls stands.parts.sessions) (nodes-refine stands);
       calls = none-added _ _ calls;
     }
 
 -- an event that cannot be refused
 pub sessions-did : (event : Event) (enabled : List Connection → Bool) (change : List Connection → List Connection) → IsOfConnections event enabled change
-    → (old : Pair) (sessions : Connections) (did : Bool) → SessionsGo enabled change did old.sessions old.transcript sessions old.transcript → KeepsSeats old.sessions.connections.items sessions.connections.items
-    → Does old event (Ok did) (with_sessions sessions old.transcript old)
+    → (old : Pair) (sessions : Connections) (did : Bool) → SessionsGo enabled change did old.clients (of_sessions sessions old.clients) → KeepsSeats old.clients.sessions.connections.items sessions.connections.items
+    → Does old event (Ok did) (with_clients (of_sessions sessions old.clients) old)
 sessions-did event enabled change is old sessions did go keeps =
-    record { steps = sessions-steps event enabled change is old sessions old.transcript did go keeps; cut = tt; calls = none-added _ _ refl }
+    record { steps = sessions-steps event enabled change is old (of_sessions sessions old.clients) did go keeps; cut = tt; calls = none-added _ _ refl }
 
 -- a read is of the marks as they stand
-pub read-does : (c : ℕ) (mark : Mark) (local remote : ℕ) (old : Pair) (sessions : Connections) (did : Bool) → local ≡ old.committing.local → remote ≡ old.remote
-    → SessionsGo (λ machines. is_open_at machines c) (changed_at c (with_outbound (having_seen mark (record { local = local; remote = remote })))) did old.sessions old.transcript sessions old.transcript
-    → KeepsSeats old.sessions.connections.items sessions.connections.items → Does old (events.Read c mark) (Ok did) (with_sessions sessions old.transcript old)
+pub read-does : (c : ℕ) (mark : Mark) (local remote : ℕ) (old : Pair) (sessions : Connections) (did : Bool) → local ≡ old.primary.committing.local → remote ≡ old.wire.remote
+    → SessionsGo (λ machines. is_open_at machines c) (changed_at c (with_outbound (having_seen mark (record { local = local; remote = remote })))) did old.clients (of_sessions sessions old.clients)
+    → KeepsSeats old.clients.sessions.connections.items sessions.connections.items → Does old (events.Read c mark) (Ok did) (with_clients (of_sessions sessions old.clients) old)
 read-does c mark local remote old sessions did local_is remote_is go keeps =
     record { steps = steps; cut = tt; calls = none-added _ _ refl }
   where
-    steps : (first second : Holder) (w : World) → PairRefines first second old w → Steps first second w (events.Read c mark) did old (with_sessions sessions old.transcript old)
+    new : Clients
+    new = of_sessions sessions old.clients
+
+    steps : (first second : Holder) (w : World) → PairRefines first second old w → Steps first second w (events.Read c mark) did old (with_clients new old)
     steps first second w stands =
         let change : ℕ → ℕ → List Connection = λ l r. changed_at c (with_outbound (having_seen mark (record { local = l; remote = r }))) w.primary.connections in
         let now : List Connection = change w.primary.committer.local w.primary.link.remote in
         let marks : change local remote ≡ now = ap₂ change (local_is ∙ stands.parts.committing.local_is) (remote_is ∙ stands.parts.link.remote_is) in
         let went = go w.primary.connections w.primary.calls stands.parts.sessions in
-        goes-steps first second w (with_connections now w) (events.Read c mark) did old (with_sessions sessions old.transcript old) refl refl (nodes-refine stands) (own-runs stands (events.Read c mark) refl) stands.serves refl refl
+        goes-steps first second w (with_connections now w) (events.Read c mark) did old (with_clients new old) refl refl (nodes-refine stands) (own-runs stands (events.Read c mark) refl) stands.serves refl refl
         (goes-map went
-        (λ stand. sessions-parts first second old sessions old.transcript now w stands.parts keeps (subst (λ (connections : List Connection). SessionsRefine sessions old.transcript connections w.primary.calls) marks stand))
-        (sessions-parts first second old sessions old.transcript w.primary.connections w stands.parts keeps))
+        (λ stand. sessions-parts first second old new now w stands.parts keeps (subst (λ (connections : List Connection). ClientsRefine new connections w.primary.calls) marks stand))
+        (sessions-parts first second old new w.primary.connections w stands.parts keeps))
 
 -- ---- the list grows
 
@@ -344,70 +350,70 @@ StandbyRefines-grows holder epoch calls more p high remains node condition le wi
       down = λ down. IsDown-grows holder calls more p node.device reached (refines.down down);
     }
 
-called-parts : (first second : Holder) (old : Pair) (sessions : Connections) (transcript : Transcript) (sequencer : Sequencing) (w : World) (c : ℕ) (call : Call) → PairRefines first second old w
-    → SessionsRefine sessions transcript (called c call w).primary.connections (w.primary.calls ++ call ∷ []) → SequencerRefines (w.primary.calls ++ call ∷ []) w.primary.committer.closed sequencer
-    → SeatsFollow (w.primary.calls ++ call ∷ []) (seats_of sessions.connections.items) sequencer → StandsStill old.sequencer sequencer
-    → PartsRefine first second (with_turn sessions transcript sequencer old) (called c call w)
-called-parts first second old sessions transcript sequencer w c call stands sessions_stand sequencer_stands follow still =
+called-parts : (first second : Holder) (old : Pair) (clients : Clients) (sequencer : Sequencing) (w : World) (c : ℕ) (call : Call) → PairRefines first second old w
+    → ClientsRefine clients (called c call w).primary.connections (w.primary.calls ++ call ∷ []) → SequencerRefines (w.primary.calls ++ call ∷ []) w.primary.committer.closed sequencer
+    → SeatsFollow (w.primary.calls ++ call ∷ []) (seats_of clients.sessions.connections.items) sequencer → StandsStill old.primary.sequencer sequencer
+    → PartsRefine first second (with_turn clients sequencer old) (called c call w)
+called-parts first second old clients sequencer w c call stands sessions_stand sequencer_stands follow still =
     let parts = stands.parts in
     record {
       sessions = sessions_stand;
       sequencer = sequencer_stands;
       follow = follow;
-      committing = CommittingRefines-grows w.primary.calls (call ∷ []) old.committing w.primary.committer parts.committing;
-      engine = EngineStands-grows first w.primary.calls (call ∷ []) w.primary.committer.position old.device old.contents old.is_faulted (primary-within w stands.sound) parts.engine;
-      leads = leads-still old.contents old.committing.waiting.items old.committing.aside old.sequencer sequencer old.notices still parts.leads;
-      freeing = freeing-still old.sequencer sequencer old.notices old.contents w.primary (called c call w).primary still refl refl refl refl parts.freeing;
-      remembers = remembers-still w.standby.position w.primary.committer.position w.primary.committer.closed w.primary.calls (call ∷ []) old.contents old.committing.waiting.items old.committing.aside old.sequencer sequencer
-          old.notices parts.engine.contents_at.at parts.sequencer parts.leads still.ended still.newest parts.remembers;
-      opening = opening-still w.standby.position w.standby.position w.primary.opened w.primary.calls (call ∷ []) old.opening (le_refl w.standby.position) parts.opening;
+      committing = CommittingRefines-grows w.primary.calls (call ∷ []) old.primary.committing w.primary.committer parts.committing;
+      engine = EngineStands-grows first w.primary.calls (call ∷ []) w.primary.committer.position old.primary.device old.primary.contents old.primary.is_faulted (primary-within w stands.sound) parts.engine;
+      leads = leads-still old.primary.contents old.primary.committing.waiting.items old.primary.committing.aside old.primary.sequencer sequencer old.primary.notices still parts.leads;
+      freeing = freeing-still old.primary.sequencer sequencer old.primary.notices old.primary.contents w.primary (called c call w).primary still refl refl refl refl parts.freeing;
+      remembers = remembers-still w.standby.position w.primary.committer.position w.primary.committer.closed w.primary.calls (call ∷ []) old.primary.contents old.primary.committing.waiting.items old.primary.committing.aside old.primary.sequencer sequencer
+          old.primary.notices parts.engine.contents_at.at parts.sequencer parts.leads still.ended still.newest parts.remembers;
+      opening = opening-still w.standby.position w.standby.position w.primary.opened w.primary.calls (call ∷ []) old.wire.opening (le_refl w.standby.position) parts.opening;
       epoch = parts.epoch;
-      link = LinkRefines-grows w.primary.calls (call ∷ []) old.link old.handed old.remote w.primary.link parts.link;
-      frames = AreFramesSent-grows old.link.epoch w.primary.calls (call ∷ []) old.frames w.wire.frames parts.frames;
+      link = LinkRefines-grows w.primary.calls (call ∷ []) old.wire.link old.primary.handed old.wire.remote w.primary.link parts.link;
+      frames = AreFramesSent-grows old.wire.link.epoch w.primary.calls (call ∷ []) old.wire.frames w.wire.frames parts.frames;
       own = parts.own;
-      arrivals = ArrivalsRefine-grows old.link.epoch w.primary.calls (call ∷ []) old.arrivals w.standby.waiting w.wire.acknowledgements parts.arrivals;
-      standby = StandbyRefines-grows second old.link.epoch w.primary.calls (call ∷ []) w.standby.position stands.sound.sent (torn w.standby.life) old.standby old.standby_condition stands.sound.standby.behind
+      arrivals = ArrivalsRefine-grows old.wire.link.epoch w.primary.calls (call ∷ []) old.wire.arrivals w.standby.waiting w.wire.acknowledgements parts.arrivals;
+      standby = StandbyRefines-grows second old.wire.link.epoch w.primary.calls (call ∷ []) w.standby.position stands.sound.sent (torn w.standby.life) old.standby old.lives.standby stands.sound.standby.behind
           (sent-within w stands.sound) stands.sound.standby_left parts.standby;
     }
 
-turn-steps : (first second : Holder) (old : Pair) (sessions : Connections) (transcript : Transcript) (sequencer : Sequencing) (w : World) (c : ℕ) (did : Bool) → PairRefines first second old w
-    → TakesTurn w.primary.connections w.primary.calls w.primary.committer.closed c did sessions transcript old.sequencer sequencer → KeepsSeats old.sessions.connections.items sessions.connections.items
-    → StandsStill old.sequencer sequencer
-    → Steps first second w (events.Turn c) did old (with_turn sessions transcript sequencer old)
-turn-steps first second old sessions transcript sequencer w c true stands takes keeps still =
+turn-steps : (first second : Holder) (old : Pair) (clients : Clients) (sequencer : Sequencing) (w : World) (c : ℕ) (did : Bool) → PairRefines first second old w
+    → TakesTurn w.primary.connections w.primary.calls w.primary.committer.closed c did clients.sessions clients.transcript old.primary.sequencer sequencer → KeepsSeats old.clients.sessions.connections.items clients.sessions.connections.items
+    → StandsStill old.primary.sequencer sequencer
+    → Steps first second w (events.Turn c) did old (with_turn clients sequencer old)
+turn-steps first second old clients sequencer w c true stands takes keeps still =
     let moved = takes.goes refl in
     let call = moved.0 in
     let next = moved.1 in
     let w' = called c call w in
     let turns : Turns w c w' = record { call = call; connection = next.connection; first = next.first; reply = next.reply; now = refl } in
-    let parts : PartsRefine first second (with_turn sessions transcript sequencer old) w' = called-parts first second old sessions transcript sequencer w c call stands moved.2 moved.3 moved.4 still in
-    goes-steps first second w w' (events.Turn c) true old (with_turn sessions transcript sequencer old) refl refl (nodes-refine stands) (own-runs stands (events.Turn c) refl) stands.serves refl turns
+    let parts : PartsRefine first second (with_turn clients sequencer old) w' = called-parts first second old clients sequencer w c call stands moved.2 moved.3 moved.4 still in
+    goes-steps first second w w' (events.Turn c) true old (with_turn clients sequencer old) refl refl (nodes-refine stands) (own-runs stands (events.Turn c) refl) stands.serves refl turns
     (record { done = takes.done; goes = λ did. parts; stays = λ did. absurd (true≢false did) })
-turn-steps first second old sessions transcript sequencer w c false stands takes keeps still =
+turn-steps first second old clients sequencer w c false stands takes keeps still =
     let stayed = takes.stays refl in
-    let parts : PartsRefine first second (with_turn sessions transcript sequencer old) w =
-    seats-parts first second old sessions transcript sequencer w.primary.connections w stands.parts stayed.0
+    let parts : PartsRefine first second (with_turn clients sequencer old) w =
+    seats-parts first second old clients sequencer w.primary.connections w stands.parts stayed.0
     (subst (SequencerRefines w.primary.calls w.primary.committer.closed) (sym stayed.1) stands.parts.sequencer)
-    (subst (SeatsFollow w.primary.calls (seats_of sessions.connections.items)) (sym stayed.1)
-    (follow-kept w.primary.calls old.sessions.connections.items sessions.connections.items old.sequencer keeps stands.parts.follow)) still in
+    (subst (SeatsFollow w.primary.calls (seats_of clients.sessions.connections.items)) (sym stayed.1)
+    (follow-kept w.primary.calls old.clients.sessions.connections.items clients.sessions.connections.items old.primary.sequencer keeps stands.parts.follow)) still in
     let runs = own-runs stands (events.Turn c) refl in
     record {
       world = w;
       step = record { done = takes.done ∙ sym (enabled-is runs); happens = λ did. absurd (true≢false (sym did)); stands = λ did. refl };
       stands = record { sound = stands.sound; lives = stands.lives; parts = inl (stands.serves, parts) };
-      moves = untouched first second old (with_turn sessions transcript sequencer old) w w refl refl (inl (stands.serves, stands.parts));
+      moves = untouched first second old (with_turn clients sequencer old) w w refl refl (inl (stands.serves, stands.parts));
     }
 
-pub turn-does : (old : Pair) (sessions : Connections) (transcript : Transcript) (sequencer : Sequencing) (c : ℕ) (did : Bool)
-    → ((machines : List Connection) (list : List Call) (closed : ℕ) → IsListOf machines list → SessionsRefine old.sessions old.transcript machines list → SequencerRefines list closed old.sequencer
-    → SeatsFollow list (seats_of old.sessions.connections.items) old.sequencer → TakesTurn machines list closed c did sessions transcript old.sequencer sequencer)
-    → KeepsSeats old.sessions.connections.items sessions.connections.items
-    → StandsStill old.sequencer sequencer
-    → AddsOne old.transcript.calls transcript.calls → Does old (events.Turn c) (Ok did) (with_turn sessions transcript sequencer old)
-turn-does old sessions transcript sequencer c did takes keeps still calls =
+pub turn-does : (old : Pair) (clients : Clients) (sequencer : Sequencing) (c : ℕ) (did : Bool)
+    → ((machines : List Connection) (list : List Call) (closed : ℕ) → IsListOf machines list → ClientsRefine old.clients machines list → SequencerRefines list closed old.primary.sequencer
+    → SeatsFollow list (seats_of old.clients.sessions.connections.items) old.primary.sequencer → TakesTurn machines list closed c did clients.sessions clients.transcript old.primary.sequencer sequencer)
+    → KeepsSeats old.clients.sessions.connections.items clients.sessions.connections.items
+    → StandsStill old.primary.sequencer sequencer
+    → AddsOne old.clients.transcript.calls clients.transcript.calls → Does old (events.Turn c) (Ok did) (with_turn clients sequencer old)
+turn-does old clients sequencer c did takes keeps still calls =
     record {
       steps = λ first second w stands.
-          turn-steps first second old sessions transcript sequencer w c did stands
+          turn-steps first second old clients sequencer w c did stands
           (takes w.primary.connections w.primary.calls w.primary.committer.closed (list-of w stands.sound) stands.parts.sessions stands.parts.sequencer stands.parts.follow) keeps still;
       cut = tt;
       calls = calls;
@@ -416,60 +422,60 @@ turn-does old sessions transcript sequencer c did takes keeps still calls =
 -- ---- a connection enters or leaves
 
 -- what was done to the seats, of all connections and every list that they stood for
-abbrev pub SeatsGo : Connections → Transcript → Sequencing → Connections → Sequencing → Type 0
-SeatsGo old transcript s new s' =
-    (machines : List Connection) (list : List Call) → IsListOf machines list → SessionsRefine old transcript machines list → SeatsFollow list (seats_of old.connections.items) s
-    → SeatsFollow list (seats_of new.connections.items) s'
+abbrev pub SeatsGo : Clients → Sequencing → Clients → Sequencing → Type 0
+SeatsGo old s new s' =
+    (machines : List Connection) (list : List Call) → IsListOf machines list → ClientsRefine old machines list → SeatsFollow list (seats_of old.sessions.connections.items) s
+    → SeatsFollow list (seats_of new.sessions.connections.items) s'
 
 seats-steps : (event : Event) (enabled : List Connection → Bool) (change : List Connection → List Connection) → IsOfConnections event enabled change
-    → (old : Pair) (sessions : Connections) (transcript : Transcript) (sequencer : Sequencing) (did : Bool) → SessionsGo enabled change did old.sessions old.transcript sessions transcript → SeatsGo old.sessions old.transcript old.sequencer sessions sequencer
-    → ((calls : List Call) (closed : ℕ) → SequencerRefines calls closed old.sequencer → SequencerRefines calls closed sequencer)
-    → StandsStill old.sequencer sequencer
-    → (first second : Holder) (w : World) → PairRefines first second old w → Steps first second w event did old (with_turn sessions transcript sequencer old)
-seats-steps event enabled change is old sessions transcript sequencer did go follows sequencer_stands still first second w stands =
+    → (old : Pair) (clients : Clients) (sequencer : Sequencing) (did : Bool) → SessionsGo enabled change did old.clients clients → SeatsGo old.clients old.primary.sequencer clients sequencer
+    → ((calls : List Call) (closed : ℕ) → SequencerRefines calls closed old.primary.sequencer → SequencerRefines calls closed sequencer)
+    → StandsStill old.primary.sequencer sequencer
+    → (first second : Holder) (w : World) → PairRefines first second old w → Steps first second w event did old (with_turn clients sequencer old)
+seats-steps event enabled change is old clients sequencer did go follows sequencer_stands still first second w stands =
     let parts = stands.parts in
     let connections = w.primary.connections in
     let went = go connections w.primary.calls parts.sessions in
     let follow = follows connections w.primary.calls (list-of w stands.sound) parts.sessions parts.follow in
     let table = sequencer_stands w.primary.calls w.primary.committer.closed parts.sequencer in
-    goes-steps first second w (with_connections (change connections) w) event did old (with_turn sessions transcript sequencer old) refl refl (nodes-refine stands) (own-runs stands event is.own) stands.serves is.plain (is.happens w)
+    goes-steps first second w (with_connections (change connections) w) event did old (with_turn clients sequencer old) refl refl (nodes-refine stands) (own-runs stands event is.own) stands.serves is.plain (is.happens w)
     (goes-map (record { done = went.done ∙ sym (is.may w); goes = went.goes; stays = went.stays })
-    (λ stand. seats-parts first second old sessions transcript sequencer (change connections) w parts stand table follow still)
-    (λ stand. seats-parts first second old sessions transcript sequencer w.primary.connections w parts stand table follow still))
+    (λ stand. seats-parts first second old clients sequencer (change connections) w parts stand table follow still)
+    (λ stand. seats-parts first second old clients sequencer w.primary.connections w parts stand table follow still))
 
-pub enter-does : (old : Pair) (sessions : Connections) (transcript : Transcript) (sequencer : Sequencing) (result : Result Bool Refusal)
-    → IfOk result (λ did. SessionsGo may_enter (λ machines. machines ++ new_connection ∷ []) did old.sessions old.transcript sessions transcript)
-    → IfOk result (λ did. SeatsGo old.sessions old.transcript old.sequencer sessions sequencer)
-    → ((calls : List Call) (closed : ℕ) → SequencerRefines calls closed old.sequencer → SequencerRefines calls closed sequencer)
-    → StandsStill old.sequencer sequencer
-    → OnErr result (TellsTheSame old.transcript transcript) → IfErr result (λ refusal. refusal ≡ Memory)
-    → OnErr result ((machines : List Connection) (list : List Call) → SessionsRefine old.sessions old.transcript machines list → may_enter machines ≡ true)
-    → transcript.calls ≡ old.transcript.calls → Does old events.Enter result (with_turn sessions transcript sequencer old)
-enter-does old sessions transcript sequencer (Ok did) go follows sequencer_stands still same memory enabled calls =
+pub enter-does : (old : Pair) (clients : Clients) (sequencer : Sequencing) (result : Result Bool Refusal)
+    → IfOk result (λ did. SessionsGo may_enter (λ machines. machines ++ new_connection ∷ []) did old.clients clients)
+    → IfOk result (λ did. SeatsGo old.clients old.primary.sequencer clients sequencer)
+    → ((calls : List Call) (closed : ℕ) → SequencerRefines calls closed old.primary.sequencer → SequencerRefines calls closed sequencer)
+    → StandsStill old.primary.sequencer sequencer
+    → OnErr result (TellsTheSame old.clients.transcript clients.transcript) → IfErr result (λ refusal. refusal ≡ Memory)
+    → OnErr result ((machines : List Connection) (list : List Call) → ClientsRefine old.clients machines list → may_enter machines ≡ true)
+    → clients.transcript.calls ≡ old.clients.transcript.calls → Does old events.Enter result (with_turn clients sequencer old)
+enter-does old clients sequencer (Ok did) go follows sequencer_stands still same memory enabled calls =
     record {
-      steps = seats-steps events.Enter may_enter (λ machines. machines ++ new_connection ∷ []) (record { own = refl; plain = refl; may = λ w. refl; happens = λ w. refl }) old sessions transcript sequencer did go follows sequencer_stands still;
+      steps = seats-steps events.Enter may_enter (λ machines. machines ++ new_connection ∷ []) (record { own = refl; plain = refl; may = λ w. refl; happens = λ w. refl }) old clients sequencer did go follows sequencer_stands still;
       cut = tt;
       calls = none-added _ _ calls;
     }
-enter-does old sessions transcript sequencer (Err refusal) go follows sequencer_stands still same memory enabled calls =
+enter-does old clients sequencer (Err refusal) go follows sequencer_stands still same memory enabled calls =
     record {
       steps = tt;
       cut = λ first second w stands.
-          cut-same first second events.Enter refusal old (with_turn sessions transcript sequencer old) w refl memory refl refl same refl (own-runs stands events.Enter refl)
+          cut-same first second events.Enter refusal old (with_turn clients sequencer old) w refl memory refl refl same refl (own-runs stands events.Enter refl)
           (enabled w.primary.connections w.primary.calls stands.parts.sessions) (nodes-refine stands);
       calls = none-added _ _ calls;
     }
 
 pub leave-does : (old : Pair) (sessions : Connections) (sequencer : Sequencing) (c : ℕ) (did : Bool)
-    → SessionsGo (λ machines. is_open_at machines c) (changed_at c left) did old.sessions old.transcript sessions old.transcript
-    → ((machines : List Connection) (list : List Call) → SessionsRefine old.sessions old.transcript machines list → SeatsFollow list (seats_of old.sessions.connections.items) old.sequencer
+    → SessionsGo (λ machines. is_open_at machines c) (changed_at c left) did old.clients (of_sessions sessions old.clients)
+    → ((machines : List Connection) (list : List Call) → ClientsRefine old.clients machines list → SeatsFollow list (seats_of old.clients.sessions.connections.items) old.primary.sequencer
     → SeatsFollow list (seats_of sessions.connections.items) sequencer)
-    → ((calls : List Call) (closed : ℕ) → SequencerRefines calls closed old.sequencer → SequencerRefines calls closed sequencer)
-    → StandsStill old.sequencer sequencer
-    → Does old (events.Leave c) (Ok did) (with_turn sessions old.transcript sequencer old)
+    → ((calls : List Call) (closed : ℕ) → SequencerRefines calls closed old.primary.sequencer → SequencerRefines calls closed sequencer)
+    → StandsStill old.primary.sequencer sequencer
+    → Does old (events.Leave c) (Ok did) (with_turn (of_sessions sessions old.clients) sequencer old)
 leave-does old sessions sequencer c did go follows sequencer_stands still =
     record {
-      steps = seats-steps (events.Leave c) (λ machines. is_open_at machines c) (changed_at c left) (record { own = refl; plain = refl; may = λ w. refl; happens = λ w. refl }) old sessions old.transcript sequencer did go
+      steps = seats-steps (events.Leave c) (λ machines. is_open_at machines c) (changed_at c left) (record { own = refl; plain = refl; may = λ w. refl; happens = λ w. refl }) old (of_sessions sessions old.clients) sequencer did go
           (λ machines list is stand follow. follows machines list stand follow) sequencer_stands still;
       cut = tt;
       calls = none-added _ _ refl;

@@ -1,5 +1,5 @@
 -- What an event does to any pair: where its nodes do not take part, and where its primary runs.
-use Rattle.std.proofs.Common.{◌≡◌, ◌&&◌, not, Bool, true, false, Result, Ok, Err, refl, sym, ap, subst, ◌∙◌, true≢false}
+use Rattle.std.proofs.Common.{◌≡◌, ◌&&◌, Bool, true, false, Result, Ok, Err, refl, sym, ap, subst, ◌∙◌, true≢false}
 use Rattle.kv_types.specs.declared.refusal.Refusal.{Refusal}
 use Rattle.model.specs.Standing.{Holder}
 use Rattle.machine.specs.declared.event.Event.{Event}
@@ -8,26 +8,24 @@ use Rattle.machine.specs.declared.event.Cut.{Cut}
 use Rattle.machine.specs.declared.event.Cut.TheVariants as cut
 use Rattle.machine.specs.declared.event.Node.TheVariants as node_of
 use Rattle.machine.specs.Event.{World, is_between, is_enabled, is_retired, is_running, may_happen, nodes_run}
-use Rattle.world.specs.Pair.{Acts, AreLives, Does, NodesRefine, Pair, takes_part}
+use Rattle.world.specs.Pair.{Acts, AreLives, Does, NodesRefine, Pair, takes_part, Lives}
 use Rattle.world.proofs.LivesLemmas.{retired-as, running-as, serves-as}
 use Rattle.world.proofs.PairLemmas.{none-added, untouched}
 use Rattle.world.specs.Condition.{has_ended, runs}
-use Rattle.world.specs.declared.condition.Condition.{Condition}
-use Rattle.world.specs.declared.condition.AskedFences.{AskedFences}
 
 -- the nodes of an event run just where they are said to
-nodes-take : {first second : Holder} {serves follows : Condition} {fences : AskedFences} {w : World} → AreLives first second serves follows fences w → (event : Event) → nodes_run w event ≡ takes_part (runs serves) (runs follows) event
-nodes-take {first} {second} {serves} {follows} {fences} {w} lives OpenLink =
-    ap (λ b. b && is_running w.standby.life) (ap is_running lives.primary ∙ running-as serves _) ∙ ap (λ b. runs serves && b) (ap is_running lives.standby ∙ running-as follows _)
-nodes-take {first} {second} {serves} {follows} {fences} {w} lives (Deliver frame piece) = ap is_running lives.standby ∙ running-as follows _
-nodes-take {first} {second} {serves} {follows} {fences} {w} lives Apply = ap is_running lives.standby ∙ running-as follows _
-nodes-take {first} {second} {serves} {follows} {fences} {w} lives (FailFence node_of.Primary n) = ap is_running lives.primary ∙ running-as serves _
-nodes-take {first} {second} {serves} {follows} {fences} {w} lives (FailFence node_of.Standby n) = ap is_running lives.standby ∙ running-as follows _
+nodes-take : {first second : Holder} {lives : Lives} {w : World} → AreLives first second lives w → (event : Event) → nodes_run w event ≡ takes_part (runs lives.primary) (runs lives.standby) event
+nodes-take {first} {second} {lives} {w} are OpenLink =
+    ap (λ b. b && is_running w.standby.life) (ap is_running are.primary ∙ running-as lives.primary _) ∙ ap (λ b. runs lives.primary && b) (ap is_running are.standby ∙ running-as lives.standby _)
+nodes-take {first} {second} {lives} {w} are (Deliver frame piece) = ap is_running are.standby ∙ running-as lives.standby _
+nodes-take {first} {second} {lives} {w} are Apply = ap is_running are.standby ∙ running-as lives.standby _
+nodes-take {first} {second} {lives} {w} are (FailFence node_of.Primary n) = ap is_running are.primary ∙ running-as lives.primary _
+nodes-take {first} {second} {lives} {w} are (FailFence node_of.Standby n) = ap is_running are.standby ∙ running-as lives.standby _
 nodes-take lives (Crash node call k picks) = refl
 nodes-take lives (Reopen node) = refl
 nodes-take lives Fence = refl
-nodes-take {first} {second} {serves} {follows} {fences} {w} lives Promote = ap is_running lives.standby ∙ running-as follows _
-nodes-take {first} {second} {serves} {follows} {fences} {w} lives event = ap is_running lives.primary ∙ running-as serves _
+nodes-take {first} {second} {lives} {w} are Promote = ap is_running are.standby ∙ running-as lives.standby _
+nodes-take {first} {second} {lives} {w} are event = ap is_running are.primary ∙ running-as lives.primary _
 
 -- an event that is not enabled
 pub stays-acts : (old : Pair) (event : Event) → ((first second : Holder) (w : World) → NodesRefine first second old w → is_enabled w event ≡ false) → Acts old event (Ok false) old
@@ -44,7 +42,7 @@ stays-acts old event never =
     }
 
 -- its nodes do not run
-pub idle-acts : (old : Pair) (event : Event) → takes_part (runs old.primary_condition) (runs old.standby_condition) event ≡ false → Acts old event (Ok false) old
+pub idle-acts : (old : Pair) (event : Event) → takes_part (runs old.lives.primary) (runs old.lives.standby) event ≡ false → Acts old event (Ok false) old
 idle-acts old event idle = stays-acts old event (λ first second w stands. ap (λ b. b && may_happen w event) (nodes-take stands.lives event ∙ idle))
 
 -- ---- events that do not come
@@ -54,10 +52,10 @@ not-both true b e = e
 not-both false b e = refl
 
 -- a primary that was not fenced is not succeeded
-pub promote-acts : (old : Pair) → has_ended old.primary_condition ≡ false → Acts old Promote (Ok false) old
+pub promote-acts : (old : Pair) → has_ended old.lives.primary ≡ false → Acts old Promote (Ok false) old
 promote-acts old unfenced =
     stays-acts old Promote (λ first second w stands.
-    not-both (nodes_run w Promote) (w.allowed.promotions && is_retired w.primary.life) (not-both w.allowed.promotions (is_retired w.primary.life) (ap is_retired stands.lives.primary ∙ retired-as old.primary_condition _ ∙ unfenced)))
+    not-both (nodes_run w Promote) (w.allowed.promotions && is_retired w.primary.life) (not-both w.allowed.promotions (is_retired w.primary.life) (ap is_retired stands.lives.primary ∙ retired-as old.lives.primary _ ∙ unfenced)))
 
 -- a crash that does not come inside a call comes between two
 pub between : (call : Cut) → is_between call ≡ true → call ≡ cut.Between
@@ -67,16 +65,16 @@ between call is = absurd (true≢false (sym is))
 -- ---- the primary runs
 
 -- the primary runs
-pub does-acts : (old : Pair) (event : Event) (result : Result Bool Refusal) (new : Pair) → runs old.primary_condition ≡ true → Does old event result new → Acts old event result new
+pub does-acts : (old : Pair) (event : Event) (result : Result Bool Refusal) (new : Pair) → runs old.lives.primary ≡ true → Does old event result new → Acts old event result new
 does-acts old event (Ok did) new runs does = record { steps = λ first second w stands. does.steps first second w (serves-as runs stands); cut = tt; calls = does.calls }
 does-acts old event (Err refusal) new runs does = record { steps = tt; cut = λ first second w stands. does.cut first second w (serves-as runs stands); calls = does.calls }
 
 -- it does where the primary takes part alone
-pub own-acts : {old new : Pair} {event event' : Event} {result : Result Bool Refusal} {took : Bool} → event ≡ event' → took ≡ takes_part (runs old.primary_condition) (runs old.standby_condition) event → took ≡ true
-    → (takes_part (runs old.primary_condition) (runs old.standby_condition) event' ≡ true → runs old.primary_condition ≡ true) → Does old event' result new → Acts old event result new
+pub own-acts : {old new : Pair} {event event' : Event} {result : Result Bool Refusal} {took : Bool} → event ≡ event' → took ≡ takes_part (runs old.lives.primary) (runs old.lives.standby) event → took ≡ true
+    → (takes_part (runs old.lives.primary) (runs old.lives.standby) event' ≡ true → runs old.lives.primary ≡ true) → Does old event' result new → Acts old event result new
 own-acts {old} {new} {event} {event'} {result} {took} is takes took_part own does =
-    let runs = own (ap (takes_part (runs old.primary_condition) (runs old.standby_condition)) (sym is) ∙ sym takes ∙ took_part) in
+    let runs = own (ap (takes_part (runs old.lives.primary) (runs old.lives.standby)) (sym is) ∙ sym takes ∙ took_part) in
     subst (λ (e : Event). Acts old e result new) (sym is) (does-acts old event' result new runs does)
 
-pub idle-step : {old : Pair} {event : Event} {took : Bool} → took ≡ takes_part (runs old.primary_condition) (runs old.standby_condition) event → took ≡ false → Acts old event (Ok false) old
+pub idle-step : {old : Pair} {event : Event} {took : Bool} → took ≡ takes_part (runs old.lives.primary) (runs old.lives.standby) event → took ≡ false → Acts old event (Ok false) old
 idle-step {old} {event} {took} takes idle = idle-acts old event (sym takes ∙ idle)

@@ -1,23 +1,19 @@
 -- What the promotion of the standby does to the pair.
-use Rattle.std.proofs.Common.{◌≡◌, ◌≢◌, inl, inr, ℕ, ◌+◌, ◌<◌, ◌≤◌, Bool, true, false, ◌&&◌, List, [], map, length, slice_index_or, Result, Ok, Err, All, Vec, Global, refl, sym, ap, ap₂, subst, ◌∙◌, arith, true≢false}
+use Rattle.std.proofs.Common.{◌≡◌, inl, inr, ℕ, ◌+◌, ◌<◌, ◌≤◌, Bool, true, ◌&&◌, List, [], map, length, slice_index_or, Result, Ok, Err, All, Vec, Global, refl, sym, ap, ap₂, subst, ◌∙◌, arith, true≢false}
 use Rattle.std.proofs.lemmas.List.{length-map}
 use Rattle.kv_types.specs.declared.refusal.Refusal.{Refusal}
 use Rattle.kv_types.specs.declared.refusal.Refusal.TheVariants.{Fault}
 use Rattle.pmem.specs.Device.{State}
 use Rattle.pmem.specs.Runs.{LeavesOnly}
 use Rattle.pmem.proofs.Leaving.{LeavesOnly-weaken}
-use Rattle.pipes.specs.Waiting.{Waiting}
-use Rattle.model.specs.declared.group.Group.{Group}
 use Rattle.model.specs.declared.record.Role.TheVariants as role
 use Rattle.model.specs.Call.{cut_at, position_of}
 use Rattle.model.specs.Group.{Contents}
 use Rattle.model.specs.Image.{Image}
 use Rattle.model.specs.Standing.{Holder}
 use Rattle.model.proofs.CallsLemmas.{position_of-cut_at}
-use Rattle.redis_core.specs.Sequencing.{Sequencing}
 use Rattle.standby_stream.specs.declared.opening.Opening.{Opening}
 use Rattle.standby_stream.specs.Stream.{Stream}
-use Rattle.wbl_engine.specs.declared.freeing.Freed.{Freed}
 use Rattle.wbl_engine.specs.Promoting.{ExhaustsPromotion}
 use Rattle.frames.specs.declared.frame.Frame.{Frame}
 use Rattle.machine.specs.declared.event.Cut.TheVariants as cut
@@ -29,17 +25,14 @@ use Rattle.machine.proofs.SoundEvents.{sound-promoted}
 use Rattle.machine.proofs.SureLemmas.{unfailed}
 use Rattle.machine.specs.Promise.{released_in}
 use Rattle.connections.proofs.SessionLemmas.{length-released, released-told}
-use Rattle.connections.specs.Session.{AddsOne, HasSeat, SessionsRefine, released_of, seats_of}
-use Rattle.connections.specs.declared.connections.Connections.{Connections}
+use Rattle.connections.specs.Session.{AddsOne, HasSeat, released_of, seats_of}
 use Rattle.connections.specs.declared.transcript.Transcript.{Transcript}
 use Rattle.world.specs.Cause.{Promoting}
-use Rattle.world.specs.Committing.{Committing, OpensAsEither, OpensAt, next_standby, promoted_holder}
+use Rattle.world.specs.Committing.{OpensAsEither, OpensAt, next_standby, promoted_holder}
 use Rattle.world.specs.Condition.{has_ended, runs}
-use Rattle.world.specs.declared.condition.AskedFences.{AskedFences}
-use Rattle.world.specs.declared.condition.Condition.{Condition}
-use Rattle.world.specs.declared.condition.Condition.TheVariants.{Running, Crashed, Ended}
+use Rattle.world.specs.declared.condition.Condition.TheVariants.{Crashed, Ended}
 use Rattle.world.specs.Link.{AreAcksSent, AreFramesRead}
-use Rattle.world.specs.Pair.{Acts, AreLives, DownRefine, EitherRefines, HasStandby, IsPromotionCut, NodesRefine, Pair, Promotes, Succeeds, first_device, second_device}
+use Rattle.world.specs.Pair.{Acts, AreLives, DownRefine, EitherRefines, HasStandby, IsPromotionCut, NodesRefine, Pair, Promotes, Succeeds, first_device, second_device, Lives, Clients, ClientsRefine, Serving}
 use Rattle.world.specs.Standby.{Arrived, Node}
 use Rattle.world.proofs.CutLemmas.{IsDown-cut}
 use Rattle.world.proofs.KeptLemmas.{KeepsAsEither}
@@ -47,32 +40,27 @@ use Rattle.world.proofs.LivesLemmas.{not-over, retired-as, running-as}
 use Rattle.world.proofs.OpenedLemmas.{IsNotOpened, IsOpened, opened-stands}
 use Rattle.world.proofs.PairFallen.{devices-are}
 use Rattle.world.proofs.PairLemmas.{none-added, sessions-stand, standby-within}
-use Rattle.world.proofs.PairReopen.{Begins, primary-reopens, with_primary_node}
+use Rattle.world.proofs.PairReopen.{Begins, primary-reopens, with_opened_primary}
 use Rattle.world.proofs.PairStandby.{arrivals-stand, follower, frames-stand, link-epoch}
 use Rattle.world.proofs.PromotionLemmas.{OpensAt-uncut, PromotesUnder, WasNotPromoted, WasPromoted, down-promoted, former_holder, frames-earlier, not-opened-ends, not-opened-keeps, not-promoted-ends, opened-leaves, same-failures}
 
 -- ---- the pair
 
 -- it is enabled where the primary was fenced and the standby runs
-promote-enabled : {first second : Holder} {serves follows : Condition} {fences : AskedFences} {w : World} → AreLives first second serves follows fences w → has_ended serves ≡ true → runs follows ≡ true → is_enabled w Promote ≡ true
-promote-enabled {first} {second} {serves} {follows} {fences} {w} lives fenced follows_up =
-    ap₂ (λ a b. a && b) (ap is_running lives.standby ∙ running-as follows (torn w.standby.life) ∙ follows_up)
-    (ap₂ (λ (a : Allowed) (b : Bool). a.promotions && b) lives.allowed_are (ap is_retired lives.primary ∙ retired-as serves (torn w.primary.life) ∙ fenced))
+promote-enabled : {first second : Holder} {lives : Lives} {w : World} → AreLives first second lives w → has_ended lives.primary ≡ true → runs lives.standby ≡ true → is_enabled w Promote ≡ true
+promote-enabled {first} {second} {lives} {w} are fenced follows_up =
+    ap₂ (λ a b. a && b) (ap is_running are.standby ∙ running-as lives.standby (torn w.standby.life) ∙ follows_up)
+    (ap₂ (λ (a : Allowed) (b : Bool). a.promotions && b) are.allowed_are (ap is_retired are.primary ∙ retired-as lives.primary (torn w.primary.life) ∙ fenced))
 
 -- the standby's place once the engines were exchanged, with the sessions, the transcript and the arrivals that are left
-abbrev left_with : Connections → Transcript → State → Stream → Arrived → Node → Pair → Pair
-left_with sessions transcript device link arrivals node pair =
-    record pair {
-      sessions = sessions;
-      transcript = transcript;
-      device = device;
-      link = link;
-      arrivals = arrivals;
-      standby = node;
-      primary_condition = Crashed;
-      standby_condition = Ended;
-      asked = record (pair.asked) { primary = pair.asked.standby };
-    }
+abbrev left_with : Clients → State → Stream → Arrived → Node → Pair → Pair
+left_with clients device link arrivals node pair = record {
+  clients = clients;
+  primary = record pair.primary { device = device };
+  wire = record pair.wire { link = link; arrivals = arrivals };
+  standby = node;
+  lives = record { primary = Crashed; standby = Ended; asked = record pair.lives.asked { primary = pair.lives.asked.standby } };
+}
 
 -- the list of calls and the released bytes are those of the world
 record ToldAs (transcript : Transcript) (w : World) : Type 0 where
@@ -80,25 +68,25 @@ record ToldAs (transcript : Transcript) (w : World) : Type 0 where
   released : (c : ℕ) → slice_index_or (released_of transcript) c [] ≡ released_in w c
   count : length transcript.released.items ≡ length w.primary.connections
 
-told-as : {first second : Holder} {pair : Pair} {w : World} → EitherRefines first second pair w → ToldAs pair.transcript w
+told-as : {first second : Holder} {pair : Pair} {w : World} → EitherRefines first second pair w → ToldAs pair.clients.transcript w
 told-as {first} {second} {pair} {w} parts =
     let told = (sessions-stand parts).told in
     record {
       calls = told.calls_are;
-      released = λ c. released-told w.primary.calls pair.transcript w.primary.connections told c;
+      released = λ c. released-told w.primary.calls pair.clients.transcript w.primary.connections told c;
       count = omega (
         arith,
-        length-released w.primary.calls pair.transcript w.primary.connections told,
-        length-map pair.transcript.released.items (λ (bytes : Vec ℕ Global). bytes.items),
+        length-released w.primary.calls pair.clients.transcript w.primary.connections told,
+        length-map pair.clients.transcript.released.items (λ (bytes : Vec ℕ Global). bytes.items),
       );
     }
 
-module _ (old : Pair) (fenced : has_ended old.primary_condition ≡ true) (follows : runs old.standby_condition ≡ true) where
+module _ (old : Pair) (fenced : has_ended old.lives.primary ≡ true) (follows : runs old.lives.standby ≡ true) where
   began : HasStandby old
-  began = not-over old.standby_condition follows
+  began = not-over old.lives.standby follows
 
   -- the token of the fence names the epoch of the standby
-  pub names-epoch : (first second : Holder) (w : World) → NodesRefine first second old w → (epoch : ℕ) → epoch ≡ old.link.epoch → epoch ≡ old.standby.contents.current.epoch
+  pub names-epoch : (first second : Holder) (w : World) → NodesRefine first second old w → (epoch : ℕ) → epoch ≡ old.wire.link.epoch → epoch ≡ old.standby.contents.current.epoch
   names-epoch first second w stands epoch is = is ∙ link-epoch stands.parts ∙ sym stands.lives.second_epoch ∙ sym (follower follows stands.parts).engine.contents_at.epoch_is
 
   -- ---- it was refused
@@ -134,7 +122,7 @@ module _ (old : Pair) (fenced : has_ended old.primary_condition ≡ true) (follo
 
   -- ---- the image was promoted
 
-  module _ (epoch : ℕ) (token : epoch ≡ old.link.epoch) (between crashed : State) (after : Contents)
+  module _ (epoch : ℕ) (token : epoch ≡ old.wire.link.epoch) (between crashed : State) (after : Contents)
       (under : PromotesUnder epoch old.standby.device between crashed old.standby.contents after old.standby.is_faulted) where
     was : (first second : Holder) (w : World) → NodesRefine first second old w → WasPromoted old.standby.device between crashed old.standby.contents after × (¬ ExhaustsPromotion old.standby.contents.current)
     was first second w stands =
@@ -157,7 +145,7 @@ module _ (old : Pair) (fenced : has_ended old.primary_condition ≡ true) (follo
         )
 
     -- and not opened
-    pub opening-refused : (new : Pair) (last : State) (result : Result Bool Refusal) (refusal : Refusal) → result ≡ Err refusal → new.transcript ≡ old.transcript → first_device new ≡ old.device → second_device new ≡ last
+    pub opening-refused : (new : Pair) (last : State) (result : Result Bool Refusal) (refusal : Refusal) → result ≡ Err refusal → new.clients.transcript ≡ old.clients.transcript → first_device new ≡ old.primary.device → second_device new ≡ last
         → IsNotOpened role.Primary crashed last refusal → Promotes old result new
     opening-refused new last result refusal is same former latter refused =
         subst (λ (r : Result Bool Refusal). Promotes old r new) (sym is) (record { succeeds = tt; cut = cut; calls = none-added _ _ (ap (λ (t : Transcript). t.calls) same) })
@@ -165,7 +153,7 @@ module _ (old : Pair) (fenced : has_ended old.primary_condition ≡ true) (follo
         cut : (first second : Holder) (w : World) → NodesRefine first second old w → IsPromotionCut second refusal old new w
         cut first second w stands =
             let stood = follower follows stands.parts in
-            let told : ToldAs new.transcript w = subst (λ (t : Transcript). ToldAs t w) (sym same) (told-as stands.parts) in
+            let told : ToldAs new.clients.transcript w = subst (λ (t : Transcript). ToldAs t w) (sym same) (told-as stands.parts) in
             let p = w.standby.position in
             let next = next_standby w in
             let made = was first second w stands in
@@ -189,14 +177,13 @@ module _ (old : Pair) (fenced : has_ended old.primary_condition ≡ true) (follo
 
     -- ---- it was opened
 
-    module _ (sessions : Connections) (transcript : Transcript) (position : ℕ) (at : position ≡ after.current.position) (arrivals : Arrived) (node' : Node) (link : Stream)
-        (ends : (w : World) → SessionsRefine old.sessions old.transcript w.primary.connections w.primary.calls → SessionsRefine sessions transcript (map left w.primary.connections) (cut_at w.primary.calls position))
-        (unseated : (c seat : ℕ) → ¬ HasSeat (seats_of sessions.connections.items) c seat) (lost : arrivals.delivered.items ≡ []) (told : arrivals.acknowledgements ≡ old.arrivals.acknowledgements)
-        (sequencer : Sequencing) (committing : Committing) (notices : List Freed) (device : State) (contents : Contents) (is_faulted : Bool) (handed : Waiting Group) (opening : Opening)
-        (opened : IsOpened role.Primary crashed device contents is_faulted) (begins : Begins contents sequencer committing notices handed link opening) where
+    module _ (clients : Clients) (position : ℕ) (at : position ≡ after.current.position) (arrivals : Arrived) (node' : Node) (link : Stream)
+        (ends : (w : World) → ClientsRefine old.clients w.primary.connections w.primary.calls → ClientsRefine clients (map left w.primary.connections) (cut_at w.primary.calls position))
+        (unseated : (c seat : ℕ) → ¬ HasSeat (seats_of clients.sessions.connections.items) c seat) (lost : arrivals.delivered.items ≡ []) (told : arrivals.acknowledgements ≡ old.wire.arrivals.acknowledgements)
+        (serving : Serving) (opening : Opening) (opened : IsOpened role.Primary crashed serving.device serving.contents serving.is_faulted) (begins : Begins serving link opening) where
       -- the pair as it is before its image is opened, as that of a primary that crashed
       abbrev pub fallen : Pair
-      fallen = left_with sessions transcript crashed link arrivals node' old
+      fallen = left_with clients crashed link arrivals node' old
 
       fallen-stands : (first second : Holder) (w : World) → NodesRefine first second old w → NodesRefine (promoted_holder second) (former_holder second) fallen (promoted w)
       fallen-stands first second w stands =
@@ -209,13 +196,13 @@ module _ (old : Pair) (fenced : has_ended old.primary_condition ≡ true) (follo
           let image = down-promoted second calls p old.standby.device between crashed old.standby.contents after old.standby.is_faulted stood.engine made.1 made.0 in
           let here : position ≡ p = at ∙ image.contents_at.at in
           let epoch : second.epoch + 1 ≡ w.standby.epoch + 1 = ap (λ n. n + 1) (lives.second_epoch ∙ sym sound.standby.epoch_is) in
-          let engine = opened-stands (promoted_holder second) calls p crashed device contents is_faulted image opened in
+          let engine = opened-stands (promoted_holder second) calls p crashed serving.device serving.contents serving.is_faulted image opened in
           let ours : link.epoch ≡ w.standby.epoch + 1 = ap (λ (s : Stream). s.epoch) begins.link_is ∙ engine.contents_at.epoch_is ∙ epoch in
-          let less : old.link.epoch < link.epoch = omega (arith, ours, link-epoch stands.parts, sound.standby.epoch_is) in
+          let less : old.wire.link.epoch < link.epoch = omega (arith, ours, link-epoch stands.parts, sound.standby.epoch_is) in
           let within : p ≤ position_of calls = standby-within w sound in
           let down : DownRefine (promoted_holder second) (former_holder second) fallen (promoted w) =
           record {
-            sessions = subst (λ n. SessionsRefine sessions transcript (map left w.primary.connections) (cut_at calls n)) here (ends w (sessions-stand stands.parts));
+            sessions = subst (λ n. ClientsRefine clients (map left w.primary.connections) (cut_at calls n)) here (ends w (sessions-stand stands.parts));
             unseated = unseated;
             committer = refl;
             link = refl;
@@ -226,7 +213,7 @@ module _ (old : Pair) (fenced : has_ended old.primary_condition ≡ true) (follo
             opened = refl;
             recalls = λ q from below. absurd (omega (arith, from, below));
             epoch = ours;
-            frames = frames-earlier old.link.epoch link.epoch sound.sent calls (cut_at calls p) old.frames w.wire.frames less
+            frames = frames-earlier old.wire.link.epoch link.epoch sound.sent calls (cut_at calls p) old.wire.frames w.wire.frames less
                 (subst (λ e. All (IsFrameWithin e sound.sent) w.wire.frames) (sym (link-epoch stands.parts)) sound.wire.frames) (frames-stand stands.parts);
             own = λ whole. absurd (true≢false whole);
             arrivals = record {
@@ -254,15 +241,15 @@ module _ (old : Pair) (fenced : has_ended old.primary_condition ≡ true) (follo
             parts = refines;
           }
 
-      pub promotion-done : node'.device ≡ old.device → AddsOne old.transcript.calls transcript.calls → Promotes old (Ok true) (with_primary_node sequencer committing notices device contents is_faulted handed link opening 0 Running fallen)
+      pub promotion-done : node'.device ≡ old.primary.device → AddsOne old.clients.transcript.calls clients.transcript.calls → Promotes old (Ok true) (with_opened_primary serving link opening fallen)
       promotion-done former added =
           record { succeeds = (refl, succeeds); cut = tt; calls = added }
         where
           new : Pair
-          new = with_primary_node sequencer committing notices device contents is_faulted handed link opening 0 Running fallen
+          new = with_opened_primary serving link opening fallen
 
           acts : Acts fallen (Reopen node.Primary) (Ok true) new
-          acts = primary-reopens fallen sequencer committing notices device contents is_faulted handed link opening refl opened begins
+          acts = primary-reopens fallen serving link opening refl opened begins
 
           succeeds : (first second : Holder) (w : World) → NodesRefine first second old w → Succeeds second w old new
           succeeds first second w stands =
@@ -279,7 +266,7 @@ module _ (old : Pair) (fenced : has_ended old.primary_condition ≡ true) (follo
                 happens = λ did. inl (record { ended = opens.ended; gaps = opens.gaps; some = omega arith; few = opens.few; now = opens.now });
                 stands = λ did. absurd (true≢false did);
               } in
-              let last : LeavesOnly crashed device (OpensAt (promoted_holder second) calls p) =
+              let last : LeavesOnly crashed serving.device (OpensAt (promoted_holder second) calls p) =
               LeavesOnly-weaken (OpensAt (promoted_holder second) calls p)
               (λ image either. elim either [
                 | inl is ↦ uncut second w image is
@@ -287,7 +274,7 @@ module _ (old : Pair) (fenced : has_ended old.primary_condition ≡ true) (follo
                 | inr (inr none) ↦ absurd none
               ])
               reopens.moves.primary.leaves in
-              let leaves = opened-leaves second calls p old.standby.device between crashed old.standby.contents after old.standby.is_faulted stood.engine made.1 made.0 device last in
+              let leaves = opened-leaves second calls p old.standby.device between crashed old.standby.contents after old.standby.is_faulted stood.engine made.1 made.0 serving.device last in
               let same = same-failures second calls p old.standby.device between crashed old.standby.contents after old.standby.is_faulted stood.engine made.1 made.0 in
               record {
                 world = w';
@@ -297,7 +284,7 @@ module _ (old : Pair) (fenced : has_ended old.primary_condition ≡ true) (follo
                 ended = refl;
                 stands = reopens.stands;
                 first_stays = former ∙ sym (devices-are old began).0;
-                leaves = subst (λ (d : State). LeavesOnly d device (OpensAsEither second calls p)) (sym (devices-are old began).1) leaves;
+                leaves = subst (λ (d : State). LeavesOnly d serving.device (OpensAsEither second calls p)) (sym (devices-are old began).1) leaves;
                 failures = reopens.moves.primary.failures ∙ same ∙ ap (λ (d : State). d.failures) (sym (devices-are old began).1);
               }
             where

@@ -1,15 +1,13 @@
 -- What the reopening of a node that crashed does to the pair.
-use mathlib.Core.Path.{fun_ext}
-use Rattle.std.proofs.Common.{All, cond, rules, le_refl, ◌≡◌, inl, inr, ℕ, Bool, true, false, ◌&&◌, List, length, Result, Ok, Err, refl, sym, ap, subst, ◌∙◌, arith, true≢false, []}
+use Rattle.std.proofs.Common.{All, cond, rules, le_refl, ◌≡◌, inl, inr, Bool, true, false, ◌&&◌, List, length, Result, Ok, Err, refl, sym, ap, subst, ◌∙◌, arith, true≢false, []}
 use Rattle.kv_types.specs.declared.refusal.Refusal.{Refusal}
 use Rattle.kv_types.specs.declared.refusal.Refusal.TheVariants.{Fault, Memory}
 use Rattle.pmem.specs.Device.{State}
 use Rattle.pmem.specs.Crash.{image_of}
-use Rattle.pipes.specs.Waiting.{Waiting}
 use Rattle.model.specs.declared.group.Group.{Group}
 use Rattle.model.specs.declared.record.Role.TheVariants as role
 use Rattle.model.specs.Call.{cut_at, keyspace_after}
-use Rattle.model.specs.Group.{AreEnded, Contents}
+use Rattle.model.specs.Group.{AreEnded}
 use Rattle.model.specs.Image.{Image, IsMapOf, entries_of_lines}
 use Rattle.model.specs.Standing.{Holder}
 use Rattle.model.proofs.CallsLemmas.{IsKeyspace-keyspace_after, keyspace_after-cut_at-position}
@@ -30,7 +28,7 @@ use Rattle.machine.specs.declared.event.Node.TheVariants as node
 use Rattle.machine.specs.Event.{Allowed, Committer as MachineCommitter, World, Step, is_crashed, is_enabled, new_link, reopened_primary, reopened_standby, with_primary, with_standby, torn}
 use Rattle.machine.proofs.SoundEvents.{sound-step}
 use Rattle.world.specs.Cause.{EndsBy, Stretch}
-use Rattle.world.specs.Committing.{Committing, CommittingRefines, next_primary, next_standby}
+use Rattle.world.specs.Committing.{CommittingRefines, next_primary, next_standby}
 use Rattle.node_steps.specs.GroupSpan.{AreGroupsOf}
 use Rattle.world.specs.Link.{AreFramesSent, IsOwn, LinkRefines}
 use Rattle.primary.specs.Recalling.{AreKeyspaces, DeltaLeads, RecallsEach, Remembers}
@@ -40,9 +38,8 @@ use Rattle.world.specs.Recalling.{OpeningLeads, past_of}
 use Rattle.primary.specs.Resuming.{IsOver}
 use Rattle.connections.specs.Session.{SequencerRefines}
 use Rattle.world.specs.Standby.{ArrivalsRefine, Node, StandbyRefines, StandbyStands}
-use Rattle.world.specs.Pair.{Acts, AreLives, DownRefine, EitherRefines, IsCut, NodesRefine, Pair, PartsRefine, Steps}
+use Rattle.world.specs.Pair.{Acts, AreLives, DownRefine, EitherRefines, IsCut, NodesRefine, Pair, PartsRefine, Steps, Lives, Serving}
 use Rattle.world.proofs.DownLemmas.{restart-refused}
-use Rattle.world.proofs.EngineLemmas.{moves-same}
 use Rattle.world.proofs.FormLemmas.{committing-nothing, leads-nothing}
 use Rattle.world.proofs.PairLemmas.{Led, cut-for, none-added, primary-stands, rests-primary, rests-standby, standby-stands, tells, standby-refines}
 use Rattle.world.proofs.OpenedLemmas.{IsNotOpened, IsOpened, opened-breaks, opened-gaps, opened-limit, opened-moves, opened-rests, opened-stands, table-there}
@@ -50,32 +47,31 @@ use Rattle.world.proofs.OpeningLemmas.{have_their_lines, in_order}
 use Rattle.world.proofs.PairLives.{stays-acts}
 use Rattle.world.proofs.PairStandby.{arrivals-stand, link-epoch, standby-either}
 use Rattle.world.proofs.LivesLemmas.{crashed-not-over, still-not-crashed, not-crashed, crashed-as}
-use Rattle.world.specs.Condition.{has_crashed, life_as}
+use Rattle.world.specs.Condition.{has_crashed}
 use Rattle.world.specs.declared.condition.Condition.{Condition}
-use Rattle.world.specs.declared.condition.Condition.TheVariants.{Running, Crashed, Ended}
-use Rattle.world.specs.declared.condition.AskedFences.{AskedFences}
+use Rattle.world.specs.declared.condition.Condition.TheVariants.{Running}
 use Rattle.world.proofs.RemainLemmas.{near-rest, near-from}
 
 -- ---- a node that runs
 
-primary-opens : {first second : Holder} {serves follows : Condition} {fences : AskedFences} {w : World} → AreLives first second serves follows fences w → is_enabled w (events.Reopen node.Primary) ≡ has_crashed serves
-primary-opens {first} {second} {serves} {follows} {fences} {w} lives = ap (λ (a : Allowed). a.restarts && is_crashed w.primary.life) lives.allowed_are ∙ ap is_crashed lives.primary ∙ crashed-as serves (torn w.primary.life)
+primary-opens : {first second : Holder} {lives : Lives} {w : World} → AreLives first second lives w → is_enabled w (events.Reopen node.Primary) ≡ has_crashed lives.primary
+primary-opens {first} {second} {lives} {w} are = ap (λ (a : Allowed). a.restarts && is_crashed w.primary.life) are.allowed_are ∙ ap is_crashed are.primary ∙ crashed-as lives.primary (torn w.primary.life)
 
-standby-opens : {first second : Holder} {serves follows : Condition} {fences : AskedFences} {w : World} → AreLives first second serves follows fences w → is_enabled w (events.Reopen node.Standby) ≡ has_crashed follows
-standby-opens {first} {second} {serves} {follows} {fences} {w} lives = ap (λ (a : Allowed). a.restarts && is_crashed w.standby.life) lives.allowed_are ∙ ap is_crashed lives.standby ∙ crashed-as follows (torn w.standby.life)
+standby-opens : {first second : Holder} {lives : Lives} {w : World} → AreLives first second lives w → is_enabled w (events.Reopen node.Standby) ≡ has_crashed lives.standby
+standby-opens {first} {second} {lives} {w} are = ap (λ (a : Allowed). a.restarts && is_crashed w.standby.life) are.allowed_are ∙ ap is_crashed are.standby ∙ crashed-as lives.standby (torn w.standby.life)
 
-pub primary-runs-on : (old : Pair) → has_crashed old.primary_condition ≡ false → Acts old (events.Reopen node.Primary) (Ok false) old
+pub primary-runs-on : (old : Pair) → has_crashed old.lives.primary ≡ false → Acts old (events.Reopen node.Primary) (Ok false) old
 primary-runs-on old whole = stays-acts old (events.Reopen node.Primary) (λ first second w stands. primary-opens stands.lives ∙ whole)
 
-pub standby-runs-on : (old : Pair) → has_crashed old.standby_condition ≡ false → Acts old (events.Reopen node.Standby) (Ok false) old
+pub standby-runs-on : (old : Pair) → has_crashed old.lives.standby ≡ false → Acts old (events.Reopen node.Standby) (Ok false) old
 standby-runs-on old whole = stays-acts old (events.Reopen node.Standby) (λ first second w stands. standby-opens stands.lives ∙ whole)
 
 -- ---- the standby
 
 abbrev pub with_standby_node : Node → Condition → Pair → Pair
-with_standby_node node condition pair = record pair { standby = node; standby_condition = condition }
+with_standby_node node condition pair = record pair { standby = node; lives = record pair.lives { standby = condition } }
 
-pub standby-reopens : (old : Pair) (node' : Node) → has_crashed old.standby_condition ≡ true → IsOpened role.Standby old.standby.device node'.device node'.contents node'.is_faulted
+pub standby-reopens : (old : Pair) (node' : Node) → has_crashed old.lives.standby ≡ true → IsOpened role.Standby old.standby.device node'.device node'.contents node'.is_faulted
     → Follows node'.contents node'.table node'.room node'.ended → node'.epoch ≡ node'.contents.current.epoch → Acts old (events.Reopen node.Standby) (Ok true) (with_standby_node node' Running old)
 standby-reopens old node' fallen opened follows own = record { steps = steps; cut = tt; calls = none-added _ _ refl }
   where
@@ -93,8 +89,8 @@ standby-reopens old node' fallen opened follows own = record { steps = steps; cu
         subst (λ r. IsOpened r old.standby.device node'.device node'.contents node'.is_faulted) (sym lives.second_role) opened in
         let engine = opened-stands second calls p old.standby.device node'.device node'.contents node'.is_faulted down mine in
         let at = engine.contents_at in
-        let ours : second.epoch ≡ old.link.epoch = lives.second_epoch ∙ sym (link-epoch stands.parts) in
-        let stood : StandbyStands second old.link.epoch calls p node' =
+        let ours : second.epoch ≡ old.wire.link.epoch = lives.second_epoch ∙ sym (link-epoch stands.parts) in
+        let stood : StandbyStands second old.wire.link.epoch calls p node' =
         record {
           engine = engine;
           follows = follows;
@@ -105,17 +101,17 @@ standby-reopens old node' fallen opened follows own = record { steps = steps; cu
         let w' = with_standby (reopened_standby w.standby) w in
         let step : Step w event true w' =
         record { done = sym (standby-opens lives ∙ fallen); happens = λ did. inl refl; stands = λ did. absurd (true≢false did) } in
-        let refined : StandbyRefines second old.link.epoch calls p [] node' Running = record { stands = λ up. stood; left = λ is. absurd (true≢false (sym is)); down = λ is. absurd (true≢false (sym is)) } in
+        let refined : StandbyRefines second old.wire.link.epoch calls p [] node' Running = record { stands = λ up. stood; left = λ is. absurd (true≢false (sym is)); down = λ is. absurd (true≢false (sym is)) } in
         record {
           world = w';
           step = step;
           stands = record {
             sound = sound-step w event true w' step stands.sound;
-            lives = search (rules, lives, lives.primary_disk ∙ ap (λ b. cond b 1 0) (crashed-not-over old.standby_condition fallen));
-            parts = standby-either first second old old.arrivals node' Running w w'.standby w.wire.acknowledgements (crashed-not-over old.standby_condition fallen) (le_refl p) stands.parts (arrivals-stand stands.parts) refined;
+            lives = search (rules, lives, lives.primary_disk ∙ ap (λ b. cond b 1 0) (crashed-not-over old.lives.standby fallen));
+            parts = standby-either first second old old.wire.arrivals node' Running w w'.standby w.wire.acknowledgements (crashed-not-over old.lives.standby fallen) (le_refl p) stands.parts (arrivals-stand stands.parts) refined;
           };
           moves = record {
-            primary = near-rest first calls w.primary.committer.position w.primary.committer.position (torn w.primary.life) old.device old.device refl (primary-stands first second old w stands.parts);
+            primary = near-rest first calls w.primary.committer.position w.primary.committer.position (torn w.primary.life) old.primary.device old.primary.device refl (primary-stands first second old w stands.parts);
             standby = λ whole. near-from second calls p p (torn w.standby.life) old.standby.device node'.device (opened-moves second calls p old.standby.device node'.device down opened.moments opened.failures);
           };
         }
@@ -124,13 +120,13 @@ standby-reopens old node' fallen opened follows own = record { steps = steps; cu
 opened-ends : (event : Event) (refusal : Refusal) (P : Stretch → Stretch → Type 0) → refusal ≡ Fault → EndsBy Fault event P → EndsBy refusal event P
 opened-ends event refusal P is ends = subst (λ (r : Refusal). EndsBy r event P) (sym is) ends
 
-pub standby-reopening-cut : (old : Pair) (node' : Node) (result : Result Bool Refusal) (refusal : Refusal) → result ≡ Err refusal → has_crashed old.standby_condition ≡ true → IsNotOpened role.Standby old.standby.device node'.device refusal
-    → Acts old (events.Reopen node.Standby) result (with_standby_node node' old.standby_condition old)
+pub standby-reopening-cut : (old : Pair) (node' : Node) (result : Result Bool Refusal) (refusal : Refusal) → result ≡ Err refusal → has_crashed old.lives.standby ≡ true → IsNotOpened role.Standby old.standby.device node'.device refusal
+    → Acts old (events.Reopen node.Standby) result (with_standby_node node' old.lives.standby old)
 standby-reopening-cut old node' result refusal is fallen refused =
     subst (λ (r : Result Bool Refusal). Acts old event r new) (sym is) (record { steps = tt; cut = cut; calls = none-added _ _ refl })
   where
     new : Pair
-    new = with_standby_node node' old.standby_condition old
+    new = with_standby_node node' old.lives.standby old
 
     event : Event
     event = events.Reopen node.Standby
@@ -157,7 +153,7 @@ standby-reopening-cut old node' result refusal is fallen refused =
                     (here, λ whole. inl (opened-limit second calls p next device node'.device full.1.0 down refused.moments why.1 full.1.1 full.1.2))
               ]
         ] in
-        cut-for first second event refusal old new w stands (tells old.transcript) refl (standby-opens stands.lives ∙ fallen) ends
+        cut-for first second event refusal old new w stands (tells old.clients.transcript) refl (standby-opens stands.lives ∙ fallen) ends
       where
         memory_no_fault : Memory ≡ Fault → ⊥
         memory_no_fault is = cc
@@ -165,51 +161,38 @@ standby-reopening-cut old node' result refusal is fallen refused =
 -- ---- the primary
 
 -- one that is crashed is its image
-pub fallen-parts : {first second : Holder} {w : World} (old : Pair) → has_crashed old.primary_condition ≡ true → EitherRefines first second old w → DownRefine first second old w
+pub fallen-parts : {first second : Holder} {w : World} (old : Pair) → has_crashed old.lives.primary ≡ true → EitherRefines first second old w → DownRefine first second old w
 fallen-parts old fallen parts = elim parts [
-  | inl up ↦ absurd (not-crashed old.primary_condition up.0 fallen)
+  | inl up ↦ absurd (not-crashed old.lives.primary up.0 fallen)
   | inr (inl down) ↦ down.1
-  | inr (inr still) ↦ absurd (still-not-crashed old.primary_condition still.0 fallen)
+  | inr (inr still) ↦ absurd (still-not-crashed old.lives.primary still.0 fallen)
 ]
 
-abbrev pub with_primary_node : Sequencing → Committing → List Freed → State → Contents → Bool → Waiting Group → Stream → Opening → ℕ → Condition → Pair → Pair
-with_primary_node sequencer committing notices device contents is_faulted handed link opening remote condition pair =
-    record pair {
-      sequencer = sequencer;
-      committing = committing;
-      notices = notices;
-      device = device;
-      contents = contents;
-      is_faulted = is_faulted;
-      handed = handed;
-      link = link;
-      opening = opening;
-      remote = remote;
-      primary_condition = condition;
-    }
+abbrev pub with_opened_primary : Serving → Stream → Opening → Pair → Pair
+with_opened_primary serving link opening pair = record pair { primary = serving; wire = record pair.wire { link = link; opening = opening; remote = 0 }; lives = record pair.lives { primary = Running } }
 
 -- what a primary begins with once it is opened again
-pub record Begins (contents : Contents) (sequencer : Sequencing) (committing : Committing) (notices : List Freed) (handed : Waiting Group) (link : Stream) (opening : Opening) : Type 0 where
-  pub over : IsOver contents sequencer
-  pub ready : committing.stage ≡ Ready
-  pub local : committing.local ≡ contents.current.position
-  pub no_work : committing.waiting.items ≡ []
-  pub none_aside : committing.aside ≡ []
-  pub none_told : notices ≡ []
-  pub none_handed : handed.items ≡ []
-  pub link_is : link ≡ new_stream contents.current.epoch
-  pub opened_at : opening.position ≡ contents.current.position
-  pub tells : IsOpening contents opening
+pub record Begins (serving : Serving) (link : Stream) (opening : Opening) : Type 0 where
+  pub over : IsOver serving.contents serving.sequencer
+  pub ready : serving.committing.stage ≡ Ready
+  pub local : serving.committing.local ≡ serving.contents.current.position
+  pub no_work : serving.committing.waiting.items ≡ []
+  pub none_aside : serving.committing.aside ≡ []
+  pub none_told : serving.notices ≡ []
+  pub none_handed : serving.handed.items ≡ []
+  pub link_is : link ≡ new_stream serving.contents.current.epoch
+  pub opened_at : opening.position ≡ serving.contents.current.position
+  pub tells : IsOpening serving.contents opening
   pub image : Image
-  pub shows : Shows contents image
+  pub shows : Shows serving.contents image
 
-pub primary-reopens : (old : Pair) (sequencer : Sequencing) (committing : Committing) (notices : List Freed) (device : State) (contents : Contents) (is_faulted : Bool) (handed : Waiting Group) (link : Stream) (opening : Opening) → has_crashed old.primary_condition ≡ true
-    → IsOpened role.Primary old.device device contents is_faulted → Begins contents sequencer committing notices handed link opening
-    → Acts old (events.Reopen node.Primary) (Ok true) (with_primary_node sequencer committing notices device contents is_faulted handed link opening 0 Running old)
-primary-reopens old sequencer committing notices device contents is_faulted handed link opening fallen opened begins = record { steps = steps; cut = tt; calls = none-added _ _ refl }
+pub primary-reopens : (old : Pair) (serving : Serving) (link : Stream) (opening : Opening) → has_crashed old.lives.primary ≡ true
+    → IsOpened role.Primary old.primary.device serving.device serving.contents serving.is_faulted → Begins serving link opening
+    → Acts old (events.Reopen node.Primary) (Ok true) (with_opened_primary serving link opening old)
+primary-reopens old serving link opening fallen opened begins = record { steps = steps; cut = tt; calls = none-added _ _ refl }
   where
     new : Pair
-    new = with_primary_node sequencer committing notices device contents is_faulted handed link opening 0 Running old
+    new = with_opened_primary serving link opening old
 
     steps : (first second : Holder) (w : World) → NodesRefine first second old w → Steps first second w (events.Reopen node.Primary) true old new
     steps first second w stands =
@@ -218,25 +201,25 @@ primary-reopens old sequencer committing notices device contents is_faulted hand
         let p = w.primary.committer.position in
         let lives = stands.lives in
         let lost = fallen-parts old fallen stands.parts in
-        let mine : IsOpened first.role old.device device contents is_faulted = subst (λ r. IsOpened r old.device device contents is_faulted) (sym lives.first_role) opened in
-        let engine = opened-stands first calls p old.device device contents is_faulted lost.image mine in
+        let mine : IsOpened first.role old.primary.device serving.device serving.contents serving.is_faulted = subst (λ r. IsOpened r old.primary.device serving.device serving.contents serving.is_faulted) (sym lives.first_role) opened in
+        let engine = opened-stands first calls p old.primary.device serving.device serving.contents serving.is_faulted lost.image mine in
         let at = engine.contents_at in
         let over = begins.over in
         let table : records over.table ≡ keyspace_after calls =
-        table-there first calls p contents over.table at over.table_is ∙ ap (λ n. keyspace_after (cut_at calls n)) (sym lost.ends) ∙ keyspace_after-cut_at-position calls in
+        table-there first calls p serving.contents over.table at over.table_is ∙ ap (λ n. keyspace_after (cut_at calls n)) (sym lost.ends) ∙ keyspace_after-cut_at-position calls in
         let own : link.epoch ≡ w.primary.epoch = ap (λ (s : Stream). s.epoch) begins.link_is ∙ at.epoch_is ∙ lives.first_epoch in
-        let same : old.link.epoch ≡ link.epoch = lost.epoch ∙ sym own in
+        let same : old.wire.link.epoch ≡ link.epoch = lost.epoch ∙ sym own in
         let closed : w.primary.committer.closed ≡ p = ap (λ (c : MachineCommitter). c.closed) lost.committer in
-        let sequencing : SequencerRefines calls w.primary.committer.closed sequencer =
-        subst (λ n. SequencerRefines calls n sequencer) (sym closed)
+        let sequencing : SequencerRefines calls w.primary.committer.closed serving.sequencer =
+        subst (λ n. SequencerRefines calls n serving.sequencer) (sym closed)
         (subst (SequencerRefines calls p) (sym over.starts_so)
         (record { table = table; position = at.at ∙ sym lost.ends; before = at.at; waiting = tt; count = omega (arith, lost.ends) })) in
-        let committed : CommittingRefines calls committing w.primary.committer =
-        subst (CommittingRefines calls committing) (sym lost.committer)
-        (committing-nothing calls p committing begins.no_work begins.none_aside begins.ready (begins.local ∙ at.at)) in
-        let linked : LinkRefines calls link handed 0 w.primary.link =
-        subst (LinkRefines calls link handed 0) (sym lost.link)
-        (subst (λ (s : Stream). LinkRefines calls s handed 0 new_link) (sym begins.link_is)
+        let committed : CommittingRefines calls serving.committing w.primary.committer =
+        subst (CommittingRefines calls serving.committing) (sym lost.committer)
+        (committing-nothing calls p serving.committing begins.no_work begins.none_aside begins.ready (begins.local ∙ at.at)) in
+        let linked : LinkRefines calls link serving.handed 0 w.primary.link =
+        subst (LinkRefines calls link serving.handed 0) (sym lost.link)
+        (subst (λ (s : Stream). LinkRefines calls s serving.handed 0 new_link) (sym begins.link_is)
         (record {
           waiting = subst (λ (groups : List Group). AreGroupsOf calls groups []) (sym begins.none_handed) tt;
           none_pending = refl;
@@ -248,31 +231,31 @@ primary-reopens old sequencer committing notices device contents is_faulted hand
           remote_is = refl;
         })) in
         let low = w.standby.position in
-        let newest : sequencer.newest ≡ p = ap (λ (s : Sequencing). s.newest) over.starts_so ∙ at.at in
+        let newest : serving.sequencer.newest ≡ p = ap (λ (s : Sequencing). s.newest) over.starts_so ∙ at.at in
         let past = past_of calls in
         let here = lost.image.contents_at in
         let recalled =
-        recalls-of low past lost.image.contents (image_of old.device.words) here.consistent
+        recalls-of low past lost.image.contents (image_of old.primary.device.words) here.consistent
         (subst (λ n. IsMapOf lost.image.contents.versions (entries_of_lines lost.image.contents.lines) (past n)) (sym here.at) here.map)
         (subst (λ n. RecallsEach low n past lost.image.contents) (sym here.at) lost.recalls) lost.image.keeps in
         let keyspaces : AreKeyspaces past = λ q. IsKeyspace-keyspace_after (cut_at calls q) in
-        let lines = old.device.lines in
-        let kept = keeps-opened low past lines (image_of old.device.words) first.role contents recalled mine.reopens sequencer over at.consistent keyspaces in
-        let remembered : Remembers low p past contents committing.waiting.items committing.aside sequencer =
-        rw (begins.no_work, begins.none_aside) (subst (λ n. Remembers low n past contents [] [] sequencer) at.at kept.remembers) in
+        let lines = old.primary.device.lines in
+        let kept = keeps-opened low past lines (image_of old.primary.device.words) first.role serving.contents recalled mine.reopens serving.sequencer over at.consistent keyspaces in
+        let remembered : Remembers low p past serving.contents serving.committing.waiting.items serving.committing.aside serving.sequencer =
+        rw (begins.no_work, begins.none_aside) (subst (λ n. Remembers low n past serving.contents [] [] serving.sequencer) at.at kept.remembers) in
         let told : OpeningLeads low p calls opening =
         record {
           within = omega (arith, lost.ends);
           delta = subst (λ n. DeltaLeads low n past opening) at.at
-              (delta-leads low past lines (image_of old.device.words) first.role contents recalled mine.reopens sequencer over at.consistent keyspaces opening begins.opened_at
-              (leads_to contents sequencer opening at.consistent over begins.tells));
-          size = λ q from below. deltas_fit contents opening q begins.tells (in_order contents begins.image begins.shows) (have_their_lines contents begins.image begins.shows) engine.lawful.few;
+              (delta-leads low past lines (image_of old.primary.device.words) first.role serving.contents recalled mine.reopens serving.sequencer over at.consistent keyspaces opening begins.opened_at
+              (leads_to serving.contents serving.sequencer opening at.consistent over begins.tells));
+          size = λ q from below. deltas_fit serving.contents opening q begins.tells (in_order serving.contents begins.image begins.shows) (have_their_lines serving.contents begins.image begins.shows) engine.lawful.few;
         } in
-        let ended = length sequencer.ended in
-        let gaps = length contents.current.gaps.items in
+        let ended = length serving.sequencer.ended in
+        let gaps = length serving.contents.current.gaps.items in
         let w' = with_primary (reopened_primary ended gaps w.primary) w in
         let step : Step w event true w' =
-        record { done = sym (primary-opens lives ∙ fallen); happens = λ did. inl (record { ended = ended; gaps = gaps; some = opened-gaps first calls p old.device device contents is_faulted lost.image mine; few = engine.lawful.current.few; now = refl }); stands = λ did. absurd (true≢false did) } in
+        record { done = sym (primary-opens lives ∙ fallen); happens = λ did. inl (record { ended = ended; gaps = gaps; some = opened-gaps first calls p old.primary.device serving.device serving.contents serving.is_faulted lost.image mine; few = engine.lawful.current.few; now = refl }); stands = λ did. absurd (true≢false did) } in
         let parts : PartsRefine first second new w' =
         record {
           sessions = lost.sessions;
@@ -280,8 +263,8 @@ primary-reopens old sequencer committing notices device contents is_faulted hand
           follow = record { by_call = λ c seat has shut. absurd (lost.unseated c seat has); session = λ c seat has. absurd (lost.unseated c seat has) };
           committing = committed;
           engine = engine;
-          leads = leads-nothing contents committing.waiting.items committing.aside sequencer notices begins.no_work begins.none_aside begins.none_told over.ahead over.expects
-              (subst (AreEnded contents) (sym (ap (λ (s : Sequencing). s.ended) over.starts_so)) over.listed);
+          leads = leads-nothing serving.contents serving.committing.waiting.items serving.committing.aside serving.sequencer serving.notices begins.no_work begins.none_aside begins.none_told over.ahead over.expects
+              (subst (AreEnded serving.contents) (sym (ap (λ (s : Sequencing). s.ended) over.starts_so)) over.listed);
           freeing = record {
             ended = refl;
             newest = newest ∙ sym lost.newest;
@@ -292,10 +275,10 @@ primary-reopens old sequencer committing notices device contents is_faulted hand
           opening = subst (λ n. OpeningLeads low n calls opening) (sym lost.opened) told;
           epoch = own;
           link = linked;
-          frames = subst (λ e. AreFramesSent e calls old.frames w.wire.frames) same lost.frames;
+          frames = subst (λ e. AreFramesSent e calls old.wire.frames w.wire.frames) same lost.frames;
           own = λ whole. subst (λ e. All (IsOwn e) w.wire.frames) same (lost.own whole);
-          arrivals = subst (λ e. ArrivalsRefine e calls old.arrivals w.standby.waiting w.wire.acknowledgements) same lost.arrivals;
-          standby = subst (λ e. StandbyRefines second e calls w.standby.position (torn w.standby.life) old.standby old.standby_condition) same lost.standby;
+          arrivals = subst (λ e. ArrivalsRefine e calls old.wire.arrivals w.standby.waiting w.wire.acknowledgements) same lost.arrivals;
+          standby = subst (λ e. StandbyRefines second e calls w.standby.position (torn w.standby.life) old.standby old.lives.standby) same lost.standby;
         } in
         let refines : EitherRefines first second new w' = inl (refl, parts) in
         record {
@@ -307,19 +290,18 @@ primary-reopens old sequencer committing notices device contents is_faulted hand
             parts = refines;
           };
           moves = record {
-            primary = near-from first calls p p (torn w.primary.life) old.device device (opened-moves first calls p old.device device lost.image opened.moments opened.failures);
+            primary = near-from first calls p p (torn w.primary.life) old.primary.device serving.device (opened-moves first calls p old.primary.device serving.device lost.image opened.moments opened.failures);
             standby = λ whole. near-rest second calls w.standby.position w.standby.position (torn w.standby.life) old.standby.device old.standby.device refl (standby-stands first second old w stands.parts whole);
           };
         }
 
-pub primary-reopening-cut : (old : Pair) (sequencer : Sequencing) (committing : Committing) (device : State) (contents : Contents) (is_faulted : Bool) (result : Result Bool Refusal) (refusal : Refusal) → result ≡ Err refusal
-    → has_crashed old.primary_condition ≡ true → IsNotOpened role.Primary old.device device refusal
-    → Acts old (events.Reopen node.Primary) result (with_primary_node sequencer committing old.notices device contents is_faulted old.handed old.link old.opening old.remote old.primary_condition old)
-primary-reopening-cut old sequencer committing device' contents is_faulted result refusal is fallen refused =
+pub primary-reopening-cut : (old : Pair) (serving : Serving) (result : Result Bool Refusal) (refusal : Refusal) → result ≡ Err refusal → has_crashed old.lives.primary ≡ true
+    → IsNotOpened role.Primary old.primary.device serving.device refusal → Acts old (events.Reopen node.Primary) result (record old { primary = serving })
+primary-reopening-cut old serving result refusal is fallen refused =
     subst (λ (r : Result Bool Refusal). Acts old event r new) (sym is) (record { steps = tt; cut = cut; calls = none-added _ _ refl })
   where
     new : Pair
-    new = with_primary_node sequencer committing old.notices device' contents is_faulted old.handed old.link old.opening old.remote old.primary_condition old
+    new = record old { primary = serving }
 
     event : Event
     event = events.Reopen node.Primary
@@ -329,24 +311,24 @@ primary-reopening-cut old sequencer committing device' contents is_faulted resul
         let calls = w.primary.calls in
         let p = w.primary.committer.position in
         let next = next_primary w in
-        let device = old.device in
+        let device = old.primary.device in
         let down = (fallen-parts old fallen stands.parts).image in
         let there = rests-standby first second old w stands in
-        let memory : refusal ≡ Memory → device'.failures ≡ device.failures → EndsBy refusal event (Led first second old new w) =
-        λ is same. subst (λ (r : Refusal). EndsBy r event (Led first second old new w)) (sym is) (refl, (inl (opened-rests first calls p device device' down refused.moments same), there)) in
+        let memory : refusal ≡ Memory → serving.device.failures ≡ device.failures → EndsBy refusal event (Led first second old new w) =
+        λ is same. subst (λ (r : Refusal). EndsBy r event (Led first second old new w)) (sym is) (refl, (inl (opened-rests first calls p device serving.device down refused.moments same), there)) in
         let ends : EndsBy refusal event (Led first second old new w) =
         elim refused.refused [
-          | inl fault ↦ opened-ends event refusal (Led first second old new w) fault (inl (opened-breaks first calls p next device device' down refused.moments (refused.fault fault)), there)
+          | inl fault ↦ opened-ends event refusal (Led first second old new w) fault (inl (opened-breaks first calls p next device serving.device down refused.moments (refused.fault fault)), there)
           | inr (inl is) ↦ memory is (refused.failures (λ fault. memory_no_fault (sym is ∙ fault)))
           | inr (inr why) ↦
               let mine = subst (λ r. RefusesReopening device.lines (image_of device.words) r refusal) (sym stands.lives.first_role) why.0 in
               elim (restart-refused first calls p device refusal down mine) [
                 | inl is ↦ memory is (ap (λ (d : State). d.failures) why.1)
                 | inr full ↦ subst (λ (r : Refusal). EndsBy r event (Led first second old new w)) (sym full.0)
-                    (inl (opened-limit first calls p next device device' full.1.0 down refused.moments why.1 full.1.1 full.1.2), there)
+                    (inl (opened-limit first calls p next device serving.device full.1.0 down refused.moments why.1 full.1.1 full.1.2), there)
               ]
         ] in
-        cut-for first second event refusal old new w stands (tells old.transcript) refl (primary-opens stands.lives ∙ fallen) ends
+        cut-for first second event refusal old new w stands (tells old.clients.transcript) refl (primary-opens stands.lives ∙ fallen) ends
       where
         memory_no_fault : Memory ≡ Fault → ⊥
         memory_no_fault is = cc

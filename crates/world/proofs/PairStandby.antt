@@ -17,7 +17,7 @@ use Rattle.standby_stream.specs.Stream.{Stream}
 use Rattle.machine.specs.declared.event.Event.{Event}
 use Rattle.machine.specs.declared.event.Event.TheVariants as events
 use Rattle.model.specs.declared.call.Call.{Call}
-use Rattle.machine.specs.Event.{Disk, Happens, World, Standby as MachineStandby, Acknowledgement, Span, Step, due_delta, is_running, nodes_run, may_happen, opened_link, acknowledgement_of, delivered, option_items, told, with_link, with_standby, with_acknowledged, without_first, torn}
+use Rattle.machine.specs.Event.{Happens, World, Standby as MachineStandby, Acknowledgement, Span, Step, due_delta, is_running, nodes_run, may_happen, opened_link, acknowledgement_of, delivered, option_items, told, with_link, with_standby, with_acknowledged, without_first, torn}
 use Rattle.machine.specs.Sound.{Sound}
 use Rattle.machine.proofs.GrowLemmas.{grows-step}
 use Rattle.machine.proofs.SoundEvents.{sound-step}
@@ -28,8 +28,7 @@ use Rattle.world.specs.Committing.{NearOnly, Moves, next_standby}
 use Rattle.world.specs.Link.{IsFrameOf, IsOwn, AreFramesOf, LinkRefines, AreFramesSent}
 use Rattle.world.specs.Recalling.{OpeningLeads, past_of}
 use Rattle.world.specs.Standby.{Arrived, Node, StandbyStands, StandbyRefines, ArrivalsRefine, AppliesFirst, told_by}
-use Rattle.world.specs.Pair.{Pair, EitherRefines, NodesRefine, PartsRefine, PairRefines, Steps, Acts, Does}
-use Rattle.world.proofs.EngineLemmas.{moves-same}
+use Rattle.world.specs.Pair.{Pair, EitherRefines, NodesRefine, PartsRefine, PairRefines, Steps, Acts, Does, Wire}
 use Rattle.world.proofs.FrameLemmas.{length-sent}
 use Rattle.world.proofs.PairLemmas.{Led, cut-for, cut-same, goes-either, goes-map, goes-steps, none-added, primary-stands, rests-primary, standby-refines, tells, untouched}
 use Rattle.world.proofs.PairLink.{link-alone}
@@ -42,29 +41,29 @@ use Rattle.world.proofs.RemainLemmas.{near-rest, near-from, left-later}
 -- ---- the standby
 
 abbrev pub with_arrivals : Arrived → Pair → Pair
-with_arrivals arrivals pair = record pair { arrivals = arrivals }
+with_arrivals arrivals pair = record pair { wire = record pair.wire { arrivals = arrivals } }
 
 abbrev pub with_opened : Arrived → Stream → Opening → Pair → Pair
-with_opened arrivals link opening pair = record pair { arrivals = arrivals; link = link; opening = opening }
+with_opened arrivals link opening pair = record pair { wire = record pair.wire { arrivals = arrivals; link = link; opening = opening } }
 
 abbrev pub with_standby_as : Arrived → Node → Condition → Pair → Pair
-with_standby_as arrivals node condition pair = record pair { arrivals = arrivals; standby = node; standby_condition = condition }
+with_standby_as arrivals node condition pair = record pair { wire = record pair.wire { arrivals = arrivals }; standby = node; lives = record pair.lives { standby = condition } }
 
 -- the standby, and what it told, are others, and it is no further back
-standby-parts : (first second : Holder) (old : Pair) (arrivals : Arrived) (node : Node) (condition : Condition) (w : World) (machine : MachineStandby) (told : List Acknowledgement) → has_ended old.standby_condition ≡ false → w.standby.position ≤ machine.position
-    → PartsRefine first second old w → ArrivalsRefine old.link.epoch w.primary.calls arrivals machine.waiting told → StandbyRefines second old.link.epoch w.primary.calls machine.position (torn machine.life) node condition
+standby-parts : (first second : Holder) (old : Pair) (arrivals : Arrived) (node : Node) (condition : Condition) (w : World) (machine : MachineStandby) (told : List Acknowledgement) → has_ended old.lives.standby ≡ false → w.standby.position ≤ machine.position
+    → PartsRefine first second old w → ArrivalsRefine old.wire.link.epoch w.primary.calls arrivals machine.waiting told → StandbyRefines second old.wire.link.epoch w.primary.calls machine.position (torn machine.life) node condition
     → PartsRefine first second (with_standby_as arrivals node condition old) (record w { standby = machine; wire = record w.wire { acknowledgements = told } })
 standby-parts first second old arrivals node condition w machine told whole later parts arrivals_stand node_stands =
     search (
       rules,
       λ (still : has_ended condition ≡ false). parts.own whole,
-      remembers-on w.standby.position machine.position w.primary.committer.position (past_of w.primary.calls) old.contents old.committing.waiting.items old.committing.aside old.sequencer old.sequencer later refl refl parts.remembers,
-      opening-on w.standby.position machine.position w.primary.opened w.primary.calls old.opening later parts.opening,
+      remembers-on w.standby.position machine.position w.primary.committer.position (past_of w.primary.calls) old.primary.contents old.primary.committing.waiting.items old.primary.committing.aside old.primary.sequencer old.primary.sequencer later refl refl parts.remembers,
+      opening-on w.standby.position machine.position w.primary.opened w.primary.calls old.wire.opening later parts.opening,
     )
 
 -- whether the primary runs or not
-pub standby-either : (first second : Holder) (old : Pair) (arrivals : Arrived) (node : Node) (condition : Condition) (w : World) (machine : MachineStandby) (told : List Acknowledgement) → has_ended old.standby_condition ≡ false → w.standby.position ≤ machine.position
-    → EitherRefines first second old w → ArrivalsRefine old.link.epoch w.primary.calls arrivals machine.waiting told → StandbyRefines second old.link.epoch w.primary.calls machine.position (torn machine.life) node condition
+pub standby-either : (first second : Holder) (old : Pair) (arrivals : Arrived) (node : Node) (condition : Condition) (w : World) (machine : MachineStandby) (told : List Acknowledgement) → has_ended old.lives.standby ≡ false → w.standby.position ≤ machine.position
+    → EitherRefines first second old w → ArrivalsRefine old.wire.link.epoch w.primary.calls arrivals machine.waiting told → StandbyRefines second old.wire.link.epoch w.primary.calls machine.position (torn machine.life) node condition
     → EitherRefines first second (with_standby_as arrivals node condition old) (record w { standby = machine; wire = record w.wire { acknowledgements = told } })
 standby-either first second old arrivals node condition w machine told whole later parts arrivals_stand node_stands = elim parts [
   | inl up ↦ inl (up.0, standby-parts first second old arrivals node condition w machine told whole later up.1 arrivals_stand node_stands)
@@ -88,14 +87,14 @@ standby-either first second old arrivals node condition w machine told whole lat
       ))
 ]
 
-pub frames-stand : {first second : Holder} {pair : Pair} {w : World} → EitherRefines first second pair w → AreFramesSent pair.link.epoch w.primary.calls pair.frames w.wire.frames
+pub frames-stand : {first second : Holder} {pair : Pair} {w : World} → EitherRefines first second pair w → AreFramesSent pair.wire.link.epoch w.primary.calls pair.wire.frames w.wire.frames
 frames-stand parts = elim parts [
   | inl up ↦ up.1.frames
   | inr (inl down) ↦ down.1.frames
   | inr (inr still) ↦ still.1.frames
 ]
 
-pub own-frames : {first second : Holder} {pair : Pair} {w : World} → EitherRefines first second pair w → has_ended pair.standby_condition ≡ false → All (IsOwn pair.link.epoch) w.wire.frames
+pub own-frames : {first second : Holder} {pair : Pair} {w : World} → EitherRefines first second pair w → has_ended pair.lives.standby ≡ false → All (IsOwn pair.wire.link.epoch) w.wire.frames
 own-frames parts = elim parts [
   | inl up ↦ up.1.own
   | inr (inl down) ↦ down.1.own
@@ -103,7 +102,7 @@ own-frames parts = elim parts [
 ]
 
 pub arrivals-stand : {first second : Holder} {pair : Pair} {w : World} → EitherRefines first second pair w
-    → ArrivalsRefine pair.link.epoch w.primary.calls pair.arrivals w.standby.waiting w.wire.acknowledgements
+    → ArrivalsRefine pair.wire.link.epoch w.primary.calls pair.wire.arrivals w.standby.waiting w.wire.acknowledgements
 arrivals-stand parts = elim parts [
   | inl up ↦ up.1.arrivals
   | inr (inl down) ↦ down.1.arrivals
@@ -111,15 +110,15 @@ arrivals-stand parts = elim parts [
 ]
 
 -- all that is on the wire is of the pair's epoch
-owns : {first second : Holder} {pair : Pair} {w : World} → runs pair.standby_condition ≡ true → EitherRefines first second pair w → All (IsOwn pair.link.epoch) w.wire.frames
-owns {first} {second} {pair} {w} follows parts = own-frames parts (not-over pair.standby_condition follows)
+owns : {first second : Holder} {pair : Pair} {w : World} → runs pair.lives.standby ≡ true → EitherRefines first second pair w → All (IsOwn pair.wire.link.epoch) w.wire.frames
+owns {first} {second} {pair} {w} follows parts = own-frames parts (not-over pair.lives.standby follows)
 
 -- a standby that runs
-pub follower : {first second : Holder} {pair : Pair} {w : World} → runs pair.standby_condition ≡ true → EitherRefines first second pair w
-    → StandbyStands second pair.link.epoch w.primary.calls w.standby.position pair.standby
+pub follower : {first second : Holder} {pair : Pair} {w : World} → runs pair.lives.standby ≡ true → EitherRefines first second pair w
+    → StandbyStands second pair.wire.link.epoch w.primary.calls w.standby.position pair.standby
 follower follows parts = (standby-refines parts).stands follows
 
-pub link-epoch : {first second : Holder} {pair : Pair} {w : World} → EitherRefines first second pair w → pair.link.epoch ≡ w.primary.epoch
+pub link-epoch : {first second : Holder} {pair : Pair} {w : World} → EitherRefines first second pair w → pair.wire.link.epoch ≡ w.primary.epoch
 link-epoch parts = elim parts [
   | inl up ↦ up.1.epoch
   | inr (inl down) ↦ down.1.epoch
@@ -127,21 +126,21 @@ link-epoch parts = elim parts [
 ]
 
 -- the epoch of the standby's node is the machine's
-pub own-epoch : (first second : Holder) (old : Pair) (w : World) → runs old.standby_condition ≡ true → NodesRefine first second old w → old.standby.epoch ≡ w.standby.epoch
+pub own-epoch : (first second : Holder) (old : Pair) (w : World) → runs old.lives.standby ≡ true → NodesRefine first second old w → old.standby.epoch ≡ w.standby.epoch
 own-epoch first second old w follows stands = (follower follows stands.parts).epoch_is ∙ link-epoch stands.parts ∙ sym stands.sound.standby.epoch_is
 
 -- ---- which events may come
 
 -- an event of a standby that runs
-standby-runs : {first second : Holder} {pair : Pair} {w : World} → runs pair.standby_condition ≡ true → NodesRefine first second pair w → (event : Event) → (is_running w.standby.life ≡ true → nodes_run w event ≡ true)
-    → Runs first second pair.primary_condition pair.standby_condition pair.asked w event
+standby-runs : {first second : Holder} {pair : Pair} {w : World} → runs pair.lives.standby ≡ true → NodesRefine first second pair w → (event : Event) → (is_running w.standby.life ≡ true → nodes_run w event ≡ true)
+    → Runs first second pair.lives w event
 standby-runs {first} {second} {pair} {w} follows stands event nodes = record {
   lives = stands.lives;
-  nodes = nodes (ap is_running stands.lives.standby ∙ running-as pair.standby_condition _ ∙ follows);
+  nodes = nodes (ap is_running stands.lives.standby ∙ running-as pair.lives.standby _ ∙ follows);
 }
 
 -- an event of both
-both-run : {first second : Holder} {pair : Pair} {w : World} → runs pair.standby_condition ≡ true → PairRefines first second pair w → Runs first second pair.primary_condition pair.standby_condition pair.asked w events.OpenLink
+both-run : {first second : Holder} {pair : Pair} {w : World} → runs pair.lives.standby ≡ true → PairRefines first second pair w → Runs first second pair.lives w events.OpenLink
 both-run {first} {second} {pair} {w} follows stands =
     standby-runs follows (nodes-refine stands) events.OpenLink (λ runs. ap (λ b. b && is_running w.standby.life) (ap is_running (serving stands)) ∙ runs)
 
@@ -198,18 +197,18 @@ delta-frames epoch low opened calls opening delta leads is = elim (cases_lt low 
 ]
 
 -- the position that the standby tells is its own
-own-position : {first second : Holder} {w : World} (old : Pair) (ack : Ack) → runs old.standby_condition ≡ true → ack ≡ record { epoch = old.standby.epoch; position = old.standby.contents.current.position }
+own-position : {first second : Holder} {w : World} (old : Pair) (ack : Ack) → runs old.lives.standby ≡ true → ack ≡ record { epoch = old.standby.epoch; position = old.standby.contents.current.position }
     → PairRefines first second old w → ack.position ≡ w.standby.position
 own-position old ack follows is stands = ap (λ (a : Ack). a.position) is ∙ (stands.parts.standby.stands follows).engine.contents_at.at
 
 -- and no higher one is known
-known-within : {first second : Holder} {w : World} (old : Pair) (ack : Ack) → runs old.standby_condition ≡ true → ack ≡ record { epoch = old.standby.epoch; position = old.standby.contents.current.position }
-    → PairRefines first second old w → old.link.known ≤ ack.position
+known-within : {first second : Holder} {w : World} (old : Pair) (ack : Ack) → runs old.lives.standby ≡ true → ack ≡ record { epoch = old.standby.epoch; position = old.standby.contents.current.position }
+    → PairRefines first second old w → old.wire.link.known ≤ ack.position
 known-within old ack follows is stands = omega (arith, own-position old ack follows is stands, stands.parts.link.known, stands.sound.standby.known)
 
-pub open-does : (old : Pair) (arrivals : Arrived) (link : Stream) (opening : Opening) (ack : Ack) → runs old.standby_condition ≡ true
-    → ack ≡ record { epoch = old.standby.epoch; position = old.standby.contents.current.position } → Acknowledges ack old.arrivals arrivals → Reopens old.link old.opening ack.position link
-    → opening ≡ old.opening → Does old events.OpenLink (Ok true) (with_opened arrivals link opening old)
+pub open-does : (old : Pair) (arrivals : Arrived) (link : Stream) (opening : Opening) (ack : Ack) → runs old.lives.standby ≡ true
+    → ack ≡ record { epoch = old.standby.epoch; position = old.standby.contents.current.position } → Acknowledges ack old.wire.arrivals arrivals → Reopens old.wire.link old.wire.opening ack.position link
+    → opening ≡ old.wire.opening → Does old events.OpenLink (Ok true) (with_opened arrivals link opening old)
 open-does old arrivals link opening ack follows is acknowledges reopens same =
     subst (λ (o : Opening). Does old events.OpenLink (Ok true) (with_opened arrivals link o old)) (sym same)
     (record {
@@ -218,61 +217,61 @@ open-does old arrivals link opening ack follows is acknowledges reopens same =
           let epoch : ack.epoch ≡ w.standby.epoch = ap (λ (a : Ack). a.epoch) is ∙ own-epoch first second old w follows (nodes-refine stands) in
           let position : ack.position ≡ w.standby.position = own-position old ack follows is stands in
           let own : told_by ack ≡ acknowledgement_of w.standby = ap₂ (λ e p. record { epoch = e; position = p }) epoch position in
-          let told = acknowledges old.link.epoch w parts.arrivals own in
+          let told = acknowledges old.wire.link.epoch w parts.arrivals own in
           let w' = with_acknowledged (acknowledgement_of w.standby ∷ []) w in
-          let heard : PartsRefine first second (with_arrivals arrivals old) w' = standby-parts first second old arrivals old.standby old.standby_condition w w.standby (w.wire.acknowledgements ++ acknowledgement_of w.standby ∷ []) (not-over old.standby_condition follows) (le_refl w.standby.position) parts told parts.standby in
-          let reopened = reopens-due old.link old.opening ack.position link (known-within old ack follows is stands) reopens in
+          let heard : PartsRefine first second (with_arrivals arrivals old) w' = standby-parts first second old arrivals old.standby old.lives.standby w w.standby (w.wire.acknowledgements ++ acknowledgement_of w.standby ∷ []) (not-over old.lives.standby follows) (le_refl w.standby.position) parts told parts.standby in
+          let reopened = reopens-due old.wire.link old.wire.opening ack.position link (known-within old ack follows is stands) reopens in
           let delta : Option Frame = reopened.0 in
           let machine = opened_link (due_delta w.standby.position w.primary.opened) w.primary.link in
-          let opened : LinkRefines w.primary.calls (record old.link { next = 0; delta = delta }) old.handed old.remote machine = record {
+          let opened : LinkRefines w.primary.calls (record old.wire.link { next = 0; delta = delta }) old.primary.handed old.wire.remote machine = record {
             waiting = parts.link.waiting;
             none_pending = parts.link.none_pending;
-            delta = delta-frames old.link.epoch w.standby.position w.primary.opened w.primary.calls old.opening delta parts.opening
-                (subst (λ p. IsDue old.link.epoch old.opening p delta) position reopened.1);
+            delta = delta-frames old.wire.link.epoch w.standby.position w.primary.opened w.primary.calls old.wire.opening delta parts.opening
+                (subst (λ p. IsDue old.wire.link.epoch old.wire.opening p delta) position reopened.1);
             kept = parts.link.kept;
             next_within = omega arith;
             again = refl;
             known = parts.link.known;
             remote_is = parts.link.remote_is;
           } in
-          let moved = link-alone first second (with_arrivals arrivals old) old.handed link old.remote w' machine heard (ap (λ (s : Stream). s.epoch) reopened.2)
-          (subst (λ (s : Stream). LinkRefines w.primary.calls s old.handed old.remote machine) (sym reopened.2) opened) in
-          goes-steps first second w (with_link machine w') events.OpenLink true old (with_opened arrivals link old.opening old) refl refl (nodes-refine stands) (both-run follows stands) stands.serves refl refl
+          let moved = link-alone first second (with_arrivals arrivals old) old.primary.handed link old.wire.remote w' machine heard (ap (λ (s : Stream). s.epoch) reopened.2)
+          (subst (λ (s : Stream). LinkRefines w.primary.calls s old.primary.handed old.wire.remote machine) (sym reopened.2) opened) in
+          goes-steps first second w (with_link machine w') events.OpenLink true old (with_opened arrivals link old.wire.opening old) refl refl (nodes-refine stands) (both-run follows stands) stands.serves refl refl
           (record { done = refl; goes = λ did. moved; stays = λ did. absurd (true≢false did) });
       cut = tt;
       calls = none-added _ _ refl;
     })
 
 -- memory was refused
-open-lacks : (old : Pair) (arrivals : Arrived) (link : Stream) (opening : Opening) (result : Result Bool Refusal) (refusal : Refusal) → runs old.standby_condition ≡ true → result ≡ Err refusal
-    → ((first second : Holder) (w : World) → PairRefines first second old w → refusal ≡ Memory) → Does old events.OpenLink result (with_opened arrivals link opening old)
-open-lacks old arrivals link opening result refusal follows is memory =
-    subst (λ (r : Result Bool Refusal). Does old events.OpenLink r (with_opened arrivals link opening old)) (sym is)
+open-lacks : (old : Pair) (wire : Wire) (result : Result Bool Refusal) (refusal : Refusal) → runs old.lives.standby ≡ true → result ≡ Err refusal
+    → ((first second : Holder) (w : World) → PairRefines first second old w → refusal ≡ Memory) → Does old events.OpenLink result (record old { wire = wire })
+open-lacks old wire result refusal follows is memory =
+    subst (λ (r : Result Bool Refusal). Does old events.OpenLink r (record old { wire = wire })) (sym is)
     (record {
       steps = tt;
       cut = λ first second w stands.
-          cut-same first second events.OpenLink refusal old (with_opened arrivals link opening old) w refl (memory first second w stands) refl refl (tells old.transcript) refl (both-run follows stands) refl (nodes-refine stands);
+          cut-same first second events.OpenLink refusal old (record old { wire = wire }) w refl (memory first second w stands) refl refl (tells old.clients.transcript) refl (both-run follows stands) refl (nodes-refine stands);
       calls = none-added _ _ refl;
     })
 
 -- for the acknowledgement
-pub open-cut : (old : Pair) (arrivals : Arrived) (link : Stream) (opening : Opening) (result : Result Bool Refusal) (refusal : Refusal) → runs old.standby_condition ≡ true → result ≡ Err refusal → refusal ≡ Memory
-    → Does old events.OpenLink result (with_opened arrivals link opening old)
-open-cut old arrivals link opening result refusal follows is memory = open-lacks old arrivals link opening result refusal follows is (λ first second w stands. memory)
+pub open-cut : (old : Pair) (wire : Wire) (result : Result Bool Refusal) (refusal : Refusal) → runs old.lives.standby ≡ true → result ≡ Err refusal → refusal ≡ Memory
+    → Does old events.OpenLink result (record old { wire = wire })
+open-cut old wire result refusal follows is memory = open-lacks old wire result refusal follows is (λ first second w stands. memory)
 
 -- For the delta. It is never refused as forgotten: what is told of the opening is there as long as the standby may be behind.
-pub open-refused : (old : Pair) (arrivals : Arrived) (link : Stream) (opening : Opening) (ack : Ack) (result : Result Bool Refusal) (refusal : Refusal) → runs old.standby_condition ≡ true
-    → ack ≡ record { epoch = old.standby.epoch; position = old.standby.contents.current.position } → result ≡ Err refusal → (old.opening.position ≤ ack.position → ⊥)
-    → (old.link.known < old.opening.position → refusal ≡ Memory) → Does old events.OpenLink result (with_opened arrivals link opening old)
-open-refused old arrivals link opening ack result refusal follows is refused behind cause =
-    open-lacks old arrivals link opening result refusal follows refused
-    (λ first second w stands. elim (cases_lt old.link.known old.opening.position) [
+pub open-refused : (old : Pair) (wire : Wire) (ack : Ack) (result : Result Bool Refusal) (refusal : Refusal) → runs old.lives.standby ≡ true
+    → ack ≡ record { epoch = old.standby.epoch; position = old.standby.contents.current.position } → result ≡ Err refusal → (old.wire.opening.position ≤ ack.position → ⊥)
+    → (old.wire.link.known < old.wire.opening.position → refusal ≡ Memory) → Does old events.OpenLink result (record old { wire = wire })
+open-refused old wire ack result refusal follows is refused behind cause =
+    open-lacks old wire result refusal follows refused
+    (λ first second w stands. elim (cases_lt old.wire.link.known old.wire.opening.position) [
       | inl below ↦ cause below
       | inr passed ↦ absurd (behind (omega (arith, passed, known-within old ack follows is stands)))
     ])
 
-pub deliver-acts : (old : Pair) (arrivals : Arrived) (texts : List (Vec ℕ Global)) (frame piece : ℕ) (result : Result Bool Refusal) → runs old.standby_condition ≡ true → texts ≡ old.frames
-    → IfOk result (λ did. (epoch : ℕ) (w : World) → ArrivalsRefine epoch w.primary.calls old.arrivals w.standby.waiting w.wire.acknowledgements
+pub deliver-acts : (old : Pair) (arrivals : Arrived) (texts : List (Vec ℕ Global)) (frame piece : ℕ) (result : Result Bool Refusal) → runs old.lives.standby ≡ true → texts ≡ old.wire.frames
+    → IfOk result (λ did. (epoch : ℕ) (w : World) → ArrivalsRefine epoch w.primary.calls old.wire.arrivals w.standby.waiting w.wire.acknowledgements
     → AreFramesSent epoch w.primary.calls texts w.wire.frames → All (IsOwn epoch) w.wire.frames
     → Goes (may_happen w (events.Deliver frame piece)) did
     (ArrivalsRefine epoch w.primary.calls arrivals (delivered (option_items (slice_get w.wire.frames frame)) w.standby).waiting w.wire.acknowledgements)
@@ -283,14 +282,14 @@ deliver-acts old arrivals texts frame piece (Ok did) follows same go memory some
     record {
       steps = λ first second w stands.
           let parts = stands.parts in
-          let epoch = old.link.epoch in
+          let epoch = old.wire.link.epoch in
           let calls = w.primary.calls in
           let came = delivered (option_items (slice_get w.wire.frames frame)) w.standby in
           goes-either first second w (with_standby came w) (events.Deliver frame piece) did old (with_arrivals arrivals old) refl refl stands
           (standby-runs follows stands (events.Deliver frame piece) (λ runs. runs)) refl refl
           (goes-map (go epoch w (arrivals-stand parts) (subst (λ (all : List (Vec ℕ Global)). AreFramesSent epoch calls all w.wire.frames) (sym same) (frames-stand parts)) (owns follows parts))
-          (λ moved. standby-either first second old arrivals old.standby old.standby_condition w came w.wire.acknowledgements (not-over old.standby_condition follows) (le_refl w.standby.position) parts moved (standby-refines parts))
-          (λ stayed. standby-either first second old arrivals old.standby old.standby_condition w w.standby w.wire.acknowledgements (not-over old.standby_condition follows) (le_refl w.standby.position) parts stayed (standby-refines parts)));
+          (λ moved. standby-either first second old arrivals old.standby old.lives.standby w came w.wire.acknowledgements (not-over old.lives.standby follows) (le_refl w.standby.position) parts moved (standby-refines parts))
+          (λ stayed. standby-either first second old arrivals old.standby old.lives.standby w w.standby w.wire.acknowledgements (not-over old.lives.standby follows) (le_refl w.standby.position) parts stayed (standby-refines parts)));
       cut = tt;
       calls = none-added _ _ refl;
     }
@@ -299,28 +298,28 @@ deliver-acts old arrivals texts frame piece (Err refusal) follows same go memory
       steps = tt;
       cut = λ first second w stands.
           let sent = frames-stand stands.parts in
-          let is : frame < length w.wire.frames = omega (arith, some, ap length same, length-sent old.link.epoch w.primary.calls old.frames w.wire.frames sent) in
-          let refused : refusal ≡ Memory = memory old.link.epoch w (subst (λ (all : List (Vec ℕ Global)). AreFramesSent old.link.epoch w.primary.calls all w.wire.frames) (sym same) sent) in
-          cut-same first second (events.Deliver frame piece) refusal old (with_arrivals arrivals old) w refl refused refl refl (tells old.transcript) refl
+          let is : frame < length w.wire.frames = omega (arith, some, ap length same, length-sent old.wire.link.epoch w.primary.calls old.wire.frames w.wire.frames sent) in
+          let refused : refusal ≡ Memory = memory old.wire.link.epoch w (subst (λ (all : List (Vec ℕ Global)). AreFramesSent old.wire.link.epoch w.primary.calls all w.wire.frames) (sym same) sent) in
+          cut-same first second (events.Deliver frame piece) refusal old (with_arrivals arrivals old) w refl refused refl refl (tells old.clients.transcript) refl
           (standby-runs follows stands (events.Deliver frame piece) (λ runs. runs)) (lt-ltb frame (length w.wire.frames) is) stands;
       calls = none-added _ _ refl;
     }
 
 abbrev pub with_node : Arrived → Node → Pair → Pair
-with_node arrivals node pair = record pair { arrivals = arrivals; standby = node }
+with_node arrivals node pair = record pair { wire = record pair.wire { arrivals = arrivals }; standby = node }
 
-node-either : (first second : Holder) (old : Pair) (arrivals : Arrived) (node : Node) (w : World) (machine : MachineStandby) (told : List Acknowledgement) → runs old.standby_condition ≡ true → EitherRefines first second old w
-    → w.standby.position ≤ machine.position → ArrivalsRefine old.link.epoch w.primary.calls arrivals machine.waiting told → StandbyStands second old.link.epoch w.primary.calls machine.position node
+node-either : (first second : Holder) (old : Pair) (arrivals : Arrived) (node : Node) (w : World) (machine : MachineStandby) (told : List Acknowledgement) → runs old.lives.standby ≡ true → EitherRefines first second old w
+    → w.standby.position ≤ machine.position → ArrivalsRefine old.wire.link.epoch w.primary.calls arrivals machine.waiting told → StandbyStands second old.wire.link.epoch w.primary.calls machine.position node
     → EitherRefines first second (with_node arrivals node old) (record w { standby = machine; wire = record w.wire { acknowledgements = told } })
 node-either first second old arrivals node w machine told follows parts later arrivals_stand node_stands =
-    standby-either first second old arrivals node old.standby_condition w machine told (not-over old.standby_condition follows) later parts arrivals_stand (record {
+    standby-either first second old arrivals node old.lives.standby w machine told (not-over old.lives.standby follows) later parts arrivals_stand (record {
       stands = λ up. node_stands;
-      left = λ stopped. absurd (not-still old.standby_condition follows (stopped-still old.standby_condition stopped));
-      down = λ down. absurd (not-crashed old.standby_condition follows down);
+      left = λ stopped. absurd (not-still old.lives.standby follows (stopped-still old.lives.standby stopped));
+      down = λ down. absurd (not-crashed old.lives.standby follows down);
     })
 
-apply-steps : (first second : Holder) (old : Pair) (arrivals : Arrived) (node : Node) (w : World) (did : Bool) → runs old.standby_condition ≡ true → NodesRefine first second old w
-    → AppliesFirst second old.link.epoch w did arrivals old.standby node → Steps first second w events.Apply did old (with_node arrivals node old)
+apply-steps : (first second : Holder) (old : Pair) (arrivals : Arrived) (node : Node) (w : World) (did : Bool) → runs old.lives.standby ≡ true → NodesRefine first second old w
+    → AppliesFirst second old.wire.link.epoch w did arrivals old.standby node → Steps first second w events.Apply did old (with_node arrivals node old)
 apply-steps first second old arrivals node w true follows stands applies =
     let moved = applies.goes refl in
     let applied = moved.1 in
@@ -336,11 +335,11 @@ apply-steps first second old arrivals node w true follows stands applies =
         sound = sound-step w events.Apply true w' step stands.sound;
         lives = lives-like (record { allowed = refl; primary_disk = refl; standby_disk = kept.1; primary = refl; standby = kept.0; epoch = refl }) stands.lives;
         parts = node-either first second old arrivals node w applied.standby (w.wire.acknowledgements ++ applied.told) follows stands.parts (grows-step w events.Apply true w' step stands.sound).safe
-            (subst (λ (x : World). ArrivalsRefine old.link.epoch w.primary.calls arrivals x.standby.waiting x.wire.acknowledgements) applied.now moved.2)
-            (subst (λ (x : World). StandbyStands second old.link.epoch w.primary.calls x.standby.position node) applied.now moved.3);
+            (subst (λ (x : World). ArrivalsRefine old.wire.link.epoch w.primary.calls arrivals x.standby.waiting x.wire.acknowledgements) applied.now moved.2)
+            (subst (λ (x : World). StandbyStands second old.wire.link.epoch w.primary.calls x.standby.position node) applied.now moved.3);
       };
       moves = record {
-        primary = near-rest first w.primary.calls w.primary.committer.position w.primary.committer.position (torn w.primary.life) old.device old.device refl (primary-stands first second old w stands.parts);
+        primary = near-rest first w.primary.calls w.primary.committer.position w.primary.committer.position (torn w.primary.life) old.primary.device old.primary.device refl (primary-stands first second old w stands.parts);
         standby = λ whole. near-from second w.primary.calls w.standby.position applied.standby.position (torn w.standby.life) old.standby.device node.device
             (subst (λ (x : World). Moves second w.primary.calls w.standby.position x.standby.position old.standby.device node.device) applied.now moved.4);
       };
@@ -348,7 +347,7 @@ apply-steps first second old arrivals node w true follows stands applies =
 apply-steps first second old arrivals node w false follows stands applies =
     let stayed = applies.stays refl in
     let parts = node-either first second old arrivals node w w.standby w.wire.acknowledgements follows stands.parts (le_refl w.standby.position) stayed.0
-    (subst (StandbyStands second old.link.epoch w.primary.calls w.standby.position) (sym stayed.1) (follower follows stands.parts)) in
+    (subst (StandbyStands second old.wire.link.epoch w.primary.calls w.standby.position) (sym stayed.1) (follower follows stands.parts)) in
     let runs = standby-runs follows stands events.Apply (λ runs. runs) in
     record {
       world = w;
@@ -364,31 +363,31 @@ ends-apply Fault P Q both ends = both Breaks ends
 ends-apply Exhausted P Q both ends = both RestsAtFrameLimit ends
 ends-apply refusal P Q both ends = absurd ends
 
-pub apply-acts : (old : Pair) (arrivals : Arrived) (node : Node) (result : Result Bool Refusal) → runs old.standby_condition ≡ true
-    → IfOk result (λ did. (holder : Holder) (w : World) → Sound w → old.standby.epoch ≡ w.standby.epoch → ArrivalsRefine old.standby.epoch w.primary.calls old.arrivals w.standby.waiting w.wire.acknowledgements
+pub apply-acts : (old : Pair) (arrivals : Arrived) (node : Node) (result : Result Bool Refusal) → runs old.lives.standby ≡ true
+    → IfOk result (λ did. (holder : Holder) (w : World) → Sound w → old.standby.epoch ≡ w.standby.epoch → ArrivalsRefine old.standby.epoch w.primary.calls old.wire.arrivals w.standby.waiting w.wire.acknowledgements
     → StandbyStands holder old.standby.epoch w.primary.calls w.standby.position old.standby
     → AppliesFirst holder old.standby.epoch w did arrivals old.standby node)
-    → ((holder : Holder) (w : World) → Sound w → old.standby.epoch ≡ w.standby.epoch → ArrivalsRefine old.standby.epoch w.primary.calls old.arrivals w.standby.waiting w.wire.acknowledgements
+    → ((holder : Holder) (w : World) → Sound w → old.standby.epoch ≡ w.standby.epoch → ArrivalsRefine old.standby.epoch w.primary.calls old.wire.arrivals w.standby.waiting w.wire.acknowledgements
     → StandbyStands holder old.standby.epoch w.primary.calls w.standby.position old.standby → NearOnly holder w.primary.calls w.standby.position (next_standby w) old.standby.device node.device)
-    → IfErr result (λ refusal. (holder : Holder) (w : World) → Sound w → old.standby.epoch ≡ w.standby.epoch → ArrivalsRefine old.standby.epoch w.primary.calls old.arrivals w.standby.waiting w.wire.acknowledgements
+    → IfErr result (λ refusal. (holder : Holder) (w : World) → Sound w → old.standby.epoch ≡ w.standby.epoch → ArrivalsRefine old.standby.epoch w.primary.calls old.wire.arrivals w.standby.waiting w.wire.acknowledgements
     → StandbyStands holder old.standby.epoch w.primary.calls w.standby.position old.standby
     → (may_happen w events.Apply ≡ true) × EndsBy refusal events.Apply (λ _ last. last holder w.primary.calls w.standby.position (next_standby w) old.standby.device node.device))
     → Acts old events.Apply result (with_node arrivals node old)
 apply-acts old arrivals node result follows applies only cuts = go result applies cuts
   where
-    arrive : (first second : Holder) (w : World) → NodesRefine first second old w → ArrivalsRefine old.standby.epoch w.primary.calls old.arrivals w.standby.waiting w.wire.acknowledgements
+    arrive : (first second : Holder) (w : World) → NodesRefine first second old w → ArrivalsRefine old.standby.epoch w.primary.calls old.wire.arrivals w.standby.waiting w.wire.acknowledgements
     arrive first second w stands =
-        subst (λ e. ArrivalsRefine e w.primary.calls old.arrivals w.standby.waiting w.wire.acknowledgements) (sym (follower follows stands.parts).epoch_is) (arrivals-stand stands.parts)
+        subst (λ e. ArrivalsRefine e w.primary.calls old.wire.arrivals w.standby.waiting w.wire.acknowledgements) (sym (follower follows stands.parts).epoch_is) (arrivals-stand stands.parts)
 
     stand : (first second : Holder) (w : World) → NodesRefine first second old w → StandbyStands second old.standby.epoch w.primary.calls w.standby.position old.standby
     stand first second w stands =
         subst (λ e. StandbyStands second e w.primary.calls w.standby.position old.standby) (sym (follower follows stands.parts).epoch_is) (follower follows stands.parts)
 
     go : (result : Result Bool Refusal)
-        → IfOk result (λ did. (holder : Holder) (w : World) → Sound w → old.standby.epoch ≡ w.standby.epoch → ArrivalsRefine old.standby.epoch w.primary.calls old.arrivals w.standby.waiting w.wire.acknowledgements
+        → IfOk result (λ did. (holder : Holder) (w : World) → Sound w → old.standby.epoch ≡ w.standby.epoch → ArrivalsRefine old.standby.epoch w.primary.calls old.wire.arrivals w.standby.waiting w.wire.acknowledgements
         → StandbyStands holder old.standby.epoch w.primary.calls w.standby.position old.standby
         → AppliesFirst holder old.standby.epoch w did arrivals old.standby node)
-        → IfErr result (λ refusal. (holder : Holder) (w : World) → Sound w → old.standby.epoch ≡ w.standby.epoch → ArrivalsRefine old.standby.epoch w.primary.calls old.arrivals w.standby.waiting w.wire.acknowledgements
+        → IfErr result (λ refusal. (holder : Holder) (w : World) → Sound w → old.standby.epoch ≡ w.standby.epoch → ArrivalsRefine old.standby.epoch w.primary.calls old.wire.arrivals w.standby.waiting w.wire.acknowledgements
         → StandbyStands holder old.standby.epoch w.primary.calls w.standby.position old.standby
         → (may_happen w events.Apply ≡ true) × EndsBy refusal events.Apply (λ _ last. last holder w.primary.calls w.standby.position (next_standby w) old.standby.device node.device))
         → Acts old events.Apply result (with_node arrivals node old)
@@ -407,7 +406,7 @@ apply-acts old arrivals node result follows applies only cuts = go result applie
           cut = λ first second w stands.
               let new = with_node arrivals node old in
               let cut = cuts second w stands.sound (own-epoch first second old w follows stands) (arrive first second w stands) (stand first second w stands) in
-              cut-for first second events.Apply refusal old new w stands (tells old.transcript) refl (enabled-is (standby-runs follows stands events.Apply (λ runs. runs)) ∙ cut.0)
+              cut-for first second events.Apply refusal old new w stands (tells old.clients.transcript) refl (enabled-is (standby-runs follows stands events.Apply (λ runs. runs)) ∙ cut.0)
               (ends-apply refusal (λ _ last. last second w.primary.calls w.standby.position (next_standby w) old.standby.device node.device) (Led first second old new w)
               (λ last broken. (rests-primary first second old w stands, λ whole. inl broken)) cut.1);
           calls = none-added _ _ refl;

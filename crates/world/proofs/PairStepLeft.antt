@@ -1,5 +1,5 @@
 -- What a step of the primary's committer leaves of its device where a crash cuts it, or a fence fails in it.
-use Rattle.std.proofs.Common.{◌≡◌, ◌⊎◌, ℕ, ◌<◌, Bool, true, false, ◌&&◌, nat_lt, List, length, Result, Ok, Err, Vec, Global, inl, inr, refl, sym, ap, ◌∙◌, true≢false}
+use Rattle.std.proofs.Common.{◌≡◌, ◌⊎◌, ◌<◌, Bool, true, false, ◌&&◌, nat_lt, List, length, Result, Ok, Err, inl, inr, refl, sym, ap, ◌∙◌, true≢false}
 use Rattle.pmem.specs.Device.{State}
 use Rattle.pmem.specs.Runs.{LeavesOnly}
 use Rattle.kv_types.specs.declared.refusal.Refusal.{Refusal}
@@ -10,9 +10,6 @@ use Rattle.model.specs.declared.work.Work.{Work}
 use Rattle.model.specs.Group.{Contents}
 use Rattle.model.specs.Standing.{Holder}
 use Rattle.wbl_engine.specs.declared.freeing.Freed.{Freed}
-use Rattle.redis_core.specs.Sequencing.{Sequencing}
-use Rattle.standby_stream.specs.declared.opening.Opening.{Opening}
-use Rattle.standby_stream.specs.Stream.{Stream}
 use Rattle.group_commit.specs.Due.{due_of}
 use Rattle.group_commit.specs.Working.{TakesGroup}
 use Rattle.group_commit.specs.declared.committer.Committer.{Committer}
@@ -21,37 +18,32 @@ use Rattle.group_commit.specs.declared.due.Due.TheVariants as due
 use Rattle.group_commit.specs.declared.stage.Done.{Done}
 use Rattle.machine.specs.declared.event.Node.TheVariants as node
 use Rattle.machine.specs.Event.{Life, World, is_between, is_running, may_clear, may_commit, may_cut, may_free}
-use Rattle.connections.specs.declared.connections.Connections.{Connections}
-use Rattle.connections.specs.declared.transcript.Transcript.{Transcript}
 use Rattle.world.specs.Committing.{link_has_room}
 use Rattle.world.specs.Condition.{runs}
 use Rattle.world.specs.Cutting.{cut_of}
 use Rattle.world.specs.Pair.{Pair, PairRefines}
 use Rattle.world.specs.Remaining.{LeftBy}
-use Rattle.world.specs.Standby.{Arrived, Node}
 use Rattle.world.specs.Stopping.{BreaksPrimary}
-use Rattle.world.specs.declared.condition.AskedFences.{AskedFences}
-use Rattle.world.specs.declared.condition.Condition.{Condition}
 use Rattle.world.proofs.LivesLemmas.{serves-as, serving}
 use Rattle.world.proofs.PairClearing.{clear-left}
 use Rattle.world.proofs.PairFreeing.{free-left}
-use Rattle.world.proofs.PairTurns.{Took, commit-left, pair_of}
+use Rattle.world.proofs.PairTurns.{Took, commit-left, pair_of, pair_with}
 use Rattle.world.proofs.QueueLemmas.{clear-enabled, commit-enabled, free-enabled}
 
-module _ {E : Type 0} (device : E → State) (contents : E → Contents) (is_faulted : E → Bool) (sessions : Connections) (transcript : Transcript) (sequencer : Sequencing) (notices : List Freed) (link : Stream) (opening : Opening) (remote : ℕ) (frames : List (Vec ℕ Global)) (arrivals : Arrived) (standby : Node) (primary_condition standby_condition : Condition) (fences : AskedFences)
+module _ {E : Type 0} (device : E → State) (contents : E → Contents) (is_faulted : E → Bool) (pair : Pair)
     (before : Committer E) (works : Waiting Work) (handed : Waiting Group) (after : Committer E) (works' : Waiting Work) (handed' : Waiting Group) where
   -- the pair with these notices, before it and after it
   abbrev old : Pair
-  old = pair_of device contents is_faulted sessions transcript sequencer notices link opening remote frames arrivals standby primary_condition standby_condition fences before works handed
+  old = pair_of device contents is_faulted pair before works handed
 
   abbrev new : List Freed → Pair
-  new notices' = pair_of device contents is_faulted sessions transcript sequencer notices' link opening remote frames arrivals standby primary_condition standby_condition fences after works' handed'
+  new notices' = pair_with device contents is_faulted pair after works' notices' handed'
 
   abbrev now-due : Due
-  now-due = due_of before.stage before.aside.items works.items (link_has_room handed.items) (nat_lt 0 (length (contents before.engine).current.gaps.items)) remote
+  now-due = due_of before.stage before.aside.items works.items (link_has_room handed.items) (nat_lt 0 (length (contents before.engine).current.gaps.items)) pair.wire.remote
 
   abbrev Came : Due → Result Done Refusal → Type 0
-  Came step result = Took device contents is_faulted step (link_has_room handed.items) remote before works handed result after works' handed'
+  Came step result = Took device contents is_faulted step (link_has_room handed.items) pair.wire.remote before works handed result after works' handed'
 
   runs-and : {first second : Holder} {w : World} (b : Bool) → PairRefines first second old w → b ≡ true → (is_running w.primary.life && b) ≡ true
   runs-and b refines on = ap (λ (life : Life). is_running life && b) (serving refines) ∙ on
@@ -61,20 +53,20 @@ module _ {E : Type 0} (device : E → State) (contents : E → Contents) (is_fau
       → (may_cut w node.Primary (cut_of step) ≡ true) × LeavesOnly (device before.engine) (device after.engine) (LeftBy first w (cut_of step))
   step-left due.Commit result inside is came first second w refines = (
     runs-and (may_commit w) refines
-        (commit-enabled w old.committing handed.items refines.parts.committing refines.parts.link.waiting remote (length old.contents.current.gaps.items) is),
-    commit-left device contents is_faulted sessions transcript sequencer notices link opening remote frames arrivals standby primary_condition standby_condition fences before after works works' handed handed' result
+        (commit-enabled w old.primary.committing handed.items refines.parts.committing refines.parts.link.waiting pair.wire.remote (length old.primary.contents.current.gaps.items) is),
+    commit-left device contents is_faulted pair before after works works' handed handed' result
         came first second w refines,
   )
   step-left due.Free result inside is came first second w refines = (
     runs-and (may_free w) refines
-        (free-enabled w old.committing handed.items refines.parts.committing refines.parts.link.waiting remote (length old.contents.current.gaps.items) refines.parts.link.remote_is is),
-    free-left device contents is_faulted sessions transcript sequencer link opening remote frames arrivals standby primary_condition standby_condition fences before works notices handed is after works' handed' result
+        (free-enabled w old.primary.committing handed.items refines.parts.committing refines.parts.link.waiting pair.wire.remote (length old.primary.contents.current.gaps.items) refines.parts.link.remote_is is),
+    free-left device contents is_faulted pair before works handed is after works' handed' result
         came first second w refines,
   )
   step-left due.Clear result inside is came first second w refines = (
     runs-and (may_clear w) refines
-        (clear-enabled w old.committing handed.items refines.parts.committing refines.parts.link.waiting remote (length old.contents.current.gaps.items) refines.parts.freeing.gaps is),
-    clear-left device contents is_faulted sessions transcript sequencer link opening remote frames arrivals standby primary_condition standby_condition fences before works notices handed is after works' handed' result
+        (clear-enabled w old.primary.committing handed.items refines.parts.committing refines.parts.link.waiting pair.wire.remote (length old.primary.contents.current.gaps.items) refines.parts.freeing.gaps is),
+    clear-left device contents is_faulted pair before works handed is after works' handed' result
         came first second w refines,
   )
   step-left step result inside is came first second w refines = absurd (true≢false inside)
@@ -107,7 +99,7 @@ module _ {E : Type 0} (device : E → State) (contents : E → Contents) (is_fau
       by due.Clear inside (none, queue, clears) = clears.fault (ap Err fault)
       by step inside came = absurd (true≢false inside)
 
-  pub step-breaks : (step : Due) (refusal : Refusal) (notices' : List Freed) → refusal ≡ Fault → is_between (cut_of step) ≡ false → runs primary_condition ≡ true → now-due ≡ step → Came step (Err refusal)
+  pub step-breaks : (step : Due) (refusal : Refusal) (notices' : List Freed) → refusal ≡ Fault → is_between (cut_of step) ≡ false → runs pair.lives.primary ≡ true → now-due ≡ step → Came step (Err refusal)
       → ((engine : E) → (contents engine).lines ≡ (device engine).lines) → BreaksPrimary (cut_of step) old (new notices')
   step-breaks step refusal notices' fault inside up is came sized = record {
     fails = λ first second w stands.

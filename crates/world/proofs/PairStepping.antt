@@ -1,5 +1,5 @@
 -- What the committer's step does to the pair, whichever is due.
-use Rattle.std.proofs.Common.{◌≡◌, ◌≢◌, ◌⊎◌, ℕ, Bool, true, false, List, [], ◌++◌, Result, Ok, Err, Vec, Global, inl, inr, refl, sym, ap, subst, ◌∙◌, true≢false, append-nil}
+use Rattle.std.proofs.Common.{◌≡◌, ◌≢◌, ℕ, Bool, true, false, List, [], ◌++◌, Result, Ok, Err, inl, inr, refl, sym, ap, subst, ◌∙◌, true≢false, append-nil}
 use Rattle.pmem.specs.Device.{State}
 use Rattle.kv_types.specs.declared.refusal.Refusal.{Refusal}
 use Rattle.kv_types.specs.declared.refusal.Refusal.TheVariants.{Memory}
@@ -8,9 +8,6 @@ use Rattle.model.specs.declared.group.Group.{Group}
 use Rattle.model.specs.declared.work.Work.{Work}
 use Rattle.model.specs.Group.{Contents}
 use Rattle.wbl_engine.specs.declared.freeing.Freed.{Freed}
-use Rattle.redis_core.specs.Sequencing.{Sequencing}
-use Rattle.standby_stream.specs.declared.opening.Opening.{Opening}
-use Rattle.standby_stream.specs.Stream.{Stream}
 use Rattle.group_commit.specs.Due.{due_now}
 use Rattle.group_commit.specs.declared.committer.Committer.{Committer}
 use Rattle.group_commit.specs.declared.due.Due.{Due}
@@ -19,15 +16,10 @@ use Rattle.group_commit.specs.declared.stage.Done.{Done}
 use Rattle.primary.specs.Standing.{notices_of}
 use Rattle.world.specs.Committing.{event_of, frees_places, link_has_room}
 use Rattle.world.specs.Pair.{Does, Pair}
-use Rattle.world.specs.Standby.{Arrived, Node}
 use Rattle.world.specs.Step.{Leaves, has_begun}
-use Rattle.connections.specs.declared.connections.Connections.{Connections}
-use Rattle.connections.specs.declared.transcript.Transcript.{Transcript}
-use Rattle.world.proofs.PairTurns.{Took, commit-does, commit-stays, hand-does-so, hand-leaves, hand-stays, raise-does-so, raise-leaves, raise-stays, went}
+use Rattle.world.proofs.PairTurns.{Took, pair_of, pair_with, commit-does, commit-stays, hand-does-so, hand-leaves, hand-stays, raise-does-so, raise-leaves, raise-stays, went}
 use Rattle.world.proofs.PairClearing.{clear-done, clear-ends, clear-idle, clear-roomless}
-use Rattle.world.proofs.PairFreeing.{free-done, free-ends, free-idle, free-roomless, pair_with}
-use Rattle.world.specs.declared.condition.Condition.{Condition}
-use Rattle.world.specs.declared.condition.AskedFences.{AskedFences}
+use Rattle.world.proofs.PairFreeing.{free-done, free-ends, free-idle, free-roomless}
 
 -- what a turn freed, of which the sequencer is to be told
 abbrev pub noted : Result Done Refusal → List Freed
@@ -61,16 +53,16 @@ module _ {E : Type 0} (device : E → State) (contents : E → Contents) (is_fau
   noted-so due.Clear result some took told = refl
   noted-so due.Nothing result some took told = absurd (some refl)
 
-module _ {E : Type 0} (device : E → State) (contents : E → Contents) (is_faulted : E → Bool) (sessions : Connections) (transcript : Transcript) (sequencer : Sequencing) (link : Stream) (opening : Opening) (remote : ℕ) (frames : List (Vec ℕ Global)) (arrivals : Arrived) (standby : Node) (primary_condition standby_condition : Condition) (fences : AskedFences)
-    (before : Committer E) (works : Waiting Work) (notices : List Freed) (handed : Waiting Group) where
+module _ {E : Type 0} (device : E → State) (contents : E → Contents) (is_faulted : E → Bool) (pair : Pair)
+    (before : Committer E) (works : Waiting Work) (handed : Waiting Group) where
   abbrev with : Committer E → Waiting Work → List Freed → Waiting Group → Pair
-  with = pair_with device contents is_faulted sessions transcript sequencer link opening remote frames arrivals standby primary_condition standby_condition fences
+  with = pair_with device contents is_faulted pair
 
   abbrev old : Pair
-  old = with before works notices handed
+  old = pair_of device contents is_faulted pair before works handed
 
   abbrev now : Due
-  now = due_now contents before works (link_has_room handed.items) remote
+  now = due_now contents before works (link_has_room handed.items) pair.wire.remote
 
   -- what an event did to the pair, and what it left as it was
   pub record Did (step : Due) (result : Result Bool Refusal) (new : Pair) : Type 0 where
@@ -81,23 +73,23 @@ module _ {E : Type 0} (device : E → State) (contents : E → Contents) (is_fau
 
   pub step-idle : (step : Due) → step ≢ due.Nothing → (now ≡ step → ⊥) → Did step (Ok false) old
   step-idle due.Commit some never = record {
-    does = commit-stays device contents is_faulted sessions transcript sequencer notices link opening remote frames arrivals standby primary_condition standby_condition fences before works handed never;
+    does = commit-stays device contents is_faulted pair before works handed never;
     leaves = record { primary = λ idle. refl; standby = λ idle. refl; frames = refl; acknowledgements = refl; effect = tt };
   }
   step-idle due.Raise some never = record {
-    does = raise-stays device contents is_faulted sessions transcript sequencer notices link opening remote frames arrivals standby primary_condition standby_condition fences before works handed never;
+    does = raise-stays device contents is_faulted pair before works handed never;
     leaves = record { primary = λ idle. refl; standby = λ idle. refl; frames = refl; acknowledgements = refl; effect = tt };
   }
   step-idle due.Hand some never = record {
-    does = hand-stays device contents is_faulted sessions transcript sequencer notices link opening remote frames arrivals standby primary_condition standby_condition fences before works handed never;
+    does = hand-stays device contents is_faulted pair before works handed never;
     leaves = record { primary = λ idle. refl; standby = λ idle. refl; frames = refl; acknowledgements = refl; effect = tt };
   }
   step-idle due.Free some never = record {
-    does = free-idle device contents is_faulted sessions transcript sequencer link opening remote frames arrivals standby primary_condition standby_condition fences before works notices handed never;
+    does = free-idle device contents is_faulted pair before works handed never;
     leaves = record { primary = λ idle. refl; standby = λ idle. refl; frames = refl; acknowledgements = refl; effect = tt };
   }
   step-idle due.Clear some never = record {
-    does = clear-idle device contents is_faulted sessions transcript sequencer link opening remote frames arrivals standby primary_condition standby_condition fences before works notices handed never;
+    does = clear-idle device contents is_faulted pair before works handed never;
     leaves = record { primary = λ idle. refl; standby = λ idle. refl; frames = refl; acknowledgements = refl; effect = tt };
   }
   step-idle due.Nothing some never = absurd (some refl)
@@ -106,11 +98,11 @@ module _ {E : Type 0} (device : E → State) (contents : E → Contents) (is_fau
 
   pub step-roomless : (step : Due) (notices' : List Freed) (refusal : Refusal) → refusal ≡ Memory → frees_places step ≡ true → now ≡ step → Did step (Err refusal) (with before works notices' handed)
   step-roomless due.Free notices' refusal memory frees is = record {
-    does = free-roomless device contents is_faulted sessions transcript sequencer link opening remote frames arrivals standby primary_condition standby_condition fences before works notices notices' handed refusal memory is;
+    does = free-roomless device contents is_faulted pair before works notices' handed refusal memory is;
     leaves = record { primary = λ idle. refl; standby = λ idle. refl; frames = refl; acknowledgements = refl; effect = tt };
   }
   step-roomless due.Clear notices' refusal memory frees is = record {
-    does = clear-roomless device contents is_faulted sessions transcript sequencer link opening remote frames arrivals standby primary_condition standby_condition fences before works notices notices' handed refusal memory is;
+    does = clear-roomless device contents is_faulted pair before works notices' handed refusal memory is;
     leaves = record { primary = λ idle. refl; standby = λ idle. refl; frames = refl; acknowledgements = refl; effect = tt };
   }
   step-roomless due.Commit notices' refusal memory frees is = absurd (true≢false (sym frees))
@@ -122,10 +114,10 @@ module _ {E : Type 0} (device : E → State) (contents : E → Contents) (is_fau
 
   module _ (after : Committer E) (works' : Waiting Work) (handed' : Waiting Group) where
     abbrev Came : Due → Result Done Refusal → Type 0
-    Came step result = Took device contents is_faulted step (link_has_room handed.items) remote before works handed result after works' handed'
+    Came step result = Took device contents is_faulted step (link_has_room handed.items) pair.wire.remote before works handed result after works' handed'
 
     abbrev new : Result Done Refusal → Pair
-    new result = with after works' (notices ++ noted result) handed'
+    new result = with after works' (pair.primary.notices ++ noted result) handed'
 
     -- the step has begun
     begun : (result : Result Done Refusal) → has_begun (went result) ≡ true
@@ -134,39 +126,39 @@ module _ {E : Type 0} (device : E → State) (contents : E → Contents) (is_fau
 
     -- with nothing told, the notices stay
     untold : (step : Due) (result : Result Done Refusal) → step ≢ due.Nothing → frees_places step ≡ false → Came step result
-        → Does old (event_of step) (went result) (with after works' notices handed') → Does old (event_of step) (went result) (new result)
+        → Does old (event_of step) (went result) (with after works' pair.primary.notices handed') → Does old (event_of step) (went result) (new result)
     untold step result some none took does =
-        let same : notices ++ noted result ≡ notices =
-        ap (λ (more : List Freed). notices ++ more) (none-noted device contents is_faulted remote before after works works' handed handed' step result some none took) ∙ append-nil notices in
+        let same : pair.primary.notices ++ noted result ≡ pair.primary.notices =
+        ap (λ (more : List Freed). pair.primary.notices ++ more) (none-noted device contents is_faulted pair.wire.remote before after works works' handed handed' step result some none took) ∙ append-nil pair.primary.notices in
         subst (λ (ns : List Freed). Does old (event_of step) (went result) (with after works' ns handed')) (sym same) does
 
     pub step-did : (step : Due) (result : Result Done Refusal) → step ≢ due.Nothing → now ≡ step → Came step result → Did step (went result) (new result)
     step-did due.Commit result some is took = record {
-      does = untold due.Commit result some refl took (commit-does device contents is_faulted sessions transcript sequencer notices link opening remote frames arrivals standby primary_condition standby_condition fences before after works works' handed handed' result is took);
+      does = untold due.Commit result some refl took (commit-does device contents is_faulted pair before after works works' handed handed' result is took);
       leaves = record { primary = λ idle. absurd (true≢false (sym (begun result) ∙ idle)); standby = λ idle. refl; frames = refl; acknowledgements = refl; effect = tt };
     }
     step-did due.Raise result some is took = record {
-      does = untold due.Raise result some refl took (raise-does-so device contents is_faulted sessions transcript sequencer notices link opening remote frames arrivals standby primary_condition standby_condition fences before after works works' handed handed' result took);
-      leaves = record { primary = λ idle. raise-leaves device contents is_faulted remote before after works works' handed handed' result took; standby = λ idle. refl; frames = refl; acknowledgements = refl; effect = tt };
+      does = untold due.Raise result some refl took (raise-does-so device contents is_faulted pair before after works works' handed handed' result took);
+      leaves = record { primary = λ idle. raise-leaves device contents is_faulted pair.wire.remote before after works works' handed handed' result took; standby = λ idle. refl; frames = refl; acknowledgements = refl; effect = tt };
     }
     step-did due.Hand result some is took = record {
-      does = untold due.Hand result some refl took (hand-does-so device contents is_faulted sessions transcript sequencer notices link opening remote frames arrivals standby primary_condition standby_condition fences before after works works' handed handed' result took);
-      leaves = record { primary = λ idle. hand-leaves device contents is_faulted remote before after works works' handed handed' result took; standby = λ idle. refl; frames = refl; acknowledgements = refl; effect = tt };
+      does = untold due.Hand result some refl took (hand-does-so device contents is_faulted pair before after works works' handed handed' result took);
+      leaves = record { primary = λ idle. hand-leaves device contents is_faulted pair.wire.remote before after works works' handed handed' result took; standby = λ idle. refl; frames = refl; acknowledgements = refl; effect = tt };
     }
     step-did due.Free (Ok came) some is took =
-        let done = free-done device contents is_faulted sessions transcript sequencer link opening remote frames arrivals standby primary_condition standby_condition fences before works notices handed is after works' handed' came took in
+        let done = free-done device contents is_faulted pair before works handed is after works' handed' came took in
         record { does = done.0; leaves = record { primary = λ idle. absurd (true≢false idle); standby = λ idle. refl; frames = refl; acknowledgements = refl; effect = done.1 } }
     step-did due.Free (Err refusal) some is took = record {
-      does = subst (λ (ns : List Freed). Does old (event_of due.Free) (Err refusal) (with after works' ns handed')) (sym (append-nil notices))
-          (free-ends device contents is_faulted sessions transcript sequencer link opening remote frames arrivals standby primary_condition standby_condition fences before works notices handed is after works' handed' refusal took);
+      does = subst (λ (ns : List Freed). Does old (event_of due.Free) (Err refusal) (with after works' ns handed')) (sym (append-nil pair.primary.notices))
+          (free-ends device contents is_faulted pair before works handed is after works' handed' refusal took);
       leaves = record { primary = λ idle. absurd (true≢false idle); standby = λ idle. refl; frames = refl; acknowledgements = refl; effect = tt };
     }
     step-did due.Clear (Ok came) some is took =
-        let done = clear-done device contents is_faulted sessions transcript sequencer link opening remote frames arrivals standby primary_condition standby_condition fences before works notices handed is after works' handed' came took in
+        let done = clear-done device contents is_faulted pair before works handed is after works' handed' came took in
         record { does = done.0; leaves = record { primary = λ idle. absurd (true≢false idle); standby = λ idle. refl; frames = refl; acknowledgements = refl; effect = done.1 } }
     step-did due.Clear (Err refusal) some is took = record {
-      does = subst (λ (ns : List Freed). Does old (event_of due.Clear) (Err refusal) (with after works' ns handed')) (sym (append-nil notices))
-          (clear-ends device contents is_faulted sessions transcript sequencer link opening remote frames arrivals standby primary_condition standby_condition fences before works notices handed is after works' handed' refusal took);
+      does = subst (λ (ns : List Freed). Does old (event_of due.Clear) (Err refusal) (with after works' ns handed')) (sym (append-nil pair.primary.notices))
+          (clear-ends device contents is_faulted pair before works handed is after works' handed' refusal took);
       leaves = record { primary = λ idle. absurd (true≢false idle); standby = λ idle. refl; frames = refl; acknowledgements = refl; effect = tt };
     }
     step-did due.Nothing result some is took = absurd (some refl)

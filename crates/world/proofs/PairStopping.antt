@@ -1,5 +1,5 @@
 -- The primary stops where a fence fails in an event, as it was asked to.
-use Rattle.std.proofs.Common.{◌≡◌, Bool, true, false, ◌&&◌, List, [], ◌++◌, Result, Ok, Err, IfErr, inl, inr, refl, sym, ap, subst, ◌∙◌, true≢false}
+use Rattle.std.proofs.Common.{rules, ◌≡◌, Bool, true, false, ◌&&◌, List, [], ◌++◌, Result, Ok, Err, IfErr, inl, inr, refl, sym, ap, subst, ◌∙◌, true≢false}
 use Rattle.kv_types.specs.declared.refusal.Refusal.{Refusal}
 use Rattle.kv_types.specs.declared.refusal.Refusal.TheVariants.{Fault}
 use Rattle.pmem.proofs.Leaving.{LeavesOnly-weaken}
@@ -67,23 +67,11 @@ opening-breaks-in = record {
 
 -- once its primary stopped
 abbrev pub with_stopped_primary : Pair → Pair
-with_stopped_primary pair = record pair { primary_condition = conditions.Stopped; asked = record (pair.asked) { primary = false } }
+with_stopped_primary pair = record pair { lives = record pair.lives { primary = conditions.Stopped; asked = record pair.lives.asked { primary = false } } }
 
--- what the call had changed of it
-abbrev broken : Pair → Pair → Pair
-broken old mid = record old {
-  sequencer = mid.sequencer;
-  committing = mid.committing;
-  notices = mid.notices;
-  device = mid.device;
-  contents = mid.contents;
-  is_faulted = mid.is_faulted;
-  handed = mid.handed;
-}
-
-module _ (event : Event) (call : Cut) (old mid : Pair) (may : BreaksIn event call) (breaks : BreaksPrimary call old mid) (asked : old.asked.primary ≡ true) where
+module _ (event : Event) (call : Cut) (old mid : Pair) (may : BreaksIn event call) (breaks : BreaksPrimary call old mid) (asked : old.lives.asked.primary ≡ true) where
   abbrev new : Pair
-  new = with_stopped_primary (broken old mid)
+  new = with_stopped_primary (record old { primary = mid.primary })
 
   stopped : (first second : Holder) (w : World) → NodesRefine first second old w → StopsPrimary first second w event old new
   stopped first second w stands =
@@ -110,20 +98,6 @@ module _ (event : Event) (call : Cut) (old mid : Pair) (may : BreaksIn event cal
         standby = standby-refines stands.parts;
       } in
       let refines : EitherRefines first second new w' = inr (inr (refl, still)) in
-      let now : AreLives first second new.primary_condition new.standby_condition new.asked w' =
-      record {
-        allowed_are = lives.allowed_are;
-        primary_disk = lives.primary_disk;
-        standby_disk = lives.standby_disk;
-        primary_failing = refl;
-        standby_failing = lives.standby_failing;
-        primary = refl;
-        standby = lives.standby;
-        first_role = lives.first_role;
-        second_role = lives.second_role;
-        first_epoch = lives.first_epoch;
-        second_epoch = lives.second_epoch;
-      } in
       let opens : (image : Image) → LeftBy first w call image → OpensNear first w.primary.calls w.primary.committer.position (left_by w node.Primary (call_of event)) image =
       λ image left. subst (λ (c : Cut). OpensNear first w.primary.calls w.primary.committer.position (left_by w node.Primary c) image) (sym may.call_is)
       (subst (λ (before : List Remains). OpensNear first w.primary.calls w.primary.committer.position (before ++ remains) image) whole (left-opens first w call image left)) in
@@ -132,7 +106,7 @@ module _ (event : Event) (call : Cut) (old mid : Pair) (may : BreaksIn event cal
         world = w';
         step = step;
         stopped = refl;
-        stands = record { sound = sound-step w event true w' step stands.sound; lives = now; parts = refines };
+        stands = record { sound = sound-step w event true w' step stands.sound; lives = search (rules, lives); parts = refines };
         leaves = LeavesOnly-weaken (OpensNear first w.primary.calls w.primary.committer.position (left_by w node.Primary (call_of event))) opens fails.leaves;
         failures = fails.failures;
         same_standby = (refl, refl);
@@ -142,10 +116,10 @@ module _ (event : Event) (call : Cut) (old mid : Pair) (may : BreaksIn event cal
   stops = record { did = refl; stopped = λ first second w stands. inl (stopped first second w stands); frames = refl; acknowledgements = refl; transcript = refl }
 
 -- of a call in which a fence failed, as it was asked to
-pub primary-stops : {event : Event} {call : Cut} (old mid : Pair) → BreaksIn event call → BreaksPrimary call old mid → mid.asked.primary ≡ true → IsStep old event (Ok true) (with_stopped_primary mid)
+pub primary-stops : {event : Event} {call : Cut} (old mid : Pair) → BreaksIn event call → BreaksPrimary call old mid → mid.lives.asked.primary ≡ true → IsStep old event (Ok true) (with_stopped_primary mid)
 primary-stops {event} {call} old mid may breaks asked =
     subst (λ (pair : Pair). IsStep old event (Ok true) (with_stopped_primary pair)) (sym breaks.rest)
-    (stopped-is (stops event call old mid may breaks (sym (ap (λ (pair : Pair). pair.asked.primary) breaks.rest) ∙ asked)))
+    (stopped-is (stops event call old mid may breaks (sym (ap (λ (pair : Pair). pair.lives.asked.primary) breaks.rest) ∙ asked)))
 
 -- the call came to this
 pub fault-breaks : {result : Result Bool Refusal} {P : Type 0} → result ≡ Err Fault → IfErr result (λ refusal. refusal ≡ Fault → P) → P

@@ -1,5 +1,5 @@
 -- A fence of the standby's device failed that was asked to: the standby stops.
-use Rattle.std.proofs.Common.{◌≡◌, inl, inr, ℕ, true, false, ◌&&◌, cond, List, [], Ok, Vec, Global, refl, sym, ap, subst, ◌∙◌, true≢false, le_refl, rules}
+use Rattle.std.proofs.Common.{◌≡◌, inl, inr, ℕ, true, false, ◌&&◌, cond, List, [], Ok, Vec, Global, refl, sym, ap, subst, ◌∙◌, true≢false, le_refl}
 use Rattle.std.proofs.lemmas.Bool.{and_parts}
 use Rattle.pmem.proofs.Leaving.{LeavesOnly-weaken}
 use Rattle.model.specs.Standing.{Holder}
@@ -12,16 +12,15 @@ use Rattle.machine.specs.Event.{Allowed, Fails as MachineFails, Happens, Remains
 use Rattle.machine.specs.Row.{touches}
 use Rattle.machine.proofs.SoundEvents.{sound-step}
 use Rattle.world.specs.Condition.{has_ended, life_as}
-use Rattle.world.specs.declared.condition.AskedFences.{AskedFences}
-use Rattle.world.specs.declared.condition.Condition.{Condition}
 use Rattle.world.specs.declared.condition.Condition.TheVariants.{Stopped}
 use Rattle.world.specs.Link.{AreAcksSent, AreFramesRead}
-use Rattle.world.specs.Pair.{AreLives, EitherRefines, HasStandby, NodesRefine, Pair, StillRefine}
+use Rattle.world.specs.Pair.{AreLives, EitherRefines, HasStandby, NodesRefine, Pair, StillRefine, Lives}
 use Rattle.world.specs.Remaining.{KeepsOne}
 use Rattle.world.specs.Standby.{Arrived, ArrivalsRefine, StandbyRefines}
 use Rattle.world.specs.Step.{IsStep}
 use Rattle.world.specs.Stopping.{BreaksPromotion, BreaksStandby, Fails, StopsStandby, call_of}
 use Rattle.world.proofs.LivesLemmas.{crashed-as, crashed-not-over, ended-still, not-over, retired-as, running-as, still-as}
+use Rattle.world.proofs.PairLemmas.{asked-either}
 use Rattle.world.proofs.PairStandby.{arrivals-stand, standby-either, with_standby_as}
 use Rattle.world.proofs.RemainLemmas.{keeps-near, left-later}
 use Rattle.world.proofs.StepLemmas.{stopped-is}
@@ -36,7 +35,7 @@ pub record MayStop (event : Event) : Type 0 where
   pub began : {first second : Holder} {pair : Pair} {w : World} → NodesRefine first second pair w → may_cut w node.Standby (call_of event) ≡ true → HasStandby pair
 
 runs-on : {first second : Holder} {pair : Pair} {w : World} → NodesRefine first second pair w → is_running w.standby.life ≡ true → HasStandby pair
-runs-on {first} {second} {pair} {w} stands up = not-over pair.standby_condition (sym (ap is_running stands.lives.standby ∙ running-as pair.standby_condition (torn w.standby.life)) ∙ up)
+runs-on {first} {second} {pair} {w} stands up = not-over pair.lives.standby (sym (ap is_running stands.lives.standby ∙ running-as pair.lives.standby (torn w.standby.life)) ∙ up)
 
 pub stops-applying : MayStop Apply
 stops-applying = record {
@@ -51,7 +50,7 @@ stops-opening = record {
   touched = refl;
   happens = λ w w' fails. inr fails;
   enabled = λ {first} {second} {pair} {w} stands may. ap (λ (a : Allowed). a.restarts && is_crashed w.standby.life) stands.lives.allowed_are ∙ may;
-  began = λ {first} {second} {pair} {w} stands may. crashed-not-over pair.standby_condition (sym (ap is_crashed stands.lives.standby ∙ crashed-as pair.standby_condition (torn w.standby.life)) ∙ may);
+  began = λ {first} {second} {pair} {w} stands may. crashed-not-over pair.lives.standby (sym (ap is_crashed stands.lives.standby ∙ crashed-as pair.lives.standby (torn w.standby.life)) ∙ may);
 }
 
 pub stops-promoting : MayStop Promote
@@ -65,7 +64,7 @@ stops-promoting = record {
 -- ---- the standby
 
 -- what is left of it, and of what was delivered to it
-module _ (event : Event) (is : MayStop event) (old new : Pair) (lost : new.arrivals.delivered.items ≡ []) (told : new.arrivals.acknowledgements.items ≡ old.arrivals.acknowledgements.items)
+module _ (event : Event) (is : MayStop event) (old new : Pair) (lost : new.wire.arrivals.delivered.items ≡ []) (told : new.wire.arrivals.acknowledgements.items ≡ old.wire.arrivals.acknowledgements.items)
     (first second : Holder) (w : World) (stands : NodesRefine first second old w)
     (fails : Fails (may_cut w node.Standby (call_of event)) (KeepsOne second w.primary.calls w.standby.position (left_by w node.Standby (call_of event))) old.standby.device new.standby.device)
     (lines : old.standby.device.lines ≡ second.lines) where
@@ -75,13 +74,13 @@ module _ (event : Event) (is : MayStop event) (old new : Pair) (lost : new.arriv
   abbrev next : World
   next = halted node.Standby others w
 
-  empty : ArrivalsRefine old.link.epoch w.primary.calls new.arrivals [] w.wire.acknowledgements
+  empty : ArrivalsRefine old.wire.link.epoch w.primary.calls new.wire.arrivals [] w.wire.acknowledgements
   empty = record {
-    delivered = subst (λ (frames : List Frame). AreFramesRead old.link.epoch w.primary.calls frames []) (sym lost) tt;
+    delivered = subst (λ (frames : List Frame). AreFramesRead old.wire.link.epoch w.primary.calls frames []) (sym lost) tt;
     acknowledged = subst (λ (acks : List (Vec ℕ Global)). AreAcksSent acks w.wire.acknowledgements) (sym told) (arrivals-stand stands.parts).acknowledged;
   }
 
-  stopped : StandbyRefines second old.link.epoch w.primary.calls w.standby.position others new.standby Stopped
+  stopped : StandbyRefines second old.wire.link.epoch w.primary.calls w.standby.position others new.standby Stopped
   stopped = record {
     stands = λ up. absurd (true≢false (sym up));
     left = λ is. record { lines_are = fails.lines_are ∙ lines; each = λ image at. fails.leaves.each image (inl at) };
@@ -89,22 +88,22 @@ module _ (event : Event) (is : MayStop event) (old new : Pair) (lost : new.arriv
   }
 
   -- the pair stands for the world after it, if its primary does
-  stops-in : old.asked.standby ≡ true → new.primary_condition ≡ old.primary_condition → new.standby_condition ≡ Stopped → new.asked ≡ record (old.asked) { standby = false } → new.device ≡ old.device
+  stops-in : old.lives.asked.standby ≡ true → new.lives ≡ record old.lives { standby = Stopped; asked = record old.lives.asked { standby = false } } → new.primary.device ≡ old.primary.device
       → EitherRefines first second new next → StopsStandby first second w event old new
-  stops-in asked primary condition flags device parts =
+  stops-in asked live device parts =
       let began = is.began stands fails.enabled in
       let step : Step w event true next =
       record { done = sym (is.enabled stands fails.enabled); happens = λ did. is.happens w next (record { asked = stands.lives.standby_failing ∙ asked; now = refl }); stands = λ did. absurd (true≢false did) } in
       let old_lives = stands.lives in
-      let lives : AreLives first second new.primary_condition new.standby_condition new.asked next =
+      let lives : AreLives first second new.lives next =
       record {
         allowed_are = old_lives.allowed_are;
-        primary_disk = old_lives.primary_disk ∙ ap (λ b. cond b 1 0) began ∙ sym (ap (λ (c : Condition). cond (has_ended c) 1 0) condition);
+        primary_disk = old_lives.primary_disk ∙ ap (λ b. cond b 1 0) began ∙ sym (ap (λ (l : Lives). cond (has_ended l.standby) 1 0) live);
         standby_disk = old_lives.standby_disk;
-        primary_failing = old_lives.primary_failing ∙ sym (ap (λ (a : AskedFences). a.primary) flags);
-        standby_failing = sym (ap (λ (a : AskedFences). a.standby) flags);
-        primary = old_lives.primary ∙ sym (ap (λ (c : Condition). life_as c (torn w.primary.life)) primary);
-        standby = sym (ap (λ (c : Condition). life_as c others) condition);
+        primary_failing = old_lives.primary_failing ∙ sym (ap (λ (l : Lives). l.asked.primary) live);
+        standby_failing = sym (ap (λ (l : Lives). l.asked.standby) live);
+        primary = old_lives.primary ∙ sym (ap (λ (l : Lives). life_as l.primary (torn w.primary.life)) live);
+        standby = sym (ap (λ (l : Lives). life_as l.standby others) live);
         first_role = old_lives.first_role;
         second_role = old_lives.second_role;
         first_epoch = old_lives.first_epoch;
@@ -117,39 +116,31 @@ module _ (event : Event) (is : MayStop event) (old new : Pair) (lost : new.arriv
         stopped = refl;
         stands = record { sound = sound-step w event true next step stands.sound; lives = lives; parts = parts };
         began = began;
-        whole = ap has_ended condition;
+        whole = ap (λ (l : Lives). has_ended l.standby) live;
         leaves = LeavesOnly-weaken _ (keeps-near second w.primary.calls w.standby.position others) fails.leaves;
         failures = fails.failures;
         same_primary = device;
       }
 
--- of which devices a fence was asked to fail is nothing to its parts
-asked-either : (first second : Holder) (pair : Pair) (asked : AskedFences) (w : World) → EitherRefines first second pair w → EitherRefines first second (record pair { asked = asked }) w
-asked-either first second pair asked w parts = elim parts [
-  | inl up ↦ inl (up.0, search (rules, up.1))
-  | inr (inl down) ↦ inr (inl (down.0, search (rules, down.1)))
-  | inr (inr still) ↦ inr (inr (still.0, search (rules, still.1)))
-]
-
 abbrev pub with_stopped_standby : Arrived → Pair → Pair
-with_stopped_standby arrivals pair = record pair { arrivals = arrivals; standby_condition = Stopped; asked = record (pair.asked) { standby = false } }
+with_stopped_standby arrivals pair = record pair { wire = record pair.wire { arrivals = arrivals }; lives = record pair.lives { standby = Stopped; asked = record pair.lives.asked { standby = false } } }
 
 -- ---- in a call of its own
 
-pub standby-stops : (old : Pair) (event : Event) (mid : Pair) (arrivals : Arrived) → MayStop event → mid.asked.standby ≡ true → BreaksStandby (call_of event) old mid
-    → arrivals.delivered.items ≡ [] → arrivals.acknowledgements ≡ mid.arrivals.acknowledgements → IsStep old event (Ok true) (with_stopped_standby arrivals mid)
+pub standby-stops : (old : Pair) (event : Event) (mid : Pair) (arrivals : Arrived) → MayStop event → mid.lives.asked.standby ≡ true → BreaksStandby (call_of event) old mid
+    → arrivals.delivered.items ≡ [] → arrivals.acknowledgements ≡ mid.wire.arrivals.acknowledgements → IsStep old event (Ok true) (with_stopped_standby arrivals mid)
 standby-stops old event mid arrivals is flag breaks lost told =
     subst (λ (pair : Pair). IsStep old event (Ok true) (with_stopped_standby arrivals pair)) (sym breaks.rest)
     (stopped-is {old = old} {new = new} {event = event} {result = Ok true} (record { did = refl; stopped = λ first second w stands. inr (stopped-in first second w stands); frames = refl; acknowledgements = acks; transcript = refl }))
   where
-    asked : old.asked.standby ≡ true
-    asked = sym (ap (λ (pair : Pair). pair.asked.standby) breaks.rest) ∙ flag
+    asked : old.lives.asked.standby ≡ true
+    asked = sym (ap (λ (pair : Pair). pair.lives.asked.standby) breaks.rest) ∙ flag
 
-    acks : arrivals.acknowledgements.items ≡ old.arrivals.acknowledgements.items
+    acks : arrivals.acknowledgements.items ≡ old.wire.arrivals.acknowledgements.items
     acks = ap (λ (all : Vec (Vec ℕ Global) Global). all.items) told ∙ breaks.acknowledgements
 
     new : Pair
-    new = with_stopped_standby arrivals (record old { arrivals = mid.arrivals; standby = mid.standby })
+    new = with_stopped_standby arrivals (record old { wire = record old.wire { arrivals = mid.wire.arrivals }; standby = mid.standby })
 
     stopped-in : (first second : Holder) (w : World) → NodesRefine first second old w → StopsStandby first second w event old new
     stopped-in first second w stands =
@@ -159,33 +150,33 @@ standby-stops old event mid arrivals is flag breaks lost told =
         let parts : EitherRefines first second (with_standby_as arrivals mid.standby Stopped old) w' =
         standby-either first second old arrivals mid.standby Stopped w w'.standby w.wire.acknowledgements (is.began stands fails.enabled) (le_refl w.standby.position) stands.parts
         (empty event is old new lost acks first second w stands fails lines) (stopped event is old new lost acks first second w stands fails lines) in
-        stops-in event is old new lost acks first second w stands fails lines asked refl refl refl refl (asked-either first second (with_standby_as arrivals mid.standby Stopped old) new.asked w' parts)
+        stops-in event is old new lost acks first second w stands fails lines asked refl refl (asked-either first second (with_standby_as arrivals mid.standby Stopped old) new.lives.asked w' parts)
 
 -- ---- in its promotion
 
-pub promotion-stops : (old mid : Pair) (arrivals : Arrived) → mid.asked.standby ≡ true → BreaksPromotion old mid → arrivals.delivered.items ≡ [] → arrivals.acknowledgements ≡ mid.arrivals.acknowledgements
+pub promotion-stops : (old mid : Pair) (arrivals : Arrived) → mid.lives.asked.standby ≡ true → BreaksPromotion old mid → arrivals.delivered.items ≡ [] → arrivals.acknowledgements ≡ mid.wire.arrivals.acknowledgements
     → IsStep old Promote (Ok true) (with_stopped_standby arrivals mid)
 promotion-stops old mid arrivals flag breaks lost told =
     subst (λ (pair : Pair). IsStep old Promote (Ok true) (with_stopped_standby arrivals pair)) (sym breaks.rest)
     (stopped-is {old = old} {new = new} {event = Promote} {result = Ok true} (record { did = refl; stopped = λ first second w stands. inr (stopped-in first second w stands); frames = refl; acknowledgements = acks; transcript = refl }))
   where
-    asked : old.asked.standby ≡ true
-    asked = sym (ap (λ (pair : Pair). pair.asked.standby) breaks.rest) ∙ flag
+    asked : old.lives.asked.standby ≡ true
+    asked = sym (ap (λ (pair : Pair). pair.lives.asked.standby) breaks.rest) ∙ flag
 
-    acks : arrivals.acknowledgements.items ≡ old.arrivals.acknowledgements.items
-    acks = ap (λ (all : Vec (Vec ℕ Global) Global). all.items) told ∙ ap (λ (pair : Pair). pair.arrivals.acknowledgements.items) breaks.rest
+    acks : arrivals.acknowledgements.items ≡ old.wire.arrivals.acknowledgements.items
+    acks = ap (λ (all : Vec (Vec ℕ Global) Global). all.items) told ∙ ap (λ (pair : Pair). pair.wire.arrivals.acknowledgements.items) breaks.rest
 
     new : Pair
-    new = with_stopped_standby arrivals (record old { sequencer = mid.sequencer; committing = mid.committing; contents = mid.contents; is_faulted = mid.is_faulted; standby = mid.standby })
+    new = with_stopped_standby arrivals (record old { primary = record old.primary { sequencer = mid.primary.sequencer; committing = mid.primary.committing; contents = mid.primary.contents; is_faulted = mid.primary.is_faulted }; standby = mid.standby })
 
     stopped-in : (first second : Holder) (w : World) → NodesRefine first second old w → StopsStandby first second w Promote old new
     stopped-in first second w stands =
         let fails = breaks.fails first second w stands in
         let lines = breaks.lines_are first second w stands in
         let w' = halted node.Standby (left_by w node.Standby cuts.Promote) w in
-        let over : has_ended old.primary_condition ≡ true =
-        sym (ap is_retired stands.lives.primary ∙ retired-as old.primary_condition (torn w.primary.life)) ∙ (and_parts (is_running w.standby.life) (is_retired w.primary.life) fails.enabled).1 in
-        let still = still-as (ended-still old.primary_condition over) stands in
+        let over : has_ended old.lives.primary ≡ true =
+        sym (ap is_retired stands.lives.primary ∙ retired-as old.lives.primary (torn w.primary.life)) ∙ (and_parts (is_running w.standby.life) (is_retired w.primary.life) fails.enabled).1 in
+        let still = still-as (ended-still old.lives.primary over) stands in
         let refined : StillRefine first second new w' =
         record {
           sessions = still.sessions;
@@ -197,5 +188,5 @@ promotion-stops old mid arrivals flag breaks lost told =
           arrivals = empty Promote stops-promoting old new lost acks first second w stands fails lines;
           standby = stopped Promote stops-promoting old new lost acks first second w stands fails lines;
         } in
-        let parts : EitherRefines first second new w' = inr (inr (ended-still old.primary_condition over, refined)) in
-        stops-in Promote stops-promoting old new lost acks first second w stands fails lines asked refl refl refl refl parts
+        let parts : EitherRefines first second new w' = inr (inr (ended-still old.lives.primary over, refined)) in
+        stops-in Promote stops-promoting old new lost acks first second w stands fails lines asked refl refl parts

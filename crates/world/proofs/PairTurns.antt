@@ -1,5 +1,5 @@
 -- What the turns of the committer do to the pair: its own clauses refine the machine's events.
-use Rattle.std.proofs.Common.{◌≡◌, ◌⊎◌, ◌-◌, ◌≤◌, ℕ, Bool, true, false, nat_lt, List, ◌∷◌, ◌++◌, length, Result, Ok, Err, inl, inr, refl, sym, ap, subst, ◌∙◌, arith, Vec, Global, []}
+use Rattle.std.proofs.Common.{rules, ◌≡◌, ◌⊎◌, ◌-◌, ◌≤◌, ℕ, Bool, true, false, nat_lt, List, ◌∷◌, ◌++◌, length, Result, Ok, Err, inl, inr, refl, sym, ap, subst, ◌∙◌, arith, []}
 use Rattle.std.proofs.lemmas.Bool.{cases_lt, le-ltb, lt-ltb}
 use Rattle.std.specs.Coded.{le_prop}
 use Rattle.pmem.specs.Device.{State}
@@ -18,9 +18,6 @@ use Rattle.model.specs.Standing.{Holder}
 use Rattle.wbl_engine.specs.Contents.{Exhausts, Same}
 use Rattle.wbl_engine.proofs.LawfulLemmas.{group_lawful}
 use Rattle.wbl_engine.specs.declared.freeing.Freed.{Freed}
-use Rattle.redis_core.specs.Sequencing.{Sequencing}
-use Rattle.standby_stream.specs.declared.opening.Opening.{Opening}
-use Rattle.standby_stream.specs.Stream.{Stream}
 use Rattle.group_commit.specs.Committing.{Commits, raised, ready_again}
 use Rattle.group_commit.specs.Due.{due_now}
 use Rattle.group_commit.specs.Working.{LacksRoom, TakesGroup, Takes}
@@ -41,10 +38,8 @@ use Rattle.primary.specs.Recalling.{Remembers}
 use Rattle.primary.proofs.RecallLemmas.{recalls-each}
 use Rattle.world.specs.Recalling.{past_of}
 use Rattle.connections.specs.Session.{SequencerRefines}
-use Rattle.world.specs.Standby.{Arrived, Node}
-use Rattle.world.specs.Pair.{Pair, PartsRefine, PairRefines, Steps, Does}
-use Rattle.connections.specs.declared.connections.Connections.{Connections}
-use Rattle.connections.specs.declared.transcript.Transcript.{Transcript}
+use Rattle.world.specs.Pair.{FreeingRefines, Pair, PartsRefine, PairRefines, Steps, Does}
+use Rattle.world.specs.Parts.{serving_by}
 use Rattle.world.proofs.CommittingLemmas.{Leads-committed, Remembers-committed, TakesLawful, commit-ends, commit-goes, commit-lands, commit-moments, hand-goes, hand-none, hand-room, raise-goes, raise-none, takes-lawful}
 use Rattle.world.specs.Remaining.{LeftBy}
 use Rattle.world.proofs.LeftLemmas.{left-next, left-running, left-still}
@@ -52,8 +47,6 @@ use Rattle.world.proofs.LivesLemmas.{enabled-is, nodes-refine, own-runs, serving
 use Rattle.world.proofs.PairLemmas.{Led, cut-for, cut-same, none-added, rests-standby, stays-does, tells}
 use Rattle.world.proofs.PairCommitting.{commit-steps, ends-commit, hand-does, raise-does, same_closed}
 use Rattle.world.proofs.QueueLemmas.{commit-disabled, commit-enabled}
-use Rattle.world.specs.declared.condition.Condition.{Condition}
-use Rattle.world.specs.declared.condition.AskedFences.{AskedFences}
 
 -- a turn that took its step was not refused
 abbrev pub went : Result Done Refusal → Result Bool Refusal
@@ -132,45 +125,29 @@ module _ {E : Type 0} (device : E → State) (contents : E → Contents) (is_fau
         → Took step (link_has_room handed.items) remote before works handed result after works' handed'
     took-step step is took = subst (λ (step : Due). Took step (link_has_room handed.items) remote before works handed result after works' handed') is (took-due took)
 
-module _ {E : Type 0} (device : E → State) (contents : E → Contents) (is_faulted : E → Bool) (sessions : Connections) (transcript : Transcript) (sequencer : Sequencing) (notices : List Freed) (link : Stream) (opening : Opening) (remote : ℕ) (frames : List (Vec ℕ Global)) (arrivals : Arrived) (standby : Node) (primary_condition standby_condition : Condition) (fences : AskedFences) where
-  -- a pair with this committer, with this work waiting for it, and with these groups at the link
+module _ {E : Type 0} (device : E → State) (contents : E → Contents) (is_faulted : E → Bool) (pair : Pair) where
+  -- the pair with this committer, with this work waiting for it, with these notices, and with these groups at the link
+  abbrev pub pair_with : Committer E → Waiting Work → List Freed → Waiting Group → Pair
+  pair_with committer work notices handed = record pair { primary = serving_by device contents is_faulted pair.primary.sequencer notices committer work handed }
+
   abbrev pub pair_of : Committer E → Waiting Work → Waiting Group → Pair
-  pair_of committer work waiting = record {
-    sessions = sessions;
-    transcript = transcript;
-    sequencer = sequencer;
-    committing = record { waiting = work; aside = committer.aside.items; stage = committer.stage; local = committer.local };
-    notices = notices;
-    device = device committer.engine;
-    contents = contents committer.engine;
-    is_faulted = is_faulted committer.engine;
-    handed = waiting;
-    link = link;
-    opening = opening;
-    remote = remote;
-    frames = frames;
-    arrivals = arrivals;
-    standby = standby;
-    primary_condition = primary_condition;
-    standby_condition = standby_condition;
-    asked = fences;
-  }
+  pair_of committer work handed = pair_with committer work pair.primary.notices handed
 
   -- the step that is due
   abbrev now-due : Committer E → Waiting Work → Waiting Group → Due
-  now-due before works handed = due_now contents before works (link_has_room handed.items) remote
+  now-due before works handed = due_now contents before works (link_has_room handed.items) pair.wire.remote
 
   may-commit : (before : Committer E) (works : Waiting Work) (handed : Waiting Group) → now-due before works handed ≡ due.Commit → (first second : Holder) (w : World) → PartsRefine first second (pair_of before works handed) w
       → may_happen w events.Commit ≡ true
   may-commit before works handed is first second w parts =
-      commit-enabled w (pair_of before works handed).committing handed.items parts.committing parts.link.waiting remote (length (contents before.engine).current.gaps.items) is
+      commit-enabled w (pair_of before works handed).primary.committing handed.items parts.committing parts.link.waiting pair.wire.remote (length (contents before.engine).current.gaps.items) is
 
   -- the free lists that waited first were taken, and the group behind them
   takes-first : (before after : Committer E) (works works' : Waiting Work) (handed : Waiting Group) (result : Result Done Refusal) (took : TakesGroup device contents is_faulted before works result after works')
       → (first second : Holder) (w : World) → PartsRefine first second (pair_of before works handed) w
-      → TakesLawful (contents before.engine) (pair_of before works handed).committing took.lists took.group (pair_of after works' handed).committing
+      → TakesLawful (contents before.engine) (pair_of before works handed).primary.committing took.lists took.group (pair_of after works' handed).primary.committing
   takes-first before after works works' handed result took first second w parts =
-      takes-lawful (contents before.engine) (pair_of before works handed).committing took.lists took.group (pair_of after works' handed).committing sequencer notices took.taken took.set_aside parts.leads
+      takes-lawful (contents before.engine) (pair_of before works handed).primary.committing took.lists took.group (pair_of after works' handed).primary.committing pair.primary.sequencer pair.primary.notices took.taken took.set_aside parts.leads
 
   committed : (before after : Committer E) (works works' : Waiting Work) (handed : Waiting Group) (done : Done) → now-due before works handed ≡ due.Commit
       → TakesGroup device contents is_faulted before works (Ok done) after works' → Does (pair_of before works handed) events.Commit (Ok true) (pair_of after works' handed)
@@ -192,33 +169,22 @@ module _ {E : Type 0} (device : E → State) (contents : E → Contents) (is_fau
       commits : Commits device contents is_faulted before took.group (Ok done) after
       commits = took.commits
 
-      parts-after : (first second : Holder) (w : World) (committer : MachineCommitter) → PartsRefine first second old w → TakesLawful old.contents old.committing took.lists took.group new.committing
-          → CommittingRefines w.primary.calls new.committing committer × EngineStands first w.primary.calls committer.position new.device new.contents new.is_faulted
-          → committer.closed ≡ w.primary.committer.closed → Remembers w.standby.position committer.position (past_of w.primary.calls) new.contents new.committing.waiting.items new.committing.aside sequencer
+      parts-after : (first second : Holder) (w : World) (committer : MachineCommitter) → PartsRefine first second old w → TakesLawful old.primary.contents old.primary.committing took.lists took.group new.primary.committing
+          → CommittingRefines w.primary.calls new.primary.committing committer × EngineStands first w.primary.calls committer.position new.primary.device new.primary.contents new.primary.is_faulted
+          → committer.closed ≡ w.primary.committer.closed → Remembers w.standby.position committer.position (past_of w.primary.calls) new.primary.contents new.primary.committing.waiting.items new.primary.committing.aside pair.primary.sequencer
           → PartsRefine first second new (with_committer committer w)
       parts-after first second w committer parts takes stand closed remembers =
-          record {
-            sessions = parts.sessions;
-            sequencer = subst (λ n. SequencerRefines w.primary.calls n sequencer) (sym closed) parts.sequencer;
-            follow = parts.follow;
-            committing = stand.0;
-            engine = stand.1;
-            leads = Leads-committed old.contents new.contents old.committing took.lists took.group new.committing sequencer notices parts.engine.contents_at.consistent takes took.commits.moved parts.leads;
-            freeing = record {
-              ended = parts.freeing.ended;
-              newest = parts.freeing.newest;
-              notices_are = parts.freeing.notices_are;
-              gaps = ap (λ (r : Record). length r.gaps.items) took.commits.moved.current ∙ parts.freeing.gaps;
-            };
-            remembers = remembers;
-            opening = parts.opening;
-            epoch = parts.epoch;
-            link = parts.link;
-            frames = parts.frames;
-            own = parts.own;
-            arrivals = parts.arrivals;
-            standby = parts.standby;
-          }
+          let freeing : FreeingRefines new.primary.sequencer new.primary.notices new.primary.contents w.primary =
+          record { ended = parts.freeing.ended; newest = parts.freeing.newest; notices_are = parts.freeing.notices_are; gaps = ap (λ (r : Record). length r.gaps.items) took.commits.moved.current ∙ parts.freeing.gaps } in
+          search (
+            rules,
+            parts,
+            stand,
+            subst (λ n. SequencerRefines w.primary.calls n pair.primary.sequencer) (sym closed) parts.sequencer,
+            Leads-committed old.primary.contents new.primary.contents old.primary.committing took.lists took.group new.primary.committing pair.primary.sequencer pair.primary.notices parts.engine.contents_at.consistent takes took.commits.moved parts.leads,
+            freeing,
+            remembers,
+          )
 
       steps : (first second : Holder) (w : World) → PairRefines first second old w → Steps first second w events.Commit true old new
       steps first second w stands =
@@ -226,13 +192,13 @@ module _ {E : Type 0} (device : E → State) (contents : E → Contents) (is_fau
           let commits = took.commits in
           let takes = takes-first before after works works' handed (Ok done) took first second w parts in
           let fits = λ (sound : is_faulted before.engine ≡ false) (would : Exhausts (contents before.engine) took.group). committed_not_refused (commits.exhausts sound would) in
-          let stand = commit-goes first w old.committing took.lists took.group new.committing old.device new.device old.contents new.contents old.is_faulted new.is_faulted
+          let stand = commit-goes first w old.primary.committing took.lists took.group new.primary.committing old.primary.device new.primary.device old.primary.contents new.primary.contents old.primary.is_faulted new.primary.is_faulted
           takes commits.in_hand commits.local fits commits.moved commits.durable commits.sound.0 parts.committing parts.engine in
           commit-steps first second w old new refl refl stands.sound (own-runs stands events.Commit refl) stands.serves commits.sound.1
-          (commit-moments first w old.committing took.lists took.group new.committing old.device new.device old.contents old.is_faulted takes fits commits.moments parts.committing parts.engine)
+          (commit-moments first w old.primary.committing took.lists took.group new.primary.committing old.primary.device new.primary.device old.primary.contents old.primary.is_faulted takes fits commits.moments parts.committing parts.engine)
           (sym (may-commit before works handed is first second w parts))
           (parts-after first second w (committed_first (from_group w.primary.committer.waiting) w.primary.committer) parts takes stand (same_closed (from_group w.primary.committer.waiting) w)
-          (Remembers-committed first w old.committing took.lists took.group new.committing old.contents new.contents sequencer takes commits.moved parts.committing parts.engine.contents_at parts.remembers))
+          (Remembers-committed first w old.primary.committing took.lists took.group new.primary.committing old.primary.contents new.primary.contents pair.primary.sequencer takes commits.moved parts.committing parts.engine.contents_at parts.remembers))
 
   refused : (before after : Committer E) (works works' : Waiting Work) (handed : Waiting Group) (refusal : Refusal) → now-due before works handed ≡ due.Commit
       → TakesGroup device contents is_faulted before works (Err refusal) after works' → Does (pair_of before works handed) events.Commit (Err refusal) (pair_of after works' handed)
@@ -245,11 +211,11 @@ module _ {E : Type 0} (device : E → State) (contents : E → Contents) (is_fau
             let parts = stands.parts in
             let commits = took.commits in
             let takes = takes-first before after works works' handed (Err refusal) took first second w parts in
-            cut-for first second events.Commit refusal old new w (nodes-refine stands) (tells transcript) refl
+            cut-for first second events.Commit refusal old new w (nodes-refine stands) (tells pair.clients.transcript) refl
             (enabled-is (own-runs stands events.Commit refl) ∙ may-commit before works handed is first second w parts)
-            (ends-commit refusal (λ last _. last first w.primary.calls w.primary.committer.position (next_primary w) old.device new.device) (Led first second old new w)
+            (ends-commit refusal (λ last _. last first w.primary.calls w.primary.committer.position (next_primary w) old.primary.device new.primary.device) (Led first second old new w)
             (λ last broken. (inl broken, rests-standby first second old w (nodes-refine stands)))
-            (commit-ends first w old.committing took.lists took.group new.committing old.device new.device old.contents old.is_faulted (Err refusal) refusal refl takes
+            (commit-ends first w old.primary.committing took.lists took.group new.primary.committing old.primary.device new.primary.device old.primary.contents old.primary.is_faulted (Err refusal) refusal refl takes
             commits.causes commits.fault (λ cause. let told = commits.exhausted cause in (told.0, ap (λ (e : E). device e) told.1))
             commits.exhausts commits.moments parts.committing parts.engine));
         calls = none-added _ _ refl;
@@ -263,14 +229,14 @@ module _ {E : Type 0} (device : E → State) (contents : E → Contents) (is_fau
       (record {
         steps = tt;
         cut = λ first second w stands.
-            cut-same first second events.Commit Memory (pair_of before works handed) (pair_of after works' handed) w refl refl (ap device lacks.engine) refl (tells transcript) refl (own-runs stands events.Commit refl)
+            cut-same first second events.Commit Memory (pair_of before works handed) (pair_of after works' handed) w refl refl (ap device lacks.engine) refl (tells pair.clients.transcript) refl (own-runs stands events.Commit refl)
             (may-commit before works handed is first second w stands.parts) (nodes-refine stands);
         calls = none-added _ _ refl;
       })
 
   -- what a turn does to a pair for which a commit is due
   pub commit-does : (before after : Committer E) (works works' : Waiting Work) (handed handed' : Waiting Group) (result : Result Done Refusal) → now-due before works handed ≡ due.Commit
-      → Took device contents is_faulted due.Commit (link_has_room handed.items) remote before works handed result after works' handed' → Does (pair_of before works handed) events.Commit (went result) (pair_of after works' handed')
+      → Took device contents is_faulted due.Commit (link_has_room handed.items) pair.wire.remote before works handed result after works' handed' → Does (pair_of before works handed) events.Commit (went result) (pair_of after works' handed')
   commit-does before after works works' handed handed' result is (offered, came) =
       subst (λ (h : Waiting Group). Does (pair_of before works handed) events.Commit (went result) (pair_of after works' h)) (Waiting-same handed handed' (sym offered.offered_is))
       (elim came [
@@ -288,11 +254,11 @@ module _ {E : Type 0} (device : E → State) (contents : E → Contents) (is_fau
   commit-stays before works handed never =
       stays-does (pair_of before works handed) events.Commit refl
       (λ first second w stands.
-      commit-disabled w (pair_of before works handed).committing handed.items stands.parts.committing stands.parts.link.waiting remote (length (contents before.engine).current.gaps.items) never)
+      commit-disabled w (pair_of before works handed).primary.committing handed.items stands.parts.committing stands.parts.link.waiting pair.wire.remote (length (contents before.engine).current.gaps.items) never)
 
   -- at any moment of it a crash leaves what one that cuts it may leave
   pub commit-left : (before after : Committer E) (works works' : Waiting Work) (handed handed' : Waiting Group) (result : Result Done Refusal)
-      → Took device contents is_faulted due.Commit (link_has_room handed.items) remote before works handed result after works' handed'
+      → Took device contents is_faulted due.Commit (link_has_room handed.items) pair.wire.remote before works handed result after works' handed'
       → (first second : Holder) (w : World) → PairRefines first second (pair_of before works handed) w → LeavesOnly (device before.engine) (device after.engine) (LeftBy first w cut.Commit)
   commit-left before after works works' handed handed' result (offered, came) first second w stands =
       elim came [
@@ -313,16 +279,16 @@ module _ {E : Type 0} (device : E → State) (contents : E → Contents) (is_fau
           → LeavesOnly (device before.engine) (device after.engine) (LeftBy first w cut.Commit)
       whole result took fits =
           let parts = stands.parts in
-          let then = after_group old.contents took.group in
+          let then = after_group old.primary.contents took.group in
           let takes = takes-first before after works works' handed result took first second w parts in
-          let lands = commit-lands first w old.committing took.lists took.group new.committing old.contents takes parts.committing parts.engine.contents_at in
+          let lands = commit-lands first w old.primary.committing took.lists took.group new.primary.committing old.primary.contents takes parts.committing parts.engine.contents_at in
           let same : Same then then = record { current = refl; lines = refl; versions = λ i. refl; is_free = λ i. refl } in
-          let remembers = Remembers-committed first w old.committing took.lists took.group new.committing old.contents then sequencer takes same parts.committing parts.engine.contents_at parts.remembers in
+          let remembers = Remembers-committed first w old.primary.committing took.lists took.group new.primary.committing old.primary.contents then pair.primary.sequencer takes same parts.committing parts.engine.contents_at parts.remembers in
           LeavesOnly-weaken (LeftBy first w cut.Commit)
           (λ image either. elim either [
             | inl keeps ↦ left-running first second old w cut.Commit image stands.sound parts keeps
-            | inr keeps ↦ left-next first w then image (serving stands) lands.rises lands.within lands.after (group_lawful old.contents took.group parts.engine.lawful takes.lawful fits)
-                (recalls-each w.standby.position (next_primary w) (past_of w.primary.calls) then new.committing.waiting.items new.committing.aside sequencer remembers) keeps
+            | inr keeps ↦ left-next first w then image (serving stands) lands.rises lands.within lands.after (group_lawful old.primary.contents took.group parts.engine.lawful takes.lawful fits)
+                (recalls-each w.standby.position (next_primary w) (past_of w.primary.calls) then new.primary.committing.waiting.items new.primary.committing.aside pair.primary.sequencer remembers) keeps
           ]) (took.commits.moments parts.engine.sound)
 
       by : (result : Result Done Refusal) → TakesGroup device contents is_faulted before works result after works' → LeavesOnly (device before.engine) (device after.engine) (LeftBy first w cut.Commit)
@@ -334,16 +300,16 @@ module _ {E : Type 0} (device : E → State) (contents : E → Contents) (is_fau
 
   -- what a turn does to a pair for which the local mark is due
   pub raise-does-so : (before after : Committer E) (works works' : Waiting Work) (waiting waiting' : Waiting Group) (result : Result Done Refusal)
-      → Took device contents is_faulted due.Raise (link_has_room waiting.items) remote before works waiting result after works' waiting'
+      → Took device contents is_faulted due.Raise (link_has_room waiting.items) pair.wire.remote before works waiting result after works' waiting'
       → Does (pair_of before works waiting) events.RaiseLocal (went result) (pair_of after works' waiting')
   raise-does-so before after works works' waiting waiting' result (link_is, queue, raises) =
       subst (λ (r : Result Done Refusal). Does old events.RaiseLocal (went r) (pair_of after works' waiting')) (sym raises.answer)
       (subst (λ (c : Committer E). Does old events.RaiseLocal (Ok true) (pair_of c works' waiting')) (sym raises.now)
       (subst (λ (g : Waiting Work). Does old events.RaiseLocal (Ok true) (pair_of shows g waiting')) (sym queue)
       (subst (λ (l : Waiting Group). Does old events.RaiseLocal (Ok true) (pair_of shows works l)) (sym link_is)
-      (raise-does old (pair_of shows works waiting).committing true
-      (λ w stands at. raise-goes w old.committing (pair_of shows works waiting).committing raises.group old.contents.current.position
-      (CommittingRefines w.primary.calls (pair_of shows works waiting).committing w.primary.committer) raises.in_hand refl refl refl refl stands at) refl refl))))
+      (raise-does old (pair_of shows works waiting).primary.committing true
+      (λ w stands at. raise-goes w old.primary.committing (pair_of shows works waiting).primary.committing raises.group old.primary.contents.current.position
+      (CommittingRefines w.primary.calls (pair_of shows works waiting).primary.committing w.primary.committer) raises.in_hand refl refl refl refl stands at) refl refl))))
     where
       old : Pair
       old = pair_of before works waiting
@@ -353,7 +319,7 @@ module _ {E : Type 0} (device : E → State) (contents : E → Contents) (is_fau
 
   -- what a turn does to a pair for which a group is to be handed on
   pub hand-does-so : (before after : Committer E) (works works' : Waiting Work) (waiting waiting' : Waiting Group) (result : Result Done Refusal)
-      → Took device contents is_faulted due.Hand (link_has_room waiting.items) remote before works waiting result after works' waiting'
+      → Took device contents is_faulted due.Hand (link_has_room waiting.items) pair.wire.remote before works waiting result after works' waiting'
       → Does (pair_of before works waiting) events.Hand (went result) (pair_of after works' waiting')
   hand-does-so before after works works' waiting waiting' result (queue, hands) =
       subst (λ (g : Waiting Work). Does old events.Hand (went result) (pair_of after g waiting')) (sym queue) (by hands.came)
@@ -367,8 +333,8 @@ module _ {E : Type 0} (device : E → State) (contents : E → Contents) (is_fau
       by (inl handed) =
           subst (λ (r : Result Done Refusal). Does old events.Hand (went r) (pair_of after works waiting')) (sym handed.0)
           (subst (λ (c : Committer E). Does old events.Hand (Ok true) (pair_of c works waiting')) (sym handed.1)
-          (hand-does old (pair_of (ready_again before) works waiting).committing waiting' true
-          (λ w sound stands are. hand-goes w old.committing (pair_of (ready_again before) works waiting).committing hands.group waiting.items waiting'.items hands.in_hand refl refl refl refl handed.2 stands are) refl refl))
+          (hand-does old (pair_of (ready_again before) works waiting).primary.committing waiting' true
+          (λ w sound stands are. hand-goes w old.primary.committing (pair_of (ready_again before) works waiting).primary.committing hands.group waiting.items waiting'.items hands.in_hand refl refl refl refl handed.2 stands are) refl refl))
       by (inr full) =
           subst (λ (r : Result Done Refusal). Does old events.Hand (went r) (pair_of after works waiting')) (sym full.0)
           (record {
@@ -383,14 +349,14 @@ module _ {E : Type 0} (device : E → State) (contents : E → Contents) (is_fau
       → Does (pair_of before works waiting) events.RaiseLocal (Ok false) (pair_of before works waiting)
   raise-stays before works waiting never =
       stays-does (pair_of before works waiting) events.RaiseLocal refl (λ first second w stands. raise-none w.primary.calls before.stage w.primary.committer.stage
-      (λ group durable. never (raise-now contents before works (link_has_room waiting.items) remote group durable))
+      (λ group durable. never (raise-now contents before works (link_has_room waiting.items) pair.wire.remote group durable))
       stands.parts.committing.stage_is)
 
   pub hand-stays : (before : Committer E) (works : Waiting Work) (waiting : Waiting Group) → (now-due before works waiting ≡ due.Hand → ⊥)
       → Does (pair_of before works waiting) events.Hand (Ok false) (pair_of before works waiting)
   hand-stays before works waiting never =
       stays-does (pair_of before works waiting) events.Hand refl (λ first second w stands. hand-none w.primary.calls before.stage w.primary.committer.stage
-      (λ group shown. never (hand-now contents before works (link_has_room waiting.items) remote group shown))
+      (λ group shown. never (hand-now contents before works (link_has_room waiting.items) pair.wire.remote group shown))
       stands.parts.committing.stage_is)
 
 -- ---- what was answered of it

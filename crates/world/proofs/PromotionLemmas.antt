@@ -1,5 +1,5 @@
 -- The image of a standby that is promoted: what the calls that do so leave of it.
-use Rattle.std.proofs.Common.{◌≡◌, ◌≢◌, ◌⊎◌, inl, inr, ℕ, ◌+◌, ◌<◌, ◌≤◌, Bool, true, false, List, [], ◌∷◌, map, All, Vec, Global, refl, sym, ap, subst, ◌∙◌, arith, true≢false}
+use Rattle.std.proofs.Common.{◌≡◌, ◌⊎◌, inl, inr, ℕ, ◌+◌, ◌<◌, ◌≤◌, Bool, true, false, List, [], ◌∷◌, All, Vec, Global, refl, sym, ap, subst, ◌∙◌, arith, true≢false}
 use Rattle.std.proofs.lemmas.Bool.{cases_lt}
 use Rattle.std.proofs.lemmas.List.Elements.{All-head, All-tail}
 use Rattle.kv_types.specs.declared.refusal.Refusal.{Refusal}
@@ -23,7 +23,7 @@ use Rattle.wbl_engine.specs.Lawful.{AreLawful}
 use Rattle.wbl_engine.specs.Promoting.{ExhaustsPromotion, promoted as promoted_contents}
 use Rattle.wbl_engine.proofs.PromotingLemmas.{consistent_promoted, lawful_promoted}
 use Rattle.failover.specs.Promoting.{IsBeforeOrPromoted}
-use Rattle.machine.specs.Event.{Frame as Sent, promoted}
+use Rattle.machine.specs.Event.{Frame as Sent}
 use Rattle.machine.specs.Sound.{IsFrameWithin}
 use Rattle.world.specs.Cause.{Promoting}
 use Rattle.world.specs.Committing.{AreContentsAt, EngineStands, IsDown, OpensAsEither, OpensAt, promoted_holder}

@@ -1,5 +1,5 @@
 -- What waits for the committer stands for what waits for the machine's: the same may happen next, and a turn may take it.
-use Rattle.std.proofs.Common.{◌≡◌, ℕ, Bool, true, false, not, ◌&&◌, cond, nat_lt, nat_le, List, [], ◌∷◌, ◌++◌, refl, sym, ap, ap₂, ◌∙◌, rules}
+use Rattle.std.proofs.Common.{◌≡◌, ℕ, Bool, true, false, not, ◌&&◌, cond, nat_lt, nat_le, List, [], ◌∷◌, ◌++◌, refl, sym, ap, ap₂, ◌∙◌}
 use Rattle.std.proofs.lemmas.List.{map-append}
 use Rattle.model.specs.declared.call.Call.{Call}
 use Rattle.model.specs.declared.group.Group.{Group}
@@ -15,11 +15,10 @@ use Rattle.group_commit.specs.declared.stage.Stage.{Stage}
 use Rattle.group_commit.specs.declared.stage.Stage.TheVariants.{Ready, Durable, Shown}
 use Rattle.machine.specs.declared.event.Event.TheVariants.{ClearGap, Commit, Free}
 use Rattle.machine.specs.declared.event.TheConstants.{PIPE_ITEMS}
-use Rattle.machine.specs.Event.{Commits, Frees, Span, Stage as MachineStage, Work as MachineWork, World, first_is_within, from_group, has_room, is_ready, may_happen, reached_lists}
-use Rattle.machine.specs.Event as machine
+use Rattle.machine.specs.Event.{Span, Stage as MachineStage, World, first_is_within, from_group, has_room, is_ready, may_happen, reached_lists}
 use Rattle.machine.specs.World as machine_stage
 use Rattle.world.specs.Committing.{Committing, CommittingRefines, StageRefines, link_has_room, reached_now}
-use Rattle.node_steps.specs.GroupSpan.{AreGroupsOf, AreWorkOf, IsWorkOf, positions_of_lists}
+use Rattle.node_steps.specs.GroupSpan.{AreGroupsOf, positions_of_lists}
 use Rattle.node_steps.proofs.GroupSpanLemmas.{length-groups}
 use Rattle.node_steps.proofs.QueueLemmas.{has_group-work, lists-work, nonempty-work}
 

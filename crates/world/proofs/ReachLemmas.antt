@@ -112,7 +112,7 @@ module _ (first_lines second_lines : ℕ) where
               cut = inr (
                 promoted.event_is,
                 cut,
-                not-ended pair.standby_condition (λ ended.
+                not-ended pair.lives.standby (λ ended.
                     true≢false (sym cut.enabled ∙ retired-still w Promote (ended-life stands.stands ended) refl)),
               );
             }
@@ -122,7 +122,7 @@ module _ (first_lines second_lines : ℕ) where
 
 pub reaches-start : (first second : Holder) (done : List Bool) (pair : Pair) → done ≡ [] → NodesRefine first second pair start → StandsAfter first.lines second.lines pair [] done pair
 reaches-start first second done pair none stands =
-    let whole : has_ended pair.standby_condition ≡ false = not-ended pair.standby_condition (λ ended. true≢false (sym (ended-life stands ended))) in
+    let whole : has_ended pair.lives.standby ≡ false = not-ended pair.lives.standby (λ ended. true≢false (sym (ended-life stands ended))) in
     record {
       reaches = record {
         worlds = [];
@@ -140,7 +140,7 @@ reaches-start first second done pair none stands =
     }
 
 -- at most one call was added
-pub adds-one : {old new : Pair} {event : Event} {did : Bool} → IsStep old event (Ok did) new → HasRoom old → AddsOne old.transcript.calls new.transcript.calls
+pub adds-one : {old new : Pair} {event : Event} {did : Bool} → IsStep old event (Ok did) new → HasRoom old → AddsOne old.clients.transcript.calls new.clients.transcript.calls
 adds-one is room = elim is [
   | inl acted ↦ acted.room room
   | inr (inl promoted) ↦ promoted.room room

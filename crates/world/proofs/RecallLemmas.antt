@@ -1,5 +1,5 @@
 -- The keyspaces of the list of calls as a primary's past, where a crash cuts it.
-use Rattle.std.proofs.Common.{◌≤◌, ℕ, List, sym, subst, arith}
+use Rattle.std.proofs.Common.{ℕ, List, sym, subst, arith}
 use Rattle.model.specs.declared.call.Call.{Call}
 use Rattle.model.specs.declared.work.FreeList.{FreeList}
 use Rattle.model.specs.declared.work.Work.{Work}

@@ -66,7 +66,7 @@ promised-by events done worlds calls released primary standby run tells =
     )
 
 -- what was sent up to a world that a pair stands for
-messages-sent : {first second : Holder} {pair : Pair} {w : World} → NodesRefine first second pair w → HasSent w pair.frames pair.arrivals.acknowledgements.items
+messages-sent : {first second : Holder} {pair : Pair} {w : World} → NodesRefine first second pair w → HasSent w pair.wire.frames pair.wire.arrivals.acknowledgements.items
 messages-sent {first} {second} {pair} {w} stands = record { frames_are = frames-sent first second pair w stands.parts; acknowledgements_are = acks-sent first second pair w stands.parts }
 
 -- the run went on to the end of these stretches, one of each device
@@ -156,36 +156,36 @@ final-promoting refusal = record { lower = lower; ends = ends }
 
 -- what is true of the primary's stretch and of the standby's is true of those of both devices
 module _ (first_lines second_lines : ℕ) (pair pair' : Pair) (w : World) (stands : StandsIn first_lines second_lines pair w) (first_last second_last : Stretch)
-    (primary_last : OrLies first_last stands.serving w.primary.calls w.primary.committer.position (next_primary w) (torn w.primary.life) pair.device pair'.device)
+    (primary_last : OrLies first_last stands.serving w.primary.calls w.primary.committer.position (next_primary w) (torn w.primary.life) pair.primary.device pair'.primary.device)
     (standby_last : HasStandby pair → OrLies second_last stands.following w.primary.calls w.standby.position (next_standby w) (torn w.standby.life) pair.standby.device pair'.standby.device)
-    (former_still : has_ended pair.standby_condition ≡ true → pair'.standby.device ≡ pair.standby.device) where
-  ends-first : (b : Bool) → has_ended pair.standby_condition ≡ b → stands.serving.lines ≡ (if b then second_lines else first_lines)
-      → EndsAs (each first_last second_last) first_lines w (place 0 b) (if b then pair.standby.device else pair.device) (if b then pair'.standby.device else pair'.device)
+    (former_still : has_ended pair.lives.standby ≡ true → pair'.standby.device ≡ pair.standby.device) where
+  ends-first : (b : Bool) → has_ended pair.lives.standby ≡ b → stands.serving.lines ≡ (if b then second_lines else first_lines)
+      → EndsAs (each first_last second_last) first_lines w (place 0 b) (if b then pair.standby.device else pair.primary.device) (if b then pair'.standby.device else pair'.primary.device)
   ends-first true is lines = former_still is
   ends-first false is lines =
-      subst (λ (h : Holder). OrLies first_last h w.primary.calls w.primary.committer.position (next_primary w) (torn w.primary.life) pair.device pair'.device) (primary-holds stands.stands ∙ ap (λ n. primary_holder n w) lines) primary_last
+      subst (λ (h : Holder). OrLies first_last h w.primary.calls w.primary.committer.position (next_primary w) (torn w.primary.life) pair.primary.device pair'.primary.device) (primary-holds stands.stands ∙ ap (λ n. primary_holder n w) lines) primary_last
 
-  ends-second : (b : Bool) → has_ended pair.standby_condition ≡ b → stands.serving.lines ≡ (if b then second_lines else first_lines)
-      → EndsAs (each first_last second_last) second_lines w (place 1 b) (if b then pair.device else pair.standby.device) (if b then pair'.device else pair'.standby.device)
+  ends-second : (b : Bool) → has_ended pair.lives.standby ≡ b → stands.serving.lines ≡ (if b then second_lines else first_lines)
+      → EndsAs (each first_last second_last) second_lines w (place 1 b) (if b then pair.primary.device else pair.standby.device) (if b then pair'.primary.device else pair'.standby.device)
   ends-second true is lines =
-      subst (λ (h : Holder). OrLies first_last h w.primary.calls w.primary.committer.position (next_primary w) (torn w.primary.life) pair.device pair'.device) (primary-holds stands.stands ∙ ap (λ n. primary_holder n w) lines) primary_last
+      subst (λ (h : Holder). OrLies first_last h w.primary.calls w.primary.committer.position (next_primary w) (torn w.primary.life) pair.primary.device pair'.primary.device) (primary-holds stands.stands ∙ ap (λ n. primary_holder n w) lines) primary_last
   ends-second false is lines =
       subst (λ (h : Holder). OrLies second_last h w.primary.calls w.standby.position (next_standby w) (torn w.standby.life) pair.standby.device pair'.standby.device) (standby-holds stands.stands ∙ ap (λ n. standby_holder n w) (stands.following_lines is)) (standby_last is)
 
   -- by the numbers of the devices
-  ends-by-number : has_ended pair'.standby_condition ≡ has_ended pair.standby_condition
+  ends-by-number : has_ended pair'.lives.standby ≡ has_ended pair.lives.standby
       → EndsAs (each first_last second_last) first_lines w (node_on 0 w) (first_device pair) (first_device pair') × EndsAs (each first_last second_last) second_lines w (node_on 1 w) (second_device pair) (second_device pair')
   ends-by-number same =
-      let over = has_ended pair.standby_condition in (
-        subst (λ (b : Bool). EndsAs (each first_last second_last) first_lines w (node_on 0 w) (first_device pair) (if b then pair'.standby.device else pair'.device)) (sym same)
-            (subst (λ (o : Option Node). EndsAs (each first_last second_last) first_lines w o (first_device pair) (if over then pair'.standby.device else pair'.device)) (sym (placed stands.stands 0)) (ends-first over refl stands.serving_lines)),
-        subst (λ (b : Bool). EndsAs (each first_last second_last) second_lines w (node_on 1 w) (second_device pair) (if b then pair'.device else pair'.standby.device)) (sym same)
-            (subst (λ (o : Option Node). EndsAs (each first_last second_last) second_lines w o (second_device pair) (if over then pair'.device else pair'.standby.device)) (sym (placed stands.stands 1)) (ends-second over refl stands.serving_lines)),
+      let over = has_ended pair.lives.standby in (
+        subst (λ (b : Bool). EndsAs (each first_last second_last) first_lines w (node_on 0 w) (first_device pair) (if b then pair'.standby.device else pair'.primary.device)) (sym same)
+            (subst (λ (o : Option Node). EndsAs (each first_last second_last) first_lines w o (first_device pair) (if over then pair'.standby.device else pair'.primary.device)) (sym (placed stands.stands 0)) (ends-first over refl stands.serving_lines)),
+        subst (λ (b : Bool). EndsAs (each first_last second_last) second_lines w (node_on 1 w) (second_device pair) (if b then pair'.primary.device else pair'.standby.device)) (sym same)
+            (subst (λ (o : Option Node). EndsAs (each first_last second_last) second_lines w o (second_device pair) (if over then pair'.primary.device else pair'.standby.device)) (sym (placed stands.stands 1)) (ends-second over refl stands.serving_lines)),
       )
 
-played-whole : (first_lines second_lines : ℕ) (began : Pair) (events : List Event) (done : List Bool) (pair : Pair) (released : List (List ℕ)) → released ≡ released_of pair.transcript
+played-whole : (first_lines second_lines : ℕ) (began : Pair) (events : List Event) (done : List Bool) (pair : Pair) (released : List (List ℕ)) → released ≡ released_of pair.clients.transcript
     → StandsAfter first_lines second_lines began events done pair
-    → IsKept AnyWorld opens_always Resting Resting first_lines second_lines events done pair.transcript.calls.items released pair.frames pair.arrivals.acknowledgements.items (first_device began) (second_device began) (first_device pair) (second_device pair)
+    → IsKept AnyWorld opens_always Resting Resting first_lines second_lines events done pair.clients.transcript.calls.items released pair.wire.frames pair.wire.arrivals.acknowledgements.items (first_device began) (second_device began) (first_device pair) (second_device pair)
 played-whole first_lines second_lines began events done pair released same after =
     let w = last_world start after.reaches.worlds in
     let stands = after.stands.stands in
@@ -194,11 +194,11 @@ played-whole first_lines second_lines began events done pair released same after
     let told = sessions.told in
     let ends = ends-by-number first_lines second_lines pair pair w after.stands Resting Resting (rests-primary after.stands.serving after.stands.following pair w stands)
     (rests-standby after.stands.serving after.stands.following pair w stands) (λ ended. refl) refl in
-    kept AnyWorld opens_always Resting Resting first_lines second_lines began events done pair.transcript.calls.items released pair.frames pair.arrivals.acknowledgements.items (first_device pair) (second_device pair) (first_device pair) (second_device pair)
+    kept AnyWorld opens_always Resting Resting first_lines second_lines began events done pair.clients.transcript.calls.items released pair.wire.frames pair.wire.arrivals.acknowledgements.items (first_device pair) (second_device pair) (first_device pair) (second_device pair)
     (final-always Resting Resting resting-from resting-from) after.reaches
     (record {
       list = told.calls_are;
-      bytes = λ c. ap (λ (all : List (List ℕ)). slice_index_or all c []) same ∙ released-told w.primary.calls pair.transcript w.primary.connections told c;
+      bytes = λ c. ap (λ (all : List (List ℕ)). slice_index_or all c []) same ∙ released-told w.primary.calls pair.clients.transcript w.primary.connections told c;
       primary_position = refl;
       standby_position = refl;
     })
@@ -237,24 +237,24 @@ ends-as Exhausted Promote P Q so ends = so Resting RestsBeforeReopening resting-
 ends-as refusal event P Q so ends = absurd ends
 
 played-cut : (first_lines second_lines : ℕ) (began : Pair) (events : List Event) (event : Event) (refusal : Refusal) (done : List Bool) (pair : Pair) (released : List (List ℕ))
-    → released ≡ released_of pair.transcript → IsCutAfter first_lines second_lines began events event refusal done pair
+    → released ≡ released_of pair.clients.transcript → IsCutAfter first_lines second_lines began events event refusal done pair
     → EndsBy refusal event (λ first_last second_last.
-    IsKept (Enables event) opens_always first_last second_last first_lines second_lines events done pair.transcript.calls.items released pair.frames pair.arrivals.acknowledgements.items (first_device began) (second_device began) (first_device pair) (second_device pair))
+    IsKept (Enables event) opens_always first_last second_last first_lines second_lines events done pair.clients.transcript.calls.items released pair.wire.frames pair.wire.arrivals.acknowledgements.items (first_device began) (second_device began) (first_device pair) (second_device pair))
     ⊎ ((event ≡ Promote)
-    × IsKept (Enables Promote) opens_in_the_end Resting (Promoting refusal) first_lines second_lines events done pair.transcript.calls.items released pair.frames pair.arrivals.acknowledgements.items (first_device began) (second_device began) (first_device pair) (second_device pair))
+    × IsKept (Enables Promote) opens_in_the_end Resting (Promoting refusal) first_lines second_lines events done pair.clients.transcript.calls.items released pair.wire.frames pair.wire.arrivals.acknowledgements.items (first_device began) (second_device began) (first_device pair) (second_device pair))
 played-cut first_lines second_lines began events event refusal done pair released same after =
     let w = last_world start after.reaches.worlds in
     let before = after.before in
-    let sent : HasSent w pair.frames pair.arrivals.acknowledgements.items =
-    subst (λ (texts : List (Vec ℕ Global)). HasSent w texts pair.arrivals.acknowledgements.items) (sym after.frames)
-    (subst (λ (texts : List (Vec ℕ Global)). HasSent w before.frames texts) (sym after.acknowledgements) (messages-sent after.stands.stands)) in
+    let sent : HasSent w pair.wire.frames pair.wire.arrivals.acknowledgements.items =
+    subst (λ (texts : List (Vec ℕ Global)). HasSent w texts pair.wire.arrivals.acknowledgements.items) (sym after.frames)
+    (subst (λ (texts : List (Vec ℕ Global)). HasSent w before.wire.frames texts) (sym after.acknowledgements) (messages-sent after.stands.stands)) in
     elim after.cut [
       | inl acted ↦
           let cut = acted.0 in
           inl (ends-as refusal event _ _
           (λ first_last second_last first_from second_from led.
           let ends = ends-by-number first_lines second_lines before pair w after.stands first_last second_last led.0 led.1 acted.1 cut.standby in
-          kept (Enables event) opens_always first_last second_last first_lines second_lines began events done pair.transcript.calls.items released pair.frames pair.arrivals.acknowledgements.items (first_device before) (second_device before) (first_device pair) (second_device pair)
+          kept (Enables event) opens_always first_last second_last first_lines second_lines began events done pair.clients.transcript.calls.items released pair.wire.frames pair.wire.arrivals.acknowledgements.items (first_device before) (second_device before) (first_device pair) (second_device pair)
           (final-always first_last second_last first_from second_from) after.reaches
           (record {
             list = cut.calls;
@@ -269,7 +269,7 @@ played-cut first_lines second_lines began events event refusal done pair release
           let whole = promoted.2 in
           let stands = after.stands in
           let lines = stands.serving_lines ∙ ap (λ b. if b then second_lines else first_lines) whole in
-          let here : first_device before ≡ before.device = ap (λ b. if b then before.standby.device else before.device) whole in
+          let here : first_device before ≡ before.primary.device = ap (λ b. if b then before.standby.device else before.primary.device) whole in
           let remain : Remain stands.serving w.primary.calls w.primary.committer.position (torn w.primary.life) (first_device before) =
           subst (Remain stands.serving w.primary.calls w.primary.committer.position (torn w.primary.life)) (sym here) (primary-stands stands.serving stands.following before w stands.stands.parts) in
           let first_rests : OrLies Resting (primary_holder first_lines w) w.primary.calls w.primary.committer.position (next_primary w) (torn w.primary.life) (first_device before) (first_device pair) =
@@ -281,7 +281,7 @@ played-cut first_lines second_lines began events event refusal done pair release
           let lasts = each Resting (Promoting refusal) in
           inr (
             promoted.0,
-            kept (Enables Promote) opens_in_the_end Resting (Promoting refusal) first_lines second_lines began events done pair.transcript.calls.items released pair.frames pair.arrivals.acknowledgements.items (first_device before) (second_device before) (first_device pair) (second_device pair)
+            kept (Enables Promote) opens_in_the_end Resting (Promoting refusal) first_lines second_lines began events done pair.clients.transcript.calls.items released pair.wire.frames pair.wire.arrivals.acknowledgements.items (first_device before) (second_device before) (first_device pair) (second_device pair)
                 (final-promoting refusal) after.reaches
                 (record {
                   list = cut.calls;
@@ -297,14 +297,14 @@ played-cut first_lines second_lines began events event refusal done pair release
 
 pub plays-on : (first second : Holder) (began : Pair) (events : List Event) (ended : Option EarlyEnd) (done : List Bool) (pair : Pair) (calls : List Call) (released : List (List ℕ))
     (frames acknowledgements : List (Vec ℕ Global)) (primary standby : State)
-    → calls ≡ pair.transcript.calls.items → released ≡ released_of pair.transcript → frames ≡ pair.frames → acknowledgements ≡ pair.arrivals.acknowledgements.items
+    → calls ≡ pair.clients.transcript.calls.items → released ≡ released_of pair.clients.transcript → frames ≡ pair.wire.frames → acknowledgements ≡ pair.wire.arrivals.acknowledgements.items
     → primary ≡ first_device pair → standby ≡ second_device pair
     → Plays first second began events ended done pair → PlaysOn first second events ended done calls released frames acknowledgements (first_device began) (second_device began) primary standby
 plays-on first second began events ended done pair calls released frames acknowledgements primary standby calls_same same frames_same acks_same primary_same standby_same plays =
     simp (calls_same, frames_same, acks_same, primary_same, standby_same) (go ended plays)
   where
     go : (ended : Option EarlyEnd) → Plays first second began events ended done pair
-        → PlaysOn first second events ended done pair.transcript.calls.items released pair.frames pair.arrivals.acknowledgements.items (first_device began) (second_device began) (first_device pair) (second_device pair)
+        → PlaysOn first second events ended done pair.clients.transcript.calls.items released pair.wire.frames pair.wire.arrivals.acknowledgements.items (first_device began) (second_device began) (first_device pair) (second_device pair)
     go None plays = played-whole first.lines second.lines began events done pair released same plays
     go (Some (AtFormatting refusal)) plays = absurd plays
     go (Some (AtEvent index refusal)) plays = (plays.0, plays.1, played-cut first.lines second.lines began (take index events) plays.0 refusal done pair released same plays.2)

@@ -32,14 +32,14 @@ use Rattle.world.specs.declared.condition.Condition.TheVariants.{Running, Stoppe
 
 -- ---- what can be seen
 
-pub frames-sent : (first second : Holder) (pair : Pair) (w : World) → EitherRefines first second pair w → AreFramesSent w.primary.epoch w.primary.calls pair.frames w.wire.frames
+pub frames-sent : (first second : Holder) (pair : Pair) (w : World) → EitherRefines first second pair w → AreFramesSent w.primary.epoch w.primary.calls pair.wire.frames w.wire.frames
 frames-sent first second pair w parts = elim parts [
-  | inl up ↦ subst (λ epoch. AreFramesSent epoch w.primary.calls pair.frames w.wire.frames) up.1.epoch up.1.frames
-  | inr (inl down) ↦ subst (λ epoch. AreFramesSent epoch w.primary.calls pair.frames w.wire.frames) down.1.epoch down.1.frames
-  | inr (inr still) ↦ subst (λ epoch. AreFramesSent epoch w.primary.calls pair.frames w.wire.frames) still.1.epoch still.1.frames
+  | inl up ↦ subst (λ epoch. AreFramesSent epoch w.primary.calls pair.wire.frames w.wire.frames) up.1.epoch up.1.frames
+  | inr (inl down) ↦ subst (λ epoch. AreFramesSent epoch w.primary.calls pair.wire.frames w.wire.frames) down.1.epoch down.1.frames
+  | inr (inr still) ↦ subst (λ epoch. AreFramesSent epoch w.primary.calls pair.wire.frames w.wire.frames) still.1.epoch still.1.frames
 ]
 
-pub acks-sent : (first second : Holder) (pair : Pair) (w : World) → EitherRefines first second pair w → AreAcksSent pair.arrivals.acknowledgements.items w.wire.acknowledgements
+pub acks-sent : (first second : Holder) (pair : Pair) (w : World) → EitherRefines first second pair w → AreAcksSent pair.wire.arrivals.acknowledgements.items w.wire.acknowledgements
 acks-sent first second pair w parts = elim parts [
   | inl up ↦ up.1.arrivals.acknowledged
   | inr (inl down) ↦ down.1.arrivals.acknowledged
@@ -51,7 +51,7 @@ shows first second pair w stands =
     let sessions = sessions-stand stands.parts in
     record {
       calls = sessions.told.calls_are;
-      released = λ c. released-told w.primary.calls pair.transcript w.primary.connections sessions.told c;
+      released = λ c. released-told w.primary.calls pair.clients.transcript w.primary.connections sessions.told c;
       frames = frames-sent first second pair w stands.parts;
       acknowledgements = acks-sent first second pair w stands.parts;
       primary = primary-stands first second pair w stands.parts;
@@ -118,12 +118,12 @@ goes-as Crashed remains ended = refl
 goes-as Ended remains ended = refl
 
 -- a standby that was promoted has not stopped
-pub ended-goes : {first second : Holder} {pair : Pair} {w : World} → NodesRefine first second pair w → has_ended pair.standby_condition ≡ true → is_stopped w.standby.life ≡ false
-ended-goes {first} {second} {pair} {w} stands ended = ap is_stopped stands.lives.standby ∙ goes-as pair.standby_condition (torn w.standby.life) ended
+pub ended-goes : {first second : Holder} {pair : Pair} {w : World} → NodesRefine first second pair w → has_ended pair.lives.standby ≡ true → is_stopped w.standby.life ≡ false
+ended-goes {first} {second} {pair} {w} stands ended = ap is_stopped stands.lives.standby ∙ goes-as pair.lives.standby (torn w.standby.life) ended
 
 -- what a promotion did can be told
-pub promoted-is : {old new : Pair} {event : Event} {result : Result Bool Refusal} → event ≡ Promote → Promotes old result new → new.frames ≡ old.frames
-    → new.arrivals.acknowledgements.items ≡ old.arrivals.acknowledgements.items → IsStep old event result new
+pub promoted-is : {old new : Pair} {event : Event} {result : Result Bool Refusal} → event ≡ Promote → Promotes old result new → new.wire.frames ≡ old.wire.frames
+    → new.wire.arrivals.acknowledgements.items ≡ old.wire.arrivals.acknowledgements.items → IsStep old event result new
 promoted-is {old} {new} {event} {result} is promotes frames acks = inr (inl (go result promotes))
   where
     succeeded : (first second : Holder) (w : World) → NodesRefine first second old w → Succeeds second w old new → Succeeded first second w old new
@@ -177,24 +177,24 @@ effect-still event pair = tt
 -- nothing was changed where an event did not happen
 pub leaves-still : (event : Event) (pair : Pair) → Leaves event (Ok false) pair pair
 leaves-still event pair =
-    record { primary = λ idle. refl; standby = λ idle. refl; frames = frames-still event pair.frames; acknowledgements = acks-still event pair.arrivals.acknowledgements.items; effect = effect-still event pair }
+    record { primary = λ idle. refl; standby = λ idle. refl; frames = frames-still event pair.wire.frames; acknowledgements = acks-still event pair.wire.arrivals.acknowledgements.items; effect = effect-still event pair }
 
 -- its nodes do not run
-pub idle-is : {old : Pair} {event : Event} {took : Bool} → took ≡ takes_part (runs old.primary_condition) (runs old.standby_condition) event → took ≡ false → IsStep old event (Ok false) old
+pub idle-is : {old : Pair} {event : Event} {took : Bool} → took ≡ takes_part (runs old.lives.primary) (runs old.lives.standby) event → took ≡ false → IsStep old event (Ok false) old
 idle-is {old} {event} {took} takes idle =
     stays-is old event old (idle-step takes idle) (leaves-still event old)
 
 -- where the primary runs no promotion is enabled
-serving-other : (old : Pair) (event : Event) → runs old.primary_condition ≡ true → IsOther old event
+serving-other : (old : Pair) (event : Event) → runs old.lives.primary ≡ true → IsOther old event
 serving-other old event up = λ first second w stands enabled is.
     let may = and_parts (nodes_run w Promote) (may_happen w Promote) (subst (λ (e : Event). is_enabled w e ≡ true) is enabled) in
     true≢false (sym (and_parts w.allowed.promotions (is_retired w.primary.life) may.1).1 ∙ ap is_retired (serving (serves-as up stands)))
 
 -- the primary takes part alone
-pub own-is : {old new : Pair} {event event' : Event} {result : Result Bool Refusal} {took : Bool} → event ≡ event' → took ≡ takes_part (runs old.primary_condition) (runs old.standby_condition) event → took ≡ true
-    → (takes_part (runs old.primary_condition) (runs old.standby_condition) event' ≡ true → runs old.primary_condition ≡ true) → Does old event' result new → Leaves event' result old new → IsStep old event result new
+pub own-is : {old new : Pair} {event event' : Event} {result : Result Bool Refusal} {took : Bool} → event ≡ event' → took ≡ takes_part (runs old.lives.primary) (runs old.lives.standby) event → took ≡ true
+    → (takes_part (runs old.lives.primary) (runs old.lives.standby) event' ≡ true → runs old.lives.primary ≡ true) → Does old event' result new → Leaves event' result old new → IsStep old event result new
 own-is {old} {new} {event} {event'} {result} {took} is takes took_part own does leaves =
-    let up = own (ap (takes_part (runs old.primary_condition) (runs old.standby_condition)) (sym is) ∙ sym takes ∙ took_part) in
+    let up = own (ap (takes_part (runs old.lives.primary) (runs old.lives.standby)) (sym is) ∙ sym takes ∙ took_part) in
     is-step old event result new (λ did. serving-other old event up) (own-acts is takes took_part own does) (subst (λ (e : Event). Leaves e result old new) (sym is) leaves)
 
 -- any event but a promotion
@@ -237,7 +237,7 @@ interrupted old event true new cuts = inr (inr (inl (record { cuts = cuts; befor
     next : (first second : Holder) (w : World) → NodesRefine first second old w → StandsNext w event new
     next first second w stands = stands-next first second w event old new (cuts.shortened first second w stands)
 
-    called : (first second : Holder) (w : World) → NodesRefine first second old w → CallsBy w event true new.transcript.calls.items
+    called : (first second : Holder) (w : World) → NodesRefine first second old w → CallsBy w event true new.clients.transcript.calls.items
     called first second w stands =
         let to = next first second w stands in
         let after = shows to.first to.second new to.world to.stands in
@@ -258,31 +258,31 @@ interrupted-is {old} {new} {event} {event'} {did} is cuts = subst (λ (e : Event
 -- ---- a turn
 
 abbrev roomy : Transcript → Pair → Pair
-roomy transcript old = record old { transcript = transcript }
+roomy transcript old = record old { clients = record old.clients { transcript = transcript } }
 
 -- one step of the pair with room is one of the pair
 steps-from : (first second : Holder) (w : World) (event : Event) (did : Bool) (old : Pair) (transcript : Transcript) (new : Pair) → Steps first second w event did (roomy transcript old) new → Steps first second w event did old new
 steps-from first second w event did old transcript new steps =
     record { world = steps.world; step = steps.step; stands = steps.stands; moves = search (rules, steps.moves) }
 
-roomy-refines : (first second : Holder) (old : Pair) (transcript : Transcript) (w : World) → IsRoomier old.transcript transcript → PairRefines first second old w → PairRefines first second (roomy transcript old) w
+roomy-refines : (first second : Holder) (old : Pair) (transcript : Transcript) (w : World) → IsRoomier old.clients.transcript transcript → PairRefines first second old w → PairRefines first second (roomy transcript old) w
 roomy-refines first second old transcript w roomier stands =
     search (rules, roomier-stands first second old transcript w stands.parts roomier, stands)
 
-adds-roomy : (old transcript : Transcript) (new : Pair) → IsRoomier old transcript → length old.calls.items < vec_capacity old.calls → AddsOne transcript.calls new.transcript.calls → AddsOne old.calls new.transcript.calls
+adds-roomy : (old transcript : Transcript) (new : Pair) → IsRoomier old transcript → length old.calls.items < vec_capacity old.calls → AddsOne transcript.calls new.clients.transcript.calls → AddsOne old.calls new.clients.transcript.calls
 adds-roomy old transcript new roomier room adds = record {
   one = omega (arith, adds.one, ap length roomier.calls);
   room = adds.room ∙ roomier.enough (omega (arith, room, old.calls.ok.0));
 }
 
-turn-step : (old : Pair) (c : ℕ) (result : Result Bool Refusal) (new : Pair) → runs old.primary_condition ≡ true → Turns old c result new → Leaves (Turn c) result old new → IsStep old (Turn c) result new
+turn-step : (old : Pair) (c : ℕ) (result : Result Bool Refusal) (new : Pair) → runs old.lives.primary ≡ true → Turns old c result new → Leaves (Turn c) result old new → IsStep old (Turn c) result new
 turn-step old c (Ok did) new runs turns leaves = inl (record {
   happened = λ first second w stands.
       let steps = steps-from first second w (Turn c) did old turns.roomy new (turns.does.steps first second w (roomy-refines first second old turns.roomy w turns.is_roomier (serves-as runs stands))) in
       happened first second w (Turn c) did old new stands steps (λ is. other-whole (Turn c) steps.world refl);
   refused = tt;
   leaves = leaves;
-  room = λ room. adds-roomy old.transcript turns.roomy new turns.is_roomier room.room turns.does.calls;
+  room = λ room. adds-roomy old.clients.transcript turns.roomy new turns.is_roomier room.room turns.does.calls;
 })
 turn-step old c (Err refusal) new runs turns leaves =
     let same = turns.refused.2 in
@@ -293,22 +293,22 @@ turn-step old c (Err refusal) new runs turns leaves =
         turn = refl;
         memory = turns.refused.0;
         none = turns.refused.1;
-        calls = ap (λ (p : Pair). p.transcript.calls.items) same ∙ turns.is_roomier.calls;
-        released = ap (λ (p : Pair). released_of p.transcript) same
+        calls = ap (λ (p : Pair). p.clients.transcript.calls.items) same ∙ turns.is_roomier.calls;
+        released = ap (λ (p : Pair). released_of p.clients.transcript) same
             ∙ ap (λ (all : Vec (Vec ℕ Global) Global). map (λ (bytes : Vec ℕ Global). bytes.items) all.items) turns.is_roomier.released;
-        devices = (ap (λ (p : Pair). p.device) same, ap (λ (p : Pair). p.standby.device) same);
+        devices = (ap (λ (p : Pair). p.primary.device) same, ap (λ (p : Pair). p.standby.device) same);
         stands = λ first second w stands.
             subst (λ (p : Pair). NodesRefine first second p w) (sym same)
             (nodes-refine (roomy-refines first second old turns.roomy w turns.is_roomier (serves-as runs stands)));
       });
       leaves = leaves;
-      room = λ room. absurd (omega (arith, room.room, turns.refused.1, old.transcript.calls.ok.0));
+      room = λ room. absurd (omega (arith, room.room, turns.refused.1, old.clients.transcript.calls.ok.0));
     })
 
-pub turn-is : {old new : Pair} {event : Event} {c : ℕ} {result : Result Bool Refusal} {took : Bool} → event ≡ Turn c → took ≡ takes_part (runs old.primary_condition) (runs old.standby_condition) event → took ≡ true
+pub turn-is : {old new : Pair} {event : Event} {c : ℕ} {result : Result Bool Refusal} {took : Bool} → event ≡ Turn c → took ≡ takes_part (runs old.lives.primary) (runs old.lives.standby) event → took ≡ true
     → Turns old c result new → Leaves (Turn c) result old new → IsStep old event result new
 turn-is {old} {new} {event} {c} {result} {took} is takes took_part turns leaves =
-    let runs = ap (takes_part (runs old.primary_condition) (runs old.standby_condition)) (sym is) ∙ sym takes ∙ took_part in
+    let runs = ap (takes_part (runs old.lives.primary) (runs old.lives.standby)) (sym is) ∙ sym takes ∙ took_part in
     subst (λ (e : Event). IsStep old e result new) (sym is) (turn-step old c result new runs turns leaves)
 
 -- ---- a run
@@ -318,7 +318,7 @@ pub cut-for-room : (old : Pair) (event : Event) (refusal : Refusal) (new : Pair)
     → ((first second : Holder) (w : World) → NodesRefine first second old w → WasCut first second w event refusal old new) ⊎ LacksRoom event refusal old new
     → (first second : Holder) (w : World) → NodesRefine first second old w → IsCut first second event refusal old new w
 cut-for-room old event refusal new room (inl cuts) first second w stands = (cuts first second w stands).cut
-cut-for-room old event refusal new room (inr lacks) first second w stands = absurd (omega (arith, room.room, lacks.none, old.transcript.calls.ok.0))
+cut-for-room old event refusal new room (inr lacks) first second w stands = absurd (omega (arith, room.room, lacks.none, old.clients.transcript.calls.ok.0))
 
 -- and a pair to which an event happened stands for a world again
 pub goes-on : {old new : Pair} {event : Event} {did : Bool} → HasWorld old → IsStep old event (Ok did) new → HasWorld new

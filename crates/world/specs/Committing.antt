@@ -4,31 +4,24 @@ use Rattle.pmem.specs.Device.{State}
 use Rattle.pmem.specs.Crash.{IsImage, IsSettled, image_of}
 use Rattle.pmem.specs.Runs.{LeavesOnly}
 use Rattle.model.specs.declared.call.Call.{Call}
-use Rattle.model.specs.Call.{keyspace_after, cut_at}
-use Rattle.model.specs.Image.{Image, IsMapOf, entries_of_lines}
+use Rattle.model.specs.Image.{Image}
 use Rattle.model.specs.declared.group.Group.{Group}
 use Rattle.model.specs.declared.work.FreeList.{FreeList}
 use Rattle.model.specs.declared.work.Work.{Work}
-use Rattle.model.specs.Group.{Contents, IsConsistent}
+use Rattle.model.specs.Group.{Contents}
 use Rattle.model.specs.Standing.{Holder, StandsAt}
 use Rattle.model.specs.declared.record.Role.{Role}
-use Rattle.model.specs.declared.record.Role.TheVariants as Role
-use Rattle.wbl_engine.specs.Contents.{IsDurable, Keeps}
+use Rattle.wbl_engine.specs.Contents.{Keeps}
 use Rattle.wbl_engine.specs.Formatting.{IsFormatting}
 use Rattle.wbl_engine.specs.Lawful.{AreLawful, IsUndamaged}
-use Rattle.pipes.specs.Waiting.{Waiting}
 use Rattle.pipes.specs.declared.limits.TheConstants.{PIPE_ITEMS}
 use Rattle.group_commit.specs.Due.{reached_by}
 use Rattle.group_commit.specs.declared.due.Due.{Due}
 use Rattle.group_commit.specs.declared.due.Due.TheVariants as due
-use Rattle.group_commit.specs.declared.stage.Stage.{Stage}
-use Rattle.group_commit.specs.declared.stage.Stage.TheVariants.{Ready, Durable, Shown}
 use Rattle.machine.specs.declared.event.Event.{Event}
 use Rattle.machine.specs.declared.event.Event.TheVariants as events
-use Rattle.machine.specs.Event.{Committer as Machine, Stage as MachineStage}
 -- where the nodes stand after the group that the primary commits next, and after the frame that the standby takes next
 pub use Rattle.machine.specs.Event.{next_from, next_primary, next_standby}
-use Rattle.machine.specs.World as machine_stage
 pub use Rattle.node_steps.specs.Committing.{AreContentsAt, Committing, CommittingRefines, EngineStands, StageRefines}
 pub use Rattle.primary.specs.Leading.{AreOfEpoch, Leads, entries_told, extents_told}
 

@@ -1,5 +1,5 @@
 -- A crash inside a call, or of a node that has stopped: what it leaves of that node, and of the pair.
-use Rattle.std.specs.Prelude.{◌≡◌, ◌≢◌, ◌⊎◌, ℕ, ◌+◌, ◌≤◌, Bool, true, false, not, List, [], ◌∷◌, ◌++◌, map, Option, None, Some, Vec, Result, Ok}
+use Rattle.std.specs.Prelude.{◌≡◌, ◌≢◌, ◌⊎◌, ℕ, ◌+◌, ◌≤◌, Bool, true, false, not, List, [], ◌++◌, map, Option, None, Some, Vec, Result, Ok}
 use Rattle.std.specs.Global.{Global}
 use Rattle.pmem.specs.Crash.{IsSettled, image_of, picked, words_to_crash}
 use Rattle.pmem.specs.Device.{State, moment, newest_at}
@@ -20,13 +20,13 @@ use Rattle.machine.specs.declared.event.Event.TheVariants.{Crash}
 use Rattle.machine.specs.declared.event.Node.{Node}
 use Rattle.machine.specs.declared.event.Node.TheVariants as node
 use Rattle.machine.specs.Event.{Remains, Step, World, is_between, left, left_by, torn}
-use Rattle.connections.specs.Session.{AddsOne, HasSeat, SessionsRefine, seats_of}
+use Rattle.connections.specs.Session.{AddsOne, HasSeat, seats_of}
 use Rattle.world.specs.declared.condition.Condition.TheVariants as conditions
 use Rattle.world.specs.Committing.{promoted_holder}
 use Rattle.world.specs.Condition.{has_ended}
 use Rattle.world.specs.Effect.{LeavesPicked}
 pub use Rattle.world.specs.Remaining.{OpensAs, OpensAsOne, OpensNear}
-use Rattle.world.specs.Pair.{HasStandby, NodesRefine, Pair, first_device, second_device}
+use Rattle.world.specs.Pair.{ClientsRefine, HasStandby, NodesRefine, Pair, first_device, second_device}
 
 -- ---- what a cut call leaves
 
@@ -75,8 +75,8 @@ pub record CutsPrimary (first second : Holder) (w : World) (call : Cut) (k : ℕ
   pub world : World
   pub step : Step w (Crash node.Primary call k picks) true world
   pub stands : NodesRefine first second new world
-  pub leaves : LeavesOnly old.device new.device (OpensNear first w.primary.calls w.primary.committer.position (torn w.primary.life ++ left_by w node.Primary call))
-  pub same_standby : (new.standby ≡ old.standby) × (new.standby_condition ≡ old.standby_condition)
+  pub leaves : LeavesOnly old.primary.device new.primary.device (OpensNear first w.primary.calls w.primary.committer.position (torn w.primary.life ++ left_by w node.Primary call))
+  pub same_standby : (new.standby ≡ old.standby) × (new.lives.standby ≡ old.lives.standby)
 
 -- The standby stays the standby, or its image is that of a primary, which is crashed: the standby's place is that of the former one then, of whose holder nothing is said.
 pub record StaysBehind (first second : Holder) (new : Pair) (world : World) : Type 0 where
@@ -86,7 +86,7 @@ pub record StaysBehind (first second : Holder) (new : Pair) (world : World) : Ty
 pub record GoesAhead (second : Holder) (new : Pair) (world : World) : Type 0 where
   pub former : Holder
   pub stands : NodesRefine (promoted_holder second) former new world
-  pub ended : has_ended new.standby_condition ≡ true
+  pub ended : has_ended new.lives.standby ≡ true
 
 -- A call of the standby was cut by a crash, or a crash came to it once it had stopped: the machine's step, and the pair refines the world after it. The device of the primary, or of the former one, is as it was.
 pub record CutsStandby (first second : Holder) (w : World) (call : Cut) (k : ℕ) (picks : Vec ℕ Global) (old new : Pair) : Type 0 where
@@ -105,7 +105,7 @@ CutsShort first second w event old new = ⊥
 
 -- what was left of the device whose call it was
 abbrev pub LeftCut : Event → Pair → Pair → Type 0
-LeftCut (Crash node.Primary call k picks) old new = LeavesOf call k picks.items old.device new.device
+LeftCut (Crash node.Primary call k picks) old new = LeavesOf call k picks.items old.primary.device new.primary.device
 LeftCut (Crash node.Standby call k picks) old new = LeavesOf call k picks.items (second_device old) (second_device new)
 LeftCut event old new = ⊥
 
@@ -115,9 +115,9 @@ pub record Cuts (old : Pair) (event : Event) (result : Result Bool Refusal) (new
   pub did : result ≡ Ok true
   pub shortened : (first second : Holder) (w : World) → NodesRefine first second old w → CutsShort first second w event old new
   pub left : LeftCut event old new
-  pub frames : new.frames ≡ old.frames
-  pub acknowledgements : new.arrivals.acknowledgements.items ≡ old.arrivals.acknowledgements.items
-  pub calls : AddsOne old.transcript.calls new.transcript.calls
+  pub frames : new.wire.frames ≡ old.wire.frames
+  pub acknowledgements : new.wire.arrivals.acknowledgements.items ≡ old.wire.arrivals.acknowledgements.items
+  pub calls : AddsOne old.clients.transcript.calls new.clients.transcript.calls
 
 -- ---- a standby goes by its image
 
@@ -127,24 +127,24 @@ Finds found device = (r : Record) → MIN_LINES ≤ device.lines → device.line
 
 -- Of the standby there is its image. What was delivered to it is lost.
 pub record FallsBehind (old new : Pair) : Type 0 where
-  pub lost : new.arrivals.delivered.items ≡ []
-  pub told : new.arrivals.acknowledgements ≡ old.arrivals.acknowledgements
-  pub falls : new ≡ record old { arrivals = new.arrivals; standby_condition = conditions.Crashed }
+  pub lost : new.wire.arrivals.delivered.items ≡ []
+  pub told : new.wire.arrivals.acknowledgements ≡ old.wire.arrivals.acknowledgements
+  pub falls : new ≡ record old { wire = record old.wire { arrivals = new.wire.arrivals }; lives = record old.lives { standby = conditions.Crashed } }
 
 -- Its image is that of a primary with a record of this position and epoch, which has its device from then on, and the standby's place that of the former one. What the pair has of what it had.
 pub record ComesForward (position epoch : ℕ) (old new : Pair) : Type 0 where
-  pub ends : (w : World) → SessionsRefine old.sessions old.transcript w.primary.connections w.primary.calls → SessionsRefine new.sessions new.transcript (map left w.primary.connections) (cut_at w.primary.calls position)
-  pub unseated : (c seat : ℕ) → HasSeat (seats_of new.sessions.connections.items) c seat → ⊥
-  pub calls : AddsOne old.transcript.calls new.transcript.calls
-  pub epoch_is : new.link.epoch ≡ epoch
-  pub lost : new.arrivals.delivered.items ≡ []
-  pub told : new.arrivals.acknowledgements ≡ old.arrivals.acknowledgements
-  pub frames : new.frames ≡ old.frames
-  pub primary : new.primary_condition ≡ conditions.Crashed
-  pub standby : new.standby_condition ≡ conditions.Ended
-  pub taken : new.device ≡ old.standby.device
-  pub given : new.standby.device ≡ old.device
-  pub asked : new.asked ≡ record (old.asked) { primary = old.asked.standby }
+  pub ends : (w : World) → ClientsRefine old.clients w.primary.connections w.primary.calls → ClientsRefine new.clients (map left w.primary.connections) (cut_at w.primary.calls position)
+  pub unseated : (c seat : ℕ) → HasSeat (seats_of new.clients.sessions.connections.items) c seat → ⊥
+  pub calls : AddsOne old.clients.transcript.calls new.clients.transcript.calls
+  pub epoch_is : new.wire.link.epoch ≡ epoch
+  pub lost : new.wire.arrivals.delivered.items ≡ []
+  pub told : new.wire.arrivals.acknowledgements ≡ old.wire.arrivals.acknowledgements
+  pub frames : new.wire.frames ≡ old.wire.frames
+  pub primary : new.lives.primary ≡ conditions.Crashed
+  pub standby : new.lives.standby ≡ conditions.Ended
+  pub taken : new.primary.device ≡ old.standby.device
+  pub given : new.standby.device ≡ old.primary.device
+  pub asked : new.lives.asked ≡ record old.lives.asked { primary = old.lives.asked.standby }
 
 -- A standby that crashed goes by the record of its image.
 pub record GoesByImage (old new : Pair) : Type 0 where

@@ -91,15 +91,15 @@ asked n device = record device { fences = Sure (if n == 0 then None else Some n)
 -- ---- any event
 
 abbrev pub Effect : Event → Result Bool Refusal → Pair → Pair → Type 0
-Effect (FailFence node.Primary n) result old new = OnDid result (new.device ≡ asked n old.device)
+Effect (FailFence node.Primary n) result old new = OnDid result (new.primary.device ≡ asked n old.primary.device)
 Effect (FailFence node.Standby n) result old new = OnDid result (new.standby.device ≡ asked n old.standby.device)
-Effect CloseGroup result old new = OnDid result (ClosesOne old.sequencer old.committing.waiting new.sequencer new.committing.waiting)
-Effect Free result old new = OnDid result (FreesOldest (reached_now old.committing.aside old.committing.waiting.items old.handed.items) old.contents old.notices new.contents new.notices)
-Effect AcceptFreed result old new = OnDid result (TakesOldest old.sequencer old.notices new.sequencer new.notices)
-Effect ClearGap result old new = OnDid result (ClearsOldest old.contents old.notices new.contents new.notices)
-Effect Apply result old new = OnDid result (AnswersFirst old.arrivals.delivered.items old.arrivals.acknowledgements.items new.arrivals.acknowledgements.items old.standby new.standby)
-Effect (Crash node.Primary call k picks) result old new = OnDid result (LeavesPicked picks.items old.device new.device)
+Effect CloseGroup result old new = OnDid result (ClosesOne old.primary.sequencer old.primary.committing.waiting new.primary.sequencer new.primary.committing.waiting)
+Effect Free result old new = OnDid result (FreesOldest (reached_now old.primary.committing.aside old.primary.committing.waiting.items old.primary.handed.items) old.primary.contents old.primary.notices new.primary.contents new.primary.notices)
+Effect AcceptFreed result old new = OnDid result (TakesOldest old.primary.sequencer old.primary.notices new.primary.sequencer new.primary.notices)
+Effect ClearGap result old new = OnDid result (ClearsOldest old.primary.contents old.primary.notices new.primary.contents new.primary.notices)
+Effect Apply result old new = OnDid result (AnswersFirst old.wire.arrivals.delivered.items old.wire.arrivals.acknowledgements.items new.wire.arrivals.acknowledgements.items old.standby new.standby)
+Effect (Crash node.Primary call k picks) result old new = OnDid result (LeavesPicked picks.items old.primary.device new.primary.device)
 Effect (Crash node.Standby call k picks) result old new = OnDid result (LeavesPicked picks.items old.standby.device new.standby.device)
-Effect (Reopen node.Primary) result old new = OnDid result (IsReopened old.device.lines (image_of old.device.words) Role.Primary new.contents × IsOver new.contents new.sequencer)
+Effect (Reopen node.Primary) result old new = OnDid result (IsReopened old.primary.device.lines (image_of old.primary.device.words) Role.Primary new.primary.contents × IsOver new.primary.contents new.primary.sequencer)
 Effect (Reopen node.Standby) result old new = OnDid result (IsReopened old.standby.device.lines (image_of old.standby.device.words) Role.Standby new.standby.contents)
 Effect event result old new = Unit {0}

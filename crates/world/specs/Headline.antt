@@ -258,7 +258,7 @@ pub record StandsIn (first_lines second_lines : ℕ) (pair : Pair) (w : World) :
   pub serving : Holder
   pub following : Holder
   pub stands : NodesRefine serving following pair w
-  pub serving_lines : serving.lines ≡ (if has_ended pair.standby_condition then second_lines else first_lines)
+  pub serving_lines : serving.lines ≡ (if has_ended pair.lives.standby then second_lines else first_lines)
   pub following_lines : HasStandby pair → following.lines ≡ second_lines
 
 -- and the pair refines the last world
@@ -271,10 +271,10 @@ pub record IsCutAfter (first_lines second_lines : ℕ) (began : Pair) (events : 
   pub before : Pair
   pub reaches : Reaches first_lines second_lines began events done (first_device before) (second_device before)
   pub stands : StandsIn first_lines second_lines before (last_world start reaches.worlds)
-  pub frames : pair.frames ≡ before.frames
-  pub acknowledgements : pair.arrivals.acknowledgements.items ≡ before.arrivals.acknowledgements.items
+  pub frames : pair.wire.frames ≡ before.wire.frames
+  pub acknowledgements : pair.wire.arrivals.acknowledgements.items ≡ before.wire.arrivals.acknowledgements.items
   pub cut : (IsCut stands.serving stands.following event refusal before pair (last_world start reaches.worlds)
-      × (has_ended before.standby_condition ≡ true → pair.standby.device ≡ before.standby.device))
+      × (has_ended before.lives.standby ≡ true → pair.standby.device ≡ before.standby.device))
       ⊎ ((event ≡ Promote) × IsPromotionCut stands.following refusal before pair (last_world start reaches.worlds) × HasStandby before)
 
 abbrev pub Plays : Holder → Holder → Pair → List Event → Option EarlyEnd → List Bool → Pair → Type 0

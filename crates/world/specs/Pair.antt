@@ -1,5 +1,5 @@
 -- How a pair of nodes with its connections refines the machine's, while its primary runs, while it is crashed, and once it has stopped or was fenced.
-use Rattle.std.specs.Prelude.{◌≡◌, ◌⊎◌, ◌&&◌, ℕ, ◌<◌, Bool, true, false, if◌then◌else◌, List, [], length, slice_index_or, All, Vec, vec_capacity, Result, IfOk, IfErr}
+use Rattle.std.specs.Prelude.{◌≡◌, ◌⊎◌, ℕ, ◌<◌, Bool, true, false, if◌then◌else◌, List, [], length, slice_index_or, All, Vec, vec_capacity, Result, IfOk, IfErr}
 use Rattle.std.specs.Global.{Global}
 use Rattle.pmem.specs.Crash.{IsImage}
 use Rattle.pmem.specs.Device.{State}
@@ -8,6 +8,7 @@ use Rattle.model.specs.declared.group.Group.{Group}
 use Rattle.wbl_engine.specs.declared.freeing.Freed.{Freed}
 use Rattle.model.specs.Group.{Contents}
 use Rattle.model.specs.declared.record.Role.TheVariants as Role
+use Rattle.model.specs.declared.call.Call.{Call}
 use Rattle.model.specs.Call.{position_of}
 use Rattle.model.specs.Image.{Image}
 use Rattle.model.specs.Standing.{Holder}
@@ -17,7 +18,7 @@ use Rattle.standby_stream.specs.Stream.{Stream}
 use Rattle.standby_stream.specs.declared.opening.Opening.{Opening}
 use Rattle.machine.specs.declared.event.Event.{Event}
 use Rattle.machine.specs.declared.event.Cut.TheVariants as cut
-use Rattle.machine.specs.Event.{Allowed, Primary, World, Step, is_enabled, new_committer, new_link, torn}
+use Rattle.machine.specs.Event.{Allowed, Connection, World, Step, is_enabled, new_committer, new_link, torn}
 use Rattle.machine.specs.Row.{are_running, row}
 use Rattle.machine.specs.Promise.{released_in}
 use Rattle.machine.specs.Sound.{Sound}
@@ -38,22 +39,29 @@ use Rattle.world.specs.Standby.{Arrived, Node, StandbyRefines, ArrivalsRefine}
 use Rattle.connections.specs.declared.connections.Connections.{Connections}
 use Rattle.connections.specs.declared.transcript.Transcript.{Transcript}
 
--- what a pair is made of, with what happened to it
-pub record Pair : Type 0 where
+-- ---- what a pair is made of
+
+-- the connections, and what was called and released
+pub record Clients : Type 0 where
   pub sessions : Connections
-  -- what was called and released
   pub transcript : Transcript
+
+-- what serves and commits, with its engine
+pub record Serving : Type 0 where
   pub sequencer : Sequencing
-  -- the committer's queue, and the committer
-  pub committing : Committing
   -- what was freed and the sequencer has not been told
   pub notices : List Freed
-  -- the primary's engine
+  -- the committer's queue, and the committer
+  pub committing : Committing
+  -- the engine
   pub device : State
   pub contents : Contents
   pub is_faulted : Bool
   -- groups that were handed on to the link
   pub handed : Waiting Group
+
+-- what lies between the nodes
+pub record Wire : Type 0 where
   pub link : Stream
   -- what a standby is told that is behind the position at which the primary was opened
   pub opening : Opening
@@ -62,69 +70,83 @@ pub record Pair : Type 0 where
   -- the bytes of all frames that passed over the link
   pub frames : List (Vec ℕ Global)
   pub arrivals : Arrived
-  pub standby : Node
+
+-- the conditions of the nodes
+pub record Lives : Type 0 where
   -- the primary runs, or has stopped, or is crashed, or was fenced
-  pub primary_condition : Condition
+  pub primary : Condition
   -- The standby runs, or has stopped, or is crashed, or was promoted: the primary goes on from its image then, and it has the device of the former primary.
-  pub standby_condition : Condition
+  pub standby : Condition
   -- of which of their devices a fence was asked to fail, and has not failed yet
   pub asked : AskedFences
 
+-- a pair, with what happened to it
+pub record Pair : Type 0 where
+  pub clients : Clients
+  pub primary : Serving
+  pub wire : Wire
+  pub standby : Node
+  pub lives : Lives
+
+-- the connections, and what was called and released, refine these connections and this list of calls
+abbrev pub ClientsRefine : Clients → List Connection → List Call → Type 0
+ClientsRefine clients machines list = SessionsRefine clients.sessions clients.transcript machines list
+
 -- the standby was not promoted
 abbrev pub HasStandby : Pair → Type 0
-HasStandby pair = has_ended pair.standby_condition ≡ false
+HasStandby pair = has_ended pair.lives.standby ≡ false
 
 -- The parts of one whose primary runs refine those of the machine. The primary's image is that of the first holder, the standby's that of the second.
 pub record PartsRefine (first second : Holder) (pair : Pair) (w : World) : Type 0 where
-  pub sessions : SessionsRefine pair.sessions pair.transcript w.primary.connections w.primary.calls
-  pub sequencer : SequencerRefines w.primary.calls w.primary.committer.closed pair.sequencer
-  pub follow : SeatsFollow w.primary.calls (seats_of pair.sessions.connections.items) pair.sequencer
-  pub committing : CommittingRefines w.primary.calls pair.committing w.primary.committer
-  pub engine : EngineStands first w.primary.calls w.primary.committer.position pair.device pair.contents pair.is_faulted
-  pub leads : Leads pair.contents pair.committing.waiting.items pair.committing.aside pair.sequencer pair.notices
-  pub freeing : FreeingRefines pair.sequencer pair.notices pair.contents w.primary
-  pub remembers : Remembers w.standby.position w.primary.committer.position (past_of w.primary.calls) pair.contents pair.committing.waiting.items pair.committing.aside pair.sequencer
-  pub opening : OpeningLeads w.standby.position w.primary.opened w.primary.calls pair.opening
-  pub epoch : pair.link.epoch ≡ w.primary.epoch
-  pub link : LinkRefines w.primary.calls pair.link pair.handed pair.remote w.primary.link
-  pub frames : AreFramesSent pair.link.epoch w.primary.calls pair.frames w.wire.frames
+  pub sessions : ClientsRefine pair.clients w.primary.connections w.primary.calls
+  pub sequencer : SequencerRefines w.primary.calls w.primary.committer.closed pair.primary.sequencer
+  pub follow : SeatsFollow w.primary.calls (seats_of pair.clients.sessions.connections.items) pair.primary.sequencer
+  pub committing : CommittingRefines w.primary.calls pair.primary.committing w.primary.committer
+  pub engine : EngineStands first w.primary.calls w.primary.committer.position pair.primary.device pair.primary.contents pair.primary.is_faulted
+  pub leads : Leads pair.primary.contents pair.primary.committing.waiting.items pair.primary.committing.aside pair.primary.sequencer pair.primary.notices
+  pub freeing : FreeingRefines pair.primary.sequencer pair.primary.notices pair.primary.contents w.primary
+  pub remembers : Remembers w.standby.position w.primary.committer.position (past_of w.primary.calls) pair.primary.contents pair.primary.committing.waiting.items pair.primary.committing.aside pair.primary.sequencer
+  pub opening : OpeningLeads w.standby.position w.primary.opened w.primary.calls pair.wire.opening
+  pub epoch : pair.wire.link.epoch ≡ w.primary.epoch
+  pub link : LinkRefines w.primary.calls pair.wire.link pair.primary.handed pair.wire.remote w.primary.link
+  pub frames : AreFramesSent pair.wire.link.epoch w.primary.calls pair.wire.frames w.wire.frames
   -- while there is a standby, nothing of an earlier epoch is on the way to it
-  pub own : HasStandby pair → All (IsOwn pair.link.epoch) w.wire.frames
-  pub arrivals : ArrivalsRefine pair.link.epoch w.primary.calls pair.arrivals w.standby.waiting w.wire.acknowledgements
-  pub standby : StandbyRefines second pair.link.epoch w.primary.calls w.standby.position (torn w.standby.life) pair.standby pair.standby_condition
+  pub own : HasStandby pair → All (IsOwn pair.wire.link.epoch) w.wire.frames
+  pub arrivals : ArrivalsRefine pair.wire.link.epoch w.primary.calls pair.wire.arrivals w.standby.waiting w.wire.acknowledgements
+  pub standby : StandbyRefines second pair.wire.link.epoch w.primary.calls w.standby.position (torn w.standby.life) pair.standby pair.lives.standby
 
 -- The parts of one whose primary is crashed: of the primary there is its image.
 pub record DownRefine (first second : Holder) (pair : Pair) (w : World) : Type 0 where
-  pub sessions : SessionsRefine pair.sessions pair.transcript w.primary.connections w.primary.calls
+  pub sessions : ClientsRefine pair.clients w.primary.connections w.primary.calls
   -- no seat is taken, nothing is on its way to the committer or the link, and the list ends at the image's position
-  pub unseated : (c seat : ℕ) → ¬ HasSeat (seats_of pair.sessions.connections.items) c seat
+  pub unseated : (c seat : ℕ) → ¬ HasSeat (seats_of pair.clients.sessions.connections.items) c seat
   pub committer : w.primary.committer ≡ new_committer w.primary.committer.position
   pub link : w.primary.link ≡ new_link
   pub ends : position_of w.primary.calls ≡ w.primary.committer.position
   pub newest : w.primary.newest ≡ w.primary.committer.position
   pub none_told : w.primary.notices ≡ 0
-  pub image : IsDown first w.primary.calls w.primary.committer.position pair.device
+  pub image : IsDown first w.primary.calls w.primary.committer.position pair.primary.device
   pub opened : w.primary.opened ≡ w.primary.committer.position
   pub recalls : RecallsEach w.standby.position w.primary.committer.position (past_of w.primary.calls) image.contents
-  pub epoch : pair.link.epoch ≡ w.primary.epoch
-  pub frames : AreFramesSent pair.link.epoch w.primary.calls pair.frames w.wire.frames
+  pub epoch : pair.wire.link.epoch ≡ w.primary.epoch
+  pub frames : AreFramesSent pair.wire.link.epoch w.primary.calls pair.wire.frames w.wire.frames
   -- while there is a standby, nothing of an earlier epoch is on the way to it
-  pub own : HasStandby pair → All (IsOwn pair.link.epoch) w.wire.frames
-  pub arrivals : ArrivalsRefine pair.link.epoch w.primary.calls pair.arrivals w.standby.waiting w.wire.acknowledgements
-  pub standby : StandbyRefines second pair.link.epoch w.primary.calls w.standby.position (torn w.standby.life) pair.standby pair.standby_condition
+  pub own : HasStandby pair → All (IsOwn pair.wire.link.epoch) w.wire.frames
+  pub arrivals : ArrivalsRefine pair.wire.link.epoch w.primary.calls pair.wire.arrivals w.standby.waiting w.wire.acknowledgements
+  pub standby : StandbyRefines second pair.wire.link.epoch w.primary.calls w.standby.position (torn w.standby.life) pair.standby pair.lives.standby
 
 -- The parts of one whose primary has stopped or was fenced: of the primary there is its device, on which each crash leaves an image that holds what the primary held where it stood, or what the
 -- call in which a fence failed would have left. The list of calls stays what it was, with all that was released.
 pub record StillRefine (first second : Holder) (pair : Pair) (w : World) : Type 0 where
-  pub sessions : SessionsRefine pair.sessions pair.transcript w.primary.connections w.primary.calls
-  pub lines_are : pair.device.lines ≡ first.lines
-  pub left : (image : Image) → IsImage pair.device.words image → LeftBy first w cut.Between image
-  pub epoch : pair.link.epoch ≡ w.primary.epoch
-  pub frames : AreFramesSent pair.link.epoch w.primary.calls pair.frames w.wire.frames
+  pub sessions : ClientsRefine pair.clients w.primary.connections w.primary.calls
+  pub lines_are : pair.primary.device.lines ≡ first.lines
+  pub left : (image : Image) → IsImage pair.primary.device.words image → LeftBy first w cut.Between image
+  pub epoch : pair.wire.link.epoch ≡ w.primary.epoch
+  pub frames : AreFramesSent pair.wire.link.epoch w.primary.calls pair.wire.frames w.wire.frames
   -- while there is a standby, nothing of an earlier epoch is on the way to it
-  pub own : HasStandby pair → All (IsOwn pair.link.epoch) w.wire.frames
-  pub arrivals : ArrivalsRefine pair.link.epoch w.primary.calls pair.arrivals w.standby.waiting w.wire.acknowledgements
-  pub standby : StandbyRefines second pair.link.epoch w.primary.calls w.standby.position (torn w.standby.life) pair.standby pair.standby_condition
+  pub own : HasStandby pair → All (IsOwn pair.wire.link.epoch) w.wire.frames
+  pub arrivals : ArrivalsRefine pair.wire.link.epoch w.primary.calls pair.wire.arrivals w.standby.waiting w.wire.acknowledgements
+  pub standby : StandbyRefines second pair.wire.link.epoch w.primary.calls w.standby.position (torn w.standby.life) pair.standby pair.lives.standby
 
 -- ---- lives
 
@@ -138,14 +160,14 @@ abbrev pub primary_number : Condition → ℕ
 primary_number condition = if has_ended condition then 1 else 0
 
 -- Each node is in the condition that is said of it, over its device, of which a fence was asked to fail as is said; and the images are those of a primary and a standby of the pair's epoch.
-pub record AreLives (first second : Holder) (primary_condition standby_condition : Condition) (fences : AskedFences) (w : World) : Type 0 where
+pub record AreLives (first second : Holder) (lives : Lives) (w : World) : Type 0 where
   pub allowed_are : w.allowed ≡ allowed
-  pub primary_disk : w.primary.disk.number ≡ primary_number standby_condition
+  pub primary_disk : w.primary.disk.number ≡ primary_number lives.standby
   pub standby_disk : w.standby.disk.number ≡ 1
-  pub primary_failing : w.primary.disk.failing ≡ fences.primary
-  pub standby_failing : w.standby.disk.failing ≡ fences.standby
-  pub primary : w.primary.life ≡ life_as primary_condition (torn w.primary.life)
-  pub standby : w.standby.life ≡ life_as standby_condition (torn w.standby.life)
+  pub primary_failing : w.primary.disk.failing ≡ lives.asked.primary
+  pub standby_failing : w.standby.disk.failing ≡ lives.asked.standby
+  pub primary : w.primary.life ≡ life_as lives.primary (torn w.primary.life)
+  pub standby : w.standby.life ≡ life_as lives.standby (torn w.standby.life)
   pub first_role : first.role ≡ Role.Primary
   pub second_role : second.role ≡ Role.Standby
   pub first_epoch : first.epoch ≡ w.primary.epoch
@@ -156,21 +178,21 @@ pub record AreLives (first second : Holder) (primary_condition standby_condition
 -- its primary runs, and it refines a world that a run may reach
 pub record PairRefines (first second : Holder) (pair : Pair) (w : World) : Type 0 where
   pub sound : Sound w
-  pub lives : AreLives first second pair.primary_condition pair.standby_condition pair.asked w
-  pub serves : runs pair.primary_condition ≡ true
+  pub lives : AreLives first second pair.lives w
+  pub serves : runs pair.lives.primary ≡ true
   pub parts : PartsRefine first second pair w
 
 -- its parts refine the machine's, whether its primary runs, is crashed, or has stopped or was fenced
 abbrev pub EitherRefines : Holder → Holder → Pair → World → Type 0
 EitherRefines first second pair w =
-    ((runs pair.primary_condition ≡ true) × PartsRefine first second pair w)
-    ⊎ ((has_crashed pair.primary_condition ≡ true) × DownRefine first second pair w)
-    ⊎ ((is_still pair.primary_condition ≡ true) × StillRefine first second pair w)
+    ((runs pair.lives.primary ≡ true) × PartsRefine first second pair w)
+    ⊎ ((has_crashed pair.lives.primary ≡ true) × DownRefine first second pair w)
+    ⊎ ((is_still pair.lives.primary ≡ true) × StillRefine first second pair w)
 
 -- it refines such a world, whatever the condition of its primary
 pub record NodesRefine (first second : Holder) (pair : Pair) (w : World) : Type 0 where
   pub sound : Sound w
-  pub lives : AreLives first second pair.primary_condition pair.standby_condition pair.asked w
+  pub lives : AreLives first second pair.lives w
   pub parts : EitherRefines first second pair w
 
 -- there is a world that it refines
@@ -182,24 +204,24 @@ pub record HasWorld (pair : Pair) : Type 0 where
 
 -- there is room for one more call
 pub record HasRoom (pair : Pair) : Type 0 where
-  pub room : length pair.transcript.calls.items < vec_capacity pair.transcript.calls
+  pub room : length pair.clients.transcript.calls.items < vec_capacity pair.clients.transcript.calls
 
 -- An enabled event was cut for this cause: the list of calls and the released bytes are those of the world before it.
 pub record IsCut (first second : Holder) (event : Event) (refusal : Refusal) (old new : Pair) (w : World) : Type 0 where
   pub enabled : is_enabled w event ≡ true
-  pub calls : new.transcript.calls.items ≡ w.primary.calls
-  pub released : (c : ℕ) → slice_index_or (released_of new.transcript) c [] ≡ released_in w c
-  pub count : length new.transcript.released.items ≡ length w.primary.connections
+  pub calls : new.clients.transcript.calls.items ≡ w.primary.calls
+  pub released : (c : ℕ) → slice_index_or (released_of new.clients.transcript) c [] ≡ released_in w c
+  pub count : length new.clients.transcript.released.items ≡ length w.primary.connections
   -- no standby was promoted
-  pub standby : has_ended new.standby_condition ≡ has_ended old.standby_condition
+  pub standby : has_ended new.lives.standby ≡ has_ended old.lives.standby
   pub cause : EndsBy refusal event (λ first_last second_last.
-      OrLies first_last first w.primary.calls w.primary.committer.position (next_primary w) (torn w.primary.life) old.device new.device
+      OrLies first_last first w.primary.calls w.primary.committer.position (next_primary w) (torn w.primary.life) old.primary.device new.primary.device
       × (HasStandby old → OrLies second_last second w.primary.calls w.standby.position (next_standby w) (torn w.standby.life) old.standby.device new.standby.device))
 
 -- The step from one pair to the other moved each device, over the list of calls before it, from where its node stands in one world to where it stands in the other. (Of a
 -- standby that was promoted before nothing is said.)
 pub record MovesBoth (first second : Holder) (old new : Pair) (w w' : World) : Type 0 where
-  pub primary : MovesNear first w.primary.calls w.primary.committer.position w'.primary.committer.position (torn w.primary.life) old.device new.device
+  pub primary : MovesNear first w.primary.calls w.primary.committer.position w'.primary.committer.position (torn w.primary.life) old.primary.device new.primary.device
   pub standby : HasStandby old → MovesNear second w.primary.calls w.standby.position w'.standby.position (torn w.standby.life) old.standby.device new.standby.device
 
 -- the machine's step, the world that the pair refines after it, and what the step did to the devices
@@ -213,7 +235,7 @@ pub record Steps (first second : Holder) (w : World) (event : Event) (did : Bool
 pub record DoesTo (Refines : Holder → Holder → Pair → World → Type 0) (old : Pair) (event : Event) (result : Result Bool Refusal) (new : Pair) : Type 0 where
   pub steps : IfOk result (λ did. (first second : Holder) (w : World) → Refines first second old w → Steps first second w event did old new)
   pub cut : IfErr result (λ refusal. (first second : Holder) (w : World) → Refines first second old w → IsCut first second event refusal old new w)
-  pub calls : AddsOne old.transcript.calls new.transcript.calls
+  pub calls : AddsOne old.clients.transcript.calls new.clients.transcript.calls
 
 -- to one whose primary runs
 abbrev pub Does : Pair → Event → Result Bool Refusal → Pair → Type 0
@@ -227,10 +249,10 @@ Acts = DoesTo NodesRefine
 
 -- the device that was given as the primary's, and the one that was given as the standby's
 abbrev pub first_device : Pair → State
-first_device pair = if has_ended pair.standby_condition then pair.standby.device else pair.device
+first_device pair = if has_ended pair.lives.standby then pair.standby.device else pair.primary.device
 
 abbrev pub second_device : Pair → State
-second_device pair = if has_ended pair.standby_condition then pair.device else pair.standby.device
+second_device pair = if has_ended pair.lives.standby then pair.primary.device else pair.standby.device
 
 -- The standby was promoted: the machine's step, and the pair refines the world after it, whose primary has the device of the standby. A crash meanwhile leaves on that an
 -- image of either; the device of the former primary is as it was.
@@ -240,7 +262,7 @@ pub record Succeeds (second : Holder) (w : World) (old new : Pair) : Type 0 wher
   -- (what is said of the holder of the former primary's device is that of no node)
   pub former : Holder
   pub began : HasStandby old
-  pub ended : has_ended new.standby_condition ≡ true
+  pub ended : has_ended new.lives.standby ≡ true
   pub stands : NodesRefine (promoted_holder second) former new world
   pub first_stays : first_device new ≡ first_device old
   pub leaves : LeavesOnly (second_device old) (second_device new) (OpensAsEither second w.primary.calls w.standby.position)
@@ -250,9 +272,9 @@ pub record Succeeds (second : Holder) (w : World) (old new : Pair) : Type 0 wher
 -- it was.
 pub record IsPromotionCut (second : Holder) (refusal : Refusal) (old new : Pair) (w : World) : Type 0 where
   pub enabled : is_enabled w Promote ≡ true
-  pub calls : new.transcript.calls.items ≡ w.primary.calls
-  pub released : (c : ℕ) → slice_index_or (released_of new.transcript) c [] ≡ released_in w c
-  pub count : length new.transcript.released.items ≡ length w.primary.connections
+  pub calls : new.clients.transcript.calls.items ≡ w.primary.calls
+  pub released : (c : ℕ) → slice_index_or (released_of new.clients.transcript) c [] ≡ released_in w c
+  pub count : length new.clients.transcript.released.items ≡ length w.primary.connections
   pub first_stays : first_device new ≡ first_device old
   pub cause : Promoting refusal second w.primary.calls w.standby.position (next_standby w) (second_device old) (second_device new)
 
@@ -260,7 +282,7 @@ pub record IsPromotionCut (second : Holder) (refusal : Refusal) (old new : Pair)
 pub record Promotes (old : Pair) (result : Result Bool Refusal) (new : Pair) : Type 0 where
   pub succeeds : IfOk result (λ did. (did ≡ true) × ((first second : Holder) (w : World) → NodesRefine first second old w → Succeeds second w old new))
   pub cut : IfErr result (λ refusal. (first second : Holder) (w : World) → NodesRefine first second old w → IsPromotionCut second refusal old new w)
-  pub calls : AddsOne old.transcript.calls new.transcript.calls
+  pub calls : AddsOne old.clients.transcript.calls new.clients.transcript.calls
 
 -- the nodes that take part in the event run, where the primary and the standby do so or not; to crash, or to be opened again, none needs to run
 abbrev pub takes_part : Bool → Bool → Event → Bool

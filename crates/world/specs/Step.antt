@@ -7,7 +7,7 @@ use Rattle.model.specs.declared.call.Call.{Call}
 use Rattle.model.specs.Call.{MayReply, cut_at, position_of, state_after}
 use Rattle.model.specs.Standing.{Holder}
 use Rattle.machine.specs.declared.event.Event.{Event}
-use Rattle.machine.specs.declared.event.Event.TheVariants.{Apply, ClearGap, Commit, Crash, Free, OpenLink, Promote, Reopen, Send, Turn, Write}
+use Rattle.machine.specs.declared.event.Event.TheVariants.{Apply, Crash, OpenLink, Promote, Send, Turn, Write}
 use Rattle.machine.specs.declared.event.Node.TheVariants as node
 use Rattle.machine.specs.Event.{AsPrimary, At, Connection, Remains, World, connection_of, may_remain, torn}
 use Rattle.machine.specs.Promise.{IsReleased, released_in}
@@ -51,10 +51,10 @@ AcksBy event result old new = new ≡ old
 
 -- A device that the event does not touch is as it was, with all that it has gone through; and so are both, and all messages, where it was not enabled.
 pub record Leaves (event : Event) (result : Result Bool Refusal) (old new : Pair) : Type 0 where
-  pub primary : (touches_primary event && has_begun result) ≡ false → new.device ≡ old.device
+  pub primary : (touches_primary event && has_begun result) ≡ false → new.primary.device ≡ old.primary.device
   pub standby : (touches_standby event && has_begun result) ≡ false → new.standby.device ≡ old.standby.device
-  pub frames : FramesBy event result old.frames new.frames
-  pub acknowledgements : AcksBy event result old.arrivals.acknowledgements.items new.arrivals.acknowledgements.items
+  pub frames : FramesBy event result old.wire.frames new.wire.frames
+  pub acknowledgements : AcksBy event result old.wire.arrivals.acknowledgements.items new.wire.arrivals.acknowledgements.items
   -- and what it does where it did its step
   pub effect : Effect event result old new
 
@@ -62,16 +62,16 @@ pub record Leaves (event : Event) (result : Result Bool Refusal) (old new : Pair
 
 -- the bytes that were released to connection c
 abbrev pub released_to : Pair → ℕ → List ℕ
-released_to pair c = slice_index_or (released_of pair.transcript) c []
+released_to pair c = slice_index_or (released_of pair.clients.transcript) c []
 
 -- What anyone may see of a pair that stands for this world: the list of calls, the released bytes and the messages between its nodes; and what a crash now leaves of
 -- either device opens where its node stands, with each call that was released; or, where a fence failed, as the call in which it did would have left it.
 pub record Shows (first second : Holder) (w : World) (pair : Pair) : Type 0 where
-  pub calls : pair.transcript.calls.items ≡ w.primary.calls
+  pub calls : pair.clients.transcript.calls.items ≡ w.primary.calls
   pub released : (c : ℕ) → released_to pair c ≡ released_in w c
-  pub frames : AreFramesSent w.primary.epoch w.primary.calls pair.frames w.wire.frames
-  pub acknowledgements : AreAcksSent pair.arrivals.acknowledgements.items w.wire.acknowledgements
-  pub primary : Remain first w.primary.calls w.primary.committer.position (torn w.primary.life) pair.device
+  pub frames : AreFramesSent w.primary.epoch w.primary.calls pair.wire.frames w.wire.frames
+  pub acknowledgements : AreAcksSent pair.wire.arrivals.acknowledgements.items w.wire.acknowledgements
+  pub primary : Remain first w.primary.calls w.primary.committer.position (torn w.primary.life) pair.primary.device
   pub standby : HasStandby pair → Remain second w.primary.calls w.standby.position (torn w.standby.life) pair.standby.device
   pub held : (prefix : List Call) (call : Call) → IsReleased w.primary.calls (released_in w) prefix call
       → (position_of (prefix ++ call ∷ []) ≤ w.primary.committer.position) × (position_of (prefix ++ call ∷ []) ≤ w.standby.position)
@@ -106,7 +106,7 @@ pub record Happened (first second : Holder) (w : World) (event : Event) (did : B
   pub steps : Steps first second w event did old new
   pub before : Shows first second w old
   pub after : Shows first second steps.world new
-  pub called : CallsBy w event did new.transcript.calls.items
+  pub called : CallsBy w event did new.clients.transcript.calls.items
   pub released : (c : ℕ) → released_to new c ≡ released_to old c ++ released_by w event did c
 
 -- A turn was refused the room for its call, and there was none: the pair stands for the same worlds, and nothing that can be seen of it changed.
@@ -114,10 +114,10 @@ pub record LacksRoom (event : Event) (refusal : Refusal) (old new : Pair) : Type
   pub connection : ℕ
   pub turn : event ≡ Turn connection
   pub memory : refusal ≡ Memory
-  pub none : vec_capacity old.transcript.calls ≤ vec_len old.transcript.calls
-  pub calls : new.transcript.calls.items ≡ old.transcript.calls.items
-  pub released : released_of new.transcript ≡ released_of old.transcript
-  pub devices : (new.device ≡ old.device) × (new.standby.device ≡ old.standby.device)
+  pub none : vec_capacity old.clients.transcript.calls ≤ vec_len old.clients.transcript.calls
+  pub calls : new.clients.transcript.calls.items ≡ old.clients.transcript.calls.items
+  pub released : released_of new.clients.transcript ≡ released_of old.clients.transcript
+  pub devices : (new.primary.device ≡ old.primary.device) × (new.standby.device ≡ old.standby.device)
   pub stands : (first second : Holder) (w : World) → NodesRefine first second old w → NodesRefine first second new w
 
 -- An event was cut: it was enabled in the world that the pair stood for, and has a cause.
@@ -131,14 +131,14 @@ pub record Acted (old : Pair) (event : Event) (result : Result Bool Refusal) (ne
   pub happened : IfOk result (λ did. (first second : Holder) (w : World) → NodesRefine first second old w → Happened first second w event did old new)
   pub refused : IfErr result (λ refusal. ((first second : Holder) (w : World) → NodesRefine first second old w → WasCut first second w event refusal old new) ⊎ LacksRoom event refusal old new)
   pub leaves : Leaves event result old new
-  pub room : HasRoom old → AddsOne old.transcript.calls new.transcript.calls
+  pub room : HasRoom old → AddsOne old.clients.transcript.calls new.clients.transcript.calls
 
 -- A standby was promoted, of a pair that stood for this world: what was seen of the pair before it and after it. The list is cut where the standby stood, and nothing was released.
 pub record Succeeded (first second : Holder) (w : World) (old new : Pair) : Type 0 where
   pub succeeds : Succeeds second w old new
   pub before : Shows first second w old
   pub after : Shows (promoted_holder second) succeeds.former succeeds.world new
-  pub called : CallsBy w Promote true new.transcript.calls.items
+  pub called : CallsBy w Promote true new.clients.transcript.calls.items
   pub released : (c : ℕ) → released_to new c ≡ released_to old c
 
 -- what a promotion did to a pair, of all worlds that it stood for, where it was begun: a step, or it was cut; and no message was made
@@ -146,9 +146,9 @@ pub record WasPromoted (old : Pair) (event : Event) (result : Result Bool Refusa
   pub event_is : event ≡ Promote
   pub succeeded : IfOk result (λ did. (did ≡ true) × ((first second : Holder) (w : World) → NodesRefine first second old w → Succeeded first second w old new))
   pub refused : IfErr result (λ refusal. (first second : Holder) (w : World) → NodesRefine first second old w → IsPromotionCut second refusal old new w × Shows first second w old)
-  pub frames : new.frames ≡ old.frames
-  pub acknowledgements : new.arrivals.acknowledgements.items ≡ old.arrivals.acknowledgements.items
-  pub room : HasRoom old → AddsOne old.transcript.calls new.transcript.calls
+  pub frames : new.wire.frames ≡ old.wire.frames
+  pub acknowledgements : new.wire.arrivals.acknowledgements.items ≡ old.wire.arrivals.acknowledgements.items
+  pub room : HasRoom old → AddsOne old.clients.transcript.calls new.clients.transcript.calls
 
 -- What a crash inside a call, or of a node that had stopped, did to a pair, of all worlds that it stood for: the machine's step, what was seen of the pair before it and after it, and what the list is then. Nothing was
 -- released.
@@ -156,7 +156,7 @@ pub record WasInterrupted (old : Pair) (event : Event) (result : Result Bool Ref
   pub cuts : Cuts old event result new
   pub before : (first second : Holder) (w : World) → NodesRefine first second old w → Shows first second w old
   pub after : (first second : Holder) (w : World) → NodesRefine first second new w → Shows first second w new
-  pub called : (first second : Holder) (w : World) → NodesRefine first second old w → CallsBy w event true new.transcript.calls.items
+  pub called : (first second : Holder) (w : World) → NodesRefine first second old w → CallsBy w event true new.clients.transcript.calls.items
   pub released : (first second : Holder) (w : World) → NodesRefine first second old w → (c : ℕ) → released_to new c ≡ released_to old c
 
 -- What a fence that failed did to a pair, as it was asked to: its node stopped. What was seen of the pair before it and after it.
@@ -187,6 +187,6 @@ pub record IsRoomier (old new : Transcript) : Type 0 where
 -- What a turn of a running primary did: it was a turn of the pair with room for the call, or it was refused that room, and there was none.
 pub record Turns (old : Pair) (c : ℕ) (result : Result Bool Refusal) (new : Pair) : Type 0 where
   pub roomy : Transcript
-  pub is_roomier : IsRoomier old.transcript roomy
-  pub does : IfOk result (λ did. Does (record old { transcript = roomy }) (Turn c) (Ok did) new)
-  pub refused : IfErr result (λ refusal. (refusal ≡ Memory) × (vec_capacity old.transcript.calls ≤ vec_len old.transcript.calls) × (new ≡ record old { transcript = roomy }))
+  pub is_roomier : IsRoomier old.clients.transcript roomy
+  pub does : IfOk result (λ did. Does (record old { clients = record old.clients { transcript = roomy } }) (Turn c) (Ok did) new)
+  pub refused : IfErr result (λ refusal. (refusal ≡ Memory) × (vec_capacity old.clients.transcript.calls ≤ vec_len old.clients.transcript.calls) × (new ≡ record old { clients = record old.clients { transcript = roomy } }))

@@ -1,9 +1,8 @@
 -- A fence that fails where it was asked to: its node stops, and the run goes on.
-use Rattle.std.specs.Prelude.{◌≡◌, ◌⊎◌, ℕ, ◌<◌, Bool, true, List, Result, Ok, Vec}
+use Rattle.std.specs.Prelude.{◌≡◌, ◌⊎◌, ◌<◌, Bool, true, Result, Ok}
 use Rattle.pmem.specs.Device.{State}
 use Rattle.pmem.specs.Runs.{LeavesOnly}
 use Rattle.kv_types.specs.declared.refusal.Refusal.{Refusal}
-use Rattle.model.specs.declared.call.Call.{Call}
 use Rattle.model.specs.Image.{Image}
 use Rattle.model.specs.Standing.{Holder}
 use Rattle.machine.specs.declared.event.Cut.{Cut}
@@ -37,38 +36,24 @@ pub record Fails (may : Bool) (Left : Image → Type 0) (old new : State) : Type
 
 -- A fence of the primary's device failed in this call, of all worlds that the pair stood for. All but what serves and commits is as it was.
 pub record BreaksPrimary (call : Cut) (old new : Pair) : Type 0 where
-  pub fails : (first second : Holder) (w : World) → NodesRefine first second old w → Fails (may_cut w node.Primary call) (LeftBy first w call) old.device new.device
-  pub lines_are : (first second : Holder) (w : World) → NodesRefine first second old w → old.device.lines ≡ first.lines
-  pub rest : new ≡ record old {
-    sequencer = new.sequencer;
-    committing = new.committing;
-    notices = new.notices;
-    device = new.device;
-    contents = new.contents;
-    is_faulted = new.is_faulted;
-    handed = new.handed;
-  }
+  pub fails : (first second : Holder) (w : World) → NodesRefine first second old w → Fails (may_cut w node.Primary call) (LeftBy first w call) old.primary.device new.primary.device
+  pub lines_are : (first second : Holder) (w : World) → NodesRefine first second old w → old.primary.device.lines ≡ first.lines
+  pub rest : new ≡ record old { primary = new.primary }
 
 -- A fence of the standby's device failed in this call. All but the standby, and what was delivered to it, is as it was.
 pub record BreaksStandby (call : Cut) (old new : Pair) : Type 0 where
   pub fails : (first second : Holder) (w : World) → NodesRefine first second old w
       → Fails (may_cut w node.Standby call) (KeepsOne second w.primary.calls w.standby.position (left_by w node.Standby call)) old.standby.device new.standby.device
   pub lines_are : (first second : Holder) (w : World) → NodesRefine first second old w → old.standby.device.lines ≡ second.lines
-  pub acknowledgements : new.arrivals.acknowledgements.items ≡ old.arrivals.acknowledgements.items
-  pub rest : new ≡ record old { arrivals = new.arrivals; standby = new.standby }
+  pub acknowledgements : new.wire.arrivals.acknowledgements.items ≡ old.wire.arrivals.acknowledgements.items
+  pub rest : new ≡ record old { wire = record old.wire { arrivals = new.wire.arrivals }; standby = new.standby }
 
 -- One failed in its promotion, after the fence of the primary. Of that there is its device, as it was.
 pub record BreaksPromotion (old new : Pair) : Type 0 where
   pub fails : (first second : Holder) (w : World) → NodesRefine first second old w
       → Fails (may_cut w node.Standby cut.Promote) (KeepsOne second w.primary.calls w.standby.position (left_by w node.Standby cut.Promote)) old.standby.device new.standby.device
   pub lines_are : (first second : Holder) (w : World) → NodesRefine first second old w → old.standby.device.lines ≡ second.lines
-  pub rest : new ≡ record old {
-    sequencer = new.sequencer;
-    committing = new.committing;
-    contents = new.contents;
-    is_faulted = new.is_faulted;
-    standby = new.standby;
-  }
+  pub rest : new ≡ record old { primary = record old.primary { sequencer = new.primary.sequencer; committing = new.primary.committing; contents = new.primary.contents; is_faulted = new.primary.is_faulted }; standby = new.standby }
 
 -- ---- the event
 
@@ -79,9 +64,9 @@ pub record StopsPrimary (first second : Holder) (w : World) (event : Event) (old
   pub step : Step w event true world
   pub stopped : is_stopped world.primary.life ≡ true
   pub stands : NodesRefine first second new world
-  pub leaves : LeavesOnly old.device new.device (OpensNear first w.primary.calls w.primary.committer.position (left_by w node.Primary (call_of event)))
-  pub failures : old.device.failures < new.device.failures
-  pub same_standby : (new.standby ≡ old.standby) × (new.standby_condition ≡ old.standby_condition)
+  pub leaves : LeavesOnly old.primary.device new.primary.device (OpensNear first w.primary.calls w.primary.committer.position (left_by w node.Primary (call_of event)))
+  pub failures : old.primary.device.failures < new.primary.device.failures
+  pub same_standby : (new.standby ≡ old.standby) × (new.lives.standby ≡ old.lives.standby)
 
 -- The standby did. The primary's device is as it was.
 pub record StopsStandby (first second : Holder) (w : World) (event : Event) (old new : Pair) : Type 0 where
@@ -94,12 +79,12 @@ pub record StopsStandby (first second : Holder) (w : World) (event : Event) (old
   pub whole : HasStandby new
   pub leaves : LeavesOnly old.standby.device new.standby.device (OpensNear second w.primary.calls w.standby.position (left_by w node.Standby (call_of event)))
   pub failures : old.standby.device.failures < new.standby.device.failures
-  pub same_primary : new.device ≡ old.device
+  pub same_primary : new.primary.device ≡ old.primary.device
 
 -- A fence failed in an event, as it was asked to, and its node stopped: of all worlds that the pair stood for. No message was made, and nothing was called or released.
 pub record Stops (old : Pair) (event : Event) (result : Result Bool Refusal) (new : Pair) : Type 0 where
   pub did : result ≡ Ok true
   pub stopped : (first second : Holder) (w : World) → NodesRefine first second old w → StopsPrimary first second w event old new ⊎ StopsStandby first second w event old new
-  pub frames : new.frames ≡ old.frames
-  pub acknowledgements : new.arrivals.acknowledgements.items ≡ old.arrivals.acknowledgements.items
-  pub transcript : new.transcript ≡ old.transcript
+  pub frames : new.wire.frames ≡ old.wire.frames
+  pub acknowledgements : new.wire.arrivals.acknowledgements.items ≡ old.wire.arrivals.acknowledgements.items
+  pub transcript : new.clients.transcript ≡ old.clients.transcript

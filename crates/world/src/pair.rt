@@ -5,7 +5,7 @@ ghost use Rattle.machine.specs.declared.event.Event.TheVariants as events;
 ghost use Rattle.world.specs.Condition.{runs};
 ghost use Rattle.world.specs.Pair.{Acts, Does, HasWorld, takes_part};
 ghost use Rattle.world.specs.Pair as specs;
-ghost use Rattle.world.specs.Standby.{arrived_with, node_at};
+ghost use Rattle.world.specs.Parts.{parts_of};
 ghost use Rattle.world.specs.Step.{IsStep, Leaves, Turns};
 ghost use Rattle.world.specs.Stopping.{BreaksStandby};
 ghost use Rattle.world.specs.declared.history.History.{History};
@@ -82,26 +82,7 @@ pub struct Pair<E: Durable, K: Keyspace> {
 }
 
 impl<E: Restarting, K: Keyspace + Drop> Stepper for Pair<E, K> {
-    ghost parts = { λ p h. record {
-      sessions = p.sessions;
-      transcript = h.transcript;
-      sequencer = p.primary.front.sequencer;
-      committing = record { waiting = p.primary.back.work; aside = p.primary.back.committer.aside.items; stage = p.primary.back.committer.stage; local = p.primary.back.committer.local };
-      notices = p.notices.items;
-      device = E.device p.primary.back.committer.engine;
-      contents = E.contents p.primary.back.committer.engine;
-      is_faulted = E.is_faulted p.primary.back.committer.engine;
-      handed = p.handed;
-      link = p.outgoing.link;
-      opening = p.outgoing.opening;
-      remote = p.remote;
-      frames = h.frames.items;
-      arrivals = arrived_with p.arrivals h.acknowledgements;
-      standby = node_at (E.device p.standby.engine) (E.contents p.standby.engine) (E.is_faulted p.standby.engine) (K.table p.standby.keyspace) p.standby.heap p.standby.ended.items;
-      primary_condition = p.primary_condition;
-      standby_condition = p.standby_condition;
-      asked = p.asked;
-    } };
+    ghost parts = { λ p h. parts_of E.device E.contents E.is_faulted K.table p h };
 
     fn step(&mut self, history: &mut History, event: &Event) -> Result<bool, Refusal> {
         if !self.takes_part(event) {
@@ -244,7 +225,7 @@ impl<E: Restarting, K: Keyspace + Drop> Pair<E, K> {
 
     /// The frame of the next group passes, if there is one. None comes before all groups.
     fn send_group(&mut self, history: &mut History) -> Result<bool, Refusal>
-        requires none_before { (⟦<Pair<E, K> as Stepper>⟧.parts self.old history.old).link.delta ≡ None }
+        requires none_before { (⟦<Pair<E, K> as Stepper>⟧.parts self.old history.old).wire.link.delta ≡ None }
         ensures does { Does (⟦<Pair<E, K> as Stepper>⟧.parts self.old history.old) events.Send result (⟦<Pair<E, K> as Stepper>⟧.parts self.new history.new) }
         ensures leaves { Leaves events.Send result (⟦<Pair<E, K> as Stepper>⟧.parts self.old history.old) (⟦<Pair<E, K> as Stepper>⟧.parts self.new history.new) }
     {

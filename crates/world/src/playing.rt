@@ -156,7 +156,7 @@ fn play<S: Stepper>(
 ) -> Option<EarlyEnd>
     requires none { done.old.items ≡ [] }
     requires room { length events.now ≤ vec_capacity done.old }
-    requires room_calls { length events.now ≤ vec_capacity (S.parts stepper.old history.old).transcript.calls }
+    requires room_calls { length events.now ≤ vec_capacity (S.parts stepper.old history.old).clients.transcript.calls }
     requires stands { (first : Holder) × (second : Holder) × NodesRefine first second (S.parts stepper.old history.old) start }
     ensures { (first second : Holder) → NodesRefine first second (S.parts stepper.old history.old) start
         → Plays first second (S.parts stepper.old history.old) events.now result done.new.items (S.parts stepper.new history.new) }

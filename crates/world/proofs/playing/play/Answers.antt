@@ -10,7 +10,7 @@ use Rattle.world.proofs.ReachLemmas.{adds-one, reaches-start, reaches-world, rea
 use Rattle.world.proofs.playing.play.Goals as goal
 
 -- at the start there is no call
-start-none : (pair : Pair) → (first : Holder) × (second : Holder) × NodesRefine first second pair start → length pair.transcript.calls.items ≤ 0
+start-none : (pair : Pair) → (first : Holder) × (second : Holder) × NodesRefine first second pair start → length pair.clients.transcript.calls.items ≤ 0
 start-none pair stands = omega (arith, ap length (sessions-stand stands.2.parts).told.calls_are)
 
 pub loop-event-init : goal.loop-event-init

@@ -8,12 +8,9 @@ returns-then-not-is_running-clause-does g c = λ after. primary-crashed _ after 
 
 pub returns-clause-does : goal.returns-clause-does
 returns-clause-does g c = λ after.
-    let E = g.E.Durable in
-    let engine = c.crash.new.self.committer.engine in
     let crashed = c.crash.ensures in
     let ended = c.crash-2.ensures in
-    primary-crashes _ c.crash-2.new.self c.crash-2.new.transcript (record { waiting = c.crash.new.self.work; aside = c.crash.new.self.committer.aside.items; stage = c.crash.new.self.committer.stage; local = c.crash.new.self.committer.local })
-    (E.device engine) (E.contents engine) (E.is_faulted engine) after c.args.picks.now c.position-position.result (sym c.is_running.ensures ∙ c.if-not-is_running.false) c.position-position.ensures
+    primary-crashes _ _ _ after c.args.picks.now c.position-position.result (sym c.is_running.ensures ∙ c.if-not-is_running.false) c.position-position.ensures
     (record {
       sized = g.met.E.Durable.sized c.args.self.now.primary.back.committer.engine;
       settled = crashed.settled;

@@ -9,11 +9,9 @@ use Rattle.world.proofs.pair.Pair.crash_stopped_primary.Goals as goal
 pub returns : goal.returns
 returns g c = λ after.
     let E = g.E.Durable in
-    let committer = c.crash.new.self.committer in
     let crashed = c.crash.ensures in
     let ended = c.crash-2.ensures in
-    stopped-cut _ after c.args.picks.now c.crash-2.new.self c.crash-2.new.transcript (record { waiting = c.crash.new.self.work; aside = committer.aside.items; stage = committer.stage; local = committer.local })
-    (E.device committer.engine) (E.contents committer.engine) (E.is_faulted committer.engine) c.requires.stopped
+    stopped-cut _ after c.args.picks.now _ _ c.requires.stopped
     (record {
       sized = g.met.E.Durable.sized c.args.self.now.primary.back.committer.engine;
       settled = crashed.settled;

@@ -19,8 +19,7 @@ restart-requires g c = record {
 pub returns : goal.returns
 returns g c =
     let E = g.E.Durable in
-    let pair = c.args.self.now in
-    let before = E.device pair.primary.back.committer.engine in
+    let before = E.device c.args.self.now.primary.back.committer.engine in
     let asked = c.keep_at.ensures in
     let kept = E.device c.keep_at.new.self.committer.engine in
     let came = c.restart.ensures in
@@ -38,9 +37,7 @@ returns g c =
       lines_are = crashed.lines;
       moments = crashed.moments;
     } in
-    primary-cut _ cut.Reopen c.args.k c.args.picks.now kept last c.crash.new.self c.crash.new.transcript c.restart.new.self.front.sequencer
-    (record { waiting = left_.work; aside = left_.committer.aside.items; stage = left_.committer.stage; local = left_.committer.local }) (E.device left_.committer.engine) (E.contents left_.committer.engine)
-    (E.is_faulted left_.committer.engine) pair.handed refl off came.lines
+    primary-cut _ cut.Reopen c.args.k c.args.picks.now kept last _ _ refl off came.lines
     (opening-cut-in _ _ kept (sym c.has_crashed.ensures ∙ c.if-not-has_crashed.false) asked.keeps last came.moments)
     (λ r many few undamaged machines list stand.
     subst (λ n. SessionsRefine c.crash.new.self c.crash.new.transcript (map left machines) (cut_at list n)) (c.image_position-position.ensures r many few undamaged) (ended.goes machines list stand))

@@ -1,4 +1,4 @@
-use Rattle.std.proofs.Common.{◌≡◌, ℕ, List, refl, sym, ap, ◌∙◌}
+use Rattle.std.proofs.Common.{ℕ, List, refl, sym, ap, ◌∙◌}
 use Rattle.pmem.specs.Crash.{picked, words_to_crash}
 use Rattle.machine.specs.declared.event.Cut.TheVariants.{Reopen}
 use Rattle.machine.specs.declared.event.Event.TheVariants.{Crash}

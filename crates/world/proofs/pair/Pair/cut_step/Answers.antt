@@ -3,7 +3,7 @@ use Rattle.pmem.specs.Crash.{picked, words_to_crash}
 use Rattle.model.specs.Call.{cut_at}
 use Rattle.machine.specs.Event.{left}
 use Rattle.connections.specs.Session.{SessionsRefine}
-use Rattle.world.specs.Standby.{arrived_with, node_at}
+use Rattle.world.specs.Parts.{parts_of}
 use Rattle.world.proofs.KeptLemmas.{CrashedIn}
 use Rattle.world.proofs.PairCutStep.{OnlyKeeps, asked-stands, cut-down, cut-not-due, step-cut}
 use Rattle.world.proofs.pair.Pair.cut_step.Goals as goal
@@ -20,17 +20,14 @@ pub commit-requires-clause-stands : goal.commit-requires-clause-stands
 commit-requires-clause-stands g c =
     let E = g.E.Durable in
     let pair = c.args.self.now in
-    let history = c.args.history.now in
-    let standby = node_at (E.device pair.standby.engine) (E.contents pair.standby.engine) (E.is_faulted pair.standby.engine) (g.K.Keyspace.table pair.standby.keyspace) pair.standby.heap pair.standby.ended.items in
+    let was = parts_of E.device E.contents E.is_faulted g.K.Keyspace.table pair c.args.history.now in
     let asked = c.keep_at.ensures in
     let kept = c.keep_at.new.self in
     let only : OnlyKeeps E.device E.contents E.is_faulted c.args.k pair.primary.back.committer kept.committer =
     record { keeps = asked.keeps; contents_are = asked.contents; faulted = asked.faulted; stage = asked.stage; local = asked.local; aside = asked.aside } in (
       pair.primary.front.sequencer,
       pair.notices.items,
-      asked-stands E.device E.contents E.is_faulted pair.sessions history.transcript pair.primary.front.sequencer pair.notices.items pair.outgoing.link pair.outgoing.opening pair.remote history.frames.items
-          (arrived_with pair.arrivals history.acknowledgements) standby pair.primary_condition pair.standby_condition pair.asked c.args.k pair.primary.back.committer kept.committer pair.primary.back.work kept.work pair.handed only asked.work
-          (sym c.is_running.ensures ∙ c.if-not-is_running.false) c.requires.world,
+      asked-stands E.device E.contents E.is_faulted was c.args.k pair.primary.back.committer kept.committer pair.primary.back.work kept.work pair.handed only asked.work (sym c.is_running.ensures ∙ c.if-not-is_running.false) c.requires.world,
     )
 
 pub returns : goal.returns
@@ -38,8 +35,7 @@ returns g c =
     let E = g.E.Durable in
     let sized = g.met.E.Durable.sized in
     let pair = c.args.self.now in
-    let history = c.args.history.now in
-    let standby = node_at (E.device pair.standby.engine) (E.contents pair.standby.engine) (E.is_faulted pair.standby.engine) (g.K.Keyspace.table pair.standby.keyspace) pair.standby.heap pair.standby.ended.items in
+    let was = parts_of E.device E.contents E.is_faulted g.K.Keyspace.table pair c.args.history.now in
     let before = pair.primary.back.committer in
     let asked = c.keep_at.ensures in
     let kept = c.keep_at.new.self in
@@ -64,11 +60,8 @@ returns g c =
       lines_are = crashed.lines;
       moments = crashed.moments;
     } in
-    step-cut E.device E.contents E.is_faulted pair.sessions history.transcript pair.primary.front.sequencer pair.notices.items pair.outgoing.link pair.outgoing.opening pair.remote history.frames.items
-    (arrived_with pair.arrivals history.acknowledgements) standby pair.primary_condition pair.standby_condition pair.asked c.args.k before kept.committer pair.primary.back.work kept.work pair.handed only asked.work
-    after.committer after.work c.commit.new.link c.commit.result c.args.step c.args.picks.now (E.device left_.committer.engine) c.crash.new.self c.crash.new.transcript
-    (record { waiting = left_.work; aside = left_.committer.aside.items; stage = left_.committer.stage; local = left_.committer.local }) (E.contents left_.committer.engine) (E.is_faulted left_.committer.engine)
-    c.requires.inside up is came.takes sized off
+    step-cut E.device E.contents E.is_faulted was c.args.k before kept.committer pair.primary.back.work kept.work pair.handed only asked.work
+    after.committer after.work c.commit.new.link c.commit.result c.args.step c.args.picks.now _ _ c.requires.inside up is came.takes sized off
     (λ r many few undamaged machines list stand.
     subst (λ n. SessionsRefine c.crash.new.self c.crash.new.transcript (map left machines) (cut_at list n)) (c.image_position-position.ensures r many few undamaged) (ended.goes machines list stand))
     ended.unseated c.requires.world ended.calls

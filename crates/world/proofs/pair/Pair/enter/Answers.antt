@@ -3,5 +3,5 @@ use Rattle.world.proofs.pair.Pair.enter.Goals as goal
 
 pub returns-clause-does : goal.returns-clause-does
 returns-clause-does g c =
-    enter-does _ c.enter.new.self c.enter.new.transcript c.enter.new.front.sequencer c.enter.result c.enter.ensures.goes c.enter.ensures.follow c.enter.ensures.sequencer c.enter.ensures.stands
+    enter-does _ _ c.enter.new.front.sequencer c.enter.result c.enter.ensures.goes c.enter.ensures.follow c.enter.ensures.sequencer c.enter.ensures.stands
     c.enter.ensures.told c.enter.ensures.cause c.enter.ensures.enabled c.enter.ensures.calls

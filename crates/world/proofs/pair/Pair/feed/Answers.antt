@@ -7,5 +7,5 @@ use Rattle.world.proofs.pair.Pair.feed.Goals as goal
 
 pub returns-clause-does : goal.returns-clause-does
 returns-clause-does g c = λ history.
-    sessions-do (events.Feed c.args.c c.args.piece.now) (λ machines. may_feed machines c.args.c) (changed_at c.args.c (with_inbound (fed_with c.args.piece.now))) (record { own = refl; plain = refl; may = λ w. refl; happens = λ w. refl }) refl _ c.feed.new.self _ c.feed.result
+    sessions-do (events.Feed c.args.c c.args.piece.now) (λ machines. may_feed machines c.args.c) (changed_at c.args.c (with_inbound (fed_with c.args.piece.now))) (record { own = refl; plain = refl; may = λ w. refl; happens = λ w. refl }) refl _ _ c.feed.result
     (c.feed.ensures.goes history.transcript) (on_err_from c.feed.result (tells _)) c.feed.ensures.cause (c.feed.ensures.enabled history.transcript) c.feed.ensures.seats refl

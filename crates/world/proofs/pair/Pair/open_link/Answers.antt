@@ -1,4 +1,4 @@
-use Rattle.std.proofs.Common.{◌≡◌, ◌≤◌, ◌∙◌, ℕ, sym, subst}
+use Rattle.std.proofs.Common.{◌≤◌, ◌∙◌, ℕ, sym, subst}
 use Rattle.std.proofs.lemmas.Result.{err_from_is_err_and}
 use Rattle.world.specs.Standby.{arrived_with}
 use Rattle.world.proofs.PairStandby.{Reopens, follower, open-does, open-cut, open-refused}
@@ -11,16 +11,14 @@ pub returns-in_err-open_at-clause-does : goal.returns-in_err-open_at-clause-does
 returns-in_err-open_at-clause-does g c =
     let exit = err_from_is_err_and c.from_residual.result c.from_residual.ensures.1 in
     let told = c.in_err-open_at.ensures in
-    let outgoing = c.open_at.new.self in
-    open-refused _ (arrived_with c.args.self.now.arrivals c.args.history.now.acknowledgements) outgoing.link outgoing.opening c.ack-ack.result c.from_residual.result exit.0 c.requires.follows c.ack-ack.ensures exit.1
+    open-refused _ _ c.ack-ack.result c.from_residual.result exit.0 c.requires.follows c.ack-ack.ensures exit.1
     (λ level. let no = (told.level (subst (λ p. c.args.self.now.outgoing.opening.position ≤ p) (sym c.position.ensures) level)).0 in cc) (λ below. exit.2 ∙ told.cause below)
 
 pub returns-in_err-acknowledge-clause-does : goal.returns-in_err-acknowledge-clause-does
 returns-in_err-acknowledge-clause-does g c =
     let exit = err_from_is_err_and c.from_residual-in_err-acknowledge.result c.from_residual-in_err-acknowledge.ensures.1 in
     let memory = exit.2 ∙ c.in_err-acknowledge.ensures.cause in
-    let outgoing = c.open_at.new.self in
-    open-cut _ (arrived_with c.args.self.now.arrivals c.acknowledge.new.acknowledgements) outgoing.link outgoing.opening c.from_residual-in_err-acknowledge.result exit.0 c.requires.follows exit.1 memory
+    open-cut _ _ c.from_residual-in_err-acknowledge.result exit.0 c.requires.follows exit.1 memory
 
 pub returns-clause-does : goal.returns-clause-does
 returns-clause-does g c =

@@ -1,4 +1,4 @@
-use Rattle.std.proofs.Common.{◌≡◌, ◌<◌, false, Err, ap, inl, inr, refl, sym, subst, ◌∙◌}
+use Rattle.std.proofs.Common.{◌≡◌, ◌<◌, Err, ap, inl, inr, refl, sym, subst, ◌∙◌}
 use Rattle.std.proofs.lemmas.Result.{err_from_is_err_and}
 use Rattle.kv_types.specs.declared.refusal.Refusal.TheVariants.{Fault, Memory}
 use Rattle.pmem.specs.Crash.{image_of}
@@ -163,9 +163,9 @@ returns g c =
       step = promoted-is refl
           (promotion-done _ fenced c.requires.follows c.operator_fence-fenced.result (c.operator_fence-fenced.ensures ∙ c.epoch.ensures) (E.device promoted.engine) (E.device crashed.engine) (E.contents promoted.engine)
           (under g (goal.at.returns g c).After-crash)
-          c.crash-2.new.self c.crash-2.new.transcript c.position-position.result c.position-position.ensures (arrived_with c.crash-3.new.self c.args.history.now.acknowledgements) _ _
+          _ c.position-position.result c.position-position.ensures (arrived_with c.crash-3.new.self c.args.history.now.acknowledgements) _ _
           (λ w stand. over.goes w.primary.connections w.primary.calls stand) over.unseated c.crash-3.ensures refl
-          _ _ _ (E.device committer.engine) (E.contents committer.engine) (E.is_faulted committer.engine) _ _
+          _ _
           (subst (λ e. IsOpened role.Primary (E.device e) (E.device committer.engine) (E.contents committer.engine) (E.is_faulted committer.engine)) taken opened)
           (record {
             over = told.sequencer;

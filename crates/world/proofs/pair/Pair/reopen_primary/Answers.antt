@@ -17,40 +17,32 @@ pub returns-in_err-opening-clause-does : goal.returns-in_err-opening-clause-does
 returns-in_err-opening-clause-does g c = λ history.
     let E = g.E.Durable in
     let device = E.device c.args.self.now.primary.back.committer.engine in
-    let back = c.restart.new.self.back in
-    let committer = back.committer in
+    let committer = c.restart.new.self.back.committer in
     let told = c.in_err-opening.ensures in
     let exit = err_from_is_err_and c.from_residual.result c.from_residual.ensures.1 in
     let refused : IsNotOpened Primary device (E.device committer.engine) c.in_err-opening.field-0.0 =
     record { refused = told.refused; fault = λ is. told.fault (ap Err is); failures = λ other. told.failures (λ same. other cc); moments = told.moments } in
-    primary-reopening-cut _ c.restart.new.self.front.sequencer (record { waiting = back.work; aside = committer.aside.items; stage = committer.stage; local = committer.local }) (E.device committer.engine) (E.contents committer.engine)
-    (E.is_faulted committer.engine) c.from_residual.result exit.0 exit.1 (sym c.has_crashed.ensures ∙ c.if-not-has_crashed.false) (subst (IsNotOpened Primary device (E.device committer.engine)) (sym exit.2) refused)
+    primary-reopening-cut _ _ c.from_residual.result exit.0 exit.1 (sym c.has_crashed.ensures ∙ c.if-not-has_crashed.false) (subst (IsNotOpened Primary device (E.device committer.engine)) (sym exit.2) refused)
 
 pub returns-in_err-opening-clause-broken : goal.returns-in_err-opening-clause-broken
 returns-in_err-opening-clause-broken g c =
-    let E = g.E.Durable in
-    let back = c.restart.new.self.back in
-    let committer = back.committer in
     let told = c.in_err-opening.ensures in
     let exit = err_from_is_err_and c.from_residual.result c.from_residual.ensures.1 in
     rw exit.1 (λ fault history.
-    opening-breaks _ c.restart.new.self.front.sequencer (record { waiting = back.work; aside = committer.aside.items; stage = committer.stage; local = committer.local }) (E.device committer.engine) (E.contents committer.engine)
-    (E.is_faulted committer.engine) (sym c.has_crashed.ensures ∙ c.if-not-has_crashed.false) told.moments (told.fault (ap Err (sym exit.2 ∙ fault))) told.lines)
+    opening-breaks _ _ (sym c.has_crashed.ensures ∙ c.if-not-has_crashed.false) told.moments (told.fault (ap Err (sym exit.2 ∙ fault))) told.lines)
 
 -- the image is the reopened one then
 pub returns-in_err-handed-clause-does : goal.returns-in_err-handed-clause-does
 returns-in_err-handed-clause-does g c = λ history.
     let E = g.E.Durable in
     let device = E.device c.args.self.now.primary.back.committer.engine in
-    let back = c.restart.new.self.back in
-    let committer = back.committer in
+    let committer = c.restart.new.self.back.committer in
     let told = c.in_ok-opening.ensures in
     let exit = err_from_is_err_and c.from_residual-in_err-handed.result c.from_residual-in_err-handed.ensures.1 in
     let memory = exit.2 ∙ c.in_err-handed.ensures.cause in
     let refused : IsNotOpened Primary device (E.device committer.engine) exit.0 =
     record { refused = inr (inl memory); fault = λ is. absurd (let no = sym memory ∙ is in cc); failures = λ other. told.failures (λ fault. cc); moments = told.moments } in
-    primary-reopening-cut _ c.restart.new.self.front.sequencer (record { waiting = back.work; aside = committer.aside.items; stage = committer.stage; local = committer.local }) (E.device committer.engine) (E.contents committer.engine)
-    (E.is_faulted committer.engine) c.from_residual-in_err-handed.result exit.0 exit.1 (sym c.has_crashed.ensures ∙ c.if-not-has_crashed.false) refused
+    primary-reopening-cut _ _ c.from_residual-in_err-handed.result exit.0 exit.1 (sym c.has_crashed.ensures ∙ c.if-not-has_crashed.false) refused
 
 pub returns-in_err-handed-clause-broken : goal.returns-in_err-handed-clause-broken
 returns-in_err-handed-clause-broken g c =
@@ -64,7 +56,7 @@ returns-clause-does g c = λ history.
     let committer = c.restart.new.self.back.committer in
     let told = c.in_ok-opening.ensures in
     let made = c.in_ok-handed.ensures in
-    primary-reopens _ _ _ _ (E.device committer.engine) (E.contents committer.engine) (E.is_faulted committer.engine) _ _ _ (sym c.has_crashed.ensures ∙ c.if-not-has_crashed.false)
+    primary-reopens _ _ _ _ (sym c.has_crashed.ensures ∙ c.if-not-has_crashed.false)
     (record { reopens = told.reopens; durable = told.durable; sound = told.sound; failures = told.failures (λ fault. cc); moments = told.moments })
     (record {
       over = told.sequencer;

@@ -27,6 +27,6 @@ returns-clause-turns g c = record {
     stands = c.make_room.ensures.stands;
     enough = c.make_room.ensures.enough;
   };
-  does = turn-does _ c.turn.new.self c.turn.new.transcript c.turn.new.front.sequencer c.args.c c.turn.result c.turn.ensures.turns c.turn.ensures.seats c.turn.ensures.stands c.turn.ensures.calls;
+  does = turn-does _ _ c.turn.new.front.sequencer c.args.c c.turn.result c.turn.ensures.turns c.turn.ensures.seats c.turn.ensures.stands c.turn.ensures.calls;
   refused = tt;
 }
