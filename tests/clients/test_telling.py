@@ -1,6 +1,7 @@
 """What a node tells while it runs: which program it is, how long replies wait for the standby, and now and then how far it is (docs/server.md,
 "What a node tells"). That a line is one write."""
 
+import contextlib
 import re
 import socket
 import subprocess
