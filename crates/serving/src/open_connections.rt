@@ -67,6 +67,7 @@ impl OpenConnections {
     ) -> bool
         ensures serves { Serves front.old.sequencer front.new.sequencer }
         ensures admits { Admits (floor_of self.old front.old.sequencer) (floor_of self.new front.new.sequencer) ⊎ Stays (floor_of self.old front.old.sequencer) (floor_of self.new front.new.sequencer) }
+        ensures nobody { result ≡ false → Stays (floor_of self.old front.old.sequencer) (floor_of self.new front.new.sequencer) }
         ensures asks { AsksEntrance (answers_of (self.old).callers.arrivals) (answers_of (self.new).callers.arrivals) (floor_of self.old front.old.sequencer) (floor_of self.new front.new.sequencer) }
         ensures callers { (self.new).callers.answers ≡ (self.old).callers.answers }
     {
