@@ -1,38 +1,52 @@
 -- Every run keeps the promise; and the laws of every run, from what holds between any two events.
-use Rattle.std.proofs.Common.{ℕ, Bool, List, refl, ap, ◌∙◌, arith, ◌≡◌, ◌+◌, ◌<◌, ◌≤◌, true, false, ◌&&◌, ◌||◌, not, cond, nat_lt, [], ◌∷◌, ◌++◌, length, take, sym, subst, append_assoc, le-ltb, inl, inr}
-use Rattle.std.proofs.Common.{Option, Some, None, slice_get}
+use Rattle.std.proofs.Common.{ℕ, Bool, List, refl, ap, ◌∙◌, arith, ◌≡◌, ◌+◌, ◌<◌, ◌≤◌, true, false, ◌&&◌, ◌||◌, not, cond, nat_lt, [], ◌∷◌, ◌++◌, length, take, sym, subst, append_assoc, append-nil, le-ltb, inl, inr}
 use mathlib.Core.Path.{fun_ext}
 use Rattle.kv_types.specs.declared.limits.TheConstants.{REQUEST_LIMITS}
 use Rattle.kv_types.specs.Reading.{items_at}
 use Rattle.model.specs.declared.call.Call.{Call}
 use Rattle.model.specs.Call.{Serves, is_nonempty, state_after, position_of}
 use Rattle.machine.specs.declared.event.Event.{Event}
-use Rattle.machine.specs.Event.{Allowed, World, Connection, Life, Retired, Remains, At, AsPrimary, is_open, Run, start_with, last_world, asked, Span, Frame, Acknowledgement, Link, next_to_send, told, nodes_run, may_happen, may_cut, is_between, is_enabled, is_retired, is_running, crashed, promoted, Fails, OpensPrimary, with_primary, Happens}
+use Rattle.machine.specs.Event.{Allowed, World, Connection, connection_of, Life, Retired, is_open, Run, start_with, last_world, asked, Span, Frame, Link, next_to_send, nodes_run, may_happen, may_cut, is_between, is_enabled, is_retired, is_running, promoted, OpensPrimary, with_primary}
 use Rattle.machine.specs.Event.{Step}
-use Rattle.machine.specs.Promise.{Tells, IsPromised, EveryRunIsPromised, fed_to, SomeWorld, HasMarks}
+use Rattle.machine.specs.Promise.{Tells, IsPromised, EveryRunIsPromised, fed_by, fed_to, SomeWorld, HasMarks}
 use Rattle.machine.proofs.GroupLemmas.{chain-le, frames_within-weaker}
-use Rattle.machine.proofs.SoundEvents.{enabled-may, sound-items, sent-marks}
-use Rattle.machine.proofs.RunLemmas.{sound-run, sound-start}
-use Rattle.machine.proofs.FedLemmas.{fed-run}
+use Rattle.machine.proofs.SoundNodes.{sound-items}
+use Rattle.machine.proofs.RunLemmas.{kept-later, sound-run, sound-start}
+use Rattle.machine.proofs.FedLemmas.{fed_in}
+use Rattle.machine.proofs.StayLemmas.{count, stays-itself, stays-trans}
+use Rattle.machine.proofs.EventLaws.{enabled-may, owed-step}
 use Rattle.machine.proofs.PromiseLemmas.{released-begins, released-held}
 use Rattle.machine.proofs.CoverLemmas.{covered-run}
 use Rattle.std.proofs.lemmas.Bool.{lt-ltb}
 use Rattle.std.proofs.lemmas.List.Elements.{All-weaker}
 use Rattle.model.specs.State.{start_state}
-use Rattle.machine.specs.declared.event.Event.TheVariants.{Turn, CloseGroup, Commit, Free, ClearGap, OpenLink, Send, Deliver, Apply, AckDelivered, RaiseRemote, FailFence, Crash, Reopen, Fence, Promote}
+use Rattle.machine.specs.declared.event.Event.TheVariants.{Feed, OpenLink, Send, Deliver, Apply, AckDelivered, RaiseRemote, FailFence, Crash, Reopen, Fence, Promote}
 use Rattle.machine.specs.declared.event.TheConstants.{KEPT_GROUPS}
 use Rattle.machine.specs.Sound.{IsFrameWithin, Sound, answers_from}
-use Rattle.machine.specs.Law.{IsInOrder, IsSucceededBy, NothingHappensFenced, OnlyFencedIsSucceeded, PromotionsSucceed, FramesAreCommitted, AnswersBearPositions, RaisesNoRemote, NothingIsReleasedUnacknowledged, OnlyWhatWasMadeIsDelivered, WhoIsBehindGetsADelta}
+use Rattle.machine.specs.Law.{IsInOrder, StaysOver, IsSucceededBy, NothingHappensFenced, OnlyFencedIsSucceeded, PromotionsSucceed, FramesAreCommitted, AnswersBearPositions, RaisesNoRemote, NothingIsReleasedUnacknowledged, OnlyWhatWasMadeIsDelivered, WhoIsBehindGetsADelta}
 use Rattle.machine.proofs.AnswerLemmas.{answers_from-append, answers_to-push_own}
-use Rattle.machine.proofs.WorkLemmas.{closes-queues}
 use Rattle.machine.specs.declared.event.Cut.{Cut}
 use Rattle.machine.specs.declared.event.Cut.TheVariants as cut
-use Rattle.machine.specs.declared.event.Node.{Node}
 use Rattle.machine.specs.declared.event.Node.TheVariants as nodes
-use Rattle.machine.proofs.StandingLemmas.{Rests, rests-Fails, rests-Fence, rests-asked}
 use Rattle.machine.proofs.CrashLemmas.{all-over, get-over}
 use Rattle.machine.proofs.SoundConnection.{both, both_ways}
 use Rattle.machine.proofs.GrowLemmas.{released-stays}
+
+-- ---- what was fed
+
+fed-step : (old : World) (event : Event) (did : Bool) (new : World) (d : ℕ) → Step old event did new → fed_in new d ≡ fed_in old d ++ fed_by d event did
+fed-step old event true new d step = (owed-step old event new step).fed d
+fed-step old (Feed c piece) false new d step = ap (λ x. fed_in x d) (step.stands refl) ∙ sym (append-nil (fed_in old d))
+fed-step old event false new d step = ap (λ x. fed_in x d) (step.stands refl) ∙ sym (append-nil (fed_in old d))
+
+fed-from : (w : World) (events : List Event) (done : List Bool) (worlds : List World) (d : ℕ) → Run w events done worlds → fed_in (last_world w worlds) d ≡ fed_in w d ++ fed_to d events done
+fed-from w [] [] [] d run = sym (append-nil (fed_in w d))
+fed-from w (event ∷ events) (did ∷ done) (new ∷ worlds) d run =
+    grind (arith, append_assoc, fed-from new events done worlds d run.1, fed-step w event did new d run.0)
+fed-from w events done worlds d run = absurd run
+
+fed-run : (allowed : Allowed) (events : List Event) (done : List Bool) (worlds : List World) (d : ℕ) → Run (start_with allowed) events done worlds → (connection_of (last_world (start_with allowed) worlds) d).inbound.fed ≡ fed_to d events done
+fed-run allowed events done worlds d run = fed-from (start_with allowed) events done worlds d run
 
 pub serves-run : (allowed : Allowed) (events : List Event) (done : List Bool) (worlds : List World) → Run (start_with allowed) events done worlds → Serves (λ c. items_at REQUEST_LIMITS (fed_to c events done)) (last_world (start_with allowed) worlds).primary.calls
 serves-run allowed events done worlds run = λ c.
@@ -93,43 +107,34 @@ answers_bear_positions prefix call rest =
       joined = grind (arith, append_assoc, answers_to-push_own c prefix call refl, answers_from-append start_state 0 c calls rest);
     }
 
+-- ---- connections
+
+stays-step : (old : World) (event : Event) (did : Bool) (new : World) (c : ℕ) → c < length old.primary.connections → is_open old c ≡ false → Sound old → Step old event did new → StaysOver c old new
+stays-step old event true new c lt shut sound step = (owed-step old event new step).over c (sound.over c shut).nothing lt shut
+stays-step old event false new c lt shut sound step = subst (StaysOver c old) (sym (step.stands refl)) (stays-itself c old lt)
+
+pub stays-run : (allowed : Allowed) (n : ℕ) (events : List Event) (done : List Bool) (worlds : List World) → Run (start_with allowed) events done worlds
+    → let old = last_world (start_with allowed) (take n worlds) in
+    (c : ℕ) → c < length old.primary.connections → is_open old c ≡ false → StaysOver c old (last_world (start_with allowed) worlds)
+stays-run allowed n events done worlds run c lt shut =
+    let old = last_world (start_with allowed) (take n worlds) in
+    kept-later (StaysOver c old) (λ was event did new step s g. stays-trans g (stays-step was event did new c g.entered (ap (λ (x : Connection). x.is_open) g.connection ∙ shut) s step))
+    allowed n events done worlds run (stays-itself c old lt)
+
+-- no more connections enter than events happen
+count-step : (old : World) (event : Event) (did : Bool) (new : World) → Step old event did new → count new ≤ count old + 1
+count-step old event true new step = (owed-step old event new step).few
+count-step old event false new step = omega (arith, ap count (step.stands refl))
+
+count-from : (w : World) (events : List Event) (done : List Bool) (worlds : List World) → Run w events done worlds → count (last_world w worlds) ≤ count w + length events
+count-from w [] [] [] run = omega arith
+count-from w (event ∷ events) (did ∷ done) (new ∷ worlds) run = omega (arith, count-step w event did new run.0, count-from new events done worlds run.1)
+count-from w events done worlds run = absurd run
+
+pub few-connections : (allowed : Allowed) (events : List Event) (done : List Bool) (worlds : List World) → Run (start_with allowed) events done worlds → length (last_world (start_with allowed) worlds).primary.connections ≤ length events
+few-connections allowed events done worlds run = omega (arith, count-from (start_with allowed) events done worlds run)
+
 -- ---- without RaiseRemote
-
-told-remote : (epoch own : ℕ) (ack : Option Acknowledgement) (link : Link) → (told epoch own ack link).remote ≡ link.remote
-told-remote epoch own None link = refl
-told-remote epoch own (Some ack) link = grind arith
-
-remote-rests : (w new : World) → Rests w new → new.primary.link.remote ≤ w.primary.link.remote
-remote-rests w new rests = omega (arith, ap (λ (x : Link). x.remote) rests.link)
-
-remote-fails : (w new : World) (node : Node) (call : Cut) → Fails w node call new → new.primary.link.remote ≤ w.primary.link.remote
-remote-fails w new node call fails = remote-rests w new (rests-Fails w new node call fails)
-
-remote-crashed : (w : World) (node : Node) (remain : Remains) → (crashed node remain w).primary.link.remote ≤ w.primary.link.remote
-remote-crashed w nodes.Primary (At position) = omega arith
-remote-crashed w nodes.Primary AsPrimary = omega arith
-remote-crashed w nodes.Standby (At position) = omega arith
-remote-crashed w nodes.Standby AsPrimary = omega arith
-
--- no other event raises the remote mark
-remote-happens : (w : World) (event : Event) (new : World) → RaisesNoRemote (event ∷ []) (true ∷ []) → Happens w event new → new.primary.link.remote ≤ w.primary.link.remote
-remote-happens w (Turn c) new none h = omega (arith, ap (λ x. x.primary.link.remote) h.now)
-remote-happens w CloseGroup new none h = omega (arith, ap (λ x. x.primary.link.remote) (closes-queues w new h).now)
-remote-happens w Send new none h = omega (arith, ap (λ x. x.primary.link.remote) h ∙ (sent-marks w.primary.link.delta w.primary.link).1)
-remote-happens w Commit new none h = elim h [ inl now ↦ omega (arith, ap (λ x. x.primary.link.remote) now) | inr fails ↦ remote-fails w new nodes.Primary cut.Commit fails ]
-remote-happens w Free new none h = elim h [ inl now ↦ omega (arith, ap (λ x. x.primary.link.remote) now) | inr fails ↦ remote-fails w new nodes.Primary cut.Free fails ]
-remote-happens w ClearGap new none h = elim h [ inl now ↦ omega (arith, ap (λ x. x.primary.link.remote) now) | inr fails ↦ remote-fails w new nodes.Primary cut.ClearGap fails ]
-remote-happens w Apply new none h = elim h [ inl applies ↦ omega (arith, ap (λ x. x.primary.link.remote) applies.now) | inr fails ↦ remote-fails w new nodes.Standby cut.Apply fails ]
-remote-happens w (AckDelivered a) new none h =
-    omega (arith, ap (λ x. x.primary.link.remote) h ∙ told-remote w.primary.epoch w.primary.committer.position (slice_get w.wire.acknowledgements a) w.primary.link)
-remote-happens w RaiseRemote new none h = absurd none
-remote-happens w (FailFence node n) new none h = remote-rests w new (rests-asked w new node n h)
-remote-happens w (Crash node call k picks) new none h = omega (arith, ap (λ x. x.primary.link.remote) h.now, remote-crashed w node h.remain)
-remote-happens w (Reopen nodes.Primary) new none h = elim h [ inl opens ↦ omega (arith, ap (λ x. x.primary.link.remote) opens.now) | inr fails ↦ remote-fails w new nodes.Primary cut.Reopen fails ]
-remote-happens w (Reopen nodes.Standby) new none h = elim h [ inl now ↦ omega (arith, ap (λ x. x.primary.link.remote) now) | inr fails ↦ remote-fails w new nodes.Standby cut.Reopen fails ]
-remote-happens w Fence new none h = remote-rests w new (rests-Fence w new h)
-remote-happens w Promote new none h = elim h [ inl opens ↦ omega (arith, ap (λ x. x.primary.link.remote) opens.now) | inr fails ↦ remote-fails w new nodes.Standby cut.Promote fails ]
-remote-happens w event new none h = omega (arith, ap (λ x. x.primary.link.remote) h)
 
 raises-parts : (event : Event) (did : Bool) (events : List Event) (done : List Bool) → RaisesNoRemote (event ∷ events) (did ∷ done) → RaisesNoRemote (event ∷ []) (did ∷ []) × RaisesNoRemote events done
 raises-parts RaiseRemote true events done none = absurd none
@@ -137,7 +142,7 @@ raises-parts RaiseRemote false events done none = (tt, none)
 raises-parts event did events done none = (tt, none)
 
 remote-step : (old : World) (event : Event) (did : Bool) (new : World) → RaisesNoRemote (event ∷ []) (did ∷ []) → Step old event did new → new.primary.link.remote ≤ old.primary.link.remote
-remote-step old event true new none step = remote-happens old event new none (step.happens refl)
+remote-step old event true new none step = (owed-step old event new step).remote none
 remote-step old event false new none step = omega (arith, ap (λ x. x.primary.link.remote) (step.stands refl))
 
 -- what some world has is at most at the remote mark of the first

@@ -1,6 +1,6 @@
 -- What each event of one connection leaves sound.
-use Rattle.std.proofs.Common.{◌≡◌, ◌≢◌, ℕ, ◌+◌, ◌≤◌, Bool, true, false, ◌&&◌, nat_lt, List, [], ◌∷◌, ◌++◌, length, take, All, refl, sym, ap, subst, ◌∙◌, arith, le_refl}
-use Rattle.std.proofs.lemmas.Bool.{ltb-true}
+use Rattle.std.proofs.Common.{◌≡◌, ◌≢◌, ℕ, ◌+◌, ◌≤◌, Bool, true, false, not, ◌&&◌, nat_lt, List, [], ◌∷◌, ◌++◌, length, take, All, refl, sym, ap, subst, ◌∙◌, arith, le_refl}
+use Rattle.std.proofs.lemmas.Bool.{ltb-true, not-true}
 use Rattle.std.proofs.lemmas.List.Elements.{All-weaker}
 use Rattle.kv_types.specs.declared.seen.Seen.{Seen}
 use Rattle.model.specs.declared.call.Call.{Call}
@@ -9,11 +9,11 @@ use Rattle.kv_types.specs.Reading.{items_at}
 use Rattle.model.specs.Call.{IsPrefix, MayReply, is_nonempty, items_of, state_after, position_of}
 use Rattle.model.proofs.CallsLemmas.{IsLegal-push, position_of-push, position_of_grows}
 use Rattle.machine.specs.declared.event.TheConstants.{SEATS, PIPE_ITEMS, OPEN_CHANGES}
-use Rattle.machine.specs.declared.event.Event.TheVariants.{Enter, Turn, Leave}
-use Rattle.machine.specs.Event.{Inbound, Outbound, Connection, Remains, At, AsPrimary, World, torn, no_connection, connection_of, count_open, changed_at, with_inbound, with_outbound, with_connections, on_inbound, on_outbound, asked, is_open, seen_of, open_changes, has_room, may_happen, entered, with_call, taken_first, with_made, called, left}
+use Rattle.machine.specs.declared.event.Event.TheVariants.{Enter, Feed, Offer, Turn, Leave}
+use Rattle.machine.specs.Event.{Inbound, Outbound, Connection, Remains, At, AsPrimary, World, torn, no_connection, connection_of, count_open, changed_at, with_inbound, with_outbound, with_connections, on_inbound, on_outbound, asked, is_closed_by, is_open, seen_of, open_changes, has_room, may_happen, entered, with_call, fed_with, offered_next, taken_first, with_made, called, left}
 use Rattle.machine.specs.Sound.{IsPrimaryLeft, IsStandbyLeft, SoundInbound, SoundOutbound, SoundOver, Sound}
 use Rattle.machine.proofs.ConnectionLemmas.{changed-twice, get-past, each-changed, each-entered, open-lt, count-entered, count-changed, count-left}
-use Rattle.machine.proofs.InboundLemmas.{inbound-new, inbound-called_own, inbound-called_other}
+use Rattle.machine.proofs.InboundLemmas.{inbound-new, inbound-fed, inbound-offered, inbound-called_own, inbound-called_other}
 use Rattle.machine.proofs.AnswerLemmas.{outbound-called_own, outbound-called_other}
 use Rattle.machine.proofs.OverLemmas.{over-called, over-left, outbound-new}
 use Rattle.machine.proofs.WorkLemmas.{committer-called}
@@ -64,12 +64,25 @@ sound-changed w c change keeps is_one in_stands out_stands s =
       each-changed (OverStands w.primary.calls w.standby.position) c change connections lt (λ e. absurd (shut e)) (λ d differ. s.over d),
     )
 
-pub sound-inbound : (w : World) (c : ℕ) (change : Inbound → Inbound) → is_open w c ≡ true → SoundInbound w.primary.calls c (change (connection_of w c).inbound) → Sound w → Sound (on_inbound c change w)
+sound-inbound : (w : World) (c : ℕ) (change : Inbound → Inbound) → is_open w c ≡ true → SoundInbound w.primary.calls c (change (connection_of w c).inbound) → Sound w → Sound (on_inbound c change w)
 sound-inbound w c change is_one own s = sound-changed w c (with_inbound change) (λ connection. refl) is_one own (s.outbound c is_one) s
 
 pub sound-outbound : (w : World) (c : ℕ) (change : Outbound → Outbound) → is_open w c ≡ true → let out : Outbound → Type 0 = SoundOutbound w.primary.calls c (seen_of w) in
     (out (connection_of w c).outbound → out (change (connection_of w c).outbound)) → Sound w → Sound (on_outbound c change w)
 sound-outbound w c change is_one own s = sound-changed w c (with_outbound change) (λ connection. refl) is_one (s.inbound c is_one) (own (s.outbound c is_one)) s
+
+pub sound-Feed : (w : World) (c : ℕ) (piece : List ℕ) → may_happen w (Feed c piece) ≡ true → Sound w → Sound (on_inbound c (fed_with piece) w)
+sound-Feed w c piece e s =
+    let inbound = (connection_of w c).inbound in
+    let parts = both (is_open w c) (not (is_closed_by inbound.fed)) e in
+    sound-inbound w c (fed_with piece) parts.0 (inbound-fed w.primary.calls c inbound piece (not-true (is_closed_by inbound.fed) parts.1) (s.inbound c parts.0)) s
+
+pub sound-Offer : (w : World) (c : ℕ) → may_happen w (Offer c) ≡ true → Sound w → Sound (on_inbound c offered_next w)
+sound-Offer w c e s =
+    let inbound = (connection_of w c).inbound in
+    let parts = three (is_open w c) (nat_lt inbound.offered (length (asked inbound.fed))) (has_room inbound.waiting) e in
+    let own = inbound-offered w.primary.calls c inbound (ltb-true inbound.offered (length (asked inbound.fed)) parts.1) (ltb-true (length inbound.waiting) PIPE_ITEMS parts.2) (s.inbound c parts.0) in
+    sound-inbound w c offered_next parts.0 own s
 
 -- no bytes ask for nothing
 asked-none : asked [] ≡ []

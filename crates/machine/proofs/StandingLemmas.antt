@@ -1,9 +1,11 @@
--- What a fence that fails leaves as it was, and what is asked of a device: all but the condition of one node.
-use Rattle.std.proofs.Common.{◌≡◌, ℕ, refl}
+-- What stays as it was: where a fence fails, of the nodes in any event, and where an event is behind the connections.
+use Rattle.std.proofs.Common.{◌≡◌, ℕ, ◌+◌, ◌≤◌, ◌⊎◌, List, Option, refl, sym, ap, subst, arith, inl, inr, Some, None}
 use Rattle.machine.specs.declared.event.Cut.{Cut}
 use Rattle.machine.specs.declared.event.Node.{Node}
 use Rattle.machine.specs.declared.event.Node.TheVariants as nodes
-use Rattle.machine.specs.Event.{Retired, World, halted, with_life, on_disk, asked_to_fail, left_by, Fails, torn}
+use Rattle.machine.specs.Event.{Acknowledgement, Frame, Link, Applies, Disk, without_first, Standby, Remains, At, AsPrimary, World, Takes, told, crashed, halted, on_disk, asked_to_fail, left_by, Fails}
+
+-- ---- a fence that fails
 
 -- all but the condition of the nodes and of their devices is as it was
 pub record Rests (old new : World) : Type 0 where
@@ -15,11 +17,8 @@ pub record Rests (old new : World) : Type 0 where
   pub position : new.standby.position ≡ old.standby.position
   pub wire : new.wire ≡ old.wire
 
-pub rests-itself : (w : World) → Rests w w
-rests-itself w = record { connections = refl; calls = refl; committer = refl; link = refl; epoch = refl; position = refl; wire = refl }
-
 -- where it is another world only by its name
-pub rests-as : {w is new : World} → new ≡ is → Rests w is → Rests w new
+rests-as : {w is new : World} → new ≡ is → Rests w is → Rests w new
 rests-as now rests = rw now rests
 
 pub rests-Fails : (w new : World) (node : Node) (call : Cut) → Fails w node call new → Rests w new
@@ -30,12 +29,83 @@ rests-Fails w new nodes.Standby call fails =
     let is : Rests w (halted nodes.Standby (left_by w nodes.Standby call) w) =
     record { connections = refl; calls = refl; committer = refl; link = refl; epoch = refl; position = refl; wire = refl } in rests-as fails.now is
 
-pub rests-asked : (w new : World) (node : Node) (n : ℕ) → new ≡ on_disk node (asked_to_fail n) w → Rests w new
-rests-asked w new nodes.Primary n now =
-    let is : Rests w (on_disk nodes.Primary (asked_to_fail n) w) = record { connections = refl; calls = refl; committer = refl; link = refl; epoch = refl; position = refl; wire = refl } in rests-as now is
-rests-asked w new nodes.Standby n now =
-    let is : Rests w (on_disk nodes.Standby (asked_to_fail n) w) = record { connections = refl; calls = refl; committer = refl; link = refl; epoch = refl; position = refl; wire = refl } in rests-as now is
+-- ---- the nodes
 
-pub rests-Fence : (w new : World) → new ≡ with_life nodes.Primary (Retired (torn w.primary.life)) w → Rests w new
-rests-Fence w new now =
-    let is : Rests w (with_life nodes.Primary (Retired (torn w.primary.life)) w) = record { connections = refl; calls = refl; committer = refl; link = refl; epoch = refl; position = refl; wire = refl } in rests-as now is
+-- both nodes have the devices that they had, and the epoch is the same
+pub record KeepsNodes (w new : World) : Type 0 where
+  pub primary_disk : new.primary.disk.number ≡ w.primary.disk.number
+  pub standby_disk : new.standby.disk.number ≡ w.standby.disk.number
+  pub epoch : new.primary.epoch ≡ w.primary.epoch
+
+-- the nodes are the same, unless the standby was promoted, or its image was
+abbrev pub Stays : World → World → Type 0
+Stays w new = KeepsNodes w new ⊎ (new.primary.epoch ≡ w.standby.epoch + 1)
+
+pub keeps-itself : (w : World) → KeepsNodes w w
+keeps-itself w = record { primary_disk = refl; standby_disk = refl; epoch = refl }
+
+taken : (frame : Frame) (old new : Standby) (told : List Acknowledgement) → Takes frame old new told → new.disk ≡ old.disk
+taken frame old new told takes =
+    elim takes [
+      | inl other ↦ by other.1
+      | inr (inl again) ↦ by again.2
+      | inr (inr (inl next)) ↦ ap (λ (x : Standby). x.disk) next.3
+      | inr (inr (inr (inl full))) ↦ by full.3
+      | inr (inr (inr (inr gap))) ↦ by gap.3
+    ]
+  where
+    by : new ≡ old → new.disk ≡ old.disk
+    by same = ap (λ (x : Standby). x.disk) same
+
+pub after-crash : (w : World) (node : Node) (remain : Remains) → Stays w (crashed node remain w)
+after-crash w nodes.Primary (At position) = inl (search (keeps-itself w))
+after-crash w nodes.Primary AsPrimary = inl (search (keeps-itself w))
+after-crash w nodes.Standby (At position) = inl (search (keeps-itself w))
+after-crash w nodes.Standby AsPrimary = inr refl
+
+-- ---- behind the connections
+
+-- the connections and the list of calls are as they were, and so are the nodes
+pub record Behind (old new : World) : Type 0 where
+  pub connections : new.primary.connections ≡ old.primary.connections
+  pub calls : new.primary.calls ≡ old.primary.calls
+  pub nodes : KeepsNodes old new
+
+pub behind-itself : (w : World) → Behind w w
+behind-itself w = record { connections = refl; calls = refl; nodes = keeps-itself w }
+
+pub behind-applied : (w new : World) → Applies w new → Behind w new
+behind-applied w new applies =
+    let disk = ap (λ (x : Disk). x.number) (taken applies.frame (without_first w.standby) applies.standby applies.told applies.takes) in
+    subst (Behind w) (sym applies.now) (record { connections = refl; calls = refl; nodes = record { primary_disk = refl; standby_disk = disk; epoch = refl } })
+
+-- and nothing moved that the laws of runs go by: no record, no remote mark, nothing on the wire
+pub record Unmoved (old new : World) : Type 0 where
+  pub behind : Behind old new
+  pub committer : new.primary.committer.position ≡ old.primary.committer.position
+  pub standby : new.standby.position ≡ old.standby.position
+  pub remote : new.primary.link.remote ≡ old.primary.link.remote
+  pub wire : new.wire ≡ old.wire
+
+pub unmoved-itself : (w : World) → Unmoved w w
+unmoved-itself w = record { behind = behind-itself w; committer = refl; standby = refl; remote = refl; wire = refl }
+
+pub unmoved-asked : (w : World) (node : Node) (n : ℕ) → Unmoved w (on_disk node (asked_to_fail n) w)
+unmoved-asked w nodes.Primary n = search (unmoved-itself w)
+unmoved-asked w nodes.Standby n = search (unmoved-itself w)
+
+pub unmoved-Fails : (w new : World) (node : Node) (call : Cut) → Fails w node call new → Unmoved w new
+unmoved-Fails w new nodes.Primary call fails = subst (Unmoved w) (sym fails.now) (search (unmoved-itself w))
+unmoved-Fails w new nodes.Standby call fails = subst (Unmoved w) (sym fails.now) (search (unmoved-itself w))
+
+-- ---- the remote mark
+
+pub told-remote : (epoch own : ℕ) (ack : Option Acknowledgement) (link : Link) → (told epoch own ack link).remote ≡ link.remote
+told-remote epoch own None link = refl
+told-remote epoch own (Some ack) link = grind arith
+
+pub remote-crashed : (w : World) (node : Node) (remain : Remains) → (crashed node remain w).primary.link.remote ≤ w.primary.link.remote
+remote-crashed w nodes.Primary (At position) = omega arith
+remote-crashed w nodes.Primary AsPrimary = omega arith
+remote-crashed w nodes.Standby (At position) = omega arith
+remote-crashed w nodes.Standby AsPrimary = omega arith

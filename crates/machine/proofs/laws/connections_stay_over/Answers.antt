@@ -1,5 +1,5 @@
 use Rattle.machine.proofs.RunLemmas.{sound-run}
-use Rattle.machine.proofs.StayLemmas.{few-connections, stays-run}
+use Rattle.machine.proofs.EveryRun.{few-connections, stays-run}
 use Rattle.machine.proofs.laws.connections_stay_over.Goals as goal
 
 pub returns-clause-stays : goal.returns-clause-stays
