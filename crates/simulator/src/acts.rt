@@ -1,15 +1,155 @@
-//! What a history is drawn of.
+//! What a history is drawn of: acts, and the steps that they are made of.
 use crate::drawing::Drawing;
 use crate::drawn_requests::{alone, draw_command, draw_request};
-use crate::step_kinds::{ACTS, Act, Step};
+use crate::witness::Witness;
 use bytes::Bytes;
-use machine::{Cut, Mark, Node};
+use machine::{Cut, Event, Mark, Node};
 use std::alloc::AllocError;
+use world::History;
 
 /// One of so many steps is left out.
 const STEPS_TO_MISS: u64 = 24;
 
+/// Which fence from now is to fail, at most.
+const MOST_FENCES: u64 = 6;
+
+/// An event whose numbers are drawn when it comes to it. A connection is named by its number.
+#[derive(Debug, Drop)]
+pub enum Step {
+    Enter,
+    Feed(u64, Bytes),
+    Offer(u64),
+    Turn(u64),
+    CloseGroup,
+    Commit,
+    RaiseLocal,
+    Hand,
+    Free,
+    AcceptFreed,
+    ClearGap,
+    OpenLink,
+    Send,
+    /// The frame that was sent last.
+    DeliverLast,
+    /// Any frame.
+    DeliverAny,
+    Apply,
+    /// The acknowledgement that was made last.
+    AckLast,
+    /// Any acknowledgement.
+    AckAny,
+    RaiseRemote,
+    Hold(u64),
+    Read(u64, Mark),
+    Release(u64),
+    /// Some bytes, or all that there may be.
+    Write(u64),
+    Leave(u64),
+    FailFence(Node),
+    Crash(Node, Cut),
+    Reopen(Node),
+    Fence,
+    Promote,
+}
+
+/// What a history is drawn of: a few steps that belong together.
+#[derive(Clone, Copy, Debug, PartialEq, Eq)]
+enum Act {
+    /// A connection enters.
+    Enter,
+    /// A request of a connection is fed and called.
+    Ask,
+    /// So is a transaction.
+    Transact,
+    /// What waits is committed, or a part of that way.
+    Commit,
+    /// What was committed goes to the standby, and its acknowledgement comes back.
+    Follow,
+    /// What was answered is released.
+    Release,
+    /// What has ended is listed and freed, and a gap is cleared.
+    Free,
+    /// A frame or an acknowledgement of before comes once more.
+    Repeat,
+    /// The link opens.
+    Link,
+    /// A connection is over.
+    Leave,
+    /// A node crashes and is opened again.
+    Crash(Node),
+    /// A fence of a node's device fails, and the node is opened again.
+    Fail(Node),
+    /// A node crashes in the middle of a call, and is opened again.
+    CutCall(Cut),
+}
+
+/// How often each is drawn, of the sum of all.
+const ACTS: [(u64, Act); 20] = [
+    (30, Act::Ask),
+    (6, Act::Transact),
+    (20, Act::Commit),
+    (24, Act::Follow),
+    (24, Act::Release),
+    (8, Act::Free),
+    (5, Act::Repeat),
+    (3, Act::Link),
+    (3, Act::Enter),
+    (1, Act::Leave),
+    (3, Act::Crash(Node::Primary)),
+    (2, Act::Crash(Node::Standby)),
+    (1, Act::Fail(Node::Primary)),
+    (1, Act::Fail(Node::Standby)),
+    (1, Act::CutCall(Cut::Commit)),
+    (1, Act::CutCall(Cut::Apply)),
+    (1, Act::CutCall(Cut::Free)),
+    (1, Act::CutCall(Cut::ClearGap)),
+    (1, Act::CutCall(Cut::Reopen)),
+    (1, Act::CutCall(Cut::Promote)),
+];
+
 impl Drawing {
+    /// The event of a step, whose numbers are drawn now.
+    pub fn event_of(
+        &mut self,
+        step: Step,
+        history: &History,
+        witness: &Witness,
+    ) -> Result<Event, AllocError> {
+        let frames = history.frames.len() as u64;
+        let acknowledgements = history.acknowledgements.len() as u64;
+        Ok(match step {
+            Step::Enter => Event::Enter,
+            Step::Feed(connection, piece) => Event::Feed(connection, piece),
+            Step::Offer(connection) => Event::Offer(connection),
+            Step::Turn(connection) => Event::Turn(connection),
+            Step::CloseGroup => Event::CloseGroup,
+            Step::Commit => Event::Commit,
+            Step::RaiseLocal => Event::RaiseLocal,
+            Step::Hand => Event::Hand,
+            Step::Free => Event::Free,
+            Step::AcceptFreed => Event::AcceptFreed,
+            Step::ClearGap => Event::ClearGap,
+            Step::OpenLink => Event::OpenLink,
+            Step::Send => Event::Send,
+            Step::DeliverLast => Event::Deliver(frames.saturating_sub(1), self.piece()),
+            Step::DeliverAny => Event::Deliver(self.up_to(frames), self.piece()),
+            Step::Apply => Event::Apply,
+            Step::AckLast => Event::AckDelivered(acknowledgements.saturating_sub(1)),
+            Step::AckAny => Event::AckDelivered(self.up_to(acknowledgements)),
+            Step::RaiseRemote => Event::RaiseRemote,
+            Step::Hold(connection) => Event::Hold(connection),
+            Step::Read(connection, mark) => Event::Read(connection, mark),
+            Step::Release(connection) => Event::Release(connection),
+            Step::Write(connection) => Event::Write(connection, self.bytes(connection, witness)),
+            Step::Leave(connection) => Event::Leave(connection),
+            Step::FailFence(node) => Event::FailFence(node, self.up_to(MOST_FENCES)),
+            Step::Crash(node, cut) => self.crash(node, cut)?,
+            Step::Reopen(node) => Event::Reopen(node),
+            Step::Fence => Event::Fence,
+            Step::Promote => Event::Promote,
+        })
+    }
+
     /// Draws a few steps that belong together.
     pub fn act(&mut self) -> Result<(), AllocError> {
         match self.drawn_act() {

@@ -1,6 +1,6 @@
 //! Histories that are drawn.
+use crate::acts::Step;
 use crate::dice::Dice;
-use crate::step_kinds::Step;
 use crate::witness::Witness;
 use machine::{Cut, Event, Node};
 use std::alloc::{AllocError, Global};
@@ -12,9 +12,6 @@ const LEAST_EVENTS: u64 = 150;
 
 /// After so many calls to a device a crash in the middle of an event comes, at most.
 const MOST_CALLS: u64 = 40;
-
-/// Which fence from now is to fail, at most.
-const MOST_FENCES: u64 = 6;
 
 /// So many acts come while a node has stopped, on average.
 const ACTS_WHILE_STOPPED: u64 = 3;
@@ -124,55 +121,13 @@ impl Drawing {
         newest.saturating_sub(self.dice.below(3))
     }
 
-    /// The event of a step, whose numbers are drawn now.
-    fn event_of(
-        &mut self,
-        step: Step,
-        history: &History,
-        witness: &Witness,
-    ) -> Result<Event, AllocError> {
-        let frames = history.frames.len() as u64;
-        let acknowledgements = history.acknowledgements.len() as u64;
-        Ok(match step {
-            Step::Enter => Event::Enter,
-            Step::Feed(connection, piece) => Event::Feed(connection, piece),
-            Step::Offer(connection) => Event::Offer(connection),
-            Step::Turn(connection) => Event::Turn(connection),
-            Step::CloseGroup => Event::CloseGroup,
-            Step::Commit => Event::Commit,
-            Step::RaiseLocal => Event::RaiseLocal,
-            Step::Hand => Event::Hand,
-            Step::Free => Event::Free,
-            Step::AcceptFreed => Event::AcceptFreed,
-            Step::ClearGap => Event::ClearGap,
-            Step::OpenLink => Event::OpenLink,
-            Step::Send => Event::Send,
-            Step::DeliverLast => Event::Deliver(frames.saturating_sub(1), self.piece()),
-            Step::DeliverAny => Event::Deliver(self.up_to(frames), self.piece()),
-            Step::Apply => Event::Apply,
-            Step::AckLast => Event::AckDelivered(acknowledgements.saturating_sub(1)),
-            Step::AckAny => Event::AckDelivered(self.up_to(acknowledgements)),
-            Step::RaiseRemote => Event::RaiseRemote,
-            Step::Hold(connection) => Event::Hold(connection),
-            Step::Read(connection, mark) => Event::Read(connection, mark),
-            Step::Release(connection) => Event::Release(connection),
-            Step::Write(connection) => Event::Write(connection, self.bytes(connection, witness)),
-            Step::Leave(connection) => Event::Leave(connection),
-            Step::FailFence(node) => Event::FailFence(node, self.up_to(MOST_FENCES)),
-            Step::Crash(node, cut) => self.crash(node, cut)?,
-            Step::Reopen(node) => Event::Reopen(node),
-            Step::Fence => Event::Fence,
-            Step::Promote => Event::Promote,
-        })
-    }
-
     /// A number up to this one, which is below 2^64 - 1.
-    fn up_to(&mut self, most: u64) -> u64 {
+    pub fn up_to(&mut self, most: u64) -> u64 {
         self.dice.below(most.saturating_add(1).max(1))
     }
 
     /// In pieces of how many bytes a frame comes; 0: whole.
-    fn piece(&mut self) -> u64 {
+    pub fn piece(&mut self) -> u64 {
         if self.dice.is_one_of(4) {
             self.dice.below(20)
         } else {
@@ -181,7 +136,7 @@ impl Drawing {
     }
 
     /// How many bytes are written to a connection: mostly all that there may be.
-    fn bytes(&mut self, connection: u64, witness: &Witness) -> u64 {
+    pub fn bytes(&mut self, connection: u64, witness: &Witness) -> u64 {
         if self.dice.is_one_of(3) {
             self.dice.one_of(&REPLY_BYTES).copied().unwrap_or(1)
         } else {
@@ -190,7 +145,7 @@ impl Drawing {
     }
 
     /// A crash of this node, with one to three picks.
-    fn crash(&mut self, node: Node, cut: Cut) -> Result<Event, AllocError> {
+    pub fn crash(&mut self, node: Node, cut: Cut) -> Result<Event, AllocError> {
         let after = if cut.is_between() {
             0
         } else {

@@ -1,14 +1,143 @@
-//! Printing events as they are read.
+//! Events as text: read from words, and printed as they are read.
+ghost use Rattle.std.specs.Prelude.{◌≡◌, IfOk};
+ghost use Rattle.hex.specs.Hex.{decode_of};
+
 use crate::case::Case;
-use crate::crash_words::name_of_cut;
+use crate::cause::{Cause, LineError};
+use crate::crash_words::{name_of_cut, read_crash};
 use crate::error::SimulatorError;
+use crate::line_words::LineWords;
 use crate::node::name_of;
 use crate::quoted::Quoted;
+use crate::spelling::spelled;
 use bytes::Bytes;
+use hex::FromHexError;
 use machine::{Cut, Event, Mark, Node};
-use std::alloc::Global;
+use std::alloc::{AllocError, Global};
 use std::io;
 use std::io::Write;
+
+/// The event with this name and the words that follow it.
+pub fn read_event(
+    alloc: Global,
+    name: &str,
+    words: &mut LineWords<'_>,
+) -> Result<Event, LineError> {
+    let event = event_named(alloc, name, words)?;
+    words.end()?;
+    Ok(event)
+}
+
+/// The event with this name, whose words may be bytes.
+fn event_named(alloc: Global, name: &str, words: &mut LineWords<'_>) -> Result<Event, LineError> {
+    match name {
+        "feed" => read_request(alloc, words),
+        "feed-bytes" => read_piece(alloc, words),
+        "crash" => read_crash(alloc, words),
+        _ => Ok(event_of_words(name, words)?),
+    }
+}
+
+/// The event with this name, whose words are numbers, marks and nodes.
+fn event_of_words(name: &str, words: &mut LineWords<'_>) -> Result<Event, Cause> {
+    match name {
+        "read" => read_mark(words),
+        "write" => read_write(words),
+        "deliver" => read_deliver(words),
+        "reopen" => Ok(Event::Reopen(words.node()?)),
+        "fail-fence" => read_failure(words),
+        _ => match event_alone(name) {
+            Some(event) => Ok(event),
+            None => event_with_number(name, words),
+        },
+    }
+}
+
+/// The event whose name takes no more words.
+fn event_alone(name: &str) -> Option<Event> {
+    match name {
+        "enter" => Some(Event::Enter),
+        "close-group" => Some(Event::CloseGroup),
+        "commit" => Some(Event::Commit),
+        "raise-local" => Some(Event::RaiseLocal),
+        "hand" => Some(Event::Hand),
+        "free" => Some(Event::Free),
+        "accept-freed" => Some(Event::AcceptFreed),
+        "clear-gap" => Some(Event::ClearGap),
+        "open-link" => Some(Event::OpenLink),
+        "send" => Some(Event::Send),
+        "apply" => Some(Event::Apply),
+        "raise-remote" => Some(Event::RaiseRemote),
+        "fence" => Some(Event::Fence),
+        "promote" => Some(Event::Promote),
+        _ => None,
+    }
+}
+
+/// The event whose name takes a number: a connection or an acknowledgement.
+fn event_with_number(name: &str, words: &mut LineWords<'_>) -> Result<Event, Cause> {
+    let number = words.number();
+    match name {
+        "offer" => Ok(Event::Offer(number?)),
+        "turn" => Ok(Event::Turn(number?)),
+        "ack-delivered" => Ok(Event::AckDelivered(number?)),
+        "hold" => Ok(Event::Hold(number?)),
+        "release" => Ok(Event::Release(number?)),
+        "leave" => Ok(Event::Leave(number?)),
+        _ => Err(Cause::UnknownEvent),
+    }
+}
+
+fn read_mark(words: &mut LineWords<'_>) -> Result<Event, Cause> {
+    let connection = words.number()?;
+    Ok(Event::Read(connection, words.mark()?))
+}
+
+fn read_write(words: &mut LineWords<'_>) -> Result<Event, Cause> {
+    let connection = words.number()?;
+    Ok(Event::Write(connection, words.number()?))
+}
+
+/// A node, and which of its fences fails from then on.
+fn read_failure(words: &mut LineWords<'_>) -> Result<Event, Cause> {
+    let node = words.node()?;
+    Ok(Event::FailFence(node, words.number()?))
+}
+
+/// A frame, and in how many bytes at a time it comes: whole, where no number says so.
+fn read_deliver(words: &mut LineWords<'_>) -> Result<Event, Cause> {
+    let frame = words.number()?;
+    Ok(Event::Deliver(frame, words.number_or(0)?))
+}
+
+/// A connection, and the words of a request.
+fn read_request(alloc: Global, words: &mut LineWords<'_>) -> Result<Event, LineError> {
+    let connection = words.number()?;
+    let mut request = Vec::new(alloc);
+    request.push(Bytes::copy_from_slice(alloc, words.word()?)?)?;
+    for word in words {
+        request.push(Bytes::copy_from_slice(alloc, word)?)?;
+    }
+    Ok(Event::Feed(connection, spelled(alloc, request)?))
+}
+
+/// A connection, and bytes as hex digits.
+fn read_piece(alloc: Global, words: &mut LineWords<'_>) -> Result<Event, LineError> {
+    let connection = words.number()?;
+    let digits = words.next().unwrap_or(&[]);
+    Ok(Event::Feed(connection, read_hex(alloc, digits)?))
+}
+
+/// The bytes of these hex digits.
+fn read_hex(alloc: Global, digits: &[u8]) -> Result<Bytes, LineError>
+    ensures { IfOk result (λ bytes. decode_of digits.now ≡ Ok bytes) }
+{
+    match hex::decode(alloc, digits) {
+        Ok(bytes) => Ok(Bytes::from_vec(bytes)?),
+        Err(FromHexError::OutOfMemory) => Err(LineError::Memory),
+        Err(_) => Err(LineError::Bad(Cause::NotHex)),
+    }
+}
 
 /// Prints a history so that it is read as it is.
 pub fn write_case<W: Write>(alloc: Global, out: &mut W, case: &Case) -> Result<(), SimulatorError> {

@@ -1,7 +1,7 @@
 //! What is to be played: failures of fences, and events.
 use crate::cause::{Cause, LineError};
 use crate::error::SimulatorError;
-use crate::event_words::read_event;
+use crate::event_text::read_event;
 use crate::line_words::{LineWords, text_of};
 use crate::schedule::Schedule;
 use machine::Node;
