@@ -1,11 +1,12 @@
-//! An inlet whose next item can be looked at before it is taken.
+//! An inlet whose next item is looked at before it is taken.
 ghost use Rattle.std.specs.Prelude.{◌≡◌, None};
 ghost use Rattle.std.specs.Option.{option_copied};
 ghost use Rattle.clients.specs.LookAhead.{Looks};
 
 use pipes::Inlet;
 
-/// An inlet that may hold one item, taken early: it is taken next. So who takes the items can look at the next one first.
+/// An inlet that may hold one item, which was looked at: that one is taken next, and no other. So an item that comes between a look and the take has to be
+/// looked at first, and whatever a look was to find out holds of the item that is taken.
 #[derive(Drop)]
 pub struct LookAhead<T, I> {
     pub(crate) inlet: I,
@@ -21,7 +22,7 @@ impl<T: Drop, I: Inlet<Item = T>> LookAhead<T, I> {
         LookAhead { inlet, next: None }
     }
 
-    /// Takes the next item early, unless one is held already. A `None` then comes only if the inlet neither knew of an item nor found one.
+    /// Looks at the next item: takes it early, unless one is held already. None is held then only if the inlet neither knew of an item nor found one.
     pub fn look(&mut self)
         ensures { Looks I.take_gives self.old self.new }
     {
@@ -39,20 +40,17 @@ impl<T: Drop, I: Inlet<Item = T>> LookAhead<T, I> {
 }
 
 impl<T, I: Inlet<Item = T>> Inlet for LookAhead<T, I> {
-    ghost use Rattle.clients.specs.LookAhead.{AheadTakes, AheadTakes-known, known_ahead};
+    ghost use Rattle.clients.specs.LookAhead.{GivesHeld, GivesHeld-known, held_items};
 
     type Item = T;
 
-    ghost known_items = { known_ahead I.known_items };
+    ghost known_items = { held_items };
 
-    ghost take_gives = { AheadTakes I.take_gives };
+    ghost take_gives = { GivesHeld };
 
     fn take(&mut self) -> Option<T> {
-        match self.next.take() {
-            Some(item) => Some(item),
-            None => self.inlet.take(),
-        }
+        self.next.take()
     }
 
-    ghost known_first = { AheadTakes-known I.known_items I.take_gives I.known_first };
+    ghost known_first = { GivesHeld-known };
 }

@@ -6,7 +6,7 @@ use Rattle.kv_types.specs.declared.reply.Held.{Held}
 use Rattle.kv_types.specs.declared.reply.Reply.{Reply}
 use Rattle.model.specs.declared.group.TheConstants.{MAX_PARTS}
 use Rattle.model.specs.Call.{changes_of, is_nonempty}
-use Rattle.clients.specs.LookAhead.{LooksFrom, TakesFrom}
+use Rattle.clients.specs.LookAhead.{LooksFrom}
 use Rattle.pipes.specs.declared.ring_pipe.RingInlet.{RingInlet}
 use Rattle.pipes.specs.Ring.{RingTakes, IsSameOutlet, IsSameOutlet-refl, IsSameOutlet-trans, offered_at, taken_at}
 use Rattle.redis_core.specs.declared.turn.Turn.{Turn}
@@ -29,18 +29,16 @@ module _ {P : Type 0} where
   Takes = RingTakes {T = Item} {P = P} (λ _ _. Unit {0})
 
   pub takes-one : (before after : Requests P) (item : Item) → TakesNext before (Some item) after → TakesInOrder before (item ∷ []) after
-  takes-one before after item takes = from before.next refl takes
-    where
-      from : (next : Option Item) → before.next ≡ next → TakesFrom Takes next before (Some item) after → TakesInOrder before (item ∷ []) after
-      from None is took = record { came = item ∷ []; taken = took.1.1; in_order = rw (is, took.0) refl }
-      from (Some held) is took = record { came = []; taken = rw took.2 (sym (append-nil _)); in_order = rw (is, took.0) (ap (λ (taken : Option Item). option_to_list taken ++ []) (sym took.1)) }
+  takes-one before after item takes =
+      let held : option_to_list before.next ≡ item ∷ [] = ap (λ (next : Option Item). option_to_list next) (sym takes.0) in
+      subst (λ (left : Requests P). TakesInOrder before (item ∷ []) left) (sym takes.1)
+      (record { came = []; taken = sym (append-nil _); in_order = append-nil (option_to_list before.next) ∙ held ∙ sym (append-nil (item ∷ [])) })
 
   pub takes-none : (before after : Requests P) → TakesNext before None after → TakesInOrder before [] after
-  takes-none before after takes = from before.next refl takes
-    where
-      from : (next : Option Item) → before.next ≡ next → TakesFrom Takes next before None after → TakesInOrder before [] after
-      from None is took = record { came = []; taken = took.1.1 ∙ sym (append-nil _); in_order = rw (is, took.0) refl }
-      from (Some held) is took = absurd (grind (arith, took.1))
+  takes-none before after takes =
+      let held : option_to_list before.next ≡ [] = ap (λ (next : Option Item). option_to_list next) (sym takes.0) in
+      subst (λ (left : Requests P). TakesInOrder before [] left) (sym takes.1)
+      (record { came = []; taken = sym (append-nil _); in_order = append-nil (option_to_list before.next) ∙ held })
 
   pub looks-none : (before after : Requests P) → LooksAhead before after → TakesInOrder before [] after
   looks-none before after looks = from before.next refl looks

@@ -6,11 +6,11 @@ use Rattle.kv_types.specs.declared.reply.Reply.{Reply}
 use Rattle.model.specs.declared.group.TheConstants.{MAX_PARTS}
 use Rattle.model.specs.Call.{is_nonempty}
 use Rattle.clients.specs.declared.look_ahead.LookAhead.{LookAhead}
-use Rattle.clients.specs.LookAhead.{AheadTakes, Looks, known_ahead}
+use Rattle.clients.specs.LookAhead.{GivesHeld, Looks, held_items}
 use Rattle.rtrb.specs.Ring.{known_free}
 use Rattle.pipes.specs.declared.ring_pipe.RingInlet.{RingInlet}
 use Rattle.pipes.specs.declared.ring_pipe.RingOutlet.{RingOutlet}
-use Rattle.pipes.specs.Ring.{RingTakes, IsSameOutlet, known_at, offered_at, taken_at}
+use Rattle.pipes.specs.Ring.{RingTakes, IsSameOutlet, offered_at, taken_at}
 use Rattle.redis_core.specs.declared.turn.Turn.{Turn}
 use Rattle.redis_core.specs.declared.turn.Turn.TheVariants as turn
 use Rattle.redis_core.specs.Sequencing.{Sequencing, is_closed}
@@ -32,9 +32,9 @@ AreAnswered seat old (item ∷ items) (held ∷ replies) new =
 AreAnswered seat old _ _ new = ⊥
 
 module _ {P : Type 0} where
-  -- this item was taken, or none was there
+  -- the item that was looked at was taken, or none was: no other is
   abbrev pub TakesNext : Requests P → Option Item → Requests P → Type 0
-  TakesNext = AheadTakes (RingTakes {T = Item} {P = P} (λ _ _. Unit {0}))
+  TakesNext = GivesHeld
 
   -- the next item was taken early, unless one was held
   abbrev pub LooksAhead : Requests P → Requests P → Type 0
@@ -57,9 +57,9 @@ module _ {P Q : Type 0} where
     pub group_full : OnGroupFull came ((length old.waiting ≡ MAX_PARTS) × (requests' ≡ requests))
     pub ended : OnEnded came ((is_closed old seat ≡ true) × (requests' ≡ requests))
     pub unserved : OnUnserved came ((new ≡ old) × (offered_at replies' ≡ offered_at replies))
-    -- it is served only where the seat is open and the group not full, and always where room and an item are known too
+    -- it is served only where the seat is open and the group not full, and always where room is known too and an item was looked at
     pub served_only : OnServed came ((is_closed old seat ≡ false) × (length old.waiting < MAX_PARTS))
-    pub otherwise : is_closed old seat ≡ false → length old.waiting < MAX_PARTS → 0 < known_free replies.producer → known_ahead known_at requests ≢ [] → came ≡ turn.Served
+    pub otherwise : is_closed old seat ≡ false → length old.waiting < MAX_PARTS → 0 < known_free replies.producer → held_items requests ≢ [] → came ≡ turn.Served
     pub same : IsSameOutlet replies replies'
 
   -- Turns of a seat: items were taken in order and answered, and the replies offered in that order.
