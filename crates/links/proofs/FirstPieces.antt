@@ -8,7 +8,7 @@ use Rattle.frames.specs.declared.frame.Frame.{Frame}
 use Rattle.frames.specs.declared.ack.Ack.{Ack}
 use Rattle.stream_codec.specs.declared.message.Message.{Message}
 use Rattle.stream_codec.specs.declared.message.Message.TheVariants.{Ack as AckMessage}
-use Rattle.stream_codec.specs.Message.{Sent, sent_of_ack}
+use Rattle.stream_codec.specs.Message.{Sent}
 use Rattle.stream_codec.specs.Scanning.{sent_of_all}
 use Rattle.stream_codec.specs.Stream.{Reaches, begun, took, fed}
 use Rattle.links.specs.Reading.{ReadsPiece}

@@ -4,3 +4,4 @@ mod Says
 mod Hearing
 mod FirstPieces
 mod SentRounds
+mod Carrying

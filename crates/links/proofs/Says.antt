@@ -18,7 +18,7 @@ use Rattle.stream_codec.specs.Scanning.{sent_of_all}
 use Rattle.stream_codec.specs.Stream.{took, fed}
 use Rattle.links.specs.declared.link_error.LinkError.{LinkError}
 use Rattle.links.specs.declared.link_error.LinkError.TheVariants.{Closed}
-use Rattle.links.specs.Serving.{Held, Acknowledges, Answers, IsLeft, IsTidied, none, Leaves, keeps, cuts, fails, Says, HasRun, HasSaid, LinkSays, cut_off, then_said, Served, ack_text, acks_text, held}
+use Rattle.links.specs.Serving.{Held, Acknowledges, Answers, IsLeft, IsTidied, none, Leaves, keeps, cuts, fails, Says, HasRun, HasSaid, LinkSays, cut_off, Served, ack_text, acks_text, held}
 use Rattle.links.proofs.Serving.{Appends-join, Appends-none, Consumes-join, Run-join, Served-ended, not_refused}
 
 pub IsLeft-refl : (node : Held) → IsLeft node node

@@ -15,7 +15,7 @@ use Rattle.links.specs.declared.link_error.LinkError.{LinkError}
 use Rattle.links.specs.declared.link_error.LinkError.TheVariants.{Stops}
 use Rattle.std.proofs.lemmas.List.{flat_map_more, map-append}
 use Rattle.stream_codec.specs.declared.message.Message.{Message}
-use Rattle.stream_codec.specs.Message.{Sent, sent_of, sent_of_frame}
+use Rattle.stream_codec.specs.Message.{Sent, sent_of}
 use Rattle.stream_codec.specs.Scanning.{sent_of_all}
 use Rattle.std.specs.Io.KnownBytes.{Appends, Consumes}
 use Rattle.std.proofs.lemmas.Grind.{flat_map-append}

@@ -1,16 +1,17 @@
 -- What a receiver of acknowledgements takes of the messages that come on a link.
-use Rattle.std.specs.Prelude.{◌≡◌, ◌⊎◌, ℕ, ◌<◌, ◌≤◌, max, true, false, List, [], ◌∷◌, ◌++◌, Option}
+use Rattle.std.specs.Prelude.{◌≡◌, ◌⊎◌, ℕ, ◌<◌, ◌≤◌, max, min, true, false, List, [], ◌∷◌, ◌++◌, Option}
 use Rattle.std.specs.Io.KnownBytes.{Consumes}
 use Rattle.frames.specs.declared.frame.Frame.{Frame}
 use Rattle.frames.specs.declared.ack.Ack.{Ack}
 use Rattle.stream_codec.specs.Message.{Sent, sent_of_frame, sent_of_ack}
 use Rattle.standby_stream.specs.Stream.{counts}
+use Rattle.wakes.specs.Waiting.{WakesDue}
 use Rattle.links.specs.Reading.{Reads}
 use Rattle.links.specs.declared.receiver.AckReceiver.{AckReceiver}
 use Rattle.links.specs.declared.standing.Standing.TheVariants.{Ahead, Behind}
 
 -- The receiver took this acknowledgement: it counts, it is not above the local mark as it was read before, and the remote mark is now the higher one of it
--- and of what that was.
+-- and of what that was. Of the writers that wait for both marks those were called that are due by the lower of the two.
 pub record Takes (old : AckReceiver) (ack : Ack) (new : AckReceiver) : Type 0 where
   pub own : counts old.epoch ack ≡ true
   pub within : ack.position ≤ new.marks.local
@@ -18,15 +19,17 @@ pub record Takes (old : AckReceiver) (ack : Ack) (new : AckReceiver) : Type 0 wh
   pub was_behind : old.standing ≡ Behind
   pub behind : new.standing ≡ Behind
   pub epoch : new.epoch ≡ old.epoch
+  pub calls : WakesDue old.due (min new.marks.local new.marks.remote) new.due
 
 -- The receiver refused this acknowledgement, and the remote mark stayed: it does not count, or the standby was ahead before, or it is above the local mark as
--- it was read before. By one that counts the standby is ahead from then on; any other says nothing of that.
+-- it was read before. By one that counts the standby is ahead from then on; any other says nothing of that. No writer was called.
 pub record RefusesAck (old : AckReceiver) (ack : Ack) (new : AckReceiver) : Type 0 where
   pub stays : new.marks.remote ≡ old.marks.remote
   pub epoch : new.epoch ≡ old.epoch
   pub why : (counts old.epoch ack ≡ false) ⊎ ((old.standing ≡ Ahead) ⊎ (new.marks.local < ack.position))
   pub ahead : counts old.epoch ack ≡ true → new.standing ≡ Ahead
   pub foreign : counts old.epoch ack ≡ false → new.standing ≡ old.standing
+  pub calls_none : new.due ≡ old.due
 
 -- the same of a message, or it is a group, which only a primary sends
 abbrev pub Refuses : AckReceiver → Sent → AckReceiver → Type 0

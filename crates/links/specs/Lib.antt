@@ -5,4 +5,5 @@ pub mod Hearing
 pub mod Opening
 pub mod Serving
 pub mod Ends
+pub mod Carrying
 pub mod Usage

@@ -35,6 +35,7 @@ pub(crate) fn open_link<I: Read>(
     ensures refused { OnErr result ((receiver.new ≡ receiver.old) ⊎ ((ack : Told) × (held : Option (List ℕ)) × SaysFirst (I.remaining from.old) (I.remaining from.new) ack held
         × (RefusesAck receiver.old ack receiver.new ⊎ Takes receiver.old ack receiver.new))) }
     ensures link { OnErr result (outgoing.new.link ≡ outgoing.old.link) }
+    ensures kept { OnErr result (outgoing.new.opening ≡ outgoing.old.opening) }
     ensures epoch { receiver.new.epoch ≡ receiver.old.epoch }
     ensures sends { (outgoing.new.link).epoch ≡ (outgoing.old.link).epoch }
     ensures stays { StaysFinal receiver.old receiver.new }

@@ -46,6 +46,7 @@ impl AckReceiver {
     ghost use Rattle.standby_stream.specs.Stream.{counts};
     ghost use Rattle.links.specs.Hearing.{HasHeard, HasHeardBehind, Hears, Refuses, RefusesAck, StopsAt, Takes};
     ghost use Rattle.links.specs.Marking.{StaysFinal};
+    ghost use Rattle.wakes.specs.Waiting.{WakesDue};
     ghost use Rattle.links.specs.declared.standing.Standing.TheVariants.{Ahead, Behind};
 
     /// What takes the acknowledgements of the standby to which this is sent: those of the epoch of its frames. The standby was never ahead.
@@ -208,6 +209,7 @@ impl AckReceiver {
 
     /// Wakes whoever may go on where both nodes hold this position.
     fn wake(&mut self, both: u64)
+        ensures due { WakesDue self.old.due both self.new.due }
         ensures marks { self.new.marks ≡ self.old.marks }
         ensures standing { self.new.standing ≡ self.old.standing }
         ensures epoch { self.new.epoch ≡ self.old.epoch }

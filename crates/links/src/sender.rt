@@ -1,6 +1,7 @@
 //! The thread that opens the link to the standby and sends on it.
-ghost use Rattle.std.specs.Prelude.{◌≡◌, ℕ, List, Option, OnErr, OnOk, IfOk};
+ghost use Rattle.std.specs.Prelude.{◌≡◌, ◌⊎◌, ◌↔◌, ◌<◌, ℕ, List, Option, OnErr, OnOk, IfOk, IsTrue};
 ghost use Rattle.frames.specs.declared.ack.Ack.{Ack as Told};
+ghost use Rattle.links.specs.Carrying.{GoesOut, KeepsAll, SendsOnLink, ServesLink, ServesLinks, TouchesNeither};
 ghost use Rattle.links.specs.Ends.{AreOfOneEpoch};
 ghost use Rattle.links.specs.Hearing.{HasHeardBehind};
 ghost use Rattle.links.specs.Marking.{StaysFinal};
@@ -159,26 +160,42 @@ impl LinkSender {
         requires { AreOfOneEpoch self receiver }
     {
         let mut own = self;
-        let mut receiver = receiver;
         let mut telling = Telling {
             log,
             refused: RefusedLinks::new(),
             told: None,
             new: Throttle::new(),
         };
+        own.serve_links(&rt, alloc, receiver, &mut telling);
+        stay_apart(&rt, &mut telling.log);
+    }
+
+    /// Serves one link after another, each after a pause, until the standby was ahead of this node. All that it keeps is what the links left.
+    fn serve_links<R: Threads + Wait + Clock + Net<Stream = TcpStream>, W: Write>(
+        &mut self,
+        rt: &R,
+        alloc: Global,
+        receiver: AckReceiver,
+        telling: &mut Telling<W>,
+    ) -> AckReceiver
+        requires { AreOfOneEpoch self.old receiver }
+        ensures { ServesLinks self.old receiver self.new result }
+    {
+        let mut receiver = receiver;
         let mut pauses = FIRST_PAUSES;
         for _ in rt.forever() {
-            let (next, got_on) = own.serve_link(&rt, alloc, receiver, &mut telling);
+            let (next, got_on) = self.serve_link(rt, alloc, receiver, telling);
             receiver = next;
             if receiver.is_final() {
-                return stay_apart(&rt, &mut telling.log);
+                return receiver;
             }
             if got_on {
                 pauses = FIRST_PAUSES;
             }
-            pause(&rt, pauses);
+            pause(rt, pauses);
             pauses = pauses.saturating_mul(2).min(MOST_PAUSES);
         }
+        receiver
     }
 
     /// Serves one link. Answers whether the standby acknowledged more than before.
@@ -193,6 +210,7 @@ impl LinkSender {
         ensures epoch { AreOfOneEpoch self.new result.0 }
         ensures stays { StaysFinal receiver result.0 }
         ensures heard { HearsLink receiver result.0 }
+        ensures serves { ServesLink self.old receiver self.new result.0 }
     {
         let mut receiver = receiver;
         match self.open(rt, alloc, &mut receiver) {
@@ -220,6 +238,8 @@ impl LinkSender {
         ensures epoch { AreOfOneEpoch self.new result.0 }
         ensures stays { StaysFinal receiver result.0 }
         ensures heard { HasHeardBehind receiver opened.decoder result.0 }
+        ensures sends { GoesOut self.old self.new }
+        ensures got_on { IsTrue result.1 ↔ ((self.old.outgoing.link).known < (self.new.outgoing.link).known) }
     {
         let known = self.outgoing.known();
         let Opened {
@@ -268,7 +288,8 @@ impl LinkSender {
         alloc: Global,
         stream: &TcpStream,
     ) -> (bool, Lost)
-        ensures { (self.new.outgoing.link).epoch ≡ (self.old.outgoing.link).epoch }
+        ensures epoch { (self.new.outgoing.link).epoch ≡ (self.old.outgoing.link).epoch }
+        ensures sends { SendsOnLink result.1 self.old self.new }
     {
         let around = Surroundings {
             is_broken: &self.is_broken,
@@ -300,6 +321,9 @@ impl LinkSender {
         ensures opened { IfOk result (λ opened. (ack : Told) × (bytes : Option (List ℕ)) × (left : Option (List ℕ)) × SaysFirst bytes left ack opened.decoder
             × (opened.position ≡ ack.position) × Opens ack receiver.old receiver.new self.old.outgoing self.new.outgoing) }
         ensures lost { OnErr result (HearsLink receiver.old receiver.new) }
+        ensures touches { TouchesNeither self.old self.new }
+        // it is open where no memory was left to share the connection
+        ensures left { OnErr result (KeepsAll self.old self.new ⊎ ((ack : Told) × Opens ack receiver.old receiver.new self.old.outgoing self.new.outgoing)) }
     {
         let Ok(stream) = dial(rt, &self.address) else {
             return Err(Lost::Unreachable);

@@ -1,8 +1,7 @@
-use Rattle.std.proofs.Common.{◌≡◌, List, [], ◌∷◌, ◌++◌, rules, sym, ap, ◌∙◌, append_assoc}
+use Rattle.std.proofs.Common.{List, [], ◌∷◌, ◌++◌, rules, sym, ap, ◌∙◌, append_assoc}
 use Rattle.std.specs.Vec.Iter.{into_iter_items}
 use Rattle.stream_codec.specs.declared.message.Message.{Message}
 use Rattle.links.specs.Hearing.{nothing}
-use Rattle.links.specs.Marking.{StaysFinal}
 use Rattle.links.proofs.Hearing.{Hears-more, StopsAt-next}
 use Rattle.links.proofs.Serving.{OnErr-always}
 use Rattle.links.proofs.receiver.AckReceiver.hear_all.Goals as goal

@@ -1,3 +1,4 @@
+use Rattle.std.proofs.Common.{refl, inl, inr}
 use Rattle.links.specs.Opening.{silent, unopened}
 use Rattle.links.proofs.FirstPieces.{HearsLink-unopened}
 use Rattle.links.proofs.sender.LinkSender.open.Goals as goal
@@ -10,3 +11,12 @@ returns-in-Err-clause-lost g c = HearsLink-unopened _ _ _ _ c.in-Err.ensures.ref
 
 pub returns-in-Err-share-clause-lost : goal.returns-in-Err-share-clause-lost
 returns-in-Err-share-clause-lost g c = let told = c.in-Ok-opened.ensures.opened in unopened _ _ told.0 told.3.takes
+
+pub returns-in_default-clause-left : goal.returns-in_default-clause-left
+returns-in_default-clause-left g c = inl (refl, refl, (refl, refl))
+
+pub returns-in-Err-clause-left : goal.returns-in-Err-clause-left
+returns-in-Err-clause-left g c = inl (c.in-Err.ensures.link, c.in-Err.ensures.kept, (refl, refl))
+
+pub returns-in-Err-share-clause-left : goal.returns-in-Err-share-clause-left
+returns-in-Err-share-clause-left g c = let told = c.in-Ok-opened.ensures.opened in inr (told.0, told.3)
