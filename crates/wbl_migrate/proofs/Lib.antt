@@ -1,0 +1,4 @@
+pub mod Maps
+pub mod Moving
+pub mod Touching
+pub mod Marks

@@ -1,0 +1,83 @@
+-- What the marks leave.
+use Rattle.std.proofs.Common.{◌≡◌, ◌⊎◌, ◌≢◌, ℕ, [], ◌∷◌, refl, inl, inr}
+use Rattle.kv_types.specs.Keyspace.{Keyspace}
+use Rattle.pmem.specs.Device.{State}
+use Rattle.pmem.specs.Crash.{IsImage}
+use Rattle.pmem.specs.Runs.{LeavesOnly, Staged, IsPartlyStored, IsStored}
+use Rattle.pmem.proofs.Leaving.{LeavesOnly-weaken}
+use Rattle.model.specs.declared.record.Record.{Record}
+use Rattle.model.specs.Image.{Image}
+use Rattle.wbl_record.proofs.Mixing.{IsMixed, mixed}
+use Rattle.wbl_migrate.specs.declared.marking.TheConstants.{VERSION_WORD}
+use Rattle.wbl_migrate.specs.Stage.{IsMovable}
+use Rattle.wbl_migrate.specs.Stage.Stage.{Old, Halfway, New}
+use Rattle.wbl_migrate.specs.Steps.{Leaves, IsRenewed, renewed}
+use Rattle.wbl_migrate.proofs.Moving.{agrees_but_version, movable_at, new_record_stays, old_record_stays}
+use Rattle.wbl_migrate.proofs.Touching.{IsStep, one_word, one_stored, value_stored}
+
+-- ---- a mark
+
+-- an image that a mark leaves, where it is stored: from the image before, only the version has changed
+record IsMarked (d : State) (image : Image) : Type 0 where
+  base : Image
+  is : IsImage d.words base
+  same : (word : ℕ) → word ≢ 1 → image word ≡ base word
+
+marked : (d : State) (value : ℕ) (image : Image) → IsPartlyStored ((VERSION_WORD, value) ∷ []) d.words image → IsMarked d image
+marked d value image partly =
+    let mix : IsMixed d.words (λ word. IsStored ((VERSION_WORD, value) ∷ []) word (image word)) image =
+    mixed d.words (λ word. IsStored ((VERSION_WORD, value) ∷ []) word (image word)) image partly in
+    record {
+      base = mix.base;
+      is = mix.is;
+      same = λ word other. elim (mix.same word) [ inl e ↦ e | inr stored ↦ absurd (other (one_stored VERSION_WORD value word (image word) stored)) ];
+    }
+
+pub halfway_image : (d : State) (lines : ℕ) (r : Record) (s : Keyspace) (image : Image) → Leaves d (IsMovable Old lines r s)
+    → IsPartlyStored ((VERSION_WORD, 3) ∷ []) d.words image → image 1 ≡ 3 → IsMovable Halfway lines r s image
+halfway_image d lines r s image all partly version =
+    let mark : IsMarked d image = marked d 3 image partly in
+    let movable : IsMovable Old lines r s mark.base = all mark.base mark.is in
+    let same = agrees_but_version lines mark.base image mark.same in
+    movable_at Old Halfway lines r r s mark.base image refl refl movable.gapless version
+    (old_record_stays lines r mark.base image movable.gapless same movable.holds.has_record) same movable
+
+pub new_image : (d : State) (lines : ℕ) (r : Record) (s : Keyspace) (image : Image) → Leaves d (IsRenewed lines r s)
+    → IsPartlyStored ((VERSION_WORD, 2) ∷ []) d.words image → image 1 ≡ 2 → IsMovable New lines (renewed r) s image
+new_image d lines r s image all partly version =
+    let mark : IsMarked d image = marked d 2 image partly in
+    let is : IsRenewed lines r s mark.base = all mark.base mark.is in
+    movable_at Halfway New lines r (renewed r) s mark.base image refl refl refl version
+    (new_record_stays lines (renewed r) mark.base image refl mark.same is.next) (agrees_but_version lines mark.base image mark.same) is.movable
+
+pub halfway_ok : (a b : State) (lines : ℕ) (r : Record) (s : Keyspace) → Staged a b ((VERSION_WORD, 3) ∷ []) (0 ∷ []) → Leaves a (IsMovable Old lines r s)
+    → Leaves b (IsMovable Halfway lines r s)
+halfway_ok a b lines r s staged all image is =
+    halfway_image a lines r s image all (staged.moments.each image (inl is)) ((staged.certain 1 (inl refl)).only (image 1) (is 1))
+
+pub halfway_moments : (a b : State) (lines : ℕ) (r : Record) (s : Keyspace) → IsStep a b ((VERSION_WORD, 3) ∷ []) → Leaves a (IsMovable Old lines r s)
+    → LeavesOnly a b (λ image. IsMovable Old lines r s image ⊎ IsMovable Halfway lines r s image)
+halfway_moments a b lines r s step all =
+    LeavesOnly-weaken (λ image. IsMovable Old lines r s image ⊎ IsMovable Halfway lines r s image)
+    (λ image partly.
+    elim (partly 1) [
+      | inl may ↦ inl (all image (one_word a.words 1 3 image partly may))
+      | inr stored ↦ inr (halfway_image a lines r s image all partly (value_stored 1 3 1 (image 1) stored))
+    ])
+    step.moments
+
+pub new_ok : (a b : State) (lines : ℕ) (r : Record) (s : Keyspace) → Staged a b ((VERSION_WORD, 2) ∷ []) (0 ∷ []) → Leaves a (IsRenewed lines r s)
+    → Leaves b (IsMovable New lines (renewed r) s)
+new_ok a b lines r s staged all image is =
+    new_image a lines r s image all (staged.moments.each image (inl is)) ((staged.certain 1 (inl refl)).only (image 1) (is 1))
+
+pub new_moments : (a b : State) (lines : ℕ) (r : Record) (s : Keyspace) → IsStep a b ((VERSION_WORD, 2) ∷ []) → Leaves a (IsRenewed lines r s)
+    → LeavesOnly a b (λ image. IsRenewed lines r s image ⊎ IsMovable New lines (renewed r) s image)
+new_moments a b lines r s step all =
+    LeavesOnly-weaken (λ image. IsRenewed lines r s image ⊎ IsMovable New lines (renewed r) s image)
+    (λ image partly.
+    elim (partly 1) [
+      | inl may ↦ inl (all image (one_word a.words 1 2 image partly may))
+      | inr stored ↦ inr (new_image a lines r s image all partly (value_stored 1 2 1 (image 1) stored))
+    ])
+    step.moments
