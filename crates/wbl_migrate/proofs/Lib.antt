@@ -2,3 +2,4 @@ pub mod Maps
 pub mod Moving
 pub mod Touching
 pub mod Marks
+pub mod Renewing
