@@ -3,3 +3,4 @@ pub mod Moving
 pub mod Touching
 pub mod Marks
 pub mod Renewing
+pub mod StepLemmas

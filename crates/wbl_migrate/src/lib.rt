@@ -4,6 +4,7 @@
 mod laws;
 mod marking;
 mod record;
+mod switching;
 
 pub use laws::{
     crashed_devices_go_on, images_are_at_one_stage, new_slots_are_the_last_entries,
@@ -11,3 +12,4 @@ pub use laws::{
 };
 pub use marking::{HALFWAY_VERSION, VERSION_WORD, mark_halfway, mark_new};
 pub use record::write_new_record;
+pub use switching::{go_on, switch};

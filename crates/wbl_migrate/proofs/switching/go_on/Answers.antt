@@ -1,0 +1,54 @@
+use Rattle.wbl_migrate.proofs.StepLemmas.{record_moments, renewed_images, new_images, mark_moments, halfway_map}
+use Rattle.wbl_migrate.proofs.switching.go_on.Goals as goal
+
+pub returns-in_err-write_new_record-clause-moments : goal.returns-in_err-write_new_record-clause-moments
+returns-in_err-write_new_record-clause-moments g c s all =
+    let a = g.P.Pmem.state c.args.device.now in
+    let b = g.P.Pmem.state c.write_new_record.new.device in
+    let current = c.args.current.now in
+    record_moments a b a.lines current s (c.write_new_record.ensures.moments current s all)
+
+pub returns-in_err-write_new_record-clause-map : goal.returns-in_err-write_new_record-clause-map
+returns-in_err-write_new_record-clause-map g c s all =
+    let a = g.P.Pmem.state c.args.device.now in
+    let b = g.P.Pmem.state c.write_new_record.new.device in
+    halfway_map a b a.lines c.args.current.now s (returns-in_err-write_new_record-clause-moments g c s all)
+
+pub returns-in-Ok-clause-ok : goal.returns-in-Ok-clause-ok
+returns-in-Ok-clause-ok g c s all =
+    let a = g.P.Pmem.state c.args.device.now in
+    let b = g.P.Pmem.state c.write_new_record.new.device in
+    let current = c.args.current.now in
+    let lines = c.write_new_record.ensures.elsewhere.stays.lines in
+    let renewed = renewed_images a b a.lines current s lines (c.write_new_record.ensures.moments current s all) c.in_ok-write_new_record.ensures.ok in
+    new_images b (g.P.Pmem.state c.mark_new.new.device) a.lines current s lines (c.in-Ok.ensures.ok current s renewed)
+
+pub returns-in-Ok-clause-moments : goal.returns-in-Ok-clause-moments
+returns-in-Ok-clause-moments g c s all =
+    let a = g.P.Pmem.state c.args.device.now in
+    let b = g.P.Pmem.state c.write_new_record.new.device in
+    let current = c.args.current.now in
+    let lines = c.write_new_record.ensures.elsewhere.stays.lines in
+    let moments = c.write_new_record.ensures.moments current s all in
+    let renewed = renewed_images a b a.lines current s lines moments c.in_ok-write_new_record.ensures.ok in
+    mark_moments a b (g.P.Pmem.state c.mark_new.new.device) a.lines current s lines moments (c.mark_new.ensures.moments current s renewed)
+
+pub returns-in-Ok-clause-map : goal.returns-in-Ok-clause-map
+returns-in-Ok-clause-map g c s all =
+    let a = g.P.Pmem.state c.args.device.now in
+    halfway_map a (g.P.Pmem.state c.mark_new.new.device) a.lines c.args.current.now s (returns-in-Ok-clause-moments g c s all)
+
+pub returns-in-Err-clause-moments : goal.returns-in-Err-clause-moments
+returns-in-Err-clause-moments g c s all =
+    let a = g.P.Pmem.state c.args.device.now in
+    let b = g.P.Pmem.state c.write_new_record.new.device in
+    let current = c.args.current.now in
+    let lines = c.write_new_record.ensures.elsewhere.stays.lines in
+    let moments = c.write_new_record.ensures.moments current s all in
+    let renewed = renewed_images a b a.lines current s lines moments c.in_ok-write_new_record.ensures.ok in
+    mark_moments a b (g.P.Pmem.state c.mark_new.new.device) a.lines current s lines moments (c.mark_new.ensures.moments current s renewed)
+
+pub returns-in-Err-clause-map : goal.returns-in-Err-clause-map
+returns-in-Err-clause-map g c s all =
+    let a = g.P.Pmem.state c.args.device.now in
+    halfway_map a (g.P.Pmem.state c.mark_new.new.device) a.lines c.args.current.now s (returns-in-Err-clause-moments g c s all)
