@@ -5,6 +5,8 @@ mod laws;
 mod marking;
 mod record;
 mod switching;
+#[cfg(test)]
+mod tests;
 
 pub use laws::{
     crashed_devices_go_on, images_are_at_one_stage, new_slots_are_the_last_entries,
