@@ -4,6 +4,7 @@ mod HereOrLent
 mod KeepingLemmas
 mod LinkingLemmas
 mod NeedLemmas
+mod NeedTurns
 mod PastLemmas
 pub mod PlacesLemmas
 pub mod StepsLemmas

@@ -1,5 +1,5 @@
 -- How much room a request may need, and that it is enough.
-use Rattle.std.specs.Prelude.{ℕ, ◌≤◌, List, length, if◌then◌else◌, Option, Some, None}
+use Rattle.std.specs.Prelude.{ℕ, ◌+◌, ◌-◌, ◌^◌, ◌≤◌, max, min, true, false, List, length, if◌then◌else◌, Option, Some, None}
 use Rattle.std.specs.List.{AllByRecursion}
 use Rattle.kv_types.specs.declared.change.Change.{Change}
 use Rattle.kv_types.specs.declared.command_name.CommandName.{CommandName}
@@ -44,6 +44,17 @@ need_in_turn queued Runs = queued.need
 need_in_turn queued (AtMost need) = if queued.is_open then record { count = 0; lines = 1 } else need
 need_in_turn queued Begins = record { count = 0; lines = 1 }
 need_in_turn queued Drops = record { count = 0; lines = 1 }
+
+-- room for both: for all versions of the two, as far as 64 bits count them, each in an extent of the longer length
+abbrev pub need_of_both : Need → Need → Need
+need_of_both one other = record { count = min (one.count + other.count) (2 ^ 64 - 1); lines = max one.lines other.lines }
+
+-- what waits for EXEC once an item that asks for this had its turn: where no transaction is open it ran, and nothing waits
+abbrev pub queued_after : Queued → Asked → Queued
+queued_after queued (AtMost need) = if queued.is_open then record { is_open = true; need = need_of_both queued.need need } else queued
+queued_after queued Begins = record { is_open = true; need = record { count = 0; lines = 1 } }
+queued_after queued Runs = record { is_open = false; need = record { count = 0; lines = 1 } }
+queued_after queued Drops = record { is_open = false; need = record { count = 0; lines = 1 } }
 
 -- The changes put no more versions, and none takes an extent of more lines.
 pub record IsEnough (need : Need) (changes : List Change) : Type 0 where

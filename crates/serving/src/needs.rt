@@ -1,5 +1,6 @@
 //! How much room a request may need.
-ghost use Rattle.std.specs.Prelude.{◌≡◌};
+ghost use Rattle.std.specs.Prelude.{◌≡◌, ◌+◌, ◌++◌, ◌<◌, ◌^◌, List, true};
+ghost use Rattle.kv_types.specs.declared.change.Change.{Change as KeyChange};
 ghost use Rattle.kv_types.specs.Keyspace.{Keyspace};
 ghost use Rattle.cmd_table.specs.Request.{outcome_of_words};
 ghost use Rattle.serving.specs.Need as spec;
@@ -39,8 +40,12 @@ impl Need {
     /// No room.
     pub(crate) const NONE: Need = Need { count: 0, lines: 1 };
 
-    /// Room for both.
-    fn and(self, other: Need) -> Need {
+    /// Room for both: enough for the changes of one behind those of the other, as far as 64 bits count them.
+    fn and(self, other: Need) -> Need
+        ensures value { result ≡ spec.need_of_both self other }
+        ensures enough { (changes more : List KeyChange) → self.count + other.count < 2 ^ 64 → spec.IsEnough self changes → spec.IsEnough other more
+            → spec.IsEnough result (changes ++ more) }
+    {
         Need {
             count: self.count.saturating_add(other.count),
             lines: self.lines.max(other.lines),
@@ -66,19 +71,25 @@ impl Queued {
         }
     }
 
-    /// An item had its turn.
-    pub(crate) fn note(&mut self, asked: Asked) {
+    /// An item had its turn: in a transaction it waits for EXEC, unless it begins or ends one.
+    pub(crate) fn note(&mut self, asked: Asked)
+        ensures { self.new ≡ spec.queued_after self.old asked }
+    {
         match asked {
-            Asked::AtMost(need) => self.need = self.need.and(need),
-            Asked::Begins => *self = Queued::begun(),
+            Asked::AtMost(need) if self.is_open => *self = Queued::open_for(self.need.and(need)),
+            Asked::AtMost(_) => {}
+            Asked::Begins => *self = Queued::open_for(Need::NONE),
             Asked::Runs | Asked::Drops => *self = Queued::NOTHING,
         }
     }
 
-    fn begun() -> Queued {
+    /// A transaction is open, and what waits may need so much.
+    fn open_for(need: Need) -> Queued
+        ensures { result ≡ record { is_open = true; need = need } }
+    {
         Queued {
             is_open: true,
-            need: Need::NONE,
+            need,
         }
     }
 }

@@ -87,6 +87,7 @@ impl OpenConnection {
     /// What the next item asks of the room.
     pub(crate) fn look_ahead(&mut self) -> Asked
         ensures looks { LooksAt self.old self.new }
+        ensures queued { self.new.queued ≡ self.old.queued }
         ensures asked { result ≡ spec.asked_by_next (self.new).arrival.requests.items.next }
     {
         self.arrival.requests.items.look();
@@ -99,6 +100,7 @@ impl OpenConnection {
     /// Takes one turn. Where there is no room for its reply, the writer is told that somebody waits, and the turn is tried once more.
     pub(crate) fn take_turn<K: Keyspace>(&mut self, alloc: Global, front: &mut Front<K>) -> Turn
         ensures turn { TakesTurn front.old.sequencer self.old result front.new.sequencer self.new }
+        ensures queued { self.new.queued ≡ self.old.queued }
         ensures serves { Serves front.old.sequencer front.new.sequencer }
     {
         let turn = self.try_turn(alloc, front);
@@ -112,6 +114,7 @@ impl OpenConnection {
 
     fn try_turn<K: Keyspace>(&mut self, alloc: Global, front: &mut Front<K>) -> Turn
         ensures turn { TakesTurn front.old.sequencer self.old result front.new.sequencer self.new }
+        ensures queued { self.new.queued ≡ self.old.queued }
         ensures serves { Serves front.old.sequencer front.new.sequencer }
     {
         let arrival = &mut self.arrival;

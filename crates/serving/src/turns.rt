@@ -4,6 +4,7 @@ ghost use Rattle.extent_heap.specs.Room.{has_room};
 ghost use Rattle.primary.specs.Settled.{HasNothingOpen};
 ghost use Rattle.serving.specs.Ending as ending;
 ghost use Rattle.serving.specs.Ending.{EndTurns, lacks_room};
+ghost use Rattle.serving.specs.Roomed.{TurnsByNeed};
 ghost use Rattle.serving.specs.Serving.{Serves, WaitsOnlyFor};
 ghost use Rattle.serving.specs.Turns.{TakesTurns};
 
@@ -46,6 +47,7 @@ pub(crate) fn take_turns<K: Keyspace>(
     // it waits only where something is under way
     ensures waits { result.1 ≡ Served.Waits → ¬ ((is_working ≡ false) × HasNothingOpen front.new.sequencer) }
     ensures ends { EndTurns is_short.old front.old.sequencer connection.old result.0 front.new.sequencer connection.new result.1 }
+    ensures needs { TurnsByNeed is_working is_short.old front.old.sequencer connection.old connection.new }
 {
     let mut any = false;
     for _ in 0..MOST_TURNS {

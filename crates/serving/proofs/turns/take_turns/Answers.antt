@@ -1,5 +1,7 @@
 use Rattle.std.proofs.Common.{rules, refl, sym, inl, inr, add-zero, arith}
 use Rattle.serving.proofs.TurnsLemmas.{connection-looks, connection-none, connection-rests, connection-served, serves-still, serves-then, waits-still}
+use Rattle.serving.specs.Roomed.{none}
+use Rattle.serving.proofs.NeedTurns.{by-need-all, by-need-looked, by-need-one, by-need-tried}
 use Rattle.serving.proofs.TurnsEnd.{served-count}
 use Rattle.serving.proofs.turns.take_turns.Goals as goal
 
@@ -26,10 +28,15 @@ loop-preserved g c =
       c.loop.invariant.3,
       served-count c.args.connection.now c.loop.connection c.look_ahead-asked.new.self c.take_turn-turn.new.self c.loop.front.sequencer c.take_turn-turn.new.front.sequencer
           c.take_turn-turn.result c.loop.counter c.loop.invariant.4 c.look_ahead-asked.ensures.looks (c.is_served.ensures.served (search rules)) c.take_turn-turn.ensures.turn,
+      by-need-one c.args.is_working c.args.is_short.now c.args.front.now.sequencer c.loop.front.sequencer c.take_turn-turn.new.front.sequencer c.args.connection.now c.loop.connection
+          c.look_ahead-asked.new.self c.take_turn-turn.new.self c.note.new.self c.look_ahead-asked.result c.need.result c.take_turn-turn.result c.loop.invariant.5 c.look_ahead-asked.ensures.looks
+          c.look_ahead-asked.ensures.queued c.look_ahead-asked.ensures.asked c.need.ensures (rw c.loop.invariant.3 at (c.waits_for_room.ensures.taken (search rules)))
+          (c.is_served.ensures.served (search rules)) c.take_turn-turn.ensures.turn c.take_turn-turn.ensures.queued
+          c.note.ensures,
     )
 
 pub loop-init : goal.loop-init
-loop-init g c = (connection-none c.args.front.now.sequencer c.args.connection.now, serves-still c.args.front.now.sequencer, c.requires.short, refl, sym (add-zero _))
+loop-init g c = (connection-none c.args.front.now.sequencer c.args.connection.now, serves-still c.args.front.now.sequencer, c.requires.short, refl, sym (add-zero _), none _ _)
 
 pub returns-then-waits_for_room-clause-ends : goal.returns-then-waits_for_room-clause-ends
 returns-then-waits_for_room-clause-ends g c = inr (inl (record {
@@ -56,3 +63,16 @@ returns-then-not-is_served-clause-ends g c = inr (inr (record {
 
 pub returns-clause-ends : goal.returns-clause-ends
 returns-clause-ends g c = inl (record { busy = refl; most = omega (arith, c.loop.invariant.4, c.loop-test.false, c.loop.auto.counter-end) })
+
+pub returns-then-waits_for_room-clause-needs : goal.returns-then-waits_for_room-clause-needs
+returns-then-waits_for_room-clause-needs g c =
+    by-need-looked c.args.is_working c.args.is_short.now c.args.front.now.sequencer c.loop.front.sequencer c.args.connection.now c.loop.connection c.look_ahead-asked.new.self c.loop.invariant.5 c.look_ahead-asked.ensures.looks c.look_ahead-asked.ensures.queued
+
+pub returns-then-not-is_served-clause-needs : goal.returns-then-not-is_served-clause-needs
+returns-then-not-is_served-clause-needs g c =
+    by-need-tried c.args.is_working c.args.is_short.now c.args.front.now.sequencer c.loop.front.sequencer c.take_turn-turn.new.front.sequencer c.args.connection.now c.loop.connection
+    c.look_ahead-asked.new.self c.take_turn-turn.new.self c.take_turn-turn.result c.loop.invariant.5 c.look_ahead-asked.ensures.looks c.look_ahead-asked.ensures.queued
+    (c.is_served.ensures.unserved (search rules)) c.take_turn-turn.ensures.turn c.take_turn-turn.ensures.queued
+
+pub returns-clause-needs : goal.returns-clause-needs
+returns-clause-needs g c = by-need-all c.args.is_working c.args.is_short.now c.args.front.now.sequencer c.loop.front.sequencer c.args.connection.now c.loop.connection c.loop.invariant.5
