@@ -12,7 +12,7 @@ use Rattle.wbl_migrate.specs.declared.marking.TheConstants.{VERSION_WORD}
 use Rattle.wbl_migrate.specs.Stage.{IsMovable}
 use Rattle.wbl_migrate.specs.Stage.Stage.{Old, Halfway, New}
 use Rattle.wbl_migrate.specs.Steps.{Leaves, IsRenewed, renewed}
-use Rattle.wbl_migrate.proofs.Moving.{agrees_but_version, movable_at, new_record_stays, old_record_stays}
+use Rattle.wbl_migrate.proofs.MovableLemmas.{agrees_but_version, movable_at, new_record_stays, old_record_stays}
 use Rattle.wbl_migrate.proofs.Touching.{IsStep, one_word, one_stored, value_stored}
 
 -- ---- a mark

@@ -1,73 +1,70 @@
--- One step of the migration after the other.
-use Rattle.std.proofs.Common.{◌≡◌, ◌⊎◌, ℕ, refl, inl, inr, sym, subst}
-use Rattle.kv_types.specs.Keyspace.{Keyspace}
+-- Steps of an engine, one after another.
+use Rattle.std.proofs.Common.{◌≡◌, Bool, Result, Ok, Err, refl, ◌∙◌, arith}
+use Rattle.kv_types.specs.declared.refusal.Refusal.{Refusal}
+use Rattle.kv_types.specs.declared.refusal.Refusal.TheVariants.{Fault}
 use Rattle.pmem.specs.Device.{State}
-use Rattle.pmem.specs.Runs.{LeavesOnly}
-use Rattle.pmem.proofs.Leaving.{LeavesOnly-then, LeavesOnly-weaken}
-use Rattle.model.specs.declared.layout.TheConstants.{VERSION_2}
-use Rattle.model.specs.declared.record.Record.{Record}
+use Rattle.pmem.proofs.Leaving.{LeavesOnly-then, LeavesOnly-weaken, none_leaves}
+use Rattle.model.specs.Group.{Contents, IsConsistent}
 use Rattle.model.specs.Image.{Image}
-use Rattle.wbl_migrate.specs.Stage.{HasRecordUnder, IsMovable, KeepsMap}
-use Rattle.wbl_migrate.specs.Stage.Stage.{Old, Halfway, New}
-use Rattle.wbl_migrate.specs.Steps.{Leaves, IsAtSomeStage, IsHalfwayOrNew, IsRenewed, renewed}
+use Rattle.wbl_engine.specs.Contents.{Keeps}
+use Rattle.wbl_migrate.specs.Moving.{HoldsBy, IsReady, IsStep}
 
--- ---- the map
+pub ok_no_error : {X Y : Type 0} (x : X) (e : Y) → ◌≡◌ {A = Result X Y} (Ok x) (Err e) → ⊥
+ok_no_error x e is = cc
 
-halfway_or_new_keeps : (lines : ℕ) (r : Record) (s : Keyspace) (image : Image) → IsHalfwayOrNew lines r s image → KeepsMap lines r.position s image
-halfway_or_new_keeps lines r s image (inl halfway) = record { stage = Halfway; current = r; position_is = refl; holds = halfway.holds }
-halfway_or_new_keeps lines r s image (inr new) = record { stage = New; current = renewed r; position_is = refl; holds = new.holds }
+module _ {E : Type 0} (device : E → State) (contents : E → Contents) (is_faulted : E → Bool) (R : Contents → Contents → Type 0)
+    (same : (a : Contents) → R a a) (trans : (a b c : Contents) → R a b → R b c → R a c) where
+  holds_same : (a : Contents) (image : Image) → Keeps a image → HoldsBy R a image
+  holds_same a image keeps = record { new = a; stands = same a; consistent = λ consistent. consistent; keeps = keeps }
 
-some_stage_keeps : (lines : ℕ) (r : Record) (s : Keyspace) (image : Image) → IsAtSomeStage lines r s image → KeepsMap lines r.position s image
-some_stage_keeps lines r s image (inl old) = record { stage = Old; current = r; position_is = refl; holds = old.holds }
-some_stage_keeps lines r s image (inr later) = halfway_or_new_keeps lines r s image later
+  holds_then : (a b : Contents) (image : Image) → R a b → IsConsistent b → HoldsBy R b image → HoldsBy R a image
+  holds_then a b image first consistent second =
+      record {
+        new = second.new;
+        stands = trans a b second.new first second.stands;
+        consistent = λ _. second.consistent consistent;
+        keeps = second.keeps;
+      }
 
-pub halfway_map : (a b : State) (lines : ℕ) (r : Record) (s : Keyspace) → LeavesOnly a b (IsHalfwayOrNew lines r s)
-    → LeavesOnly a b (KeepsMap lines r.position s)
-halfway_map a b lines r s moments = LeavesOnly-weaken (KeepsMap lines r.position s) (halfway_or_new_keeps lines r s) moments
+  -- nothing was done
+  pub no_step : {X : Type 0} (engine : E) (result : Result X Refusal) → ¬ (result ≡ Err Fault) → IsReady device contents is_faulted engine
+      → IsStep device contents is_faulted R engine result engine
+  no_step engine result sound ready =
+      record {
+        stands = same (contents engine);
+        ready = λ _. ready;
+        failures = λ _. refl;
+        fault = λ is. absurd (sound is);
+        asked_moment = refl;
+        moments = none_leaves (device engine) (HoldsBy R (contents engine)) (λ image is. holds_same (contents engine) image (ready.durable image is));
+      }
 
-pub some_stage_map : (a b : State) (lines : ℕ) (r : Record) (s : Keyspace) → LeavesOnly a b (IsAtSomeStage lines r s)
-    → LeavesOnly a b (KeepsMap lines r.position s)
-some_stage_map a b lines r s moments = LeavesOnly-weaken (KeepsMap lines r.position s) (some_stage_keeps lines r s) moments
+  -- Unless the first step failed, the second may follow it.
+  pub step-then : {X Y : Type 0} (a b c : E) (done : X) (result : Result Y Refusal) → IsStep device contents is_faulted R a (Ok done) b
+      → IsStep device contents is_faulted R b result c → IsStep device contents is_faulted R a result c
+  step-then a b c done result first second =
+      let ready : IsReady device contents is_faulted b = first.ready (ok_no_error done Fault) in
+      let failures : (device b).failures ≡ (device a).failures = first.failures (ok_no_error done Fault) in
+      record {
+        stands = trans (contents a) (contents b) (contents c) first.stands second.stands;
+        ready = second.ready;
+        failures = λ sound. second.failures sound ∙ failures;
+        fault = λ is. let told = second.fault is in let more = told.1 in (told.0, omega (arith, more, failures));
+        asked_moment = second.asked_moment ∙ first.asked_moment;
+        moments = LeavesOnly-then first.moments
+            (LeavesOnly-weaken (HoldsBy R (contents a)) (λ image holds. holds_then (contents a) (contents b) image first.stands ready.consistent holds)
+            second.moments);
+      }
 
--- ---- from halfway on
-
--- only the record was written, or was not
-pub record_moments : (a b : State) (lines : ℕ) (r : Record) (s : Keyspace) → LeavesOnly a b (IsMovable Halfway lines r s) → LeavesOnly a b (IsHalfwayOrNew lines r s)
-record_moments a b lines r s moments = LeavesOnly-weaken (IsHalfwayOrNew lines r s) (λ image is. inl is) moments
-
--- it was written
-pub renewed_images : (a b : State) (lines : ℕ) (r : Record) (s : Keyspace) → b.lines ≡ lines → LeavesOnly a b (IsMovable Halfway lines r s)
-    → Leaves b (HasRecordUnder VERSION_2 lines (renewed r)) → Leaves b (IsRenewed b.lines r s)
-renewed_images a b lines r s counted moments has =
-    subst (λ (n : ℕ). Leaves b (IsRenewed n r s)) (sym counted)
-    (λ image is. record { movable = moments.each image (inl is); next = has image is })
-
-pub new_images : (b c : State) (lines : ℕ) (r : Record) (s : Keyspace) → b.lines ≡ lines → Leaves c (IsMovable New b.lines (renewed r) s)
-    → Leaves c (IsMovable New lines (renewed r) s)
-new_images b c lines r s counted all = subst (λ (n : ℕ). Leaves c (IsMovable New n (renewed r) s)) counted all
-
--- and then the mark
-pub mark_moments : (a b c : State) (lines : ℕ) (r : Record) (s : Keyspace) → b.lines ≡ lines → LeavesOnly a b (IsMovable Halfway lines r s)
-    → LeavesOnly b c (λ image. IsRenewed b.lines r s image ⊎ IsMovable New b.lines (renewed r) s image) → LeavesOnly a c (IsHalfwayOrNew lines r s)
-mark_moments a b c lines r s counted first second =
-    LeavesOnly-then (record_moments a b lines r s first)
-    (subst (λ (n : ℕ). LeavesOnly b c (IsHalfwayOrNew n r s)) counted
-    (LeavesOnly-weaken (IsHalfwayOrNew b.lines r s) (λ image is. elim is [ inl before ↦ inl before.movable | inr new ↦ inr new ]) second))
-
--- ---- from version 1 on
-
-pub halfway_images : (b : State) (lines : ℕ) (r : Record) (s : Keyspace) → b.lines ≡ lines → Leaves b (IsMovable Halfway lines r s)
-    → Leaves b (IsMovable Halfway b.lines r s)
-halfway_images b lines r s counted all = subst (λ (n : ℕ). Leaves b (IsMovable Halfway n r s)) (sym counted) all
-
-pub first_mark_moments : (a b : State) (lines : ℕ) (r : Record) (s : Keyspace)
-    → LeavesOnly a b (λ image. IsMovable Old lines r s image ⊎ IsMovable Halfway lines r s image) → LeavesOnly a b (IsAtSomeStage lines r s)
-first_mark_moments a b lines r s moments =
-    LeavesOnly-weaken (IsAtSomeStage lines r s) (λ image is. elim is [ inl old ↦ inl old | inr halfway ↦ inr (inl halfway) ]) moments
-
-pub all_moments : (a b c : State) (lines : ℕ) (r : Record) (s : Keyspace) → b.lines ≡ lines
-    → LeavesOnly a b (λ image. IsMovable Old lines r s image ⊎ IsMovable Halfway lines r s image) → LeavesOnly b c (IsHalfwayOrNew b.lines r s)
-    → LeavesOnly a c (IsAtSomeStage lines r s)
-all_moments a b c lines r s counted first second =
-    LeavesOnly-then (first_mark_moments a b lines r s first)
-    (subst (λ (n : ℕ). LeavesOnly b c (IsAtSomeStage n r s)) counted (LeavesOnly-weaken (IsAtSomeStage b.lines r s) (λ image is. inr is) second))
+  -- the same step, with another answer
+  pub step-answers : {X Y : Type 0} (a b : E) (done : X) (result : Result Y Refusal) → ¬ (result ≡ Err Fault)
+      → IsStep device contents is_faulted R a (Ok done) b → IsStep device contents is_faulted R a result b
+  step-answers a b done result sound step =
+      record {
+        stands = step.stands;
+        ready = λ _. step.ready (ok_no_error done Fault);
+        failures = λ _. step.failures (ok_no_error done Fault);
+        fault = λ is. absurd (sound is);
+        asked_moment = step.asked_moment;
+        moments = step.moments;
+      }

@@ -1,2 +1,5 @@
+pub mod Moving
+pub mod Ended
+pub mod TwoSets
 pub mod Stage
 pub mod Steps

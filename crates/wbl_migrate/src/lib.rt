@@ -1,17 +1,32 @@
-//! The last steps of the migration of an image from version 1 to version 2.
+//! The migration of an image from version 1 of its format to version 2, step by step.
 #![tactic(auto)]
 
+mod choosing;
+mod clearing;
+mod ended;
+#[cfg(test)]
+mod ended_tests;
+mod known;
 mod laws;
 mod marking;
+mod moving;
+#[cfg(test)]
+mod moving_tests;
 mod record;
 mod switching;
 #[cfg(test)]
-mod tests;
+mod switching_tests;
 
+pub use clearing::clear_gaps;
+pub use ended::{
+    move_ended, moving_what_has_ended_keeps_contents_lawful, moving_what_has_ended_keeps_the_map,
+};
+pub use known::read_versions_are_known;
 pub use laws::{
     crashed_devices_go_on, images_are_at_one_stage, new_slots_are_the_last_entries,
     old_images_are_of_version_1, renewed_records_are_lawful, undamaged_images_are_movable,
 };
 pub use marking::{HALFWAY_VERSION, VERSION_WORD, mark_halfway, mark_new};
+pub use moving::{Place, move_live, move_version};
 pub use record::write_new_record;
 pub use switching::{go_on, switch};

@@ -1,4 +1,4 @@
-use Rattle.wbl_migrate.proofs.StepLemmas.{record_moments, renewed_images, new_images, mark_moments, halfway_map}
+use Rattle.wbl_migrate.proofs.SwitchLemmas.{record_moments, renewed_images, new_images, mark_moments, halfway_map}
 use Rattle.wbl_migrate.proofs.switching.go_on.Goals as goal
 
 pub returns-in_err-write_new_record-clause-moments : goal.returns-in_err-write_new_record-clause-moments

@@ -2,7 +2,7 @@ use Rattle.std.proofs.Common.{inl}
 use Rattle.std.proofs.lemmas.Result.{on_ok_weaker}
 use Rattle.pmem.proofs.Leaving.{none_leaves}
 use Rattle.wbl_migrate.specs.Steps.{IsAtSomeStage}
-use Rattle.wbl_migrate.proofs.StepLemmas.{all_moments, first_mark_moments, halfway_images, new_images, some_stage_map}
+use Rattle.wbl_migrate.proofs.SwitchLemmas.{all_moments, first_mark_moments, halfway_images, new_images, some_stage_map}
 use Rattle.wbl_migrate.proofs.switching.switch.Goals as goal
 
 pub returns-then-is_last-clause-moments : goal.returns-then-is_last-clause-moments

@@ -1,0 +1,73 @@
+-- One step of the migration after the other.
+use Rattle.std.proofs.Common.{◌≡◌, ◌⊎◌, ℕ, refl, inl, inr, sym, subst}
+use Rattle.kv_types.specs.Keyspace.{Keyspace}
+use Rattle.pmem.specs.Device.{State}
+use Rattle.pmem.specs.Runs.{LeavesOnly}
+use Rattle.pmem.proofs.Leaving.{LeavesOnly-then, LeavesOnly-weaken}
+use Rattle.model.specs.declared.layout.TheConstants.{VERSION_2}
+use Rattle.model.specs.declared.record.Record.{Record}
+use Rattle.model.specs.Image.{Image}
+use Rattle.wbl_migrate.specs.Stage.{HasRecordUnder, IsMovable, KeepsMap}
+use Rattle.wbl_migrate.specs.Stage.Stage.{Old, Halfway, New}
+use Rattle.wbl_migrate.specs.Steps.{Leaves, IsAtSomeStage, IsHalfwayOrNew, IsRenewed, renewed}
+
+-- ---- the map
+
+halfway_or_new_keeps : (lines : ℕ) (r : Record) (s : Keyspace) (image : Image) → IsHalfwayOrNew lines r s image → KeepsMap lines r.position s image
+halfway_or_new_keeps lines r s image (inl halfway) = record { stage = Halfway; current = r; position_is = refl; holds = halfway.holds }
+halfway_or_new_keeps lines r s image (inr new) = record { stage = New; current = renewed r; position_is = refl; holds = new.holds }
+
+some_stage_keeps : (lines : ℕ) (r : Record) (s : Keyspace) (image : Image) → IsAtSomeStage lines r s image → KeepsMap lines r.position s image
+some_stage_keeps lines r s image (inl old) = record { stage = Old; current = r; position_is = refl; holds = old.holds }
+some_stage_keeps lines r s image (inr later) = halfway_or_new_keeps lines r s image later
+
+pub halfway_map : (a b : State) (lines : ℕ) (r : Record) (s : Keyspace) → LeavesOnly a b (IsHalfwayOrNew lines r s)
+    → LeavesOnly a b (KeepsMap lines r.position s)
+halfway_map a b lines r s moments = LeavesOnly-weaken (KeepsMap lines r.position s) (halfway_or_new_keeps lines r s) moments
+
+pub some_stage_map : (a b : State) (lines : ℕ) (r : Record) (s : Keyspace) → LeavesOnly a b (IsAtSomeStage lines r s)
+    → LeavesOnly a b (KeepsMap lines r.position s)
+some_stage_map a b lines r s moments = LeavesOnly-weaken (KeepsMap lines r.position s) (some_stage_keeps lines r s) moments
+
+-- ---- from halfway on
+
+-- only the record was written, or was not
+pub record_moments : (a b : State) (lines : ℕ) (r : Record) (s : Keyspace) → LeavesOnly a b (IsMovable Halfway lines r s) → LeavesOnly a b (IsHalfwayOrNew lines r s)
+record_moments a b lines r s moments = LeavesOnly-weaken (IsHalfwayOrNew lines r s) (λ image is. inl is) moments
+
+-- it was written
+pub renewed_images : (a b : State) (lines : ℕ) (r : Record) (s : Keyspace) → b.lines ≡ lines → LeavesOnly a b (IsMovable Halfway lines r s)
+    → Leaves b (HasRecordUnder VERSION_2 lines (renewed r)) → Leaves b (IsRenewed b.lines r s)
+renewed_images a b lines r s counted moments has =
+    subst (λ (n : ℕ). Leaves b (IsRenewed n r s)) (sym counted)
+    (λ image is. record { movable = moments.each image (inl is); next = has image is })
+
+pub new_images : (b c : State) (lines : ℕ) (r : Record) (s : Keyspace) → b.lines ≡ lines → Leaves c (IsMovable New b.lines (renewed r) s)
+    → Leaves c (IsMovable New lines (renewed r) s)
+new_images b c lines r s counted all = subst (λ (n : ℕ). Leaves c (IsMovable New n (renewed r) s)) counted all
+
+-- and then the mark
+pub mark_moments : (a b c : State) (lines : ℕ) (r : Record) (s : Keyspace) → b.lines ≡ lines → LeavesOnly a b (IsMovable Halfway lines r s)
+    → LeavesOnly b c (λ image. IsRenewed b.lines r s image ⊎ IsMovable New b.lines (renewed r) s image) → LeavesOnly a c (IsHalfwayOrNew lines r s)
+mark_moments a b c lines r s counted first second =
+    LeavesOnly-then (record_moments a b lines r s first)
+    (subst (λ (n : ℕ). LeavesOnly b c (IsHalfwayOrNew n r s)) counted
+    (LeavesOnly-weaken (IsHalfwayOrNew b.lines r s) (λ image is. elim is [ inl before ↦ inl before.movable | inr new ↦ inr new ]) second))
+
+-- ---- from version 1 on
+
+pub halfway_images : (b : State) (lines : ℕ) (r : Record) (s : Keyspace) → b.lines ≡ lines → Leaves b (IsMovable Halfway lines r s)
+    → Leaves b (IsMovable Halfway b.lines r s)
+halfway_images b lines r s counted all = subst (λ (n : ℕ). Leaves b (IsMovable Halfway n r s)) (sym counted) all
+
+pub first_mark_moments : (a b : State) (lines : ℕ) (r : Record) (s : Keyspace)
+    → LeavesOnly a b (λ image. IsMovable Old lines r s image ⊎ IsMovable Halfway lines r s image) → LeavesOnly a b (IsAtSomeStage lines r s)
+first_mark_moments a b lines r s moments =
+    LeavesOnly-weaken (IsAtSomeStage lines r s) (λ image is. elim is [ inl old ↦ inl old | inr halfway ↦ inr (inl halfway) ]) moments
+
+pub all_moments : (a b c : State) (lines : ℕ) (r : Record) (s : Keyspace) → b.lines ≡ lines
+    → LeavesOnly a b (λ image. IsMovable Old lines r s image ⊎ IsMovable Halfway lines r s image) → LeavesOnly b c (IsHalfwayOrNew b.lines r s)
+    → LeavesOnly a c (IsAtSomeStage lines r s)
+all_moments a b c lines r s counted first second =
+    LeavesOnly-then (first_mark_moments a b lines r s first)
+    (subst (λ (n : ℕ). LeavesOnly b c (IsAtSomeStage n r s)) counted (LeavesOnly-weaken (IsAtSomeStage b.lines r s) (λ image is. inr is) second))

@@ -1,0 +1,121 @@
+use Rattle.std.proofs.Common.{◌≡◌, ◌∷◌, List, [], Err, inl, refl, sym, ap, subst, ◌∙◌}
+use Rattle.std.proofs.lemmas.Result.{err_from_is_err_and}
+use Rattle.kv_types.specs.declared.place.EntryNo.{EntryNo}
+use Rattle.kv_types.specs.declared.refusal.Refusal.TheVariants.{Exhausted, Fault, Memory}
+use Rattle.pmem.specs.Crash.{image_of}
+use Rattle.pmem.specs.Runs.{LeavesOnly}
+use Rattle.wbl_engine.specs.Contents.{Same}
+use Rattle.wbl_engine.specs.Freeing.{AreEnded, KeepsWithoutSome, after_free}
+use Rattle.wbl_engine.specs.Relocating.{ExhaustsRelocation, IsRelocation}
+use Rattle.wbl_migrate.specs.Moving.{MovesLive}
+use Rattle.wbl_migrate.proofs.GapSteps.{failed_now}
+use Rattle.wbl_migrate.proofs.MovedLemmas.{IsMove, relocates}
+use Rattle.wbl_migrate.proofs.MoveSteps.{mid_ended, moved_has, moved_step, moves_same, moves_then, unfreed_step, unmoved_step}
+use Rattle.wbl_migrate.proofs.StepLemmas.{no_step, ok_no_error}
+use Rattle.wbl_migrate.proofs.moving.move_version.Given.{Over}
+use Rattle.wbl_migrate.proofs.moving.move_version.Goals as goal
+use Rattle.wbl_migrate.proofs.moving.move_version.Goals.{After-deref, After-free, After-relocate}
+
+pub returns-in_err-part-clause-step : goal.returns-in_err-part-clause-step
+returns-in_err-part-clause-step g c =
+    let exit = err_from_is_err_and c.from_residual.result c.from_residual.ensures.1 in
+    let refused = c.in_err-part.ensures.cause in
+    let memory : c.in_err-part.field-0.0 ≡ Memory = cc in
+    rw (exit.1 ∙ ap Err (exit.2 ∙ memory))
+    (no_step g.E.Durable.device g.E.Durable.contents g.E.Durable.is_faulted MovesLive moves_same moves_then c.args.engine.now (Err Memory) (λ is. cc) c.requires.ready)
+
+move : (g : Over) (c : After-relocate g) → IsMove (g.E.Durable.contents c.args.engine.now) c.args.from c.args.version.now c.args.place c.in_ok-part.part
+move g c = record {
+  consistent = c.requires.ready.consistent;
+  lawful = c.requires.ready.lawful;
+  held = c.requires.held;
+  live = c.requires.live;
+  room = c.requires.room;
+  position = c.in_ok-part.ensures.position;
+  changes = c.in_ok-part.ensures.changes;
+  ended = c.in_ok-part.ensures.ended;
+}
+
+pub relocate-requires : goal.relocate-requires
+relocate-requires g c =
+    relocates
+    (record {
+      consistent = c.requires.ready.consistent;
+      lawful = c.requires.ready.lawful;
+      held = c.requires.held;
+      live = c.requires.live;
+      room = c.requires.room;
+      position = c.in_ok-part.ensures.position;
+      changes = c.in_ok-part.ensures.changes;
+      ended = c.in_ok-part.ensures.ended;
+    })
+    (image_of (g.E.Durable.device c.args.engine.now).words) (c.requires.ready.durable (image_of (g.E.Durable.device c.args.engine.now).words) (λ word. inl refl))
+
+asked : (g : Over) (c : After-relocate g) → IsRelocation (g.E.Durable.contents c.args.engine.now) c.in_ok-part.part
+asked g c =
+    relocates (move g c) (image_of (g.E.Durable.device c.args.engine.now).words) (c.requires.ready.durable (image_of (g.E.Durable.device c.args.engine.now).words) (λ word. inl refl))
+
+pub returns-in_err-relocate-clause-step : goal.returns-in_err-relocate-clause-step
+returns-in_err-relocate-clause-step g c =
+    let exit = err_from_is_err_and c.from_residual-in_err-relocate.result c.from_residual-in_err-relocate.ensures.1 in
+    let at = (goal.at.returns-in_err-relocate-clause-step g c).After-relocate in
+    let told = c.in_err-relocate.ensures in
+    let ready = c.requires.ready in
+    rw (exit.1 ∙ ap Err exit.2)
+    (unmoved_step g.E.Durable.device g.E.Durable.contents g.E.Durable.is_faulted c.args.engine.now ready (move g at) (asked g at) c.relocate.new.self c.in_err-relocate.field-0.0 told.causes
+    (λ fault exhausts. let is = told.exhausts ready.sound exhausts in let both : Fault ≡ Exhausted = cc in cc) (λ exhausted. (told.exhausted (ap Err exhausted)).1) told.stays
+    (λ fault. (told.stopped (ap Err fault), failed_now (g.E.Durable.is_faulted c.args.engine.now) (told.fault (ap Err fault)) ready.sound)) told.asked_moment (told.moments ready.sound))
+
+room : (g : Over) (c : After-deref g) → ¬ ExhaustsRelocation (g.E.Durable.contents c.args.engine.now).current
+room g c = λ exhausts. ok_no_error c.in_ok-relocate.field-0 Exhausted (c.in_ok-relocate.ensures.exhausts c.requires.ready.sound exhausts)
+
+pub free-requires : goal.free-requires
+free-requires g c =
+    let at = goal.at.free-requires g c in
+    let told = c.in_ok-relocate.ensures in
+    subst (AreEnded (g.E.Durable.contents c.relocate.new.self)) (sym (c.deref.ensures.value ∙ c.in_ok-part.ensures.ended))
+    (mid_ended g.E.Durable.device g.E.Durable.contents g.E.Durable.is_faulted c.args.engine.now c.requires.ready (move g at.After-relocate) (asked g at.After-relocate) c.relocate.new.self (room g at.After-deref)
+    told.moved told.durable told.sound told.asked_moment (told.moments c.requires.ready.sound))
+
+pub returns-in_err-free-clause-step : goal.returns-in_err-free-clause-step
+returns-in_err-free-clause-step g c =
+    let exit = err_from_is_err_and c.from_residual-in_err-free.result c.from_residual-in_err-free.ensures.1 in
+    let at = goal.at.returns-in_err-free-clause-step g c in
+    let ready = c.requires.ready in
+    let told = c.in_ok-relocate.ensures in
+    let last = c.in_err-free.ensures in
+    let entries : c.deref.result.now ≡ c.args.from ∷ [] = c.deref.ensures.value ∙ c.in_ok-part.ensures.ended in
+    rw (exit.1 ∙ ap Err exit.2)
+    (unfreed_step g.E.Durable.device g.E.Durable.contents g.E.Durable.is_faulted c.args.engine.now ready (move g at.After-relocate) (asked g at.After-relocate) c.relocate.new.self (room g at.After-deref)
+    told.moved told.durable told.sound told.asked_moment (told.moments ready.sound) c.free.new.self last.asked_moment
+    (subst (λ (xs : List EntryNo). LeavesOnly (g.E.Durable.device c.relocate.new.self) (g.E.Durable.device c.free.new.self) (KeepsWithoutSome xs (g.E.Durable.contents c.relocate.new.self))) entries
+    (last.moments told.sound.0))
+    c.in_err-free.field-0.0 last.causes (λ memory. last.memory (ap Err memory))
+    (λ fault. subst (λ (xs : List EntryNo). Same (after_free xs (g.E.Durable.contents c.relocate.new.self)) (g.E.Durable.contents c.free.new.self)) entries (last.stays (ap Err fault) told.sound.0))
+    (λ fault. (last.stopped (ap Err fault), failed_now (g.E.Durable.is_faulted c.relocate.new.self) (last.fault (ap Err fault)) told.sound.0)))
+
+pub returns-clause-moved : goal.returns-clause-moved
+returns-clause-moved g c =
+    let at = goal.at.returns-clause-moved g c in
+    let ready = c.requires.ready in
+    let told = c.in_ok-relocate.ensures in
+    let last = c.in_ok-free.ensures in
+    let entries : c.deref.result.now ≡ c.args.from ∷ [] = c.deref.ensures.value ∙ c.in_ok-part.ensures.ended in
+    moved_has g.E.Durable.device g.E.Durable.contents g.E.Durable.is_faulted c.args.engine.now ready (move g at.After-relocate) (asked g at.After-relocate) c.relocate.new.self (room g at.After-deref)
+    told.moved told.durable told.sound told.asked_moment (told.moments ready.sound) c.free.new.self last.asked_moment
+    (subst (λ (xs : List EntryNo). LeavesOnly (g.E.Durable.device c.relocate.new.self) (g.E.Durable.device c.free.new.self) (KeepsWithoutSome xs (g.E.Durable.contents c.relocate.new.self))) entries
+    (last.moments told.sound.0))
+    (subst (λ (xs : List EntryNo). Same (after_free xs (g.E.Durable.contents c.relocate.new.self)) (g.E.Durable.contents c.free.new.self)) entries last.moved)
+
+pub returns-clause-step : goal.returns-clause-step
+returns-clause-step g c =
+    let at = goal.at.returns-clause-step g c in
+    let ready = c.requires.ready in
+    let told = c.in_ok-relocate.ensures in
+    let last = c.in_ok-free.ensures in
+    let entries : c.deref.result.now ≡ c.args.from ∷ [] = c.deref.ensures.value ∙ c.in_ok-part.ensures.ended in
+    moved_step g.E.Durable.device g.E.Durable.contents g.E.Durable.is_faulted c.args.engine.now ready (move g at.After-relocate) (asked g at.After-relocate) c.relocate.new.self (room g at.After-deref)
+    told.moved told.durable told.sound told.asked_moment (told.moments ready.sound) c.free.new.self last.asked_moment
+    (subst (λ (xs : List EntryNo). LeavesOnly (g.E.Durable.device c.relocate.new.self) (g.E.Durable.device c.free.new.self) (KeepsWithoutSome xs (g.E.Durable.contents c.relocate.new.self))) entries
+    (last.moments told.sound.0))
+    (subst (λ (xs : List EntryNo). Same (after_free xs (g.E.Durable.contents c.relocate.new.self)) (g.E.Durable.contents c.free.new.self)) entries last.moved) last.durable last.sound
