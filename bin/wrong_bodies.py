@@ -128,7 +128,7 @@ def note_proved(root, sums, began, lines):
     """Notes of each crate what a gate proved that passed: the checksum when it began, behind that of a program the SHA-256 of what it built, and the
     names of its functions, which the gate's lines have unless it took the proof from an earlier run. The file is as old as the gate's beginning."""
     names = {}
-    for found in (re.match(r"fn ((\w+)::\S+): proved$", line) for line in lines):
+    for found in (re.match(r"fn ((\w+)::\S+): proved\b", line) for line in lines):
         if found:
             names.setdefault(found[2], set()).add(found[1])
     for name, sum_ in sums.items():
