@@ -4,11 +4,17 @@ pub mod MovedLemmas
 pub mod MoveSteps
 pub mod Picks
 pub mod KnownLemmas
+pub mod PlaceLemmas
 pub mod LoopLemmas
+pub mod LeavingLemmas
+pub mod VacatingSteps
+pub mod VacatingImages
 mod EndedCopies
+mod EndedEntries
 mod EndedImages
 mod EndedLawful
 mod EndedMaps
+mod EndedMoments
 mod EndedRuns
 mod TwoSetsLemmas
 pub mod Maps
@@ -17,3 +23,4 @@ pub mod Touching
 pub mod Marks
 pub mod Renewing
 pub mod SwitchLemmas
+pub mod Migratable

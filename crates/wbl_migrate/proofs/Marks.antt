@@ -10,7 +10,7 @@ use Rattle.model.specs.Image.{Image}
 use Rattle.wbl_record.proofs.Mixing.{IsMixed, mixed}
 use Rattle.wbl_migrate.specs.declared.marking.TheConstants.{VERSION_WORD}
 use Rattle.wbl_migrate.specs.Stage.{IsMovable}
-use Rattle.wbl_migrate.specs.Stage.Stage.{Old, Halfway, New}
+use Rattle.wbl_migrate.specs.declared.stage.Stage.TheVariants.{Old, Halfway, New}
 use Rattle.wbl_migrate.specs.Steps.{Leaves, IsRenewed, renewed}
 use Rattle.wbl_migrate.proofs.MovableLemmas.{agrees_but_version, movable_at, new_record_stays, old_record_stays}
 use Rattle.wbl_migrate.proofs.Touching.{IsStep, one_word, one_stored, value_stored}
@@ -55,16 +55,22 @@ pub halfway_ok : (a b : State) (lines : ℕ) (r : Record) (s : Keyspace) → Sta
 halfway_ok a b lines r s staged all image is =
     halfway_image a lines r s image all (staged.moments.each image (inl is)) ((staged.certain 1 (inl refl)).only (image 1) (is 1))
 
+pub halfway_unmarked : (a b : State) (lines : ℕ) (r : Record) (s : Keyspace) → IsStep a b ((VERSION_WORD, 3) ∷ []) → Leaves a (IsMovable Old lines r s)
+    → LeavesOnly a b (λ image. IsImage a.words image ⊎ IsMovable Halfway lines r s image)
+halfway_unmarked a b lines r s step all =
+    LeavesOnly-weaken (λ image. IsImage a.words image ⊎ IsMovable Halfway lines r s image)
+    (λ image partly.
+    elim (partly 1) [
+      | inl may ↦ inl (one_word a.words 1 3 image partly may)
+      | inr stored ↦ inr (halfway_image a lines r s image all partly (value_stored 1 3 1 (image 1) stored))
+    ])
+    step.moments
+
 pub halfway_moments : (a b : State) (lines : ℕ) (r : Record) (s : Keyspace) → IsStep a b ((VERSION_WORD, 3) ∷ []) → Leaves a (IsMovable Old lines r s)
     → LeavesOnly a b (λ image. IsMovable Old lines r s image ⊎ IsMovable Halfway lines r s image)
 halfway_moments a b lines r s step all =
     LeavesOnly-weaken (λ image. IsMovable Old lines r s image ⊎ IsMovable Halfway lines r s image)
-    (λ image partly.
-    elim (partly 1) [
-      | inl may ↦ inl (all image (one_word a.words 1 3 image partly may))
-      | inr stored ↦ inr (halfway_image a lines r s image all partly (value_stored 1 3 1 (image 1) stored))
-    ])
-    step.moments
+    (λ image is. elim is [ inl before ↦ inl (all image before) | inr halfway ↦ inr halfway ]) (halfway_unmarked a b lines r s step all)
 
 pub new_ok : (a b : State) (lines : ℕ) (r : Record) (s : Keyspace) → Staged a b ((VERSION_WORD, 2) ∷ []) (0 ∷ []) → Leaves a (IsRenewed lines r s)
     → Leaves b (IsMovable New lines (renewed r) s)

@@ -9,8 +9,9 @@ use Rattle.model.specs.declared.record.Record.{Record}
 use Rattle.model.specs.Image.{Image, IsMapOf, counts, entry_word, is_in_gap, version_at}
 use Rattle.model.proofs.MapLemmas.{IsMapOf-same}
 use Rattle.wbl_record.proofs.RecordWords.{HasWords-same}
-use Rattle.wbl_migrate.specs.Stage.{Stage, HasRecordUnder, IsMovable, entries_at, layout_at, record_words_under, version_number}
-use Rattle.wbl_migrate.specs.Stage.Stage.{Old, Halfway, New}
+use Rattle.wbl_migrate.specs.declared.stage.Stage.{Stage}
+use Rattle.wbl_migrate.specs.Stage.{HasRecordUnder, IsMovable, entries_at, layout_at, record_words_under, version_number}
+use Rattle.wbl_migrate.specs.declared.stage.Stage.TheVariants.{Old, Halfway, New}
 use Rattle.wbl_migrate.specs.Steps.{IsNewRecordWord}
 use Rattle.wbl_migrate.proofs.Maps.{IsMapOf-fewer, SameEntry, version_at-same, version_at-none}
 

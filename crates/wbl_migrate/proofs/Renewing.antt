@@ -13,7 +13,7 @@ use Rattle.model.specs.Image.{Image}
 use Rattle.wbl_record.proofs.Mixing.{IsMixed, mixed}
 use Rattle.wbl_record.proofs.RecordWords.{HasWords-at}
 use Rattle.wbl_migrate.specs.Stage.{HasRecordUnder, IsMovable, record_words_under}
-use Rattle.wbl_migrate.specs.Stage.Stage.{Halfway}
+use Rattle.wbl_migrate.specs.declared.stage.Stage.TheVariants.{Halfway}
 use Rattle.wbl_migrate.specs.Steps.{KeepsOthers, Leaves, IsNewRecordWord, renewed}
 use Rattle.wbl_migrate.proofs.MovableLemmas.{agrees_but_record, movable_at, old_record_stays}
 use Rattle.wbl_migrate.proofs.Touching.{IsStep, keeps_then, one_stored, staged_step, step_keeps}

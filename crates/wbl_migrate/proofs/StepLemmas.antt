@@ -1,5 +1,5 @@
 -- Steps of an engine, one after another.
-use Rattle.std.proofs.Common.{◌≡◌, Bool, Result, Ok, Err, refl, ◌∙◌, arith}
+use Rattle.std.proofs.Common.{◌≡◌, Bool, Result, Ok, Err, refl, ap, ◌∙◌, arith}
 use Rattle.kv_types.specs.declared.refusal.Refusal.{Refusal}
 use Rattle.kv_types.specs.declared.refusal.Refusal.TheVariants.{Fault}
 use Rattle.pmem.specs.Device.{State}
@@ -65,6 +65,19 @@ module _ {E : Type 0} (device : E → State) (contents : E → Contents) (is_fau
         ready = λ _. step.ready (ok_no_error done Fault);
         failures = λ _. step.failures (ok_no_error done Fault);
         fault = λ is. absurd (sound is);
+        asked_moment = step.asked_moment;
+        moments = step.moments;
+      }
+
+  -- the same refusal, of a call with another answer
+  pub step-refuses : {X Y : Type 0} (a b : E) (refusal : Refusal) → IsStep device contents is_faulted {X = X} R a (Err refusal) b
+      → IsStep device contents is_faulted {X = Y} R a (Err refusal) b
+  step-refuses a b refusal step =
+      record {
+        stands = step.stands;
+        ready = λ sound. step.ready (λ is. let same : refusal ≡ Fault = cc in sound (ap Err same));
+        failures = λ sound. step.failures (λ is. let same : refusal ≡ Fault = cc in sound (ap Err same));
+        fault = λ is. let same : refusal ≡ Fault = cc in step.fault (ap Err same);
         asked_moment = step.asked_moment;
         moments = step.moments;
       }

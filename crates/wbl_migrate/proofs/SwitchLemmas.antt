@@ -2,13 +2,14 @@
 use Rattle.std.proofs.Common.{◌≡◌, ◌⊎◌, ℕ, refl, inl, inr, sym, subst}
 use Rattle.kv_types.specs.Keyspace.{Keyspace}
 use Rattle.pmem.specs.Device.{State}
+use Rattle.pmem.specs.Crash.{IsImage}
 use Rattle.pmem.specs.Runs.{LeavesOnly}
 use Rattle.pmem.proofs.Leaving.{LeavesOnly-then, LeavesOnly-weaken}
 use Rattle.model.specs.declared.layout.TheConstants.{VERSION_2}
 use Rattle.model.specs.declared.record.Record.{Record}
 use Rattle.model.specs.Image.{Image}
 use Rattle.wbl_migrate.specs.Stage.{HasRecordUnder, IsMovable, KeepsMap}
-use Rattle.wbl_migrate.specs.Stage.Stage.{Old, Halfway, New}
+use Rattle.wbl_migrate.specs.declared.stage.Stage.TheVariants.{Old, Halfway, New}
 use Rattle.wbl_migrate.specs.Steps.{Leaves, IsAtSomeStage, IsHalfwayOrNew, IsRenewed, renewed}
 
 -- ---- the map
@@ -71,3 +72,19 @@ pub all_moments : (a b c : State) (lines : ℕ) (r : Record) (s : Keyspace) → 
 all_moments a b c lines r s counted first second =
     LeavesOnly-then (first_mark_moments a b lines r s first)
     (subst (λ (n : ℕ). LeavesOnly b c (IsAtSomeStage n r s)) counted (LeavesOnly-weaken (IsAtSomeStage b.lines r s) (λ image is. inr is) second))
+
+-- the same, where an image without the mark is one that could be left before it
+pub first_mark_unmarked : (a b : State) (lines : ℕ) (r : Record) (s : Keyspace)
+    → LeavesOnly a b (λ image. IsImage a.words image ⊎ IsMovable Halfway lines r s image)
+    → LeavesOnly a b (λ image. IsImage a.words image ⊎ IsHalfwayOrNew lines r s image)
+first_mark_unmarked a b lines r s moments =
+    LeavesOnly-weaken (λ image. IsImage a.words image ⊎ IsHalfwayOrNew lines r s image)
+    (λ image is. elim is [ inl before ↦ inl before | inr halfway ↦ inr (inl halfway) ]) moments
+
+pub all_unmarked : (a b c : State) (lines : ℕ) (r : Record) (s : Keyspace) → b.lines ≡ lines
+    → LeavesOnly a b (λ image. IsImage a.words image ⊎ IsMovable Halfway lines r s image) → LeavesOnly b c (IsHalfwayOrNew b.lines r s)
+    → LeavesOnly a c (λ image. IsImage a.words image ⊎ IsHalfwayOrNew lines r s image)
+all_unmarked a b c lines r s counted first second =
+    LeavesOnly-then (first_mark_unmarked a b lines r s first)
+    (LeavesOnly-weaken (λ image. IsImage a.words image ⊎ IsHalfwayOrNew lines r s image) (λ image is. inr is)
+    (subst (λ (n : ℕ). LeavesOnly b c (IsHalfwayOrNew n r s)) counted second))

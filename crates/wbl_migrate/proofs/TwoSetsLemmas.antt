@@ -25,60 +25,62 @@ use Rattle.wbl_migrate.specs.TwoSets.{IsTwoSets, first_set, second_set}
 
 -- ---- the versions
 
-abbrev first_change : PlacedChange
-first_change = placed.Put first_set
+abbrev first_change : ℕ → PlacedChange
+first_change a = placed.Put (first_set a)
 
-abbrev second_change : PlacedChange
-second_change = placed.Put second_set
+abbrev second_change : ℕ → PlacedChange
+second_change b = placed.Put (second_set b)
 
 -- the versions of the new image, and those after one part and after both
-abbrev after_first : Versions → Versions
-after_first versions = changes_versions 1 versions (first_change ∷ [])
+abbrev after_first : ℕ → Versions → Versions
+after_first a versions = changes_versions 1 versions (first_change a ∷ [])
 
-abbrev after_second : Versions → Versions
-after_second versions = changes_versions 2 (after_first versions) (second_change ∷ [])
+abbrev after_second : ℕ → ℕ → Versions → Versions
+after_second a b versions = changes_versions 2 (after_first a versions) (second_change b ∷ [])
 
+-- (wherever they are put)
 abbrev pub ended_version : Version
-ended_version = ended_by (change_of second_change) (version_of_put 1 first_set)
+ended_version = ended_by (change_of (second_change 1)) (version_of_put 1 (first_set 0))
 
 abbrev live_version : Version
-live_version = version_of_put 2 second_set
+live_version = version_of_put 2 (second_set 1)
 
-module _ {versions : Versions} (none : (i : ℕ) → versions i ≡ None) where
-  first_here : (i : ℕ) → i ≡ 0 → after_first versions i ≡ Some (version_of_put 1 first_set)
-  first_here i here = cond-true (nat_eq i 0) _ _ (eq-eqb i 0 here)
+module _ {a b : ℕ} (differ : a ≢ b) {versions : Versions} (none : (i : ℕ) → versions i ≡ None) where
+  first_here : (i : ℕ) → i ≡ a → after_first a versions i ≡ Some (version_of_put 1 (first_set a))
+  first_here i here = cond-true (nat_eq i a) _ _ (eq-eqb i a here)
 
-  first_else : (i : ℕ) → i ≢ 0 → after_first versions i ≡ None
-  first_else i other = cond-false (nat_eq i 0) _ _ (unequal i 0 other) ∙ ap (ended_where_begun (change_of first_change)) (none i)
+  first_else : (i : ℕ) → i ≢ a → after_first a versions i ≡ None
+  first_else i other = cond-false (nat_eq i a) _ _ (unequal i a other) ∙ ap (ended_where_begun (change_of (first_change a))) (none i)
 
-  second_ended : (i : ℕ) → i ≡ 0 → after_second versions i ≡ Some ended_version
+  second_ended : (i : ℕ) → i ≡ a → after_second a b versions i ≡ Some ended_version
   second_ended i here =
-      cond-false (nat_eq i 1) _ _ (unequal i 1 (λ one. omega (arith, here, one))) ∙ ap (ended_where_begun (change_of second_change)) (first_here i here)
+      cond-false (nat_eq i b) _ _ (unequal i b (λ there. differ (sym here ∙ there)))
+      ∙ ap (ended_where_begun (change_of (second_change b))) (first_here i here)
 
-  second_live : (i : ℕ) → i ≡ 1 → after_second versions i ≡ Some live_version
-  second_live i here = cond-true (nat_eq i 1) _ _ (eq-eqb i 1 here)
+  second_live : (i : ℕ) → i ≡ b → after_second a b versions i ≡ Some live_version
+  second_live i here = cond-true (nat_eq i b) _ _ (eq-eqb i b here)
 
-  second_else : (i : ℕ) → i ≢ 0 → i ≢ 1 → after_second versions i ≡ None
-  second_else i zeroth first =
-      cond-false (nat_eq i 1) _ _ (unequal i 1 first) ∙ ap (ended_where_begun (change_of second_change)) (first_else i zeroth)
+  second_else : (i : ℕ) → i ≢ a → i ≢ b → after_second a b versions i ≡ None
+  second_else i first second =
+      cond-false (nat_eq i b) _ _ (unequal i b second) ∙ ap (ended_where_begun (change_of (second_change b))) (first_else i first)
 
   -- the first part ends nothing
-  first_none : (i : ℕ) → IsTrue (is_ended_version (after_first versions i)) → ⊥
+  first_none : (i : ℕ) → IsTrue (is_ended_version (after_first a versions i)) → ⊥
   first_none i ended =
-      elim (same_or_other i 0) [
-        | inl here ↦ both_ways (is_ended_version (after_first versions i)) (ap is_ended_version (first_here i here)) ended
-        | inr other ↦ both_ways (is_ended_version (after_first versions i)) (ap is_ended_version (first_else i other)) ended
+      elim (same_or_other i a) [
+        | inl here ↦ both_ways (is_ended_version (after_first a versions i)) (ap is_ended_version (first_here i here)) ended
+        | inr other ↦ both_ways (is_ended_version (after_first a versions i)) (ap is_ended_version (first_else i other)) ended
       ]
 
   -- the second one ends what the first made
-  second_one : (i : ℕ) → IsTrue (is_ended_version (after_second versions i)) → i ≡ 0
+  second_one : (i : ℕ) → IsTrue (is_ended_version (after_second a b versions i)) → i ≡ a
   second_one i ended =
-      elim (same_or_other i 0) [
+      elim (same_or_other i a) [
         | inl here ↦ here
-        | inr zeroth ↦
-            elim (same_or_other i 1) [
-              | inl here ↦ absurd (both_ways (is_ended_version (after_second versions i)) (ap is_ended_version (second_live i here)) ended)
-              | inr first ↦ absurd (both_ways (is_ended_version (after_second versions i)) (ap is_ended_version (second_else i zeroth first)) ended)
+        | inr first ↦
+            elim (same_or_other i b) [
+              | inl here ↦ absurd (both_ways (is_ended_version (after_second a b versions i)) (ap is_ended_version (second_live i here)) ended)
+              | inr second ↦ absurd (both_ways (is_ended_version (after_second a b versions i)) (ap is_ended_version (second_else i first second)) ended)
             ]
       ]
 
@@ -94,63 +96,64 @@ or_left : (a b : Bool) → IsTrue a → IsTrue (a || b)
 or_left true b is = refl
 or_left false b is = absurd (both_ways false refl is)
 
-first_names : (versions : Versions) → ((i : ℕ) → versions i ≡ None) → Names versions 1 (first_change ∷ []) []
-first_names versions none i =
-    (λ named. absurd (let at = named in omega (arith, at.1)), λ ended. absurd (first_none none i ended.1))
+module _ {a b : ℕ} (differ : a ≢ b) (versions : Versions) (none : (i : ℕ) → versions i ≡ None) where
+  first_names : Names versions 1 (first_change a ∷ []) []
+  first_names i = (λ named. absurd (let at = named in omega (arith, at.1)), λ ended. absurd (first_none differ none i ended.1))
 
-second_names : (versions : Versions) → ((i : ℕ) → versions i ≡ None) → Names (after_first versions) 2 (second_change ∷ []) (record { 0 = 0 } ∷ [])
-second_names versions none i = (there, back)
-  where
-    there : Contains (0 ∷ []) i
-        → IsTrue (is_live_version (after_first versions i) || is_put_at i (second_set ∷ [])) × IsTrue (is_ended_version (after_second versions i))
-    there (zero, below, is) = (
-      or_left (is_live_version (after_first versions i)) (is_put_at i (second_set ∷ [])) (ap is_live_version (first_here none i (sym is))),
-      ap is_ended_version (second_ended none i (sym is)),
-    )
-    there (suc k, below, is) = absurd (omega (arith, below))
+  second_names : Names (after_first a versions) 2 (second_change b ∷ []) (record { 0 = a } ∷ [])
+  second_names i = (there, back)
+    where
+      there : Contains (a ∷ []) i
+          → IsTrue (is_live_version (after_first a versions i) || is_put_at i (second_set b ∷ [])) × IsTrue (is_ended_version (after_second a b versions i))
+      there (zero, below, is) = (
+        or_left (is_live_version (after_first a versions i)) (is_put_at i (second_set b ∷ [])) (ap is_live_version (first_here differ none i (sym is))),
+        ap is_ended_version (second_ended differ none i (sym is)),
+      )
+      there (suc k, below, is) = absurd (omega (arith, below))
 
-    back : IsTrue (is_live_version (after_first versions i) || is_put_at i (second_set ∷ [])) × IsTrue (is_ended_version (after_second versions i))
-        → Contains (0 ∷ []) i
-    back ended = (0, omega arith, sym (second_one none i ended.1))
+      back : IsTrue (is_live_version (after_first a versions i) || is_put_at i (second_set b ∷ [])) × IsTrue (is_ended_version (after_second a b versions i))
+          → Contains (a ∷ []) i
+      back ended = (0, omega arith, sym (second_one differ none i ended.1))
 
 -- ---- the group
 
-module _ {old : Contents} {group : Group} (new : IsNew 4096 Primary old) (two : IsTwoSets group) where
-  puts_are : puts_of_group group ≡ first_set ∷ second_set ∷ []
+named : (versions : Versions) (part : Part) (position : ℕ) (changes : List PlacedChange) (ended : List EntryNo) → part.position ≡ position
+    → part.changes.items ≡ changes → part.ended.items ≡ ended → Names versions position changes ended → NamesEnded versions part
+named versions part position changes ended is_position is_changes is_ended names =
+    subst (λ (es : List EntryNo). Names versions part.position part.changes.items es) (sym is_ended)
+    (subst (λ (cs : List PlacedChange). Names versions part.position cs ended) (sym is_changes)
+    (subst (λ (n : ℕ). Names versions n changes ended) (sym is_position) names))
+
+module _ {a b : ℕ} {old : Contents} {group : Group} (new : IsNew 4096 Primary old) (two : IsTwoSets a b group) where
+  puts_are : puts_of_group group ≡ first_set a ∷ second_set b ∷ []
   puts_are =
       ap (flat_map puts_of_part) two.parts
       ∙ ap (λ (changes : List PlacedChange). flat_map put_of changes ++ (flat_map put_of two.second.changes.items ++ [])) two.first_changes
-      ∙ ap (λ (changes : List PlacedChange). first_set ∷ (flat_map put_of changes ++ [])) two.second_changes
+      ∙ ap (λ (changes : List PlacedChange). first_set a ∷ (flat_map put_of changes ++ [])) two.second_changes
 
-  first_is : part_versions old.versions two.first ≡ after_first old.versions
+  first_is : part_versions old.versions two.first ≡ after_first a old.versions
   first_is =
       ap (λ (position : ℕ). changes_versions position old.versions two.first.changes.items) two.first_position
       ∙ ap (changes_versions 1 old.versions) two.first_changes
 
-  both_are : parts_versions old.versions group.parts.items ≡ after_second old.versions
+  both_are : parts_versions old.versions group.parts.items ≡ after_second a b old.versions
   both_are =
       ap (parts_versions old.versions) two.parts
       ∙ ap (λ (versions : Versions). part_versions versions two.second) first_is
-      ∙ ap (λ (position : ℕ). changes_versions position (after_first old.versions) two.second.changes.items) two.second_position
-      ∙ ap (changes_versions 2 (after_first old.versions)) two.second_changes
+      ∙ ap (λ (position : ℕ). changes_versions position (after_first a old.versions) two.second.changes.items) two.second_position
+      ∙ ap (changes_versions 2 (after_first a old.versions)) two.second_changes
 
-  named : (versions : Versions) (part : Part) (position : ℕ) (changes : List PlacedChange) (ended : List EntryNo) → part.position ≡ position
-      → part.changes.items ≡ changes → part.ended.items ≡ ended → Names versions position changes ended → NamesEnded versions part
-  named versions part position changes ended is_position is_changes is_ended names =
-      subst (λ (es : List EntryNo). Names versions part.position part.changes.items es) (sym is_ended)
-      (subst (λ (cs : List PlacedChange). Names versions part.position cs ended) (sym is_changes)
-      (subst (λ (n : ℕ). Names versions n changes ended) (sym is_position) names))
-
-  parts_are : AreParts group.before old.versions group.parts.items
-  parts_are =
+  parts_are : a ≢ b → AreParts group.before old.versions group.parts.items
+  parts_are differ =
       subst (AreParts group.before old.versions) (sym two.parts) (
         omega (arith, two.before, two.first_position),
-        named old.versions two.first 1 (first_change ∷ []) [] two.first_position two.first_changes two.first_ended (first_names old.versions new.versions),
+        named old.versions two.first 1 (first_change a ∷ []) [] two.first_position two.first_changes two.first_ended
+            (first_names differ old.versions new.versions),
         (
           omega (arith, two.first_position, two.second_position),
           subst (λ (versions : Versions). NamesEnded versions two.second) (sym first_is)
-              (named (after_first old.versions) two.second 2 (second_change ∷ []) (record { 0 = 0 } ∷ []) two.second_position two.second_changes
-              two.second_ended (second_names old.versions new.versions)),
+              (named (after_first a old.versions) two.second 2 (second_change b ∷ []) (record { 0 = a } ∷ []) two.second_position two.second_changes
+              two.second_ended (second_names differ old.versions new.versions)),
           tt,
         ),
       )
@@ -162,70 +165,76 @@ module _ {old : Contents} {group : Group} (new : IsNew 4096 Primary old) (two : 
         lines = λ i version is. let clash : None ≡ Some version = sym (new.versions i) ∙ is in absurd (cc);
       }
 
-  pub two_sets_asked : IsGroup old group
-  two_sets_asked =
+  pub two_sets_asked : a ≢ b → a < 512 → b < 512 → IsGroup old group
+  two_sets_asked differ first_low second_low =
       record {
         epoch = inl (two.epoch ∙ sym new.epoch);
         before = two.before ∙ sym new.position;
         some = omega (arith, ap length two.parts);
         few = omega (arith, ap length two.parts);
-        parts = parts_are;
+        parts = parts_are differ;
         placed = subst (AllByRecursion (IsPlaced old.lines)) (sym puts_are) (
-          record { entry = omega (arith, new.line_count); above = omega (arith, new.line_count); within = omega (arith, new.line_count) },
-          (record { entry = omega (arith, new.line_count); above = omega (arith, new.line_count); within = omega (arith, new.line_count) }, tt),
+          record { entry = omega (arith, new.line_count, first_low); above = omega (arith, new.line_count); within = omega (arith, new.line_count) },
+          (record { entry = omega (arith, new.line_count, second_low); above = omega (arith, new.line_count); within = omega (arith, new.line_count) }, tt),
         );
         fitting = subst (AllByRecursion HasItsLines) (sym puts_are) (refl, (refl, tt));
-        unused = subst (AllByRecursion (IsUnused old.versions old.is_free)) (sym puts_are) (unused first_set (omega arith), (unused second_set (omega arith), tt));
-        apart = subst AreAllApart (sym puts_are) ((record { entries = λ same. omega (arith, same); lines = inl (omega arith) }, tt), (tt, tt));
+        unused = subst (AllByRecursion (IsUnused old.versions old.is_free)) (sym puts_are)
+            (unused (first_set a) first_low, (unused (second_set b) second_low, tt));
+        apart = subst AreAllApart (sym puts_are) ((record { entries = λ same. differ same; lines = inl (omega arith) }, tt), (tt, tt));
       }
 
-  -- ---- the move
+-- ---- the move
 
-  module _ {held : Contents} {r : Record} (d : State) (same : Same (after_group old group) held) (durable : IsDurable d held) (filled : held.lines ≡ d.lines)
-      (current : IsCurrent d.lines (image_of d.words) r) where
-    held_at : (i : ℕ) → held.versions i ≡ after_second old.versions i
-    held_at i = same.versions i ∙ ap (λ (versions : Versions). versions i) both_are
+zero_one : ◌≢◌ {A = ℕ} 0 1
+zero_one is = omega (arith, is)
 
-    lines_are : held.lines ≡ 4096
-    lines_are = same.lines ∙ new.line_count
+module _ {old : Contents} {group : Group} (new : IsNew 4096 Primary old) (two : IsTwoSets 0 1 group) {held : Contents} {r : Record} (d : State)
+    (same : Same (after_group old group) held) (durable : IsDurable d held) (filled : held.lines ≡ d.lines)
+    (current : IsCurrent d.lines (image_of d.words) r) where
+  held_at : (i : ℕ) → held.versions i ≡ after_second 0 1 old.versions i
+  held_at i = same.versions i ∙ ap (λ (versions : Versions). versions i) (both_are new two)
 
-    lines_apart : (i : ℕ) (version : Version) → held.versions i ≡ Some version → AreApart 600 1 version.first_line version.lines
-    lines_apart i version is =
-        elim (same_or_other i 0) [
-          | inl here ↦
-              let same_version : Some ended_version ≡ Some version = sym (second_ended new.versions i here) ∙ sym (held_at i) ∙ is in
-              let one : ended_version ≡ version = cc in
-              subst (λ (v : Version). AreApart 600 1 v.first_line v.lines) one (inr (omega arith))
-          | inr zeroth ↦
-              elim (same_or_other i 1) [
-                | inl here ↦
-                    let same_version : Some live_version ≡ Some version = sym (second_live new.versions i here) ∙ sym (held_at i) ∙ is in
-                    let one : live_version ≡ version = cc in
-                    subst (λ (v : Version). AreApart 600 1 v.first_line v.lines) one (inr (omega arith))
-                | inr first ↦
-                    let clash : None ≡ Some version = sym (second_else new.versions i zeroth first) ∙ sym (held_at i) ∙ is in absurd (cc)
-              ]
-        ]
+  lines_are : held.lines ≡ 4096
+  lines_are = same.lines ∙ new.line_count
 
-    pub two_sets_moving : IsMoving r d held 0 5 600 ended_version
-    two_sets_moving =
-        record {
-          current_is = sym (HasRecord-unique d.lines (image_of d.words) r held.current current.lawful.few current.has_record
-              (subst (λ (n : ℕ). HasRecord n held.current (image_of d.words)) filled (durable (image_of d.words) (image_of-is d.words)).has_record));
-          lines_are = filled;
-          durable = durable;
-          movable = record {
-            from_within = omega (arith, lines_are);
-            held = held_at 0 ∙ second_ended new.versions 0 refl;
-            ended = refl;
-            placed = record { entry = omega (arith, lines_are); above = omega (arith, lines_are); within = omega (arith, lines_are) };
-            unused = record {
-              entry = same.is_free 5 ∙ ap (λ (puts : List Put). old.is_free 5 && not (is_put_at 5 puts)) puts_are ∙ ap (λ (b : Bool). b && true) (new.is_free 5 (omega arith));
-              lines = lines_apart;
-            };
-            empty = held_at 5 ∙ second_else new.versions 5 (λ e. omega (arith, e)) (λ e. omega (arith, e));
+  lines_apart : (i : ℕ) (version : Version) → held.versions i ≡ Some version → AreApart 600 1 version.first_line version.lines
+  lines_apart i version is =
+      elim (same_or_other i 0) [
+        | inl here ↦
+            let same_version : Some ended_version ≡ Some version = sym (second_ended zero_one new.versions i here) ∙ sym (held_at i) ∙ is in
+            let one : ended_version ≡ version = cc in
+            subst (λ (v : Version). AreApart 600 1 v.first_line v.lines) one (inr (omega arith))
+        | inr zeroth ↦
+            elim (same_or_other i 1) [
+              | inl here ↦
+                  let same_version : Some live_version ≡ Some version = sym (second_live zero_one new.versions i here) ∙ sym (held_at i) ∙ is in
+                  let one : live_version ≡ version = cc in
+                  subst (λ (v : Version). AreApart 600 1 v.first_line v.lines) one (inr (omega arith))
+              | inr first ↦
+                  let clash : None ≡ Some version = sym (second_else zero_one new.versions i zeroth first) ∙ sym (held_at i) ∙ is in absurd (cc)
+            ]
+      ]
+
+  pub two_sets_moving : IsMoving r d held 0 5 600 ended_version
+  two_sets_moving =
+      record {
+        current_is = sym (HasRecord-unique d.lines (image_of d.words) r held.current current.lawful.few current.has_record
+            (subst (λ (n : ℕ). HasRecord n held.current (image_of d.words)) filled (durable (image_of d.words) (image_of-is d.words)).has_record));
+        lines_are = filled;
+        durable = durable;
+        movable = record {
+          from_within = omega (arith, lines_are);
+          held = held_at 0 ∙ second_ended zero_one new.versions 0 refl;
+          ended = refl;
+          placed = record { entry = omega (arith, lines_are); above = omega (arith, lines_are); within = omega (arith, lines_are) };
+          unused = record {
+            entry = same.is_free 5 ∙ ap (λ (puts : List Put). old.is_free 5 && not (is_put_at 5 puts)) (puts_are new two)
+                ∙ ap (λ (b : Bool). b && true) (new.is_free 5 (omega arith));
+            lines = lines_apart;
           };
-        }
+          empty = held_at 5 ∙ second_else zero_one new.versions 5 (λ e. omega (arith, e)) (λ e. omega (arith, e));
+        };
+      }
 
 -- ---- the same device
 

@@ -160,13 +160,18 @@ pub record AreKnown (contents : Contents) (counted : List (EntryNo × Entry)) (g
   pub once : IsReadOnce counted
   pub free : AreFreeBut contents gapped cleared
 
--- The live versions that were read before the next one have left the entries that are not kept, and each version lies in its place.
+-- The live versions that were read before the next one have left the entries that are not kept, and each version lies in its place. What was read as ended is
+-- where it was read, and what lies ended in an entry that is not kept is among that.
 pub record AreMoved (contents : Contents) (counted : List (EntryNo × Entry)) (gapped cleared : List EntryNo) (places : List Place) (next : ℕ) : Type 0 where
   pub lie : (i : ℕ) (version : Version) → contents.versions i ≡ Some version → (k : ℕ) × (slice_get places k ≡ Some (place_at i version))
   pub rest : (k : ℕ) (read : EntryNo × Entry) → next ≤ k → slice_get counted k ≡ Some read
       → (slice_get places k ≡ Some (place_read read)) × (contents.versions read.0.0 ≡ Some (version_read read.1))
   pub due : (i : ℕ) (version : Version) → entries_kept contents.lines ≤ i → contents.versions i ≡ Some version → version.is_ended ≡ false
       → (k : ℕ) × (read : EntryNo × Entry) × (next ≤ k) × (slice_get counted k ≡ Some read) × (read.0.0 ≡ i)
+  pub ended : (k : ℕ) (read : EntryNo × Entry) → slice_get counted k ≡ Some read → read.1.end ≢ 0
+      → (slice_get places k ≡ Some (place_read read)) × (contents.versions read.0.0 ≡ Some (version_read read.1))
+  pub stay : (i : ℕ) (version : Version) → entries_kept contents.lines ≤ i → contents.versions i ≡ Some version → version.is_ended ≡ true
+      → (k : ℕ) × (read : EntryNo × Entry) × (slice_get counted k ≡ Some read) × (read.0.0 ≡ i) × (read.1.end ≢ 0)
   pub once : IsReadOnce counted
   pub free : AreFreeBut contents gapped cleared
 

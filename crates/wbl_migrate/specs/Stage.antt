@@ -1,7 +1,10 @@
 -- What an image holds at each stage of its migration from version 1 to version 2 (this project's profile).
-use Rattle.std.specs.Prelude.{◌≡◌, ℕ, ◌<◌, ◌≤◌, false, IsTrue, List, [], ◌∷◌, ◌++◌, length, take, replicate}
+use Rattle.std.specs.Prelude.{◌≡◌, ℕ, ◌<◌, ◌≤◌, ◌==◌, ◌||◌, Bool, not, if◌then◌else◌, Option, Some, None, false, IsTrue, List, [], ◌∷◌, ◌++◌, length, take, replicate}
 use Rattle.std.specs.List.{flat_map}
 use Rattle.kv_types.specs.Keyspace.{Keyspace}
+use Rattle.kv_types.specs.declared.refusal.Refusal.{Refusal}
+use Rattle.kv_types.specs.declared.refusal.Refusal.TheVariants.{BadMagic, BadVersion, WrongSize, Damaged}
+use Rattle.heap_layout.specs.Superblock.{is_wrong_size}
 use Rattle.model.specs.declared.layout.Layout.{Layout}
 use Rattle.model.specs.declared.layout.TheConstants.{VERSION_1, VERSION_2}
 use Rattle.model.specs.Layout as layouts
@@ -9,13 +12,8 @@ use Rattle.model.specs.declared.record.Gap.{Gap}
 use Rattle.model.specs.declared.record.Record.{Record}
 use Rattle.model.specs.Image.{Image, HasWords, IsMapOf, counts, entry_word, gap_words, magic_number, role_number, version_at}
 use Rattle.wbl_migrate.specs.declared.marking.TheConstants.{HALFWAY_VERSION}
-
--- An old image is one of version 1. Halfway it still has its record as version 1 does, and is read without the entries that version 2 has no room for. A new
--- image is one of version 2.
-pub data Stage : Type 0 where
-  Old : Stage
-  Halfway : Stage
-  New : Stage
+use Rattle.wbl_migrate.specs.declared.stage.Stage.{Stage}
+use Rattle.wbl_migrate.specs.declared.stage.Stage.TheVariants.{Old, Halfway, New}
 
 -- what word 1 of the image says
 abbrev pub version_number : Stage → ℕ
@@ -41,6 +39,21 @@ pub record HasSuperblockAt (stage : Stage) (lines : ℕ) (image : Image) : Type 
   pub version : image 1 ≡ version_number stage
   pub line_count : image 2 ≡ lines
   pub room : image 3 ≡ layouts.directory_room (layout_at stage) lines
+
+-- the word says one of the three versions
+abbrev pub is_stage_number : ℕ → Bool
+is_stage_number version = version == version_number Old || (version == version_number Halfway || version == version_number New)
+
+-- The first rule that the superblock breaks, on a device of `lines` lines, in the order in which an image's own superblock is read: the size of the device,
+-- the magic, the version, the number of lines, and how many of them are for the directory, which is the same at every stage.
+abbrev pub stage_refusal : ℕ → Image → Option Refusal
+stage_refusal lines image =
+    if is_wrong_size lines then Some WrongSize
+    else if not (image 0 == magic_number) then Some BadMagic
+    else if not (is_stage_number (image 1)) then Some BadVersion
+    else if not (image 2 == lines) then Some WrongSize
+    else if not (image 3 == layouts.directory_room VERSION_2 lines) then Some Damaged
+    else None
 
 -- ---- records, under any layout
 

@@ -10,7 +10,7 @@ use Rattle.model.specs.declared.record.Record.{Record}
 use Rattle.model.specs.Image.{Image}
 use Rattle.wbl_migrate.specs.declared.marking.TheConstants.{VERSION_WORD}
 use Rattle.wbl_migrate.specs.Stage.{HasRecordUnder, IsMovable, record_word_under}
-use Rattle.wbl_migrate.specs.Stage.Stage.{Old, Halfway, New}
+use Rattle.wbl_migrate.specs.declared.stage.Stage.TheVariants.{Old, Halfway, New}
 
 -- each image that a crash may leave now satisfies P
 abbrev pub Leaves : State → (Image → Type 0) → Type 0

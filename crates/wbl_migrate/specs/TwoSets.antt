@@ -12,22 +12,22 @@ abbrev pub set_at : ℕ → ℕ → ℕ → Put
 set_at byte entry line =
     record { id = Str (97 ∷ []); value = byte ∷ []; entry = record { 0 = entry }; extent = record { first_line = line; lines = 1 } }
 
-abbrev pub first_set : Put
-first_set = set_at 49 0 520
+abbrev pub first_set : ℕ → Put
+first_set entry = set_at 49 entry 520
 
-abbrev pub second_set : Put
-second_set = set_at 50 1 521
+abbrev pub second_set : ℕ → Put
+second_set entry = set_at 50 entry 521
 
--- the first entries and the first lines are taken, and the second part ends what the first made
-pub record IsTwoSets (group : Group) : Type 0 where
+-- these entries and the first lines are taken, and the second part ends what the first made
+pub record IsTwoSets (first_entry second_entry : ℕ) (group : Group) : Type 0 where
   pub epoch : group.epoch ≡ FIRST_EPOCH
   pub before : group.before ≡ 0
   pub first : Part
   pub second : Part
   pub parts : group.parts.items ≡ first ∷ second ∷ []
   pub first_position : first.position ≡ 1
-  pub first_changes : first.changes.items ≡ placed.Put first_set ∷ []
+  pub first_changes : first.changes.items ≡ placed.Put (first_set first_entry) ∷ []
   pub first_ended : first.ended.items ≡ []
   pub second_position : second.position ≡ 2
-  pub second_changes : second.changes.items ≡ placed.Put second_set ∷ []
-  pub second_ended : second.ended.items ≡ record { 0 = 0 } ∷ []
+  pub second_changes : second.changes.items ≡ placed.Put (second_set second_entry) ∷ []
+  pub second_ended : second.ended.items ≡ record { 0 = first_entry } ∷ []

@@ -51,21 +51,31 @@ fn part(
     })
 }
 
-/// The first entry.
-fn first_entry(alloc: Global) -> Result<Vec<EntryNo>, AllocError>
-    ensures { IfOk result (λ entries. entries.items ≡ record { 0 = 0 } ∷ []) }
+/// This entry alone.
+fn one_entry(alloc: Global, entry: u64) -> Result<Vec<EntryNo>, AllocError>
+    ensures { IfOk result (λ entries. entries.items ≡ record { 0 = entry } ∷ []) }
 {
     let mut entries = Vec::with_capacity(alloc, 1)?;
-    entries.push_reserved(EntryNo(0));
+    entries.push_reserved(EntryNo(entry));
     Ok(entries)
 }
 
-/// `SET a 1` and then `SET a 2`.
-fn two_sets(alloc: Global) -> Result<Group, AllocError>
-    ensures { IfOk result IsTwoSets }
+/// `SET a 1` and then `SET a 2`, in these two entries.
+pub(crate) fn two_sets(
+    alloc: Global,
+    first_entry: u64,
+    second_entry: u64,
+) -> Result<Group, AllocError>
+    ensures { IfOk result (IsTwoSets first_entry second_entry) }
 {
-    let first = part(alloc, 1, set(alloc, b'1', 0, 520)?, Vec::new(alloc))?;
-    let second = part(alloc, 2, set(alloc, b'2', 1, 521)?, first_entry(alloc)?)?;
+    let first = part(
+        alloc,
+        1,
+        set(alloc, b'1', first_entry, 520)?,
+        Vec::new(alloc),
+    )?;
+    let ended = one_entry(alloc, first_entry)?;
+    let second = part(alloc, 2, set(alloc, b'2', second_entry, 521)?, ended)?;
     let mut parts = Vec::with_capacity(alloc, 2)?;
     parts.push_reserved(first);
     parts.push_reserved(second);
@@ -80,7 +90,7 @@ fn two_sets(alloc: Global) -> Result<Group, AllocError>
 fn image_of_both(alloc: Global) -> Result<(SimPmem, Record), Refusal>
     ensures { IfOk result (λ made. (contents : Contents) × (version : Version) × IsMoving made.1 (state_of made.0) contents 0 5 600 version) }
 {
-    let group = two_sets(alloc)?;
+    let group = two_sets(alloc, 0, 1)?;
     match WblEngine::format(SimPmem::new(alloc, MIN_LINES)?, Role::Primary) {
         Ok(engine) => {
             let mut engine = engine;

@@ -10,8 +10,9 @@ ghost use Rattle.model.specs.Layout.{directory_end, entry_line, first_extent_lin
 ghost use Rattle.model.specs.Image.{Image, Holds, counts, entries_of_lines, entry_word};
 ghost use Rattle.heap_layout.specs.Version.{IsUnder};
 ghost use Rattle.wbl_record.specs.Current.{IsLawful};
-ghost use Rattle.wbl_migrate.specs.Stage.{Stage, HoldsAt, IsMovable, entries_at};
-ghost use Rattle.wbl_migrate.specs.Stage.Stage.{Old, Halfway};
+ghost use Rattle.wbl_migrate.specs.declared.stage.Stage.{Stage};
+ghost use Rattle.wbl_migrate.specs.Stage.{HoldsAt, IsMovable, entries_at};
+ghost use Rattle.wbl_migrate.specs.declared.stage.Stage.TheVariants.{Old, Halfway};
 ghost use Rattle.wbl_migrate.specs.Steps.{Leaves, renewed};
 
 /// What an old image holds is what an image of version 1 holds.

@@ -1,10 +1,11 @@
 //! The version of an image is one word, so that each mark is stored whole or not at all.
 ghost use Rattle.std.specs.Prelude.{◌≡◌, ◌⊎◌, ◌<◌, OnOk, OnErr};
 ghost use Rattle.kv_types.specs.Keyspace.{Keyspace};
+ghost use Rattle.pmem.specs.Crash.{IsImage};
 ghost use Rattle.pmem.specs.Runs.{LeavesOnly};
 ghost use Rattle.model.specs.declared.record.Record.{Record as CommitRecord};
 ghost use Rattle.wbl_migrate.specs.Stage.{IsMovable};
-ghost use Rattle.wbl_migrate.specs.Stage.Stage.{Old, Halfway, New};
+ghost use Rattle.wbl_migrate.specs.declared.stage.Stage.TheVariants.{Old, Halfway, New};
 ghost use Rattle.wbl_migrate.specs.Steps.{Leaves, KeepsOthers, IsRenewed, renewed};
 
 use model::VERSION_2;
@@ -31,6 +32,11 @@ pub fn mark_halfway<P: Pmem>(device: &mut P) -> Result<(), Fault>
         → Leaves (P.state device.old) (IsMovable Old (P.state device.old).lines r s)
         → LeavesOnly (P.state device.old) (P.state device.new) (λ image.
         IsMovable Old (P.state device.old).lines r s image ⊎ IsMovable Halfway (P.state device.old).lines r s image) }
+    // without the mark it is one that a crash could leave before
+    ensures unmarked { (r : CommitRecord) (s : Keyspace)
+        → Leaves (P.state device.old) (IsMovable Old (P.state device.old).lines r s)
+        → LeavesOnly (P.state device.old) (P.state device.new) (λ image.
+        IsImage (P.state device.old).words image ⊎ IsMovable Halfway (P.state device.old).lines r s image) }
 {
     persist(device, &[(VERSION_WORD, HALFWAY_VERSION)], &[0])
 }

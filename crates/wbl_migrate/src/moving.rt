@@ -2,6 +2,7 @@
 ghost use Rattle.std.specs.Prelude.{◌≡◌, ◌⊎◌, ℕ, ◌+◌, ◌<◌, [], ◌∷◌, length, Some, OnOk, OnErr, Err, IfOk, IfErr, IsErrOf};
 ghost use Rattle.model.specs.declared.group.PlacedChange.TheVariants as placed;
 ghost use Rattle.wbl_engine.specs.Relocating.{ExhaustsRelocation};
+ghost use Rattle.wbl_migrate.specs.Leaving.{AreLeaving};
 ghost use Rattle.wbl_migrate.specs.Moving.{AreKnown, AreMoved, HasMoved, IsLeft, IsReady, IsRoomFor, IsStep, MovesLive, put_again, version_read};
 
 use crate::choosing::{choose, entries_kept, places_of};
@@ -48,7 +49,7 @@ pub fn move_version<E: Durable>(
 
 /// Moves each live version that lies in an entry that version 2 does not keep, one of the last of the directory, to the lowest free entry and the lowest run
 /// of free lines. `versions` is what was read of the image, and `cleared` are the entries that the clearing of its gaps made free. Versions that have ended
-/// stay where they are.
+/// stay where they are. Returns where each version lies then, in the order in which they were read.
 ///
 /// # Errors
 ///
@@ -59,10 +60,11 @@ pub fn move_live<E: Durable>(
     alloc: Global,
     versions: &Versions,
     cleared: &[EntryNo],
-) -> Result<(), Refusal>
+) -> Result<Vec<Place>, Refusal>
     requires ready { IsReady E.device E.contents E.is_faulted engine.old }
     requires known { AreKnown (E.contents engine.old) versions.now.counted.items versions.now.gapped.items cleared.now }
     ensures emptied { OnOk result (¬ IsLeft (E.contents engine.new)) }
+    ensures leaving { IfOk result (λ places. AreLeaving (E.contents engine.new) versions.now.counted.items versions.now.gapped.items cleared.now places.items 0) }
     ensures causes { IfErr result (λ refusal. (refusal ≡ Refusal.Full) ⊎ (refusal ≡ Refusal.Fault) ⊎ ((refusal ≡ Refusal.Exhausted) ⊎ (refusal ≡ Refusal.Memory))) }
     ensures full { IsErrOf result Refusal.Full → IsLeft (E.contents engine.new) }
     ensures exhausted { IsErrOf result Refusal.Exhausted → ExhaustsRelocation (E.contents engine.new).current }
@@ -72,7 +74,7 @@ pub fn move_live<E: Durable>(
     for index in 0..versions.counted.len() {
         move_next(engine, alloc, versions, cleared, index, &mut places)?;
     }
-    Ok(())
+    Ok(places)
 }
 
 /// Moves the version that was read at this index, if it is live and its entry is not kept. Errors as at `move_live`; where there is no place, nothing changed.

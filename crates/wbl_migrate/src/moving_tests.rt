@@ -32,7 +32,8 @@ fn make_room<E: Durable>(engine: &mut E, alloc: Global, versions: &Versions) -> 
 {
     let cleared = clear_gaps(engine, alloc)?;
     read_versions_are_known();
-    move_live(engine, alloc, versions, &cleared)
+    move_live(engine, alloc, versions, &cleared)?;
+    Ok(())
 }
 
 /// A new image that crashed twice has two gaps, and none afterwards.

@@ -8,7 +8,7 @@ ghost use Rattle.model.specs.declared.record.Record.{Record as CommitRecord};
 ghost use Rattle.model.specs.Layout.{first_word};
 ghost use Rattle.model.specs.Image.{role_number};
 ghost use Rattle.wbl_migrate.specs.Stage.{HasRecordUnder, IsMovable, record_words_under};
-ghost use Rattle.wbl_migrate.specs.Stage.Stage.{Halfway};
+ghost use Rattle.wbl_migrate.specs.declared.stage.Stage.TheVariants.{Halfway};
 ghost use Rattle.wbl_migrate.specs.Steps.{Leaves, KeepsOthers, IsNewRecordWord, renewed};
 
 use kv_types::Refusal;

@@ -1,10 +1,11 @@
 //! The last steps, one after the other.
 ghost use Rattle.std.specs.Prelude.{◌≡◌, ◌⊎◌, ◌+◌, ◌<◌, ◌≤◌, Err, IsErrOf, IfErr, OnOk};
 ghost use Rattle.kv_types.specs.Keyspace.{Keyspace};
+ghost use Rattle.pmem.specs.Crash.{IsImage};
 ghost use Rattle.pmem.specs.Runs.{LeavesOnly};
 ghost use Rattle.model.specs.declared.image.TheConstants.{COUNTER_LIMIT, MIN_LINES};
 ghost use Rattle.wbl_migrate.specs.Stage.{IsMovable, KeepsMap};
-ghost use Rattle.wbl_migrate.specs.Stage.Stage.{Old, Halfway, New};
+ghost use Rattle.wbl_migrate.specs.declared.stage.Stage.TheVariants.{Old, Halfway, New};
 ghost use Rattle.wbl_migrate.specs.Steps.{Leaves, KeepsOthers, IsAtSomeStage, IsHalfwayOrNew, IsSwitchWord, renewed};
 
 use crate::marking::{mark_halfway, mark_new};
@@ -33,6 +34,11 @@ pub fn switch<P: Pmem>(device: &mut P, current: &Record) -> Result<(), Refusal>
     ensures moments { (s : Keyspace)
         → Leaves (P.state device.old) (IsMovable Old (P.state device.old).lines current.now s)
         → LeavesOnly (P.state device.old) (P.state device.new) (IsAtSomeStage (P.state device.old).lines current.now s) }
+    // of version 1 it is one that a crash could leave before
+    ensures unmarked { (s : Keyspace)
+        → Leaves (P.state device.old) (IsMovable Old (P.state device.old).lines current.now s)
+        → LeavesOnly (P.state device.old) (P.state device.new) (λ image.
+        IsImage (P.state device.old).words image ⊎ IsHalfwayOrNew (P.state device.old).lines current.now s image) }
     ensures map { (s : Keyspace)
         → Leaves (P.state device.old) (IsMovable Old (P.state device.old).lines current.now s)
         → LeavesOnly (P.state device.old) (P.state device.new) (KeepsMap (P.state device.old).lines current.now.position s) }

@@ -2,7 +2,9 @@ use Rattle.std.proofs.Common.{inl, arith, ◌∙◌}
 use Rattle.std.proofs.lemmas.Result.{on_ok_weaker, on_err_weaker}
 use Rattle.model.specs.Image.{entry_line, entry_word}
 use Rattle.wbl_record.proofs.Results.{on_both, on_err_from}
-use Rattle.wbl_migrate.proofs.EndedImages.{begun_durable, first_moments, may_copy, moved_durable, moving_holds, second_moments, stored_one, stamps_kept, third_moments}
+use Rattle.wbl_migrate.proofs.EndedEntries.{stored_one}
+use Rattle.wbl_migrate.proofs.EndedImages.{begun_durable, moved_durable}
+use Rattle.wbl_migrate.proofs.EndedMoments.{first_moments, may_copy, moving_holds, second_moments, stamps_kept, third_moments}
 use Rattle.wbl_migrate.proofs.EndedMaps.{apart}
 use Rattle.wbl_migrate.proofs.ended.move_ended.Goals as goal
 

@@ -1,4 +1,4 @@
-use Rattle.std.proofs.Common.{refl}
+use Rattle.std.proofs.Common.{refl, arith}
 use Rattle.pmem.specs.Sim.{fresh, state_of}
 use Rattle.wbl_migrate.proofs.TwoSetsLemmas.{current_at, ended_version, moving_at, new_at, two_sets_asked, two_sets_moving}
 use Rattle.wbl_migrate.proofs.ended_tests.image_of_both.Goals as goal
@@ -7,6 +7,7 @@ pub commit-requires : goal.commit-requires
 commit-requires c =
     let device = state_of c.in_ok-new.field-0 in
     two_sets_asked (new_at {d = device} {e = fresh 4096} c.in_ok-new.ensures c.in-Ok.ensures.new) c.in_ok-group.ensures
+    (λ same. omega (arith, same)) (omega arith) (omega arith)
 
 pub returns-in-Ok : goal.returns-in-Ok
 returns-in-Ok c =

@@ -19,5 +19,5 @@ returns c =
       first_ended = c.in_ok-first.ensures.ended ∙ c.new.ensures.items;
       second_position = c.in_ok-second.ensures.position;
       second_changes = c.in_ok-second.ensures.changes ∙ ap (λ (change : PlacedChange). change ∷ []) c.in_ok-set-2.ensures;
-      second_ended = c.in_ok-second.ensures.ended ∙ c.in_ok-first_entry.ensures;
+      second_ended = c.in_ok-second.ensures.ended ∙ c.in_ok-ended.ensures;
     }

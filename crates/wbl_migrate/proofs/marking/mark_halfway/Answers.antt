@@ -2,7 +2,7 @@ use Rattle.std.proofs.Common.{◌≡◌, ◌∷◌, []}
 use Rattle.std.proofs.lemmas.Result.{on_ok_weaker}
 use Rattle.wbl_migrate.specs.declared.marking.TheConstants.{VERSION_WORD}
 use Rattle.wbl_migrate.proofs.Touching.{either_step, one_stored, step_keeps}
-use Rattle.wbl_migrate.proofs.Marks.{halfway_ok, halfway_moments}
+use Rattle.wbl_migrate.proofs.Marks.{halfway_ok, halfway_moments, halfway_unmarked}
 use Rattle.wbl_migrate.proofs.marking.mark_halfway.Goals as goal
 
 pub returns-clause-ok : goal.returns-clause-ok
@@ -21,4 +21,11 @@ returns-clause-moments g c r s all =
     let old = g.P.Pmem.state c.args.device.now in
     let new = g.P.Pmem.state c.persist.new.device in
     halfway_moments old new old.lines r s
+    (either_step old new ((VERSION_WORD, 3) ∷ []) (0 ∷ []) c.persist.result c.persist.ensures.ok c.persist.ensures.err) all
+
+pub returns-clause-unmarked : goal.returns-clause-unmarked
+returns-clause-unmarked g c r s all =
+    let old = g.P.Pmem.state c.args.device.now in
+    let new = g.P.Pmem.state c.persist.new.device in
+    halfway_unmarked old new old.lines r s
     (either_step old new ((VERSION_WORD, 3) ∷ []) (0 ∷ []) c.persist.result c.persist.ensures.ok c.persist.ensures.err) all

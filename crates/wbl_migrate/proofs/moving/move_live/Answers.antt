@@ -3,9 +3,9 @@ use Rattle.std.proofs.lemmas.Result.{err_from_is_err_and}
 use Rattle.kv_types.specs.declared.refusal.Refusal.TheVariants.{Fault, Memory}
 use Rattle.wbl_migrate.specs.declared.moving.Place.{Place}
 use Rattle.wbl_migrate.specs.Moving.{AreMoved, MovesLive, place_read}
-use Rattle.wbl_migrate.proofs.LoopLemmas.{none_left, none_moved}
+use Rattle.wbl_migrate.proofs.LoopLemmas.{all_live, none_left, none_moved}
 use Rattle.wbl_migrate.proofs.MoveSteps.{moves_same, moves_then}
-use Rattle.wbl_migrate.proofs.StepLemmas.{no_step, ok_no_error, step-then}
+use Rattle.wbl_migrate.proofs.StepLemmas.{no_step, ok_no_error, step-answers, step-refuses, step-then}
 use Rattle.wbl_migrate.proofs.moving.move_live.Goals as goal
 
 pub returns-in_err-places-clause-step : goal.returns-in_err-places-clause-step
@@ -27,8 +27,9 @@ pub returns-in_err-move_next-clause-step : goal.returns-in_err-move_next-clause-
 returns-in_err-move_next-clause-step g c =
     let exit = err_from_is_err_and c.from_residual-in_err-move_next.result c.from_residual-in_err-move_next.ensures.1 in
     rw (exit.1 ∙ ap Err exit.2)
+    (step-refuses g.E.Durable.device g.E.Durable.contents g.E.Durable.is_faulted MovesLive moves_same moves_then c.args.engine.now c.move_next.new.engine c.in_err-move_next.field-0.0
     (step-then g.E.Durable.device g.E.Durable.contents g.E.Durable.is_faulted MovesLive moves_same moves_then c.args.engine.now c.loop-index.engine c.move_next.new.engine tt
-    (Err c.in_err-move_next.field-0.0) c.loop-index.invariant.so_far c.in_err-move_next.ensures.step)
+    (Err c.in_err-move_next.field-0.0) c.loop-index.invariant.so_far c.in_err-move_next.ensures.step))
 
 pub loop-index-preserved : goal.loop-index-preserved
 loop-index-preserved g c = record {
@@ -42,3 +43,14 @@ returns-clause-emptied g c =
     let off = c.loop-index-test.false in
     let count = c.len-index-end.ensures in
     none_left c.loop-index.invariant.moved (omega (arith, off, count, c.args.versions.now.counted.ok.0))
+
+pub returns-clause-leaving : goal.returns-clause-leaving
+returns-clause-leaving g c =
+    let off = c.loop-index-test.false in
+    let count = c.len-index-end.ensures in
+    all_live c.loop-index.invariant.moved (omega (arith, off, count, c.args.versions.now.counted.ok.0))
+
+pub returns-clause-step : goal.returns-clause-step
+returns-clause-step g c =
+    step-answers g.E.Durable.device g.E.Durable.contents g.E.Durable.is_faulted MovesLive moves_same moves_then c.args.engine.now c.loop-index.engine tt
+    (Ok c.loop-index.places) (ok_no_error c.loop-index.places Fault) c.loop-index.invariant.so_far

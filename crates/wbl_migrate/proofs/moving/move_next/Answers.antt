@@ -5,9 +5,10 @@ use Rattle.std.proofs.lemmas.Result.{err_from_is_err_and}
 use Rattle.kv_types.specs.declared.refusal.Refusal.TheVariants.{Fault, Full, Memory}
 use Rattle.wbl_migrate.specs.declared.moving.Place.{Place}
 use Rattle.wbl_migrate.specs.Moving.{IsOpen, MovesLive, entries_kept, place_read}
-use Rattle.wbl_migrate.proofs.LoopLemmas.{is_left, open_as, open_room, skipped, went}
+use Rattle.wbl_migrate.proofs.LoopLemmas.{is_left, open_room, skipped, went}
 use Rattle.wbl_migrate.proofs.MoveSteps.{moves_same, moves_then}
 use Rattle.wbl_migrate.proofs.Picks.{of_some}
+use Rattle.wbl_migrate.proofs.PlaceLemmas.{open_as}
 use Rattle.wbl_migrate.proofs.StepLemmas.{no_step, ok_no_error}
 use Rattle.wbl_migrate.proofs.moving.move_next.Given.{Over}
 use Rattle.wbl_migrate.proofs.moving.move_next.Goals as goal
@@ -81,6 +82,7 @@ index_mut-requires g c =
 pub returns-clause-moved : goal.returns-clause-moved
 returns-clause-moved g c =
     let prefix = goal.at.returns-clause-moved g c in
+    let live = c.if-version-ne0.false in
     went c.requires.so_far c.index-read.result.now c.in-Some.place (g.E.Durable.contents c.move_version.new.engine) (at g prefix.After-entries_kept)
-    (opens g prefix.After-choose c.in_ok-place.field-0 c.in-Some.place c.in_ok-place.was c.in-Some.is) c.in_ok-move_version.ensures.moved
+    (grind (arith, live)) (opens g prefix.After-choose c.in_ok-place.field-0 c.in-Some.place c.in_ok-place.was c.in-Some.is) c.in_ok-move_version.ensures.moved
     c.in_ok-move_version.ensures.step.stands.line_count

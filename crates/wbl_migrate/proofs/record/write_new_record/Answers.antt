@@ -1,6 +1,6 @@
 use Rattle.pmem.proofs.Leaving.{none_leaves}
 use Rattle.wbl_migrate.specs.Stage.{IsMovable}
-use Rattle.wbl_migrate.specs.Stage.Stage.{Halfway}
+use Rattle.wbl_migrate.specs.declared.stage.Stage.TheVariants.{Halfway}
 use Rattle.wbl_migrate.proofs.record.write_new_record.Goals as goal
 
 pub returns-then-is_last-clause-moments : goal.returns-then-is_last-clause-moments

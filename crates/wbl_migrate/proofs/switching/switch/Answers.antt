@@ -1,14 +1,20 @@
-use Rattle.std.proofs.Common.{inl}
+use Rattle.std.proofs.Common.{◌⊎◌, inl}
 use Rattle.std.proofs.lemmas.Result.{on_ok_weaker}
 use Rattle.pmem.proofs.Leaving.{none_leaves}
-use Rattle.wbl_migrate.specs.Steps.{IsAtSomeStage}
-use Rattle.wbl_migrate.proofs.SwitchLemmas.{all_moments, first_mark_moments, halfway_images, new_images, some_stage_map}
+use Rattle.pmem.specs.Crash.{IsImage}
+use Rattle.wbl_migrate.specs.Steps.{IsAtSomeStage, IsHalfwayOrNew}
+use Rattle.wbl_migrate.proofs.SwitchLemmas.{all_moments, all_unmarked, first_mark_moments, first_mark_unmarked, halfway_images, new_images, some_stage_map}
 use Rattle.wbl_migrate.proofs.switching.switch.Goals as goal
 
 pub returns-then-is_last-clause-moments : goal.returns-then-is_last-clause-moments
 returns-then-is_last-clause-moments g c s all =
     let a = g.P.Pmem.state c.args.device.now in
     none_leaves a (IsAtSomeStage a.lines c.args.current.now s) (λ image is. inl (all image is))
+
+pub returns-then-is_last-clause-unmarked : goal.returns-then-is_last-clause-unmarked
+returns-then-is_last-clause-unmarked g c s all =
+    let a = g.P.Pmem.state c.args.device.now in
+    none_leaves a (λ image. IsImage a.words image ⊎ IsHalfwayOrNew a.lines c.args.current.now s image) (λ image is. inl is)
 
 pub returns-then-is_last-clause-map : goal.returns-then-is_last-clause-map
 returns-then-is_last-clause-map g c s all =
@@ -20,6 +26,11 @@ returns-in_default-clause-moments g c s all =
     let a = g.P.Pmem.state c.args.device.now in
     let b = g.P.Pmem.state c.mark_halfway.new.device in
     first_mark_moments a b a.lines c.args.current.now s (c.mark_halfway.ensures.moments c.args.current.now s all)
+
+pub returns-in_default-clause-unmarked : goal.returns-in_default-clause-unmarked
+returns-in_default-clause-unmarked g c s all =
+    let a = g.P.Pmem.state c.args.device.now in
+    first_mark_unmarked a (g.P.Pmem.state c.mark_halfway.new.device) a.lines c.args.current.now s (c.mark_halfway.ensures.unmarked c.args.current.now s all)
 
 pub returns-in_default-clause-map : goal.returns-in_default-clause-map
 returns-in_default-clause-map g c s all =
@@ -45,6 +56,16 @@ returns-clause-moments g c s all =
     let lines = c.mark_halfway.ensures.elsewhere.stays.lines in
     let halfway = halfway_images b a.lines current s lines (c.in-Ok.ensures.ok current s all) in
     all_moments a b (g.P.Pmem.state c.go_on.new.device) a.lines current s lines (c.mark_halfway.ensures.moments current s all)
+    (c.go_on.ensures.moments s halfway)
+
+pub returns-clause-unmarked : goal.returns-clause-unmarked
+returns-clause-unmarked g c s all =
+    let a = g.P.Pmem.state c.args.device.now in
+    let b = g.P.Pmem.state c.mark_halfway.new.device in
+    let current = c.args.current.now in
+    let lines = c.mark_halfway.ensures.elsewhere.stays.lines in
+    let halfway = halfway_images b a.lines current s lines (c.in-Ok.ensures.ok current s all) in
+    all_unmarked a b (g.P.Pmem.state c.go_on.new.device) a.lines current s lines (c.mark_halfway.ensures.unmarked current s all)
     (c.go_on.ensures.moments s halfway)
 
 pub returns-clause-map : goal.returns-clause-map

@@ -1,0 +1,183 @@
+-- What each step of a migration leaves can be migrated on.
+use Rattle.std.proofs.Common.{◌≡◌, ◌⊎◌, Some, None, ℕ, refl, inl, inr, sym, ap, subst, ◌∙◌, arith}
+use Rattle.kv_types.specs.declared.refusal.Refusal.{Refusal}
+use Rattle.kv_types.specs.declared.refusal.Refusal.TheVariants.{Damaged, Exhausted, Fault, Full, Memory, WrongRole}
+use Rattle.kv_types.specs.Keyspace.{Keyspace}
+use Rattle.pmem.specs.Device.{State, Only}
+use Rattle.pmem.specs.Crash.{IsImage, image_of}
+use Rattle.pmem.specs.Runs.{LeavesOnly}
+use Rattle.pmem.proofs.Leaving.{LeavesOnly-then, LeavesOnly-weaken, none_leaves}
+use Rattle.model.specs.declared.record.Record.{Record}
+use Rattle.model.specs.Image.{Image}
+use Rattle.model.proofs.RecordLemmas.{HasRecord-unique}
+use Rattle.heap_layout.specs.Superblock.{super_refusal}
+use Rattle.wbl_record.specs.Current.{IsCurrent, IsLawful}
+use Rattle.wbl_engine.specs.Reopening.{RefusesReopening}
+use Rattle.wbl_migrate.specs.declared.stage.Stage.TheVariants.{Old, Halfway, New}
+use Rattle.wbl_migrate.specs.Migrating.{GoesOnFrom, IsHalfwayImage, IsMigratable, IsMigrated, IsOldImage, StaysMigratable, StaysOld}
+use Rattle.wbl_migrate.specs.Stage.{HasSuperblockAt, IsMovable}
+use Rattle.wbl_migrate.specs.Steps.{Leaves, IsHalfwayOrNew, renewed}
+
+-- ---- the record
+
+goes_nowhere : (r : Record) → GoesOnFrom r r
+goes_nowhere r = record { position = refl; epoch = refl; role = refl }
+
+-- the record of version 2 goes on from what the one before it went on from
+goes_renewed : (r q : Record) → GoesOnFrom r q → GoesOnFrom r (renewed q)
+goes_renewed r q goes = record { position = goes.position; epoch = goes.epoch; role = goes.role }
+
+-- an image has one record
+pub old_record : (lines : ℕ) (r q : Record) (s : Keyspace) (image : Image) → IsOldImage lines r s image → IsCurrent lines image q → q ≡ r
+old_record lines r q s image old is =
+    HasRecord-unique lines image q r is.lawful.few is.has_record old.undamaged.current.has_record
+
+halfway_current : (lines : ℕ) (r : Record) (s : Keyspace) (image : Image) → IsHalfwayImage lines r s image → IsCurrent lines image r
+halfway_current lines r s image halfway =
+    let has = halfway.movable.holds.has_record in
+    record { has_record = record { root = has.root; words = has.words }; lawful = halfway.lawful }
+
+pub halfway_record : (lines : ℕ) (r q : Record) (s : Keyspace) (image : Image) → IsHalfwayImage lines r s image → IsCurrent lines image q → q ≡ r
+halfway_record lines r q s image halfway is =
+    let current : IsCurrent lines image r = halfway_current lines r s image halfway in
+    HasRecord-unique lines image q r is.lawful.few is.has_record current.has_record
+
+-- ---- a device that has crashed leaves what it holds
+
+abbrev IsCertain : State → Type 0
+IsCertain d = (word : ℕ) → Only (d.words word) (image_of d.words word)
+
+pub certain_image : (d : State) (P : Image → Type 0) → IsCertain d → P (image_of d.words) → Leaves d P
+certain_image d P certain holds image is =
+    let same : image ≡ image_of d.words = λ i word. (certain word).only (image word) (is word) i in
+    subst P (sym same) holds
+
+-- where nothing is done
+pub stays : (d : State) (lines : ℕ) (r : Record) (s : Keyspace) → IsCertain d → IsMigratable lines r s (image_of d.words)
+    → LeavesOnly d d (StaysMigratable lines r s)
+stays d lines r s certain is =
+    none_leaves d (StaysMigratable lines r s)
+    (certain_image d (StaysMigratable lines r s) certain (record { current = r; goes_on = goes_nowhere r; is = is }))
+
+-- ---- from halfway on
+
+later : (lines : ℕ) (r q : Record) (s : Keyspace) (image : Image) → GoesOnFrom r q → IsLawful q → IsHalfwayOrNew lines q s image
+    → StaysMigratable lines r s image
+later lines r q s image goes lawful (inl halfway) =
+    record { current = q; goes_on = goes; is = inr (inl (record { lawful = lawful; movable = halfway })) }
+later lines r q s image goes lawful (inr new) =
+    record { current = renewed q; goes_on = goes_renewed r q goes; is = inr (inr new.holds) }
+
+pub new_migrated : (d : State) (lines : ℕ) (r q : Record) (s : Keyspace) → GoesOnFrom r q → Leaves d (IsMovable New lines (renewed q) s)
+    → Leaves d (IsMigrated lines r s)
+new_migrated d lines r q s goes all image is =
+    let new : IsMovable New lines (renewed q) s image = all image is in
+    record { current = renewed q; goes_on = goes_renewed r q goes; holds = new.holds }
+
+-- an image that was halfway, whose record was read
+halfway_movable : (d : State) (r q : Record) (s : Keyspace) → IsCertain d → IsCurrent d.lines (image_of d.words) q
+    → IsHalfwayImage d.lines r s (image_of d.words) → Leaves d (IsMovable Halfway d.lines q s)
+halfway_movable d r q s certain current halfway =
+    let same : q ≡ r = halfway_record d.lines r q s (image_of d.words) halfway current in
+    subst (λ (x : Record). Leaves d (IsMovable Halfway d.lines x s)) (sym same)
+    (certain_image d (IsMovable Halfway d.lines r s) certain halfway.movable)
+
+halfway_goes : (d : State) (r q : Record) (s : Keyspace) → IsCurrent d.lines (image_of d.words) q → IsHalfwayImage d.lines r s (image_of d.words)
+    → GoesOnFrom r q
+halfway_goes d r q s current halfway =
+    subst (GoesOnFrom r) (sym (halfway_record d.lines r q s (image_of d.words) halfway current)) (goes_nowhere r)
+
+pub finished : (d e : State) (r q : Record) (s : Keyspace) → IsCertain d → IsCurrent d.lines (image_of d.words) q
+    → (Leaves d (IsMovable Halfway d.lines q s) → Leaves e (IsMovable New d.lines (renewed q) s))
+    → IsHalfwayImage d.lines r s (image_of d.words) → Leaves e (IsMigrated d.lines r s)
+finished d e r q s certain current done halfway =
+    new_migrated e d.lines r q s (halfway_goes d r q s current halfway) (done (halfway_movable d r q s certain current halfway))
+
+pub finishing : (d e : State) (r q : Record) (s : Keyspace) → IsCertain d → IsCurrent d.lines (image_of d.words) q
+    → (Leaves d (IsMovable Halfway d.lines q s) → LeavesOnly d e (IsHalfwayOrNew d.lines q s))
+    → IsHalfwayImage d.lines r s (image_of d.words) → LeavesOnly d e (StaysMigratable d.lines r s)
+finishing d e r q s certain current moments halfway =
+    LeavesOnly-weaken (StaysMigratable d.lines r s)
+    (λ image is. later d.lines r q s image (halfway_goes d r q s current halfway) current.lawful is)
+    (moments (halfway_movable d r q s certain current halfway))
+
+-- ---- from version 1 on
+
+-- under a record of version 1 that goes on from it
+old_stays : (lines : ℕ) (r : Record) (s : Keyspace) (image : Image) → StaysOld lines r s image → StaysMigratable lines r s image
+old_stays lines r s image old = record { current = old.current; goes_on = old.goes_on; is = inl old.is }
+
+pub vacating : (a b : State) (lines : ℕ) (r : Record) (s : Keyspace) → LeavesOnly a b (StaysOld lines r s) → LeavesOnly a b (StaysMigratable lines r s)
+vacating a b lines r s moments = LeavesOnly-weaken (StaysMigratable lines r s) (old_stays lines r s) moments
+
+-- after the entries were emptied the image was switched
+pub upgraded : (a b c : State) (r q : Record) (s : Keyspace) → b.lines ≡ a.lines → GoesOnFrom r q → Leaves b (IsMovable Old a.lines q s)
+    → (Leaves b (IsMovable Old b.lines q s) → Leaves c (IsMovable New b.lines (renewed q) s)) → Leaves c (IsMigrated a.lines r s)
+upgraded a b c r q s counted goes vacated done =
+    subst (λ (n : ℕ). Leaves c (IsMigrated n r s)) counted
+    (new_migrated c b.lines r q s goes (done (subst (λ (n : ℕ). Leaves b (IsMovable Old n q s)) (sym counted) vacated)))
+
+pub upgrading : (a b c : State) (r q : Record) (s : Keyspace) → b.lines ≡ a.lines → GoesOnFrom r q → IsLawful q → Leaves b (IsMovable Old a.lines q s)
+    → LeavesOnly a b (StaysOld a.lines r s)
+    → (Leaves b (IsMovable Old b.lines q s) → LeavesOnly b c (λ image. IsImage b.words image ⊎ IsHalfwayOrNew b.lines q s image))
+    → LeavesOnly a c (StaysMigratable a.lines r s)
+upgrading a b c r q s counted goes lawful vacated first second =
+    let switched : LeavesOnly b c (λ image. IsImage b.words image ⊎ IsHalfwayOrNew b.lines q s image) =
+    second (subst (λ (n : ℕ). Leaves b (IsMovable Old n q s)) (sym counted) vacated) in
+    LeavesOnly-then (vacating a b a.lines r s first)
+    (LeavesOnly-weaken (StaysMigratable a.lines r s)
+    (λ image is.
+    elim is [
+      | inl before ↦ old_stays a.lines r s image (first.each image (inl before))
+      | inr on ↦ subst (λ (n : ℕ). StaysMigratable n r s image) counted (later b.lines r q s image goes lawful on)
+    ])
+    switched)
+
+-- ---- refusals
+
+-- what is told of a cause: a wrong role is told as damage
+pub record IsTold (cause told : Refusal) : Type 0 where
+  pub wrong : cause ≡ WrongRole → told ≡ Damaged
+  pub other : (cause ≡ WrongRole) ⊎ (told ≡ cause)
+
+told_as : {cause told : Refusal} (x : Refusal) → IsTold cause told → ¬ (x ≡ WrongRole) → cause ≡ x → told ≡ x
+told_as x is differ same = elim is.other [ inl wrong ↦ absurd (differ (sym same ∙ wrong)) | inr told ↦ told ∙ same ]
+
+none_some : (refusal : Refusal) → None ≡ Some refusal → ⊥
+none_some refusal is = cc
+
+module _ {lines : ℕ} {image : Image} {q : Record} {cause told : Refusal} {X : Type 0} {left device : X}
+    (whole : super_refusal lines image ≡ None) (current : IsCurrent lines image q) (is : IsTold cause told)
+    (refuses : (RefusesReopening lines image q.role cause × (left ≡ device))
+    ⊎ ((cause ≡ Full) ⊎ ((cause ≡ Fault) ⊎ ((cause ≡ Exhausted) ⊎ (cause ≡ Memory))))) where
+  -- another cause is not told as damage
+  not_damaged : {A : Type 0} (x : Refusal) → ¬ (x ≡ WrongRole) → ¬ (x ≡ Damaged) → cause ≡ x → told ≡ Damaged → A
+  not_damaged x no_role no_damage same damaged = absurd (no_damage (sym (told_as x is no_role same) ∙ damaged))
+
+  abbrev IsDamaged : Type 0
+  IsDamaged = (left ≡ device) × ((r : Record) (s : Keyspace) → ¬ IsOldImage lines r s image)
+
+  pub told_damaged : told ≡ Damaged → IsDamaged
+  told_damaged damaged =
+      elim refuses [
+        | inl (inl (inl super), stays) ↦ absurd (none_some cause (sym whole ∙ super))
+        | inl (inl (inr (inl none)), stays) ↦ (stays, λ r s old. none.1 r old.undamaged)
+        | inl (inl (inr (inr memory)), stays) ↦ not_damaged Memory (λ e. cc) (λ e. cc) memory damaged
+        | inl (inr (inl role), stays) ↦
+            (stays, λ r s old. role.1 r old.undamaged (ap (λ (x : Record). x.role) (sym (old_record lines r q s image old current))))
+        | inl (inr (inr exhausted), stays) ↦ not_damaged Exhausted (λ e. cc) (λ e. cc) exhausted.0 damaged
+        | inr (inl full) ↦ not_damaged Full (λ e. cc) (λ e. cc) full damaged
+        | inr (inr (inl fault)) ↦ not_damaged Fault (λ e. cc) (λ e. cc) fault damaged
+        | inr (inr (inr (inl exhausted))) ↦ not_damaged Exhausted (λ e. cc) (λ e. cc) exhausted damaged
+        | inr (inr (inr (inr memory))) ↦ not_damaged Memory (λ e. cc) (λ e. cc) memory damaged
+      ]
+
+-- ---- the stage
+
+-- an image that can be migrated on, and whose version is 2
+pub only_new : (lines : ℕ) (r : Record) (s : Keyspace) (image : Image) → HasSuperblockAt New lines image → IsMigratable lines r s image
+    → IsMigrated lines r s image
+only_new lines r s image has (inl old) = let a = has.version in let b = old.undamaged.superblock.version in absurd (omega (arith, a, b))
+only_new lines r s image has (inr (inl halfway)) =
+    let a = has.version in let b = halfway.movable.holds.superblock.version in absurd (omega (arith, a, b))
+only_new lines r s image has (inr (inr new)) = record { current = r; goes_on = goes_nowhere r; holds = new }

@@ -1,0 +1,30 @@
+use Rattle.wbl_migrate.proofs.Migratable.{told_damaged, upgraded, upgrading, vacating}
+use Rattle.wbl_migrate.proofs.migrating.upgrade.Goals as goal
+
+pub returns-in-Ok-switch-clause-ok : goal.returns-in-Ok-switch-clause-ok
+returns-in-Ok-switch-clause-ok g c r s old =
+    let vacated = c.in-Ok-vacate.ensures in
+    upgraded (g.P.Pmem.state c.args.device) (g.P.Pmem.state c.in-Ok-vacate.device) (g.P.Pmem.state c.switch.new.device) r c.in-Ok-vacate.current s
+    vacated.line_count (vacated.goes_on r s old) (vacated.ok r s old) (c.in-Ok-switch.ensures.ok s)
+
+pub returns-in-Ok-switch-clause-moments : goal.returns-in-Ok-switch-clause-moments
+returns-in-Ok-switch-clause-moments g c r s old =
+    let vacated = c.in-Ok-vacate.ensures in
+    upgrading (g.P.Pmem.state c.args.device) (g.P.Pmem.state c.in-Ok-vacate.device) (g.P.Pmem.state c.switch.new.device) r c.in-Ok-vacate.current s
+    vacated.line_count (vacated.goes_on r s old) vacated.lawful (vacated.ok r s old) (vacated.moments r s old) (c.switch.ensures.unmarked s)
+
+pub returns-in-Err-switch-clause-moments : goal.returns-in-Err-switch-clause-moments
+returns-in-Err-switch-clause-moments g c r s old =
+    let vacated = c.in-Ok-vacate.ensures in
+    upgrading (g.P.Pmem.state c.args.device) (g.P.Pmem.state c.in-Ok-vacate.device) (g.P.Pmem.state c.switch.new.device) r c.in-Ok-vacate.current s
+    vacated.line_count (vacated.goes_on r s old) vacated.lawful (vacated.ok r s old) (vacated.moments r s old) (c.switch.ensures.unmarked s)
+
+pub returns-in-Err-vacate-clause-damaged : goal.returns-in-Err-vacate-clause-damaged
+returns-in-Err-vacate-clause-damaged g c =
+    told_damaged c.requires.whole c.in-Ok.ensures.ok (record { wrong = c.of_its_role.ensures.wrong; other = c.of_its_role.ensures.other })
+    c.in-Err-vacate.ensures.causes
+
+pub returns-in-Err-vacate-clause-moments : goal.returns-in-Err-vacate-clause-moments
+returns-in-Err-vacate-clause-moments g c r s old =
+    let a = g.P.Pmem.state c.args.device in
+    vacating a (g.P.Pmem.state c.in-Err-vacate.device) a.lines r s (c.in-Err-vacate.ensures.moments r s old)

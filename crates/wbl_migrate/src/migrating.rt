@@ -1,0 +1,157 @@
+//! The migration as a whole, from whatever stage an image is at.
+ghost use Rattle.std.specs.Prelude.{◌≡◌, ◌⊎◌, ◌<◌, ◌≤◌, ℕ, Ok, Err, None, Some, IfOk, IfErr, MatchResult};
+ghost use Rattle.kv_types.specs.declared.refusal.Refusal.{Refusal as Cause};
+ghost use Rattle.kv_types.specs.Keyspace.{Keyspace};
+ghost use Rattle.pmem.specs.Device.{Only};
+ghost use Rattle.pmem.specs.Crash.{image_of};
+ghost use Rattle.pmem.specs.Runs.{LeavesOnly};
+ghost use Rattle.model.specs.declared.image.TheConstants.{MIN_LINES};
+ghost use Rattle.model.specs.declared.record.Record.{Record as CommitRecord};
+ghost use Rattle.model.specs.Image.{Image};
+ghost use Rattle.heap_layout.specs.Superblock.{super_refusal};
+ghost use Rattle.wbl_migrate.specs.declared.stage.Stage.TheVariants.{New};
+ghost use Rattle.wbl_migrate.specs.Migrating.{IsHalfwayImage, IsMigratable, IsMigrated, IsOldImage, StaysMigratable};
+ghost use Rattle.wbl_migrate.specs.Stage.{HasSuperblockAt, KeepsMap, stage_refusal};
+ghost use Rattle.wbl_migrate.specs.Steps.{Leaves};
+ghost use Rattle.wbl_migrate.specs.Vacating.{HasLastEntry, StaysOldWith};
+
+use crate::stage::{Stage, stage_of};
+use crate::switching::{go_on, switch};
+use crate::vacating::vacate;
+use kv_types::Refusal;
+use pmem::Pmem;
+use std::alloc::Global;
+use wbl_record::read_current;
+
+/// Makes an image one of version 2: an old one by all steps, one that a crash left halfway by those that are left. One of version 2 it leaves as it is.
+///
+/// At any moment a crash leaves an image with the same map, position, epoch and role, from which the migration goes on.
+///
+/// # Errors
+///
+/// `WrongSize`, `BadMagic`, `BadVersion` or `Damaged` by the rules of the format, with nothing changed; `Full` where there is no place for a version that has
+/// to move; `Exhausted` where a counter would reach 2^62; `Memory` if an allocation was refused: the image has the version that it had, and the same map.
+/// `Fault` if a fence failed. Each hands the device back.
+pub fn migrate<P: Pmem>(alloc: Global, device: P) -> Result<P, (Refusal, P)>
+    requires settled { (word : ℕ) → Only ((P.state device).words word) (image_of (P.state device).words word) }
+    ensures ok { IfOk result (λ after. (r : CommitRecord) (s : Keyspace) → IsMigratable (P.state device).lines r s (image_of (P.state device).words)
+        → Leaves (P.state after) (IsMigrated (P.state device).lines r s)) }
+    // of version 2 it is already
+    ensures unchanged { HasSuperblockAt New (P.state device).lines (image_of (P.state device).words) →
+        stage_refusal (P.state device).lines (image_of (P.state device).words) ≡ None → result ≡ Ok device }
+    ensures line_count { IfOk result (λ after. (P.state after).lines ≡ (P.state device).lines) }
+    ensures sound { IfOk result (λ after. (P.state after).failures ≡ (P.state device).failures) }
+    ensures causes { IfErr result (λ refused. (stage_refusal (P.state device).lines (image_of (P.state device).words) ≡ Some refused.0)
+        ⊎ ((refused.0 ≡ Refusal.Damaged)
+        ⊎ ((refused.0 ≡ Refusal.Full) ⊎ ((refused.0 ≡ Refusal.Fault) ⊎ ((refused.0 ≡ Refusal.Exhausted) ⊎ (refused.0 ≡ Refusal.Memory)))))) }
+    ensures superblock { (refusal : Cause) → stage_refusal (P.state device).lines (image_of (P.state device).words) ≡ Some refusal
+        → result ≡ Err (refusal, device) }
+    // an image that can be migrated is not refused as damaged, and one that is refused so is left as it was
+    ensures damaged { IfErr result (λ refused. refused.0 ≡ Refusal.Damaged → (refused.1 ≡ device)
+        × ((r : CommitRecord) (s : Keyspace) → ¬ IsMigratable (P.state device).lines r s (image_of (P.state device).words))) }
+    // a version is left in one of the last entries of an image that is still of version 1
+    ensures full { IfErr result (λ refused. refused.0 ≡ Refusal.Full → (r : CommitRecord) (s : Keyspace)
+        → IsOldImage (P.state device).lines r s (image_of (P.state device).words)
+        → Leaves (P.state refused.1) (StaysOldWith (HasLastEntry (P.state device).lines) (P.state device).lines r s)) }
+    ensures fault { IfErr result (λ refused. refused.0 ≡ Refusal.Fault → (P.state device).failures < (P.state refused.1).failures) }
+    ensures no_fault { IfErr result (λ refused. (refused.0 ≡ Refusal.Fault → ⊥) → (P.state refused.1).failures ≡ (P.state device).failures) }
+    ensures moments { (r : CommitRecord) (s : Keyspace) → IsMigratable (P.state device).lines r s (image_of (P.state device).words)
+        → MatchResult result
+        (λ after. LeavesOnly (P.state device) (P.state after) (StaysMigratable (P.state device).lines r s))
+        (λ refused. LeavesOnly (P.state device) (P.state refused.1) (StaysMigratable (P.state device).lines r s)) }
+{
+    match stage_of(&device) {
+        Ok(Stage::Old) => upgrade(alloc, device),
+        Ok(Stage::Halfway) => finish(device),
+        Ok(Stage::New) => Ok(device),
+        Err(refusal) => Err((refusal, device)),
+    }
+}
+
+/// An image that can be migrated on has its map at its position, at whatever stage it is.
+pub fn migratable_images_keep_their_map()
+    ensures { (lines : ℕ) (r : CommitRecord) (s : Keyspace) (image : Image) → StaysMigratable lines r s image → KeepsMap lines r.position s image }
+{}
+
+/// Makes an image of version 1 one of version 2. Errors as at `migrate`, but for those of the superblock.
+fn upgrade<P: Pmem>(alloc: Global, device: P) -> Result<P, (Refusal, P)>
+    requires settled { (word : ℕ) → Only ((P.state device).words word) (image_of (P.state device).words word) }
+    requires many { MIN_LINES ≤ (P.state device).lines }
+    requires whole { super_refusal (P.state device).lines (image_of (P.state device).words) ≡ None }
+    ensures ok { IfOk result (λ after. (r : CommitRecord) (s : Keyspace) → IsOldImage (P.state device).lines r s (image_of (P.state device).words)
+        → Leaves (P.state after) (IsMigrated (P.state device).lines r s)) }
+    ensures line_count { IfOk result (λ after. (P.state after).lines ≡ (P.state device).lines) }
+    ensures sound { IfOk result (λ after. (P.state after).failures ≡ (P.state device).failures) }
+    ensures causes { IfErr result (λ refused. (refused.0 ≡ Refusal.Damaged)
+        ⊎ ((refused.0 ≡ Refusal.Full) ⊎ ((refused.0 ≡ Refusal.Fault) ⊎ ((refused.0 ≡ Refusal.Exhausted) ⊎ (refused.0 ≡ Refusal.Memory))))) }
+    ensures damaged { IfErr result (λ refused. refused.0 ≡ Refusal.Damaged → (refused.1 ≡ device)
+        × ((r : CommitRecord) (s : Keyspace) → ¬ IsOldImage (P.state device).lines r s (image_of (P.state device).words))) }
+    // a version is left in one of the last entries of an image that is still of version 1
+    ensures full { IfErr result (λ refused. refused.0 ≡ Refusal.Full → (r : CommitRecord) (s : Keyspace)
+        → IsOldImage (P.state device).lines r s (image_of (P.state device).words)
+        → Leaves (P.state refused.1) (StaysOldWith (HasLastEntry (P.state device).lines) (P.state device).lines r s)) }
+    ensures fault { IfErr result (λ refused. refused.0 ≡ Refusal.Fault → (P.state device).failures < (P.state refused.1).failures) }
+    ensures no_fault { IfErr result (λ refused. (refused.0 ≡ Refusal.Fault → ⊥) → (P.state refused.1).failures ≡ (P.state device).failures) }
+    ensures moments { (r : CommitRecord) (s : Keyspace) → IsOldImage (P.state device).lines r s (image_of (P.state device).words)
+        → MatchResult result
+        (λ after. LeavesOnly (P.state device) (P.state after) (StaysMigratable (P.state device).lines r s))
+        (λ refused. LeavesOnly (P.state device) (P.state refused.1) (StaysMigratable (P.state device).lines r s)) }
+{
+    let role = match read_current(&device) {
+        Ok(current) => current.role,
+        Err(refusal) => return Err((refusal, device)),
+    };
+    match vacate(alloc, device, role) {
+        Ok((device, current)) => {
+            let mut device = device;
+            match switch(&mut device, &current) {
+                Ok(()) => Ok(device),
+                Err(refusal) => Err((refusal, device)),
+            }
+        }
+        Err((refusal, device)) => Err((of_its_role(refusal), device)),
+    }
+}
+
+/// Why an image is refused that was to be reopened in the role of its record: another role is only told of one that is damaged.
+fn of_its_role(refusal: Refusal) -> Refusal
+    ensures wrong { refusal ≡ Refusal.WrongRole → result ≡ Refusal.Damaged }
+    ensures other { (refusal ≡ Refusal.WrongRole) ⊎ (result ≡ refusal) }
+{
+    match refusal {
+        Refusal::WrongRole => Refusal::Damaged,
+        _ => refusal,
+    }
+}
+
+/// Makes an image that is halfway one of version 2. `Damaged` where its record has a gap, which no migration leaves.
+fn finish<P: Pmem>(device: P) -> Result<P, (Refusal, P)>
+    requires settled { (word : ℕ) → Only ((P.state device).words word) (image_of (P.state device).words word) }
+    requires many { MIN_LINES ≤ (P.state device).lines }
+    ensures ok { IfOk result (λ after. (r : CommitRecord) (s : Keyspace) → IsHalfwayImage (P.state device).lines r s (image_of (P.state device).words)
+        → Leaves (P.state after) (IsMigrated (P.state device).lines r s)) }
+    ensures line_count { IfOk result (λ after. (P.state after).lines ≡ (P.state device).lines) }
+    ensures sound { IfOk result (λ after. (P.state after).failures ≡ (P.state device).failures) }
+    ensures causes { IfErr result (λ refused. (refused.0 ≡ Refusal.Damaged) ⊎ ((refused.0 ≡ Refusal.Fault) ⊎ (refused.0 ≡ Refusal.Exhausted))) }
+    ensures damaged { IfErr result (λ refused. refused.0 ≡ Refusal.Damaged → (refused.1 ≡ device)
+        × ((r : CommitRecord) (s : Keyspace) → ¬ IsHalfwayImage (P.state device).lines r s (image_of (P.state device).words))) }
+    ensures fault { IfErr result (λ refused. refused.0 ≡ Refusal.Fault → (P.state device).failures < (P.state refused.1).failures) }
+    ensures no_fault { IfErr result (λ refused. (refused.0 ≡ Refusal.Fault → ⊥) → (P.state refused.1).failures ≡ (P.state device).failures) }
+    ensures moments { (r : CommitRecord) (s : Keyspace) → IsHalfwayImage (P.state device).lines r s (image_of (P.state device).words)
+        → MatchResult result
+        (λ after. LeavesOnly (P.state device) (P.state after) (StaysMigratable (P.state device).lines r s))
+        (λ refused. LeavesOnly (P.state device) (P.state refused.1) (StaysMigratable (P.state device).lines r s)) }
+{
+    let current = match read_current(&device) {
+        Ok(current) => current,
+        Err(refusal) => return Err((refusal, device)),
+    };
+    if !current.gaps.is_empty() {
+        return Err((Refusal::Damaged, device));
+    }
+    let mut device = device;
+    match go_on(&mut device, &current) {
+        Ok(()) => Ok(device),
+        Err(refusal) => Err((refusal, device)),
+    }
+}

@@ -1,0 +1,146 @@
+//! An image that an engine made, brought to version 2 with crashes on the way.
+ghost use Rattle.std.specs.Prelude.{◌≡◌, ◌+◌, ◌≤◌};
+ghost use Rattle.model.specs.declared.image.TheConstants.{MIN_LINES};
+ghost use Rattle.pmem.specs.Crash.{IsSettled};
+ghost use Rattle.pmem.specs.Sim.{state_of};
+
+use crate::ended_tests::two_sets;
+use crate::{Stage, migrate, stage_of};
+use kv_types::Refusal;
+use model::{LINE_WORDS, MIN_LINES, Role};
+use pmem::{Crashing, Pmem, SimPmem};
+use std::alloc::Global;
+use wbl_engine::{Durable, WblEngine};
+
+/// How many entries version 2 keeps of 512, and the line of the first.
+const ENTRIES: u64 = 494;
+
+const FIRST_ENTRY_LINE: u64 = 8;
+
+/// The image of version 1 of `SET a 1` and `SET a 2`, which lie in two entries that version 2 does not keep. It was reopened after a crash, so that its record
+/// has a gap.
+fn old_image(alloc: Global) -> Result<SimPmem, Refusal> {
+    let group = two_sets(alloc, 494, 511)?;
+    let mut engine = match WblEngine::format(SimPmem::new(alloc, MIN_LINES)?, Role::Primary) {
+        Ok(engine) => engine,
+        Err((refusal, _)) => return Err(refusal),
+    };
+    engine.commit(&group)?;
+    let mut device = engine.into_device();
+    device.crash(&[]);
+    match WblEngine::reopen(alloc, device, Role::Primary) {
+        Ok((engine, _)) => Ok(engine.into_device()),
+        Err((refusal, _)) => Err(refusal),
+    }
+}
+
+/// What a crash with these picks leaves of an image, after so many calls of a migration.
+fn cut_off(alloc: Global, device: SimPmem, calls: u64, picks: &[u64]) -> SimPmem
+    ensures { IsSettled (state_of result).words }
+{
+    let mut device = device;
+    device.crash(&[]);
+    device.keep_at(calls);
+    let mut left = match migrate(alloc, device) {
+        Ok(device) => device,
+        Err((_, device)) => device,
+    };
+    left.crash(picks);
+    left
+}
+
+/// How many of the `count` entries from `first` on have `a` with this value, made at this position.
+fn count(device: &SimPmem, first: u64, count: u64, position: u64, value: u8, is_ended: bool) -> u64
+    requires lines { (state_of device.now).lines ≡ MIN_LINES }
+    requires within { first + count ≤ 512 }
+{
+    let mut found: u64 = 0;
+    for i in 0..count {
+        let entry = LINE_WORDS * (FIRST_ENTRY_LINE + first + i);
+        let line = device.load(entry + 3);
+        if device.load(entry) != 0
+            && (device.load(entry + 1) != 0) == is_ended
+            && device.load(entry + 2) == position
+            && line < MIN_LINES
+            && device.load(LINE_WORDS * line) == 97 + 256 * value as u64
+        {
+            found = found.saturating_add(1);
+        }
+    }
+    found
+}
+
+/// Whether the device has the image of version 1, with a gap.
+fn is_old(device: &SimPmem) -> bool {
+    device.lines() == MIN_LINES
+        && stage_of(device) == Ok(Stage::Old)
+        && device.load(4) == 3
+        && device.load(LINE_WORDS * 4 + 5) == 1
+        && count(device, ENTRIES, 18, 1, b'1', true) == 1
+        && count(device, ENTRIES, 18, 2, b'2', false) == 1
+}
+
+/// Whether the device has an image of version 2 with both versions, where a crash may have left that which has ended in two places. Its record has the position
+/// 2, the epoch 1, no gap and the role of a primary.
+fn is_new(device: &SimPmem) -> bool {
+    if device.lines() != MIN_LINES {
+        return false;
+    }
+    let root = device.load(5);
+    let record = LINE_WORDS * (FIRST_ENTRY_LINE + ENTRIES + 9 * (root % 2));
+    stage_of(device) == Ok(Stage::New)
+        && device.load(record) == root
+        && device.load(record + 1) == 2
+        && device.load(record + 4) == 1
+        && device.load(record + 5) == 0
+        && device.load(record + 70) == 1
+        && count(device, 0, ENTRIES, 2, b'2', false) == 1
+        && count(device, 0, ENTRIES, 1, b'1', true) != 0
+        && count(device, 0, ENTRIES, 1, b'1', false) == 0
+}
+
+/// Whether a crash after so many calls of a migration, with these picks, leaves an image at this stage, which then comes to version 2.
+fn goes_on_from(alloc: Global, calls: u64, picks: &[u64], left: Stage) -> Result<bool, Refusal> {
+    let old = old_image(alloc)?;
+    if !is_old(&old) {
+        return Ok(false);
+    }
+    let device = cut_off(alloc, old, calls, picks);
+    let is_left = stage_of(&device) == Ok(left);
+    match migrate(alloc, device) {
+        Ok(device) => Ok(is_left && is_new(&device)),
+        Err((refusal, _)) => Err(refusal),
+    }
+}
+
+/// The record of the reopening is stored by the first 31 calls, and those with a gap fewer by the next 64. Then `a 2` is copied (by 116), counts in its new
+/// place (147) and is no longer in its old one (150); `a 1` is perhaps in both (170) and then in the new one alone (174). The first mark is stored by call 175,
+/// and the last by 263.
+#[test]
+fn migrates_from_a_crash(rt: HostRuntime) -> Result<(), Refusal> {
+    for (calls, oldest, newest) in [
+        (0, Stage::Old, Stage::Old),
+        (30, Stage::Old, Stage::Old),
+        (62, Stage::Old, Stage::Old),
+        (94, Stage::Old, Stage::Old),
+        (116, Stage::Old, Stage::Old),
+        (146, Stage::Old, Stage::Old),
+        (148, Stage::Old, Stage::Old),
+        (170, Stage::Old, Stage::Old),
+        (173, Stage::Old, Stage::Old),
+        (175, Stage::Old, Stage::Halfway),
+        (220, Stage::Halfway, Stage::Halfway),
+        (263, Stage::Halfway, Stage::New),
+        (1_000, Stage::New, Stage::New),
+    ] {
+        assert!(rt;
+            goes_on_from(rt.alloc(), calls, &[], oldest)?,
+            "oldest at {calls}"
+        );
+        assert!(rt;
+            goes_on_from(rt.alloc(), calls, &[1; 200], newest)?,
+            "newest at {calls}"
+        );
+    }
+    Ok(())
+}
