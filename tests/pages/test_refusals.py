@@ -154,6 +154,8 @@ class Refusals(common.Cases):
             if "ensures causes {" in contract:
                 with self.case("call", crate=crate, call=call):
                     text = clause(contract, "causes")
+                    # (and what a definition of refusals names that it cites, as RefusesReopening)
+                    text += "".join(definitions_below(crate)[it] for it in reached_from(text, crate) if "refus" in it.lower())
                     wanted = sorted(number for name, number in numbers_of().items() if re.search(rf"\b{name}\b", text))
                     found = sorted(number for row in self.rows if row[:2] == (crate, call) for number in row[2])
                     self.assertEqual(found, wanted)
