@@ -264,7 +264,8 @@ def named(known, crate, path, lines, line):
     if not owners:
         return {name for name, parts in within if parts == [word]}, (first, last)
     of_type, of_trait, argument = owners[-1]
-    fits = lambda it: it.startswith(of_type + of_trait) if of_trait else it == of_type
+    # (an impl for some types alone is named with these behind the type, as Pair+WblEngine+P)
+    fits = lambda it: it.startswith(of_type + of_trait) if of_trait else it.partition("+")[0] == of_type
     names = {name: parts[0] for name, parts in within if len(parts) == 2 and parts[1] == word and fits(parts[0])}
     if not names:
         # (an impl may stand in another file than its type, and a check names its functions by the type's)
