@@ -24,3 +24,4 @@ pub mod Marks
 pub mod Renewing
 pub mod SwitchLemmas
 pub mod Migratable
+pub mod Limits

@@ -143,7 +143,7 @@ pub record IsTold (cause told : Refusal) : Type 0 where
 told_as : {cause told : Refusal} (x : Refusal) → IsTold cause told → ¬ (x ≡ WrongRole) → cause ≡ x → told ≡ x
 told_as x is differ same = elim is.other [ inl wrong ↦ absurd (differ (sym same ∙ wrong)) | inr told ↦ told ∙ same ]
 
-none_some : (refusal : Refusal) → None ≡ Some refusal → ⊥
+pub none_some : (refusal : Refusal) → None ≡ Some refusal → ⊥
 none_some refusal is = cc
 
 module _ {lines : ℕ} {image : Image} {q : Record} {cause told : Refusal} {X : Type 0} {left device : X}

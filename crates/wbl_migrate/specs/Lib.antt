@@ -6,3 +6,4 @@ pub mod Steps
 pub mod Leaving
 pub mod Migrating
 pub mod Vacating
+pub mod Limits

@@ -10,6 +10,7 @@ ghost use Rattle.model.specs.declared.record.Record.{Record as CommitRecord};
 ghost use Rattle.model.specs.Image.{Image};
 ghost use Rattle.heap_layout.specs.Superblock.{super_refusal};
 ghost use Rattle.wbl_migrate.specs.declared.stage.Stage.TheVariants.{New};
+ghost use Rattle.wbl_migrate.specs.Limits.{IsAtLimit};
 ghost use Rattle.wbl_migrate.specs.Migrating.{IsHalfwayImage, IsMigratable, IsMigrated, IsOldImage, StaysMigratable};
 ghost use Rattle.wbl_migrate.specs.Stage.{HasSuperblockAt, KeepsMap, stage_refusal};
 ghost use Rattle.wbl_migrate.specs.Steps.{Leaves};
@@ -53,6 +54,10 @@ pub fn migrate<P: Pmem>(alloc: Global, device: P) -> Result<P, (Refusal, P)>
     ensures full { IfErr result (λ refused. refused.0 ≡ Refusal.Full → (r : CommitRecord) (s : Keyspace)
         → IsOldImage (P.state device).lines r s (image_of (P.state device).words)
         → Leaves (P.state refused.1) (StaysOldWith (HasLastEntry (P.state device).lines) (P.state device).lines r s)) }
+    // a counter is at its limit
+    ensures exhausted { IfErr result (λ refused. refused.0 ≡ Refusal.Exhausted → (r : CommitRecord) (s : Keyspace)
+        → IsMigratable (P.state device).lines r s (image_of (P.state device).words)
+        → IsAtLimit (P.state device).lines r s (P.state refused.1)) }
     ensures fault { IfErr result (λ refused. refused.0 ≡ Refusal.Fault → (P.state device).failures < (P.state refused.1).failures) }
     ensures no_fault { IfErr result (λ refused. (refused.0 ≡ Refusal.Fault → ⊥) → (P.state refused.1).failures ≡ (P.state device).failures) }
     ensures moments { (r : CommitRecord) (s : Keyspace) → IsMigratable (P.state device).lines r s (image_of (P.state device).words)
@@ -90,6 +95,10 @@ fn upgrade<P: Pmem>(alloc: Global, device: P) -> Result<P, (Refusal, P)>
     ensures full { IfErr result (λ refused. refused.0 ≡ Refusal.Full → (r : CommitRecord) (s : Keyspace)
         → IsOldImage (P.state device).lines r s (image_of (P.state device).words)
         → Leaves (P.state refused.1) (StaysOldWith (HasLastEntry (P.state device).lines) (P.state device).lines r s)) }
+    // a counter is at its limit
+    ensures exhausted { IfErr result (λ refused. refused.0 ≡ Refusal.Exhausted → (r : CommitRecord) (s : Keyspace)
+        → IsOldImage (P.state device).lines r s (image_of (P.state device).words)
+        → IsAtLimit (P.state device).lines r s (P.state refused.1)) }
     ensures fault { IfErr result (λ refused. refused.0 ≡ Refusal.Fault → (P.state device).failures < (P.state refused.1).failures) }
     ensures no_fault { IfErr result (λ refused. (refused.0 ≡ Refusal.Fault → ⊥) → (P.state refused.1).failures ≡ (P.state device).failures) }
     ensures moments { (r : CommitRecord) (s : Keyspace) → IsOldImage (P.state device).lines r s (image_of (P.state device).words)
@@ -135,6 +144,10 @@ fn finish<P: Pmem>(device: P) -> Result<P, (Refusal, P)>
     ensures causes { IfErr result (λ refused. (refused.0 ≡ Refusal.Damaged) ⊎ ((refused.0 ≡ Refusal.Fault) ⊎ (refused.0 ≡ Refusal.Exhausted))) }
     ensures damaged { IfErr result (λ refused. refused.0 ≡ Refusal.Damaged → (refused.1 ≡ device)
         × ((r : CommitRecord) (s : Keyspace) → ¬ IsHalfwayImage (P.state device).lines r s (image_of (P.state device).words))) }
+    // a counter is at its limit
+    ensures exhausted { IfErr result (λ refused. refused.0 ≡ Refusal.Exhausted → (r : CommitRecord) (s : Keyspace)
+        → IsHalfwayImage (P.state device).lines r s (image_of (P.state device).words)
+        → IsAtLimit (P.state device).lines r s (P.state refused.1)) }
     ensures fault { IfErr result (λ refused. refused.0 ≡ Refusal.Fault → (P.state device).failures < (P.state refused.1).failures) }
     ensures no_fault { IfErr result (λ refused. (refused.0 ≡ Refusal.Fault → ⊥) → (P.state refused.1).failures ≡ (P.state device).failures) }
     ensures moments { (r : CommitRecord) (s : Keyspace) → IsHalfwayImage (P.state device).lines r s (image_of (P.state device).words)

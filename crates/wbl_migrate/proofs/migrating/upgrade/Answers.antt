@@ -1,3 +1,6 @@
+use Rattle.std.proofs.Common.{Err, ap}
+use Rattle.pmem.specs.Crash.{image_of}
+use Rattle.wbl_migrate.proofs.Limits.{switching_exhausts, told_exhausted, vacating_exhausts}
 use Rattle.wbl_migrate.proofs.Migratable.{told_damaged, upgraded, upgrading, vacating}
 use Rattle.wbl_migrate.proofs.migrating.upgrade.Goals as goal
 
@@ -28,3 +31,16 @@ pub returns-in-Err-vacate-clause-moments : goal.returns-in-Err-vacate-clause-mom
 returns-in-Err-vacate-clause-moments g c r s old =
     let a = g.P.Pmem.state c.args.device in
     vacating a (g.P.Pmem.state c.in-Err-vacate.device) a.lines r s (c.in-Err-vacate.ensures.moments r s old)
+
+pub returns-in-Err-vacate-clause-exhausted : goal.returns-in-Err-vacate-clause-exhausted
+returns-in-Err-vacate-clause-exhausted g c is r s old =
+    let a = g.P.Pmem.state c.args.device in
+    let cause = told_exhausted (record { wrong = c.of_its_role.ensures.wrong; other = c.of_its_role.ensures.other }) is in
+    vacating_exhausts a.lines (image_of a.words) c.in-Ok.current r s (g.P.Pmem.state c.in-Err-vacate.device) c.requires.whole old
+    (c.in-Err-vacate.ensures.exhausted cause r s old)
+
+pub returns-in-Err-switch-clause-exhausted : goal.returns-in-Err-switch-clause-exhausted
+returns-in-Err-switch-clause-exhausted g c is r s old =
+    let vacated = c.in-Ok-vacate.ensures in
+    switching_exhausts (g.P.Pmem.state c.args.device).lines r c.in-Ok-vacate.current s (g.P.Pmem.state c.in-Ok-vacate.device) (g.P.Pmem.state c.switch.new.device)
+    (vacated.goes_on r s old) (vacated.ok r s old) (c.in-Err-switch.ensures.exhausted (ap Err is))
