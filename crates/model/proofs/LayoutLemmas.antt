@@ -64,3 +64,8 @@ pub slots_apart : (layout : Layout) (lines n : ℕ)
     → (slot_line layout lines n + slot_lines layout ≤ slot_line layout lines (n + 1)) ⊎ (slot_line layout lines (n + 1) + slot_lines layout ≤ slot_line layout lines n)
 slots_apart Version1 lines n = elim (cases_lt (n % 2) 1) [ inl even ↦ inl (omega (arith, even)) | inr odd ↦ inr (omega (arith, odd)) ]
 slots_apart Version2 lines n = elim (cases_lt (n % 2) 1) [ inl even ↦ inl (omega (arith, even)) | inr odd ↦ inr (omega (arith, odd)) ]
+
+-- a record has room for some gap
+pub some_gaps : (layout : Layout) → 0 < max_gaps layout
+some_gaps Version1 = omega arith
+some_gaps Version2 = omega arith
