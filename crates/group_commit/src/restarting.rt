@@ -117,9 +117,9 @@ impl<E: Restarting> Committer<E> {
         ensures ready { OnOk result ((self.new.stage ≡ Stage.Ready) × (self.new.local ≡ (E.contents self.new.engine).current.position) × (self.new.aside.items ≡ [])) }
         ensures kept { OnErr result ((self.new.stage ≡ self.old.stage) × (self.new.local ≡ self.old.local) × (self.new.aside ≡ self.old.aside)) }
         ensures refused { IfErr result (λ refusal. (refusal ≡ Refusal.Fault)
-            ⊎ (RefusesReopening (E.device self.old.engine).lines (image_of (E.device self.old.engine).words) role refusal × (self.new ≡ self.old))) }
+            ⊎ (RefusesReopening (E.contents self.old.engine).current.layout (E.device self.old.engine).lines (image_of (E.device self.old.engine).words) role refusal × (self.new ≡ self.old))) }
         ensures fault { IsErrOf result Refusal.Fault → (E.device self.old.engine).failures < (E.device self.new.engine).failures }
-        ensures superblock { (refusal : Cause) → super_refusal (E.device self.old.engine).lines (image_of (E.device self.old.engine).words) ≡ Some refusal
+        ensures superblock { (refusal : Cause) → super_refusal (E.contents self.old.engine).current.layout (E.device self.old.engine).lines (image_of (E.device self.old.engine).words) ≡ Some refusal
             → result ≡ Err refusal }
         ensures lines { (E.device self.new.engine).lines ≡ (E.device self.old.engine).lines }
         ensures asked_moment { (E.device self.new.engine).kept ≡ (E.device self.old.engine).kept }

@@ -13,7 +13,7 @@ use Rattle.extent_heap.proofs.RunsLemmas.{has_line-append, line_bounds, line_wit
 use Rattle.model.specs.declared.group.Part.{Part}
 use Rattle.model.specs.declared.group.Put.{Put}
 use Rattle.model.specs.declared.group.PlacedChange.{PlacedChange}
-use Rattle.model.specs.Group.{AreApart, Contents, Versions, changes_versions, is_listed, is_put_at, parts_versions, puts_of_part}
+use Rattle.model.specs.Group.{AreApart, Contents, Versions, changes_versions, is_listed, is_put_at, parts_versions, puts_of_part, entries_of}
 use Rattle.model.specs.Image.{entries_of_lines, first_extent_line}
 use Rattle.model.proofs.GroupsLemmas.{changes_versions-none, is_put_at-append}
 use Rattle.mv_keyspace.specs.Row.{numbers_of}
@@ -152,7 +152,7 @@ module _ (contents : Contents) (room : Room) (e e' : List EntryNo) (x x' : List 
           out = record { end_line = gives.end_line ∙ back.out.end_line; end_entry = gives.end_entry ∙ back.out.end_entry; held = omega (arith, back.out.held, length-append x x', gives.held) };
         }
 
-    was_entry : (i : ℕ) → IsTrue (is_listed i e) → (i < entries_of_lines contents.lines) × IsTrue (contents.is_free i) × (contents.versions i ≡ None)
+    was_entry : (i : ℕ) → IsTrue (is_listed i e) → (i < entries_of contents) × IsTrue (contents.is_free i) × (contents.versions i ≡ None)
     was_entry i listed = let was = entry_first i listed in (was.within, was.is_free, was.none)
 
     was_line : (line : ℕ) → IsTrue (has_line x line) → (first_extent_line contents.lines ≤ line) × (line < contents.lines)
@@ -176,7 +176,7 @@ module _ (contents : Contents) (room : Room) (e e' : List EntryNo) (x x' : List 
 -- of a heap without versions nothing is out
 pub fresh-has_out : (contents : Contents) (lines : ℕ) → contents.lines ≡ lines → ((i : ℕ) → contents.versions i ≡ None) → HasOut contents (fresh_room (first_extent_line lines) lines (entries_of_lines lines)) 0
 fresh-has_out contents lines is empty =
-    record { end_line = sym is; end_entry = ap entries_of_lines (sym is); held = omega (arith, none_counted contents.versions (entries_of_lines contents.lines) (λ i lt. ap has_version (empty i))) }
+    record { end_line = sym is; end_entry = ap entries_of_lines (sym is); held = omega (arith, none_counted contents.versions (entries_of contents) (λ i lt. ap has_version (empty i))) }
 
 -- ---- places are taken in between
 
@@ -226,12 +226,12 @@ module _ (contents after : Contents) (position : ℕ) (changes : List PlacedChan
 
   out_after : HasOut after left (length x)
   out_after =
-      let n = entries_of_lines contents.lines in
+      let n = entries_of contents in
       let taken = places_held room puts left takes in
       let below = subst (λ m. AreBelow m puts) back.out.end_entry (places_below room puts left takes) in
       let none = All-map (IsFree room) (λ (put : Put). contents.versions put.entry.0 ≡ None) (λ put free. empty put.entry.0 free.entry) puts puts_free in
       let more = changes_counted position contents.versions changes n below none (AreDistinct-from_apart puts (places_apart room puts left takes)) in
-      let count : count_versions after.versions (entries_of_lines after.lines) ≡ count_versions (changes_versions position contents.versions changes) n =
+      let count : count_versions after.versions (entries_of after) ≡ count_versions (changes_versions position contents.versions changes) n =
       ap₂ (λ (versions : Versions) (lines : ℕ). count_versions versions (entries_of_lines lines)) versions_are lines_are in
       record {
         end_line = taken.end_line ∙ back.out.end_line ∙ sym lines_are;

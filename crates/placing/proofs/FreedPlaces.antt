@@ -12,7 +12,7 @@ use Rattle.extent_heap.specs.Runs.{has_line}
 use Rattle.extent_heap.proofs.RunsLemmas.{has_line-append, line_bounds, line_within}
 use Rattle.model.specs.declared.group.Part.{Part}
 use Rattle.model.specs.declared.group.PlacedChange.{PlacedChange}
-use Rattle.model.specs.Group.{AreApart, AreEnded, Contents, Versions, after_free, change_of, put_of, puts_of_part, change_versions, changes_versions, part_versions, parts_versions, ended_where_begun, ends_record, extent_of, extents_of, is_ended_version, is_listed, is_put_at}
+use Rattle.model.specs.Group.{AreApart, AreEnded, Contents, Versions, after_free, change_of, put_of, puts_of_part, change_versions, changes_versions, part_versions, parts_versions, ended_where_begun, ends_record, extent_of, extents_of, is_ended_version, is_listed, is_put_at, entries_of}
 use Rattle.model.specs.Image.{Version, entries_of_lines, first_extent_line}
 use Rattle.model.proofs.GroupsLemmas.{is_put_at-append}
 use Rattle.mv_keyspace.specs.Row.{numbers_of}
@@ -75,11 +75,11 @@ later_listed i entry entries listed = or_right (nat_eq i entry.0) (is_listed i e
 
 -- each of them is in the directory, and has a version that has ended
 pub ended_listed : (contents : Contents) (entries : List EntryNo) → AreEnded contents entries → (i : ℕ) → IsTrue (is_listed i entries)
-    → (i < entries_of_lines contents.lines) × IsTrue (is_ended_version (contents.versions i))
+    → (i < entries_of contents) × IsTrue (is_ended_version (contents.versions i))
 ended_listed contents [] ended i listed = absurd (false≢true listed)
 ended_listed contents (entry ∷ entries) ended i listed =
     either (nat_eq i entry.0) (is_listed i entries) listed
-    (λ is. subst (λ k. (k < entries_of_lines contents.lines) × IsTrue (is_ended_version (contents.versions k))) (sym (eqb-true i entry.0 is)) (ended.0, ended.1))
+    (λ is. subst (λ k. (k < entries_of contents) × IsTrue (is_ended_version (contents.versions k))) (sym (eqb-true i entry.0 is)) (ended.0, ended.1))
     (λ rest. ended_listed contents entries ended.3 i rest)
 
 begun_version : (entry : Option Version) → IsTrue (is_ended_version entry) → (version : Version) × (entry ≡ Some version)
@@ -127,7 +127,7 @@ module _ (contents other : Contents) (room : Room) (lines : other.lines ≡ cont
 
   out_same : (more : ℕ) → HasOut contents room more → HasOut other room more
   out_same more out =
-      let n = entries_of_lines contents.lines in
+      let n = entries_of contents in
       let held = out.held in
       let count = same_count contents.versions other.versions n (λ i lt. ap has_version (versions i)) in
       record {
@@ -151,7 +151,7 @@ module _ (contents other : Contents) (room : Room) (lines : other.lines ≡ cont
 
   -- and so do entries that are cleared
   pub comes-back-cleared : (entries cleared : List EntryNo) (extents : List Extent) → ((i : ℕ) → other.is_free i ≡ (contents.is_free i || is_listed i cleared))
-      → ((i : ℕ) → IsTrue (is_listed i cleared) → (i < entries_of_lines contents.lines) × (contents.is_free i ≡ false) × (contents.versions i ≡ None))
+      → ((i : ℕ) → IsTrue (is_listed i cleared) → (i < entries_of contents) × (contents.is_free i ≡ false) × (contents.versions i ≡ None))
       → IsDistinct nat_eq (numbers_of cleared) → ((i : ℕ) → IsTrue (is_free_entry room i) → IsTrue (contents.is_free i)) → ComesBack contents room entries extents → ComesBack other room (entries ++ cleared) extents
   comes-back-cleared entries cleared extents freed were once free back =
       let kept = comes-back-same entries extents (λ i was. freed i ∙ or_left (contents.is_free i) (is_listed i cleared) was) back in

@@ -9,7 +9,7 @@ ghost use Rattle.placing.specs.Rebuilt.{AreEndedOf, AreFreeEntries, CanClaimAll,
 use extent_heap::ExtentHeap;
 use heap_layout::Entry;
 use kv_types::{EntryNo, Refusal};
-use model::LAYOUT;
+use model::{Layout, LAYOUT};
 use mv_keyspace::{Keyspace, Row};
 use std::alloc::Global;
 
@@ -46,7 +46,7 @@ pub fn rebuild<K: Keyspace>(
 {
     let mut heap = ExtentHeap::new(
         alloc,
-        LAYOUT.first_extent_line(lines),
+        Layout::first_extent_line(lines),
         lines,
         LAYOUT.entries_of_lines(lines),
     )?;

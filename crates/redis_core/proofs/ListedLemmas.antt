@@ -7,7 +7,7 @@ use Rattle.kv_types.specs.declared.place.EntryNo.{EntryNo}
 use Rattle.model.specs.declared.group.Part.{Part}
 use Rattle.model.specs.declared.group.Put.{Put}
 use Rattle.model.specs.Image.{Version, entries_of_lines}
-use Rattle.model.specs.Group.{AreAllApart, AreEnded, AreParts, Contents, IsPlaced, NamesEnded, Versions, is_ended_version, is_listed, is_live_version, is_put_at, part_versions, parts_versions, puts_of_part}
+use Rattle.model.specs.Group.{AreAllApart, AreEnded, AreParts, Contents, IsPlaced, NamesEnded, Versions, is_ended_version, is_listed, is_live_version, is_put_at, part_versions, parts_versions, puts_of_part, entries_of}
 use Rattle.model.proofs.GroupsLemmas.{AreAllApart-rest, changes_versions-none}
 use Rattle.mv_keyspace.specs.Row.{numbers_of}
 use Rattle.mv_keyspace.proofs.DistinctLemmas.{here, later}
@@ -58,7 +58,7 @@ none_at_begun versions puts i version empty begun = false_from_ne_true (is_put_a
     not_both o some none = cc
 
 abbrev IsBounded : Contents → Type 0
-IsBounded contents = (i : ℕ) → entries_of_lines contents.lines ≤ i → contents.versions i ≡ None
+IsBounded contents = (i : ℕ) → entries_of contents ≤ i → contents.versions i ≡ None
 
 not_beyond : (lines : ℕ) (puts : List Put) (i : ℕ) → AllByRecursion (IsPlaced lines) puts → entries_of_lines lines ≤ i → is_put_at i puts ≡ false
 not_beyond lines [] i placed le = refl
@@ -81,7 +81,7 @@ ended_behind contents after lines stay more fresh new (entry ∷ listed) are = (
 )
 
 all_ended : (contents : Contents) (entries : List EntryNo) → IsDistinct nat_eq (numbers_of entries)
-    → ((i : ℕ) → IsTrue (is_listed i entries) → (i < entries_of_lines contents.lines) × IsTrue (is_ended_version (contents.versions i))) → AreEnded contents entries
+    → ((i : ℕ) → IsTrue (is_listed i entries) → (i < entries_of contents) × IsTrue (is_ended_version (contents.versions i))) → AreEnded contents entries
 all_ended contents [] once told = tt
 all_ended contents (x ∷ entries) once told =
     let first = told x.0 (or_left (nat_eq x.0 x.0) (is_listed x.0 entries) (eq-eqb x.0 x.0 refl)) in (
@@ -96,7 +96,7 @@ abbrev after_part : Contents → Part → Contents
 after_part contents part = record contents { versions = part_versions contents.versions part }
 
 module _ (contents : Contents) (part : Part) (bounded : IsBounded contents) (names : NamesEnded contents.versions part) (once : NamesOnce part)
-    (placed : AllByRecursion (IsPlaced contents.lines) (puts_of_part part)) (empty : AllByRecursion (IsEmptyIn contents.versions) (puts_of_part part)) where
+    (placed : AllByRecursion (IsPlaced (entries_of contents) contents.lines) (puts_of_part part)) (empty : AllByRecursion (IsEmptyIn contents.versions) (puts_of_part part)) where
   abbrev puts : List Put
   puts = puts_of_part part
 
@@ -127,10 +127,10 @@ module _ (contents : Contents) (part : Part) (bounded : IsBounded contents) (nam
           neither_holds true true t none may = cc
           neither_holds false c t none may = cc
 
-  named_ended : (i : ℕ) → IsTrue (is_listed i part.ended.items) → (i < entries_of_lines contents.lines) × IsTrue (is_ended_version (part_versions contents.versions part i))
+  named_ended : (i : ℕ) → IsTrue (is_listed i part.ended.items) → (i < entries_of contents) × IsTrue (is_ended_version (part_versions contents.versions part i))
   named_ended i listed =
       let ended = ((names i).0 (contains_listed i part.ended.items listed)).1 in
-      elim (cases_lt i (entries_of_lines contents.lines)) [
+      elim (cases_lt i (entries_of contents)) [
         | inl low ↦ (low, ended)
         | inr high ↦ absurd (not_ended_none (part_versions contents.versions part i) (bounded_after i high) ended)
       ]
@@ -142,18 +142,18 @@ module _ (contents : Contents) (part : Part) (bounded : IsBounded contents) (nam
 
 -- after parts that follow one another, what they ended may be listed behind what was
 pub ended-parts : (before : ℕ) (contents : Contents) (parts : List Part) → IsBounded contents → AreParts before contents.versions parts → AllByRecursion NamesOnce parts
-    → AllByRecursion (IsPlaced contents.lines) (puts_of_parts parts) → AllByRecursion (IsEmptyIn contents.versions) (puts_of_parts parts) → AreAllApart (puts_of_parts parts)
+    → AllByRecursion (IsPlaced (entries_of contents) contents.lines) (puts_of_parts parts) → AllByRecursion (IsEmptyIn contents.versions) (puts_of_parts parts) → AreAllApart (puts_of_parts parts)
     → (listed : List EntryNo) → AreEnded contents listed → AreEnded (record contents { versions = parts_versions contents.versions parts }) (listed ++ ended_by_parts parts)
 ended-parts before contents [] bounded are once placed empty apart listed ended = subst (AreEnded contents) (sym (append-nil listed)) ended
 ended-parts before contents (part ∷ parts) bounded are once placed empty apart listed ended =
     let first = puts_of_part part in
     let others = puts_of_parts parts in
     let after = after_part contents part in
-    let placed_first = All-prefix (IsPlaced contents.lines) first others placed in
+    let placed_first = All-prefix (IsPlaced (entries_of contents) contents.lines) first others placed in
     let empty_first = All-prefix (IsEmptyIn contents.versions) first others empty in
     let empty_others = All-both (IsEmptyIn contents.versions) (λ put. is_put_at put.entry.0 first ≡ false) (IsEmptyIn after.versions)
     (λ put none beside. changes_versions-none part.position contents.versions part.changes.items put.entry.0 none beside) others
     (All-rest (IsEmptyIn contents.versions) first others empty) (none_earlier first others apart) in
     subst (AreEnded (record contents { versions = parts_versions after.versions parts })) (append_assoc listed part.ended.items (ended_by_parts parts))
-    (ended-parts part.position after parts (bounded_after contents part bounded are.1 once.0 placed_first empty_first) are.2 once.1 (All-rest (IsPlaced contents.lines) first others placed) empty_others
+    (ended-parts part.position after parts (bounded_after contents part bounded are.1 once.0 placed_first empty_first) are.2 once.1 (All-rest (IsPlaced (entries_of contents) contents.lines) first others placed) empty_others
     (AreAllApart-rest first others apart) (listed ++ part.ended.items) (ended_after contents part bounded are.1 once.0 placed_first empty_first listed ended))

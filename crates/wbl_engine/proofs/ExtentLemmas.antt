@@ -10,7 +10,7 @@ use Rattle.wbl_engine.specs.Erasing.{extent_in}
 use Rattle.wbl_engine.proofs.PartSteps.{begun_version}
 use Rattle.wbl_engine.proofs.Staged.{rest_fits}
 
-module _ {r : Record} {d : State} (rest : IsAtRest r d) (i : ℕ) (within : i < entries_of_lines d.lines) where
+module _ {r : Record} {d : State} (rest : IsAtRest r d) (i : ℕ) (within : i < entries_of_lines r.layout d.lines) where
   pub line_within : entry_line i < d.lines
   line_within = omega (arith, within, rest.many)
 

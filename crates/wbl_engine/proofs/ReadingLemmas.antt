@@ -4,6 +4,7 @@ use Rattle.kv_types.specs.declared.refusal.Refusal.{Refusal}
 use Rattle.kv_types.specs.declared.refusal.Refusal.TheVariants.{Damaged, Memory}
 use Rattle.heap_layout.specs.Versions.{AreVersions}
 use Rattle.model.specs.declared.record.Record.{Record}
+use Rattle.model.specs.declared.layout.Layout.{Layout}
 use Rattle.model.specs.Image.{Image}
 use Rattle.model.proofs.RecordLemmas.{HasRecord-unique}
 use Rattle.wbl_record.specs.Current.{IsCurrent}
@@ -13,13 +14,13 @@ use Rattle.wbl_engine.specs.Reopening.{RefusesReading}
 -- an undamaged image has one record
 pub undamaged_unique : {lines : ℕ} {image : Image} (r s : Record) → IsCurrent lines image r → IsUndamaged lines s image → s ≡ r
 undamaged_unique {lines} {image} r s current whole =
-    HasRecord-unique lines image s r whole.current.lawful.few whole.current.has_record current.has_record
+    HasRecord-unique lines image s r whole.current.lawful.few whole.current.version_is current.version_is whole.current.has_record current.has_record
 
-pub no_versions : (lines : ℕ) (image : Image) (r : Record) (refusal : Refusal) → IsCurrent lines image r
-    → (refusal ≡ Damaged → AreVersions r lines image → ⊥) → (refusal ≡ Damaged) ⊎ (refusal ≡ Memory) → RefusesReading lines image refusal
-no_versions lines image r refusal current none (inl damaged) =
+pub no_versions : (layout : Layout) (lines : ℕ) (image : Image) (r : Record) (refusal : Refusal) → IsCurrent lines image r
+    → (refusal ≡ Damaged → AreVersions r lines image → ⊥) → (refusal ≡ Damaged) ⊎ (refusal ≡ Memory) → RefusesReading layout lines image refusal
+no_versions layout lines image r refusal current none (inl damaged) =
     inr (inl (
       damaged,
       λ s whole. none damaged (subst (λ (q : Record). AreVersions q lines image) (undamaged_unique r s current whole) whole.versions),
     ))
-no_versions lines image r refusal current none (inr memory) = inr (inr memory)
+no_versions layout lines image r refusal current none (inr memory) = inr (inr memory)
