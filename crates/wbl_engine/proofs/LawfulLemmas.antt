@@ -8,7 +8,7 @@ use Rattle.model.specs.declared.record.Gap.{Gap}
 use Rattle.model.specs.declared.record.Role.{Role}
 use Rattle.model.specs.declared.record.Record.{Record}
 use Rattle.model.specs.Group.{Versions, Contents, IsGroup, next_record, after_group, entries_of}
-use Rattle.model.specs.Image.{Image, Version, IsMapOf, map_below, entries_of_lines, entry_word, version_in, counts}
+use Rattle.model.specs.Image.{Image, Version, IsMapOf, map_below, entry_word, version_in, counts}
 use Rattle.model.proofs.MapLemmas.{IsMapOf-none, IsMapOf-same}
 use Rattle.heap_layout.specs.Versions.{is_counted, is_live}
 use Rattle.model.proofs.DirectoryLemmas.{entries_same}

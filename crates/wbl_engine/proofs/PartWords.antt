@@ -7,7 +7,7 @@ use Rattle.pmem.specs.Runs.{written}
 use Rattle.pmem.proofs.Staging.{written-append, written-outside, same_or_other}
 use Rattle.model.specs.declared.group.Part.{Part}
 use Rattle.model.specs.declared.group.Put.{Put}
-use Rattle.model.specs.Image.{Image, entry_word, first_extent_line}
+use Rattle.model.specs.Image.{Image, directory_room, entry_word, first_extent_line}
 use Rattle.model.specs.Group.{IsPlaced, AreAllApart, is_put_at, puts_of_part}
 use Rattle.heap_layout.specs.Put.{entry_words}
 use Rattle.wbl_engine.specs.Stage.{puts_pairs, end_pairs, part_pairs}

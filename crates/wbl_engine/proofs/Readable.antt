@@ -218,4 +218,6 @@ settled_stays r d settled whole =
     erased_stays whole (agrees_erased (undamaged_sound whole) agrees) (IsLater-same r) (agrees_below r d.lines agrees (undamaged_below whole))
     (record {
       version_is = (settled 1).only (image 1) (is 1) ∙ whole.superblock.version;
-      has_record = settled_record r d settled whole image is; lawful = whole.current.lawful }))
+      has_record = settled_record r d settled whole image is;
+      lawful = whole.current.lawful;
+    }))

@@ -15,9 +15,9 @@ use Rattle.model.specs.Group.{Contents, entries_of}
 use Rattle.model.specs.Layout.{directory_room, entries_of_lines, version}
 use Rattle.model.specs.Image.{HasSuperblock, Image, IsMapOf, Version, counts, entry_word, magic_number, version_at}
 use Rattle.model.proofs.MapLemmas.{IsMapOf-same}
-use Rattle.wbl_record.specs.Current.{IsLawful}
+use Rattle.wbl_record.specs.Current.{IsCurrent, IsLawful}
 use Rattle.wbl_engine.specs.Contents.{Keeps}
-use Rattle.wbl_engine.specs.Lawful.{AreLawful}
+use Rattle.wbl_engine.specs.Lawful.{AreLawful, IsUndamaged}
 use Rattle.wbl_engine.specs.Reopening.{ExhaustsReopening, KeepsThrough, RefusesReopening, Reopens, is_cleared, reopened, with_room}
 use Rattle.wbl_engine.proofs.GapLemmas.{lawful_but_one}
 use Rattle.wbl_engine.proofs.LawfulLemmas.{lawful_undamaged, some_version}
@@ -137,6 +137,13 @@ super_none layout lines image many few has =
 
 some_refusal : (refusal : Refusal) → None ≡ Some refusal → ⊥
 some_refusal refusal e = cc
+
+-- the superblock of an undamaged image earns no refusal for the layout of its record
+pub never_refused : {lines : ℕ} {image : Image} {refusal : Refusal} (r s : Record) → MIN_LINES ≤ lines → lines ≤ MAX_LINES → IsCurrent lines image r
+    → IsUndamaged lines s image → super_refusal r.layout lines image ≡ Some refusal → ⊥
+never_refused {lines} {image} {refusal} r s many few current whole refused =
+    some_refusal refusal (sym (super_none r.layout lines image many few
+    (subst (λ (q : Record). HasSuperblock q.layout lines image) (undamaged_unique r s current whole) whole.superblock)) ∙ refused)
 
 pub lawful_refusal : (contents : Contents) (image : Image) (refusal : Refusal) → AreLawful contents → Keeps contents image
     → RefusesReopening contents.current.layout contents.lines image contents.current.role refusal

@@ -1,5 +1,5 @@
 -- A record with room for one more gap, and what is read under it.
-use Rattle.std.proofs.Common.{◌≡◌, ℕ, ◌+◌, ◌<◌, ◌≤◌, Bool, true, false, not, cond, ◌&&◌, ◌==◌, IsTrue, ◌⊎◌, inl, inr, length, drop, sym, ap, subst, ◌∙◌, arith}
+use Rattle.std.proofs.Common.{◌≡◌, ℕ, ◌+◌, ◌<◌, ◌≤◌, Bool, true, false, not, cond, ◌&&◌, ◌==◌, IsTrue, ◌⊎◌, inl, inr, length, drop, refl, sym, ap, subst, ◌∙◌, arith}
 use Rattle.std.proofs.lemmas.Bool.{and_parts, cases_Bool, cases_lt, cond-true, cond-false, eqb-true, eqb-false}
 use Rattle.std.proofs.lemmas.List.{length-drop}
 use Rattle.pmem.specs.Device.{State}

@@ -1,5 +1,5 @@
 -- An image that was opened again shows consistent contents.
-use Rattle.std.proofs.Common.{◌≡◌, ℕ, ◌<◌, ◌≤◌, ⊎_elim, cond, IsTrue, List, Some, None, sym, ap, subst, ◌∙◌, eqb-true}
+use Rattle.std.proofs.Common.{◌≡◌, ℕ, ◌<◌, ◌≤◌, ⊎_elim, cond, IsTrue, List, Some, None, sym, ap, ◌∙◌, arith, eqb-true}
 use Rattle.std.proofs.lemmas.Bool.{cases_lt, le-ltb}
 use Rattle.kv_types.specs.declared.place.EntryNo.{EntryNo}
 use Rattle.heap_layout.specs.declared.entry.Entry.{Entry}

@@ -1,12 +1,12 @@
 -- Contents without versions that have ended, and contents whose oldest gap is cleared.
-use Rattle.std.proofs.Common.{◌≡◌, ℕ, ◌+◌, ◌<◌, ◌≤◌, Bool, true, false, cond, ◌||◌, IsTrue, List, inl, inr, Option, None, Some, refl, sym, ap, subst, ◌∙◌}
+use Rattle.std.proofs.Common.{◌≡◌, ℕ, ◌+◌, ◌<◌, ◌≤◌, Bool, true, false, cond, ◌||◌, IsTrue, List, inl, inr, Option, None, Some, refl, sym, ap, subst, ◌∙◌, arith}
 use Rattle.std.proofs.lemmas.Bool.{cond-false, cases_Bool, or_cases, both_ways}
 use Rattle.kv_types.specs.declared.place.EntryNo.{EntryNo}
 use Rattle.kv_types.specs.declared.record_id.RecordId.{RecordId}
 use Rattle.kv_types.specs.Keyspace.{Keyspace}
 use Rattle.model.specs.declared.image.TheConstants.{COUNTER_LIMIT}
 use Rattle.model.specs.Group.{Contents, IsConsistent, Versions, is_ended_version, entries_of}
-use Rattle.model.specs.Image.{IsLive, IsMapOf, Version, entries_of_lines}
+use Rattle.model.specs.Image.{IsLive, IsMapOf, Version}
 use Rattle.wbl_record.specs.Current.{IsLawful}
 use Rattle.model.specs.declared.record.Record.{Record}
 use Rattle.model.proofs.DirectoryLemmas.{entries_same}

@@ -19,11 +19,7 @@ use std::alloc::Global;
 use wbl_record::read_current;
 
 /// Reads an undamaged image of this layout, and returns its record and how many of its entries are live. Nothing is changed. Errors as at `read_undamaged`.
-pub fn inspect<P: Pmem>(
-    alloc: Global,
-    device: &P,
-    layout: Layout,
-) -> Result<(Record, u64), Refusal>
+pub fn inspect<P: Pmem>(alloc: Global, device: &P, layout: Layout) -> Result<(Record, u64), Refusal>
     ensures undamaged { IfOk result (λ read. IsUndamaged (P.state device.now).lines read.0 (image_of (P.state device.now).words)) }
     ensures live { IfOk result (λ read. read.1
         ≡ live_below read.0 (image_of (P.state device.now).words) (entries_of_lines read.0.layout (P.state device.now).lines)) }

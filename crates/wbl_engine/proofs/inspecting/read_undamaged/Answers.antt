@@ -1,7 +1,18 @@
 use Rattle.std.proofs.Common.{Err, ap}
 use Rattle.pmem.specs.Crash.{image_of}
-use Rattle.wbl_engine.proofs.ReadingLemmas.{no_versions}
+use Rattle.wbl_engine.proofs.ReadingLemmas.{layout_read, no_versions, super_read}
 use Rattle.wbl_engine.proofs.inspecting.read_undamaged.Goals as goal
+
+pub returns-in-Ok-clause-undamaged : goal.returns-in-Ok-clause-undamaged
+returns-in-Ok-clause-undamaged g c =
+    record {
+      superblock = super_read c.in_ok-read_super.ensures.ok c.in_ok-read_super.ensures.lines c.in_ok-current.ensures.ok;
+      current = c.in_ok-current.ensures.ok;
+      versions = c.in-Ok.ensures.whole;
+    }
+
+pub returns-in-Ok-clause-layout : goal.returns-in-Ok-clause-layout
+returns-in-Ok-clause-layout g c = layout_read c.in_ok-read_super.ensures.ok c.in_ok-current.ensures.ok
 
 pub returns-in-Err-clause-refused : goal.returns-in-Err-clause-refused
 returns-in-Err-clause-refused g c =
