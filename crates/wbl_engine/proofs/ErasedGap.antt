@@ -39,9 +39,9 @@ are_stamped {r} {d} readable some is begins_are ends_are is_begins is_ends =
     }
 
 -- word 1 is neither in the directory nor in the extents
-superblock_kept : {layout : Layout} {lines : ℕ} → IsBehind layout lines 1 → ⊥
-superblock_kept (inl directory) = omega (arith, directory.0)
-superblock_kept (inr extents) = omega (arith, extents)
+superblock_kept : (layout : Layout) (lines : ℕ) → IsBehind layout lines 1 → ⊥
+superblock_kept layout lines (inl directory) = omega (arith, directory.0)
+superblock_kept layout lines (inr extents) = omega (arith, extents)
 
 module _ {r : Record} {d b : State} {begins ends : List EntryNo} (readable : IsReadable r d) (are : AreStamped r d begins ends) where
   pub gap_moments : LeavesOnly d b (IsPartlyStored (erase_pairs begins ends) d.words) → LeavesOnly d b (StaysReadable d.lines r (image_of d.words))
@@ -54,7 +54,7 @@ module _ {r : Record} {d b : State} {begins ends : List EntryNo} (readable : IsR
       (erased_below sound (gap_erasing are) image over (undamaged_below readable.undamaged))
       (record {
         version_is = (readable.certain 1 (inl (omega arith))).only (image 1)
-            (elim (partly 1) [ inl may ↦ may | inr stored ↦ absurd (superblock_kept (erase_behind (gap_erasing are) 1 (image 1) stored)) ])
+            (elim (partly 1) [ inl may ↦ may | inr stored ↦ absurd (superblock_kept r.layout d.lines (erase_behind (gap_erasing are) 1 (image 1) stored)) ])
             ∙ readable.undamaged.superblock.version;
         has_record = partly_recorded d image (erase_pairs begins ends) readable.many (erase_behind (gap_erasing are)) readable.recorded partly;
         lawful = readable.undamaged.current.lawful;

@@ -72,7 +72,7 @@ group_current contents group lawful asked room =
     })
     refl refl (omega arith)
     (elim asked.epoch [ inl same ↦ omega (arith, same) | inr later ↦ omega (arith, later.1) ])
-    refl
+    refl refl
 
 -- no two live versions clash
 pub lawful_distinct : (contents : Contents) → AreLawful contents → AreDistinct contents.versions (entries_of contents)

@@ -127,7 +127,7 @@ module _ {r : Record} {lines : ℕ} {image : Image} {versions : Versions} (part 
 
   kept_word : (i k : ℕ) → i < entries_of_lines r.layout lines → k < 8 → k ≢ 1 → is_put_at i (puts_of_part part) ≡ false
       → image_after r part image (entry_word i k) ≡ image (entry_word i k)
-  kept_word i k within below other none = part_word-kept lines (r.cp + 1) part image stored.placed i k within below other none
+  kept_word i k within below other none = part_word-kept lines (r.cp + 1) part image placed_room i k (in_room i within) below other none
 
   -- the entry of a kept version stays, and so does its extent
   kept_entry : (i : ℕ) (version : Version) → i < entries_of_lines r.layout lines → versions i ≡ Some version → is_put_at i (puts_of_part part) ≡ false

@@ -34,7 +34,7 @@ use Rattle.wbl_engine.proofs.SuccessorLemmas.{lawful_later}
 pub promoted_is_lawful : (r : Record) → IsLawful r → r.number + 1 < COUNTER_LIMIT → r.epoch + 1 < COUNTER_LIMIT → IsLawful (promoted_record r)
 promoted_is_lawful r lawful number epoch =
     lawful_later r (promoted_record r) lawful
-    (record { number = number; position = lawful.position; room = lawful.room; epoch = epoch }) refl lawful.limit (omega arith) (omega arith) refl
+    (record { number = number; position = lawful.position; room = lawful.room; epoch = epoch }) refl lawful.limit (omega arith) (omega arith) refl refl
 
 -- ---- the contents
 

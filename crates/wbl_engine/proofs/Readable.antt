@@ -102,12 +102,12 @@ agrees_under {r} {lines} {base} {image} s is sound agrees alike =
     ap (counts s) same ∙ alike i k within low ∙ sym (ap (counts r) same))
 
 -- stamps of the same entries
-later_below : {r s : Record} {lines top : ℕ} {image : Image} → IsLater r s → AreBelow r.layout lines image top → AreBelow s.layout lines image top
-later_below {lines = lines} {top} {image} later below = subst (λ (layout : Layout). AreBelow layout lines image top) (sym later.layout) below
+later_below : {r s : Record} {top : ℕ} (lines : ℕ) (image : Image) → IsLater r s → AreBelow r.layout lines image top → AreBelow s.layout lines image top
+later_below {top = top} lines image later below = subst (λ (layout : Layout). AreBelow layout lines image top) (sym later.layout) below
 
 -- an image that has word 1 of the device is of the same version
-same_version_word : {r : Record} {d : State} {image : Image} → IsReadable r d → MayBe (d.words 1) (image 1) → image 1 ≡ version r.layout
-same_version_word {image = image} readable may = (readable.certain 1 (inl (omega arith))).only (image 1) may ∙ readable.undamaged.superblock.version
+same_version_word : {r : Record} {d : State} (image : Image) → IsReadable r d → MayBe (d.words 1) (image 1) → image 1 ≡ version r.layout
+same_version_word image readable may = (readable.certain 1 (inl (omega arith))).only (image 1) may ∙ readable.undamaged.superblock.version
 
 module _ {r : Record} {d : State} (readable : IsReadable r d) where
   pub readable_certain : (word : ℕ) → Matters r d.lines (image_of d.words) word → Only (d.words word) (image_of d.words word)
@@ -120,14 +120,14 @@ module _ {r : Record} {d : State} (readable : IsReadable r d) where
       let agrees : AgreesOn (Matters r d.lines (image_of d.words)) (image_of d.words) image =
       λ word matters. (readable_certain word matters).only (image word) (may word (matters_beside (undamaged_sound readable.undamaged) word matters)) in
       erased_stays readable.undamaged (agrees_under s later.layout (undamaged_sound readable.undamaged) agrees alike) later
-      (later_below later (agrees_below r d.lines agrees
+      (later_below d.lines image later (agrees_below r d.lines agrees
       (λ i k within low. let was = undamaged_below readable.undamaged i k within low in omega (arith, was, later.limit)))) current
 
   -- so a crash leaves a readable image
   pub readable_stays : (image : Image) → IsImage d.words image → StaysReadable d.lines r (image_of d.words) image
   readable_stays image is =
       agrees_stays r image (IsLater-same r) (λ i k within low. refl) (λ word beside. is word)
-      (record { version_is = same_version_word readable (is 1); has_record = readable.recorded image is; lawful = readable.undamaged.current.lawful })
+      (record { version_is = same_version_word image readable (is 1); has_record = readable.recorded image is; lawful = readable.undamaged.current.lawful })
 
   -- where nothing was stored
   pub unchanged_stays : LeavesOnly d d (StaysReadable d.lines r (image_of d.words))
@@ -169,7 +169,7 @@ module _ {r s : Record} {d : State} (readable : IsReadable r d) (later : IsLater
       let agrees : AgreesOn (Matters r d.lines (image_of d.words)) (image_of d.words) (image_of c.words) =
       λ word matters. recorded.newest word (beside_next s later.layout refl readable.many word (matters_beside sound word matters)) in
       erased_readable readable (agrees_under s later.layout sound agrees alike) (omega (arith, later.position))
-      (later_below later (agrees_below r d.lines agrees
+      (later_below d.lines (image_of c.words) later (agrees_below r d.lines agrees
       (λ i k within low. let was = undamaged_below readable.undamaged i k within low in omega (arith, was, later.limit))))
       lawful recorded.stays.lines recorded.durable
       (λ word beside. recorded_only recorded word (beside_next s later.layout refl readable.many word beside) (readable.certain word beside))
@@ -181,7 +181,7 @@ module _ {r s : Record} {d : State} (readable : IsReadable r d) (later : IsLater
       leaves : (image : Image) → IsEitherRecord d r s image → StaysReadable d.lines r (image_of d.words) image
       leaves image either =
           let may = λ (word : ℕ) (beside : IsBesideRecords r.layout d.lines word). either.elsewhere word (beside_next s later.layout refl readable.many word beside) in
-          let is : image 1 ≡ version r.layout = same_version_word readable (may 1 (inl (omega arith))) in
+          let is : image 1 ≡ version r.layout = same_version_word image readable (may 1 (inl (omega arith))) in
           elim either.either [
             | inl old ↦
                 agrees_stays readable r image (IsLater-same r) (λ i k within low. refl) may

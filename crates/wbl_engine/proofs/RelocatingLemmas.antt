@@ -193,7 +193,7 @@ relocated_lawful contents part are asked room =
             room = below_limit (relocated_record r).cd (λ reached. room (inl reached));
             epoch = are.current.epoch;
           })
-          refl refl (omega arith) (omega arith) refl;
+          refl refl (omega arith) (omega arith) refl refl;
       apart = part_apart contents.versions part are.apart
           (all-from (IsFresh contents.versions) (puts_of_part part)
           (λ put among. (among-all (IsUnused contents.versions contents.is_free) (puts_of_part part) put among asked.unused).lines))

@@ -1,5 +1,13 @@
-use Rattle.wbl_engine.proofs.RoomLemmas.{reopened_moments}
+use Rattle.std.proofs.Common.{◌<◌, length, subst, sym}
+use Rattle.model.specs.declared.record.Record.{Record}
+use Rattle.model.specs.Layout.{max_gaps}
+use Rattle.wbl_engine.proofs.RoomLemmas.{has_limits, reopened_moments}
 use Rattle.wbl_engine.proofs.reopening.write_reopened.Goals as goal
+
+pub add_open_gap-requires-clause-room : goal.add_open_gap-requires-clause-room
+add_open_gap-requires-clause-room g c =
+    subst (λ (q : Record). length q.gaps.items < max_gaps q.layout) (sym c.in_ok-roomy.ensures.next)
+    (has_limits c.args.current c.requires.readable.undamaged.current.lawful c.requires.limits).room
 
 pub returns-in-Ok-clause-moments : goal.returns-in-Ok-clause-moments
 returns-in-Ok-clause-moments g c =
