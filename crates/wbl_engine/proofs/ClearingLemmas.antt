@@ -24,7 +24,7 @@ use Rattle.wbl_engine.proofs.Erased.{AreBelow, CountAlike, IsErased, directory_m
 use Rattle.wbl_engine.proofs.ErasedStamps.{AreGone, IsErasing, erase_behind, erase_line, erased_below, erased_over, is_erased_at, made_free, within_from, written_stamp}
 use Rattle.wbl_engine.proofs.GapLemmas.{IsOldest, in_oldest, inside_not_free, not_in_oldest, oldest, zero_outside}
 use Rattle.wbl_engine.proofs.ListedEntries.{listed_stamped, stamped_once}
-use Rattle.wbl_engine.proofs.Storing.{AgreesOn, beside_at, partly_over, partly_recorded, recorded_only, staged_only, staged_recorded, written_over}
+use Rattle.wbl_engine.proofs.Storing.{AgreesOn, beside_at, beside_next, partly_over, partly_recorded, recorded_only, staged_only, staged_recorded, written_over}
 
 -- ---- the stamps of the gap
 
@@ -198,11 +198,12 @@ module _ {r : Record} {d : State} {begins ends : List EntryNo} (begun : IsCleari
       moments
 
 -- what is written beside the words on which the map depends leaves it
-pub recorded_erased : {r : Record} {d b : State} {begins ends : List EntryNo} (c : State) (n : ℕ) → IsClearing r d begins ends
+pub recorded_erased : {r : Record} {d b : State} {begins ends : List EntryNo} (c : State) (next : Record) → next.layout ≡ r.layout → IsClearing r d begins ends
     → Staged d b (erase_pairs begins ends) (erase_lines begins ends)
-    → ((word : ℕ) → (IsRecordWord r.layout b.lines n word → ⊥) → image_of c.words word ≡ image_of b.words word) → AreErased r d begins ends (image_of c.words)
-recorded_erased {r} {d} c n begun staged newest word matters =
-    newest word (beside_at r.layout n word staged.stays.lines begun.rest.many (matters_beside (whole_sound begun.rest.whole) word matters))
+    → ((word : ℕ) → (IsRecordWord next.layout b.lines next.number word → ⊥) → image_of c.words word ≡ image_of b.words word)
+    → AreErased r d begins ends (image_of c.words)
+recorded_erased {r} {d} c next is begun staged newest word matters =
+    newest word (beside_next next is staged.stays.lines begun.rest.many word (matters_beside (whole_sound begun.rest.whole) word matters))
     ∙ staged.newest word
 
 module _ {r : Record} {d b : State} {begins ends : List EntryNo} (begun : IsClearing r d begins ends) (lawful : IsLawful (record_after_clearing r))
@@ -216,7 +217,7 @@ module _ {r : Record} {d b : State} {begins ends : List EntryNo} (begun : IsClea
 
   pub cleared_rest : {c : State} → IsRecorded b c (record_after_clearing r) → IsAtRest (record_after_clearing r) c
   cleared_rest {c} recorded =
-      let made = recorded_erased c (r.number + 1) begun staged recorded.newest in
+      let made = recorded_erased c (record_after_clearing r) refl begun staged recorded.newest in
       erased_rest begun.rest.many begun.rest.few (whole_sound begun.rest.whole) (cleared_new begun (image_of c.words) made) lawful (omega arith)
       (cleared_below begun (image_of c.words) made (whole_below begun.rest.whole)) (recorded.stays.lines ∙ staged.stays.lines) recorded.durable
       (λ word matters. recorded_only recorded word (matters_out word matters) (staged_certain word matters))

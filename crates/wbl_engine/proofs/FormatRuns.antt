@@ -45,12 +45,12 @@ pub new_run : {a b c d e : State} {lines count room entries line_0 line_1 number
     (replicate (first_word DIRECTORY_LINE - (first_word line_1 + first_word width) + first_word entries) 0)) d.words)
     → Runs a e (stores (new_pairs lines first.role) a.words)
 unfolding new_pairs
-new_run {a} {b} {c} {d} {e} {count = count} {line_0 = line_0} {line_1 = line_1} {first = first} is_number is_width is_count is_room are_entries is_0 is_1 is_first is_words run1 run2 run3 run4 =
+new_run {a} {b} {c} {d} {e} {count = count} {room = room} {entries = entries} {line_0 = line_0} {line_1 = line_1} {first = first} is_number is_width is_count is_room are_entries is_0 is_1 is_first is_words run1 run2 run3 run4 =
     let body : List ℕ = record_words (first_record first.role) in
     subst (λ (n : ℕ). Runs a e (stores (run_pairs n (superblock_words n) (replicate slot_words 0) body (replicate (rest_words n) 0)) a.words)) is_count
     (run_runs count (superblock_words count) (replicate slot_words 0) body (replicate (rest_words count) 0)
     (subst (λ (n : ℕ). Runs a b (stores (pairs_from 1 (version LAYOUT ∷ count ∷ n ∷ 1 ∷ 0 ∷ 0 ∷ 0 ∷ [])) a.words)) is_room
-    (subst (λ (v : ℕ). Runs a b (stores (pairs_from 1 (v ∷ count ∷ _ ∷ 1 ∷ 0 ∷ 0 ∷ 0 ∷ [])) a.words)) is_number run1))
+    (subst (λ (v : ℕ). Runs a b (stores (pairs_from 1 (v ∷ count ∷ room ∷ 1 ∷ 0 ∷ 0 ∷ 0 ∷ [])) a.words)) is_number run1))
     (subst (λ (n : ℕ). Runs b c (stores (pairs_from (first_word n) (replicate slot_words 0)) b.words)) is_0
     (subst (λ (w : ℕ). Runs b c (stores (pairs_from (first_word line_0) (replicate (first_word w) 0)) b.words)) is_width run2))
     (subst (λ (n : ℕ). Runs c d (stores (pairs_from (first_word n) body) c.words)) is_1
@@ -58,7 +58,7 @@ new_run {a} {b} {c} {d} {e} {count = count} {line_0 = line_0} {line_1 = line_1} 
     (subst (λ (n : ℕ). Runs d e (stores (pairs_from (first_word n + slot_words) (replicate (zeros_behind n (entries_of_lines LAYOUT count)) 0)) d.words)) is_1
     (subst (λ (n : ℕ). Runs d e (stores (pairs_from (first_word line_1 + slot_words) (replicate (zeros_behind line_1 n) 0)) d.words)) are_entries
     (subst (λ (w : ℕ). Runs d e (stores (pairs_from (first_word line_1 + first_word w)
-    (replicate (first_word DIRECTORY_LINE - (first_word line_1 + first_word w) + first_word _) 0)) d.words)) is_width run4))))
+    (replicate (first_word DIRECTORY_LINE - (first_word line_1 + first_word w) + first_word entries) 0)) d.words)) is_width run4))))
 
 pub new_flushes : {a b : State} (lines count line : ℕ) → count ≡ lines → line ≡ first_extent_line count → Runs a b (flushes (lines_from 0 line) a.words)
     → Runs a b (flushes (lines_from 0 (first_extent_line lines)) a.words)

@@ -6,6 +6,7 @@ use Rattle.pmem.specs.Device.{State}
 use Rattle.pmem.specs.Crash.{image_of}
 use Rattle.pmem.specs.Runs.{LeavesOnly}
 use Rattle.model.specs.declared.image.TheConstants.{COUNTER_LIMIT, STAMP_WINDOW}
+use Rattle.model.specs.declared.layout.Layout.{Layout}
 use Rattle.model.specs.declared.record.Record.{Record}
 use Rattle.model.specs.Layout.{max_gaps}
 use Rattle.model.specs.Image.{Image, entry_word, counts, is_in_gap}
@@ -14,7 +15,7 @@ use Rattle.wbl_record.specs.Current.{IsLawful}
 use Rattle.wbl_engine.specs.Freeing.{record_after_clearing}
 use Rattle.wbl_engine.specs.Lawful.{IsUndamaged}
 use Rattle.wbl_engine.specs.Erasing.{oldest_gap}
-use Rattle.wbl_engine.specs.Reopening.{AreCleared, ExhaustsReopening, IsReadable, StaysReadable, is_cleared, is_full, with_room}
+use Rattle.wbl_engine.specs.Reopening.{AreCleared, ExhaustsReopening, IsBesideRecords, IsReadable, StaysReadable, is_cleared, is_full, with_room}
 use Rattle.wbl_engine.proofs.ClearingLemmas.{without_alike}
 use Rattle.wbl_engine.proofs.Erased.{IsErased, erased_under, nothing, undamaged_sound}
 use Rattle.wbl_engine.proofs.ErasedGap.{cleared_erased, cleared_later}
@@ -31,6 +32,13 @@ room_cases r =
 
 pub room_layout : (r : Record) → (with_room r).layout ≡ r.layout
 room_layout r = elim (room_cases r) [ inl full ↦ ap (λ (q : Record). q.layout) full.1 | inr roomy ↦ ap (λ (q : Record). q.layout) roomy.1 ]
+
+-- a word beside the records stays beside them
+pub beside_room : (r roomy : Record) (lines lines' word : ℕ) → roomy ≡ with_room r → lines' ≡ lines → IsBesideRecords r.layout lines word
+    → IsBesideRecords roomy.layout lines' word
+beside_room r roomy lines lines' word is same beside =
+    subst (λ (n : ℕ). IsBesideRecords roomy.layout n word) (sym same)
+    (subst (λ (layout : Layout). IsBesideRecords layout lines word) (sym (ap (λ (q : Record). q.layout) is ∙ room_layout r)) beside)
 
 pub full_some : (r : Record) → is_full r ≡ true → 0 < length r.gaps.items
 full_some r full = let e = eqb-true (length r.gaps.items) (max_gaps r.layout) full in omega (arith, e, some_gaps r.layout)
