@@ -86,8 +86,8 @@ impl<P: Pmem> WblEngine<P> {
         }
     }
 
-    /// Reopens the image of a device, which is to have this layout, in its role: no stamp counts from then on that a crash may have cut off. Returns the engine, and all
-    /// versions of the image. Where the record holds as many gaps as it can, the oldest is cleared first.
+    /// Reopens the image of a device, which is to have this layout, in its role: no stamp counts from then on that a crash may have cut off.
+    /// Returns the engine, and all versions of the image. Where the record holds as many gaps as it can, the oldest is cleared first.
     ///
     /// At any moment a crash leaves an undamaged image with the same versions, which can be reopened again.
     ///

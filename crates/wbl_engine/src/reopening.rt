@@ -113,7 +113,8 @@ fn left_by_clearing<P: Pmem>(
     gapped: Vec<EntryNo>,
 ) -> Result<Vec<EntryNo>, AllocError>
     requires image { MIN_LINES ≤ (P.state device.now).lines }
-    requires gapped { gapped.items ≡ gapped_below current.now (image_of (P.state device.now).words) (entries_of_lines current.now.layout (P.state device.now).lines) }
+    requires gapped { gapped.items
+        ≡ gapped_below current.now (image_of (P.state device.now).words) (entries_of_lines current.now.layout (P.state device.now).lines) }
     ensures { IfOk result (λ left.
         left.items ≡ left_below current.now (image_of (P.state device.now).words) (entries_of_lines current.now.layout (P.state device.now).lines)) }
 {

@@ -86,9 +86,11 @@ pub trait Restarting: Durable {
         ensures sound { OnOk result ((Self.is_faulted self.new ≡ false) × ((Self.device self.new).failures ≡ (Self.device self.old).failures)) }
         ensures stopped { IsErrOf result Refusal.Fault → Self.is_faulted self.new ≡ true }
         ensures refused { IfErr result (λ refusal. (refusal ≡ Refusal.Fault)
-            ⊎ (RefusesReopening (Self.contents self.old).current.layout (Self.device self.old).lines (image_of (Self.device self.old).words) role refusal × (self.new ≡ self.old))) }
+            ⊎ (RefusesReopening (Self.contents self.old).current.layout (Self.device self.old).lines (image_of (Self.device self.old).words) role refusal
+            × (self.new ≡ self.old))) }
         ensures fault { IsErrOf result Refusal.Fault → (Self.device self.old).failures < (Self.device self.new).failures }
-        ensures superblock { (refusal : Cause) → super_refusal (Self.contents self.old).current.layout (Self.device self.old).lines (image_of (Self.device self.old).words) ≡ Some refusal
+        ensures superblock { (refusal : Cause)
+            → super_refusal (Self.contents self.old).current.layout (Self.device self.old).lines (image_of (Self.device self.old).words) ≡ Some refusal
             → result ≡ Err refusal }
         ensures lines { (Self.device self.new).lines ≡ (Self.device self.old).lines }
         ensures asked_moment { (Self.device self.new).kept ≡ (Self.device self.old).kept }
