@@ -97,7 +97,14 @@ module _ {r : Record} {d : State} {parts : List Part} {position epoch : ℕ} (be
       (λ y there.
       elim (stored_by begun (entry_word put.entry.0 k) y there) [
         | inl extent ↦
-            absurd (omega (arith, extent.of.low, (placed_at begun put among).entry, below, (placed_at begun extent.put extent.among).above, entries_fit r.layout d.lines))
+            absurd (omega (
+              arith,
+              extent.of.low,
+              (placed_at begun put among).entry,
+              below,
+              (placed_at begun extent.put extent.among).above,
+              entries_fit r.layout d.lines,
+            ))
         | inr (inl entry) ↦
             let same : entry.put.entry.0 ≡ put.entry.0 = omega (arith, entry.of.low, entry.of.high, below) in
             let is : entry.put ≡ put = among_same (puts_of_parts parts) entry.put put begun.asked.apart entry.among among same in

@@ -48,7 +48,8 @@ module _ {r : Record} {d : State} {begins ends : List EntryNo} (are : AreStamped
   stamped_where : (i k : ℕ) → k < 2 → IsTrue (is_erased_at begins ends i k)
       → (i < entries_of_lines r.layout d.lines) × IsTrue (is_in_gap (image_of d.words (entry_word i k)) (oldest_gap r))
   stamped_where i k low listed =
-      let parts = and_parts (nat_lt i (entries_of_lines r.layout d.lines)) (is_in_gap (image_of d.words (entry_word i k)) (oldest_gap r)) (sym (stamped_is i k low) ∙ listed) in
+      let parts = and_parts (nat_lt i (entries_of_lines r.layout d.lines)) (is_in_gap (image_of d.words (entry_word i k)) (oldest_gap r))
+      (sym (stamped_is i k low) ∙ listed) in
       (ltb-true i (entries_of_lines r.layout d.lines) parts.0, parts.1)
 
   pub gap_erasing : IsErasing r d.lines (image_of d.words) begins ends
@@ -140,7 +141,8 @@ module _ {r : Record} {d : State} {begins ends : List EntryNo} (begun : IsCleari
       (λ i k within low.
       made (entry_word i k) (directory_matters r d.lines (image_of d.words) i k within (omega (arith, low))) ∙ gap_stamp begun.stamped i k within low))
 
-  cleared_below : {top : ℕ} (image : Image) → AreErased r d begins ends image → AreBelow r.layout d.lines (image_of d.words) top → AreBelow r.layout d.lines image top
+  cleared_below : {top : ℕ} (image : Image) → AreErased r d begins ends image → AreBelow r.layout d.lines (image_of d.words) top
+      → AreBelow r.layout d.lines image top
   cleared_below image made below =
       erased_below (whole_sound begun.rest.whole) (gap_erasing begun.stamped) image
       (written_over (Matters r d.lines (image_of d.words)) (image_of d.words) image (erase_pairs begins ends) made) below
@@ -242,7 +244,11 @@ module _ {r : Record} {d b : State} {begins ends : List EntryNo} (begun : IsClea
   clear_moments moments =
       LeavesOnly-then (erase_moments begun staged.moments)
       (LeavesOnly-weaken (IsClearedOrNot r d) clear_either
-      (moments r (record { layout = refl; number = refl; durable = staged_recorded begun.rest.many (erase_behind (gap_erasing begun.stamped)) staged begun.rest.recorded })))
+      (moments r (record {
+        layout = refl;
+        number = refl;
+        durable = staged_recorded begun.rest.many (erase_behind (gap_erasing begun.stamped)) staged begun.rest.recorded;
+      })))
 
 -- where nothing was stored
 pub clear_none : {r : Record} {d : State} → IsAtRest r d → ((image : Image) → IsImage d.words image → Keeps (contents_of r d) image)

@@ -77,7 +77,10 @@ module _ {r : Record} {d : State} {parts : List Part} {position epoch : ℕ} (en
 
   both_behind : AreBehind r.layout d.lines pairs
   both_behind word x stored =
-      elim (IsStored-append erased group word x stored) [ inl zero_there ↦ erase_behind (ended_erasing r d entries ended) word x zero_there | inr part ↦ group_behind begun word x part ]
+      elim (IsStored-append erased group word x stored) [
+        | inl zero_there ↦ erase_behind (ended_erasing r d entries ended) word x zero_there
+        | inr part ↦ group_behind begun word x part
+      ]
 
   both_harmless : IsHarmless r d.lines base pairs
   both_harmless =
@@ -139,7 +142,8 @@ module _ {r : Record} {d : State} {parts : List Part} {position epoch : ℕ} (en
               ]
         ]
       where
-        below_of : (i k : ℕ) → i < entries_of_lines r.layout d.lines → k < 2 → PutsAt r d parts i k (image (entry_word i k)) ⊎ EndsAt r d parts i k (image (entry_word i k)) → image (entry_word i k) < r.cp + length parts + 1
+        below_of : (i k : ℕ) → i < entries_of_lines r.layout d.lines → k < 2
+            → PutsAt r d parts i k (image (entry_word i k)) ⊎ EndsAt r d parts i k (image (entry_word i k)) → image (entry_word i k) < r.cp + length parts + 1
         below_of i zero within low (inl put) = omega (arith, (put.begin refl).1)
         below_of i (suc zero) within low (inl put) = omega (arith, put.end refl)
         below_of i (suc (suc k)) within low (inl put) = absurd (omega (arith, low))

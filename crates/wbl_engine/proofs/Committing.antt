@@ -155,7 +155,8 @@ module _ {r : Record} {d b : State} {parts : List Part} {position epoch : ℕ} {
             (written_over (Matters r d.lines (image_of d.words)) (image_of d.words) image (group_pairs r parts)
             (λ word matters.
             (stage_certain begun staged word (inl matters)).only (image word)
-            (recorded.elsewhere word (beside_at r.layout (r.number + 1) word staged.stays.lines begun.rest.many (matters_beside (whole_sound begun.rest.whole) word matters)))
+            (recorded.elsewhere word (beside_at r.layout (r.number + 1) word staged.stays.lines begun.rest.many
+            (matters_beside (whole_sound begun.rest.whole) word matters)))
             ∙ staged.newest word))
             (HasRecord-lines staged.stays.lines old))
         | inr new ↦
@@ -201,7 +202,8 @@ module _ {r : Record} {d b : State} {parts : List Part} {position epoch : ℕ} {
       (erased_rest begun.rest.many begun.rest.few sound (agrees_erased sound agrees) (subst IsLawful is lawful) (omega arith)
       (agrees_below (record_after r parts position epoch) d.lines agrees (after_below begun)) (recorded.stays.lines ∙ staged.stays.lines) now.durable
       (λ word matters.
-      recorded_only now word (beside_at r.layout (r.number + 1) word staged.stays.lines begun.rest.many (matters_beside sound word matters)) (stage_certain begun staged word (inr matters))))
+      recorded_only now word (beside_at r.layout (r.number + 1) word staged.stays.lines begun.rest.many (matters_beside sound word matters))
+      (stage_certain begun staged word (inr matters))))
 
   pub done_same : {c : State} → IsRecorded b c next → Same (after_parts (contents_of r d) parts position epoch) (contents_of next c)
   done_same {c} recorded =

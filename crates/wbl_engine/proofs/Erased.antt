@@ -60,7 +60,8 @@ undamaged_below whole i zero within low = (whole.versions.entries i within).begi
 undamaged_below whole i (suc zero) within low = (whole.versions.entries i within).end
 undamaged_below whole i (suc (suc k)) within low = absurd (omega (arith, low))
 
-pub sound_under : {r : Record} {lines : ℕ} {image : Image} → IsSound r lines image → AreBelow r.layout lines image r.cd → (i : ℕ) → i < entries_of_lines r.layout lines
+pub sound_under : {r : Record} {lines : ℕ} {image : Image} → IsSound r lines image → AreBelow r.layout lines image r.cd → (i : ℕ)
+    → i < entries_of_lines r.layout lines
     → IsUnder r lines image i
 sound_under sound below i within =
     record {
@@ -85,7 +86,8 @@ HasSuperblock-same layout lines base image same has =
 pub directory_matters : (r : Record) (lines : ℕ) (base : Image) (i k : ℕ) → i < entries_of_lines r.layout lines → k < 8 → Matters r lines base (entry_word i k)
 directory_matters r lines base i k within below = inr (inl (omega arith, omega (arith, within, below)))
 
-pub matters_beside : {r : Record} {lines : ℕ} {base : Image} → IsSound r lines base → (word : ℕ) → Matters r lines base word → IsBesideRecords r.layout lines word
+pub matters_beside : {r : Record} {lines : ℕ} {base : Image} → IsSound r lines base → (word : ℕ) → Matters r lines base word
+    → IsBesideRecords r.layout lines word
 matters_beside sound word (inl before) = inl before
 matters_beside sound word (inr (inl directory)) = inr (inl directory)
 matters_beside sound word (inr (inr (i, within, begun, at))) = inr (inr (omega (arith, at.low, (sound.entries i within begun).above)))
@@ -243,7 +245,8 @@ agrees_below {base = base} r lines agrees below i k within low =
 
 -- ---- the contents
 
-pub versions-within : (r : Record) (d : State) (i : ℕ) → i < entries_of_lines r.layout d.lines → (contents_of r d).versions i ≡ version_at r (image_of d.words) i
+pub versions-within : (r : Record) (d : State) (i : ℕ) → i < entries_of_lines r.layout d.lines
+    → (contents_of r d).versions i ≡ version_at r (image_of d.words) i
 versions-within r d i within = cond-true (nat_lt i (entries_of_lines r.layout d.lines)) _ _ (lt-ltb i (entries_of_lines r.layout d.lines) within)
 
 pub versions-beyond : (r : Record) (d : State) (i : ℕ) → entries_of_lines r.layout d.lines ≤ i → (contents_of r d).versions i ≡ None

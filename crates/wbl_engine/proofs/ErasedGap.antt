@@ -82,13 +82,15 @@ module _ {r : Record} {d b : State} {begins ends : List EntryNo} (readable : IsR
             staged.newest (entry_word i k) ∙ written_other begins ends base (entry_word i k) (λ j m below listed is. omega (arith, low, high, below, is));
         extents = λ word high.
             staged.newest word
-            ∙ written_other begins ends base word (λ i k below listed is. omega (arith, high, below, is, (gap_erasing are).within i k below listed, entries_fit r.layout d.lines));
+            ∙ written_other begins ends base word (λ i k below listed is.
+            omega (arith, high, below, is, (gap_erasing are).within i k below listed, entries_fit r.layout d.lines));
       }
 
 -- ---- what is read after stamps were cleared
 
 module _ {layout : Layout} {lines : ℕ} {base image : Image} (test : ℕ → Bool) (cleared : AreCleared layout lines test base image) where
-  pub cleared_erased : {r : Record} → r.layout ≡ layout → IsSound r lines base → ((stamp : ℕ) → IsTrue (test stamp) → counts r stamp ≡ false) → IsErased r r lines nothing base image
+  pub cleared_erased : {r : Record} → r.layout ≡ layout → IsSound r lines base → ((stamp : ℕ) → IsTrue (test stamp) → counts r stamp ≡ false)
+      → IsErased r r lines nothing base image
   cleared_erased {r} is sound uncounted =
       record {
         layout = refl;
@@ -109,7 +111,8 @@ module _ {layout : Layout} {lines : ℕ} {base image : Image} (test : ℕ → Bo
 
       alike : (i k : ℕ) → i < entries_of_lines r.layout lines → k < 2 → counts r (image (entry_word i k)) ≡ counts r (base (entry_word i k))
       alike i k within low =
-          ap (counts r) (cleared.stamps i k (there i within) low) ∙ same (test (base (entry_word i k))) (base (entry_word i k)) (uncounted (base (entry_word i k)))
+          ap (counts r) (cleared.stamps i k (there i within) low) ∙ same (test (base (entry_word i k))) (base (entry_word i k))
+          (uncounted (base (entry_word i k)))
 
   pub cleared_below : {top : ℕ} → AreBelow layout lines base top → AreBelow layout lines image top
   cleared_below below i k within low =

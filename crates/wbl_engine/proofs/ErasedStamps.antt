@@ -142,7 +142,15 @@ module _ {r : Record} {lines : ℕ} {base : Image} {begins ends : List EntryNo} 
         words = λ i k x within counted low below stored. omega (arith, low, (stamp_of begins ends i k x below stored).1);
         extents = λ i word x within counted at stored.
             let s = erased_where begins ends word x stored in
-            omega (arith, at.low, (sound.entries i within counted).above, s.word_is, s.low, erasing.within s.entry s.k s.low s.listed, entries_fit r.layout lines);
+            omega (
+              arith,
+              at.low,
+              (sound.entries i within counted).above,
+              s.word_is,
+              s.low,
+              erasing.within s.entry s.k s.low s.listed,
+              entries_fit r.layout lines,
+            );
       }
 
   -- Such an image has lost just what is gone.

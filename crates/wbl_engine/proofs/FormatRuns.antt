@@ -36,16 +36,20 @@ abbrev pub zeros_behind : ℕ → ℕ → ℕ
 zeros_behind line_1 entries = first_word DIRECTORY_LINE - (first_word line_1 + slot_words) + first_word entries
 
 -- what was read and made are the words of a new image
-pub new_run : {a b c d e : State} {lines count room entries line_0 line_1 number width : ℕ} {first : Record} {words : List ℕ} → number ≡ version LAYOUT → width ≡ slot_lines LAYOUT
-    → count ≡ lines → room ≡ directory_room count → entries ≡ entries_of_lines LAYOUT count → line_0 ≡ slot_line LAYOUT count 0 → line_1 ≡ slot_line LAYOUT count 1
+pub new_run : {a b c d e : State} {lines count room entries line_0 line_1 number width : ℕ} {first : Record} {words : List ℕ} → number ≡ version LAYOUT
+    → width ≡ slot_lines LAYOUT
+    → count ≡ lines → room ≡ directory_room count → entries ≡ entries_of_lines LAYOUT count → line_0 ≡ slot_line LAYOUT count 0
+    → line_1 ≡ slot_line LAYOUT count 1
     → first ≡ first_record first.role → words ≡ record_words first
     → Runs a b (stores (pairs_from 1 (number ∷ count ∷ room ∷ 1 ∷ 0 ∷ 0 ∷ 0 ∷ [])) a.words)
-    → Runs b c (stores (pairs_from (first_word line_0) (replicate (first_word width) 0)) b.words) → Runs c d (stores (pairs_from (first_word line_1) words) c.words)
+    → Runs b c (stores (pairs_from (first_word line_0) (replicate (first_word width) 0)) b.words)
+    → Runs c d (stores (pairs_from (first_word line_1) words) c.words)
     → Runs d e (stores (pairs_from (first_word line_1 + first_word width)
     (replicate (first_word DIRECTORY_LINE - (first_word line_1 + first_word width) + first_word entries) 0)) d.words)
     → Runs a e (stores (new_pairs lines first.role) a.words)
 unfolding new_pairs
-new_run {a} {b} {c} {d} {e} {count = count} {room = room} {entries = entries} {line_0 = line_0} {line_1 = line_1} {first = first} is_number is_width is_count is_room are_entries is_0 is_1 is_first is_words run1 run2 run3 run4 =
+new_run {a} {b} {c} {d} {e} {count = count} {room = room} {entries = entries} {line_0 = line_0} {line_1 = line_1} {first = first} is_number is_width
+    is_count is_room are_entries is_0 is_1 is_first is_words run1 run2 run3 run4 =
     let body : List ℕ = record_words (first_record first.role) in
     subst (λ (n : ℕ). Runs a e (stores (run_pairs n (superblock_words n) (replicate slot_words 0) body (replicate (rest_words n) 0)) a.words)) is_count
     (run_runs count (superblock_words count) (replicate slot_words 0) body (replicate (rest_words count) 0)

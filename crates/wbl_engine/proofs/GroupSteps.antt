@@ -89,7 +89,8 @@ still_ready entries lines stamp versions image part parts fit stored put among =
     none-from put.entry.0 a (λ other there e. (apart-across a b stored.apart other put there among).entries (sym e)) in
     record {
       free =
-          part_word-kept lines stamp part image (placed_in_more entries (directory_room lines) lines a fit (all-prefix (IsPlaced entries lines) a b stored.placed))
+          part_word-kept lines stamp part image (placed_in_more entries (directory_room lines) lines a fit
+          (all-prefix (IsPlaced entries lines) a b stored.placed))
           put.entry.0 0 (omega (arith, placed.entry, fit)) (omega arith) (omega arith) none
           ∙ was.free;
       lines = λ i version is.

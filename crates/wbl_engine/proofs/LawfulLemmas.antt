@@ -98,7 +98,8 @@ group_lawful contents group are asked room =
 -- ---- contents with the same versions
 
 -- they obey the rules, if their record does
-pub lawful_from : (old new : Contents) → IsLawful new.current → new.current.layout ≡ old.current.layout → new.lines ≡ old.lines → ((i : ℕ) → new.versions i ≡ old.versions i)
+pub lawful_from : (old new : Contents) → IsLawful new.current → new.current.layout ≡ old.current.layout → new.lines ≡ old.lines
+    → ((i : ℕ) → new.versions i ≡ old.versions i)
     → AreLawful old → AreLawful new
 lawful_from old new current layout lines versions are =
     record {
@@ -113,7 +114,8 @@ lawful_from old new current layout lines versions are =
     }
 
 pub same_lawful : (old new : Contents) → Same old new → AreLawful old → AreLawful new
-same_lawful old new same are = lawful_from old new (subst IsLawful (sym same.current) are.current) (ap (λ (r : Record). r.layout) same.current) same.lines same.versions are
+same_lawful old new same are = lawful_from old new (subst IsLawful (sym same.current) are.current) (ap (λ (r : Record). r.layout) same.current)
+    same.lines same.versions are
 
 -- ---- an image
 

@@ -270,7 +270,11 @@ module _ {r : Record} {lines : ℕ} {image : Image} {versions : Versions} (part 
             (λ i none beyond.
             let kept = changes_kept part.position versions part.changes.items i none in
             kept.is ∙ ap (end_if_begun kept.test) (fits.beyond i beyond))
-            (λ put among beyond. absurd (omega (arith, beyond, (among-all (IsPlaced (entries_of_lines r.layout lines) lines) (puts_of_part part) put among stored.placed).entry)));
+            (λ put among beyond. absurd (omega (
+              arith,
+              beyond,
+              (among-all (IsPlaced (entries_of_lines r.layout lines) lines) (puts_of_part part) put among stored.placed).entry,
+            )));
         begins = each_entry part (λ i. i < entries_of_lines r.layout lines → image_after r part image (entry_word i 0) ≤ r.cp + 1)
             (λ i none within. omega (arith, kept_word i 0 within (omega arith) (omega arith) none, fits.begins i within))
             (λ put among within. omega (arith, (put_there put among).begin));

@@ -54,8 +54,10 @@ puts_pairs-entry lines stamp position puts put image k below among placed apart 
     let at = among-all (IsPlaced (directory_room lines) lines) puts put among placed in
     puts_pairs-one stamp position puts put image (entry_word put.entry.0 k) (get_or (entry_words stamp position put) k 0)
     (λ base. put_pairs-entry lines stamp position put base k below)
-    (λ q there away.
-    (λ of. omega (arith, of.low, at.entry, (among-all (IsPlaced (directory_room lines) lines) puts q there placed).above), λ of. away.entries (omega (arith, of.low, of.high))))
+    (λ q there away. (
+      λ of. omega (arith, of.low, at.entry, (among-all (IsPlaced (directory_room lines) lines) puts q there placed).above),
+      λ of. away.entries (omega (arith, of.low, of.high)),
+    ))
     among apart
 
 -- the extent of one of several puts

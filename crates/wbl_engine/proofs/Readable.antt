@@ -65,7 +65,8 @@ moments_then {r} {s} {d} {b} {c} whole erased later same first second =
           epoch = stays.epoch ∙ later.epoch;
           role = stays.role ∙ later.role;
           versions = λ i within.
-              stays.versions i (subst (λ (layout : Layout). i < entries_of_lines layout d.lines) (sym later.layout) within) ∙ erased_version (undamaged_sound whole) erased i within;
+              stays.versions i (subst (λ (layout : Layout). i < entries_of_lines layout d.lines) (sym later.layout) within)
+              ∙ erased_version (undamaged_sound whole) erased i within;
         }
 
 -- a device that lost nothing is readable, if each crash leaves the record s, and what loads return beside the records
@@ -93,7 +94,8 @@ erased_readable {r} {s} {d} {c} readable erased up below lawful same recorded ce
 
 -- ---- an image that agrees wherever the map depends, under a record that counts alike
 
-pub agrees_under : {r : Record} {lines : ℕ} {base image : Image} (s : Record) → s.layout ≡ r.layout → IsSound r lines base → AgreesOn (Matters r lines base) base image
+pub agrees_under : {r : Record} {lines : ℕ} {base image : Image} (s : Record) → s.layout ≡ r.layout → IsSound r lines base
+    → AgreesOn (Matters r lines base) base image
     → CountAlike lines base r s → IsErased r s lines nothing base image
 agrees_under {r} {lines} {base} {image} s is sound agrees alike =
     erased_under s is (agrees_erased sound agrees)
@@ -180,13 +182,15 @@ module _ {r s : Record} {d : State} (readable : IsReadable r d) (later : IsLater
     where
       leaves : (image : Image) → IsEitherRecord d r s image → StaysReadable d.lines r (image_of d.words) image
       leaves image either =
-          let may = λ (word : ℕ) (beside : IsBesideRecords r.layout d.lines word). either.elsewhere word (beside_next s later.layout refl readable.many word beside) in
+          let may = λ (word : ℕ) (beside : IsBesideRecords r.layout d.lines word). either.elsewhere word
+          (beside_next s later.layout refl readable.many word beside) in
           let is : image 1 ≡ version r.layout = same_version_word image readable (may 1 (inl (omega arith))) in
           elim either.either [
             | inl old ↦
                 agrees_stays readable r image (IsLater-same r) (λ i k within low. refl) may
                 (record { version_is = is; has_record = old; lawful = readable.undamaged.current.lawful })
-            | inr new ↦ agrees_stays readable s image later alike may (record { version_is = is ∙ ap version (sym later.layout); has_record = new; lawful = lawful })
+            | inr new ↦ agrees_stays readable s image later alike may
+                (record { version_is = is ∙ ap version (sym later.layout); has_record = new; lawful = lawful })
           ]
 
 -- ---- a device with one candidate for each word

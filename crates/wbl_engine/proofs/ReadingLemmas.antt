@@ -18,10 +18,12 @@ undamaged_unique {lines} {image} r s current whole =
     HasRecord-unique lines image s r whole.current.lawful.few whole.current.version_is current.version_is whole.current.has_record current.has_record
 
 -- the record has the layout that the superblock says
-pub layout_read : {layout : Layout} {lines' lines : ℕ} {image : Image} {r : Record} → HasSuperblock layout lines' image → IsCurrent lines image r → r.layout ≡ layout
+pub layout_read : {layout : Layout} {lines' lines : ℕ} {image : Image} {r : Record} → HasSuperblock layout lines' image → IsCurrent lines image r
+    → r.layout ≡ layout
 layout_read {layout} {r = r} super current = same_version r.layout layout (sym current.version_is ∙ super.version)
 
-pub super_read : {layout : Layout} {lines' lines : ℕ} {image : Image} {r : Record} → HasSuperblock layout lines' image → lines' ≡ lines → IsCurrent lines image r
+pub super_read : {layout : Layout} {lines' lines : ℕ} {image : Image} {r : Record} → HasSuperblock layout lines' image → lines' ≡ lines
+    → IsCurrent lines image r
     → HasSuperblock r.layout lines image
 super_read {layout} {lines'} {lines} {image} {r} super of current =
     subst (λ (count : ℕ). HasSuperblock r.layout count image) of

@@ -172,7 +172,12 @@ module _ {contents : Contents} {part : Part} (consistent : IsConsistent contents
           elim (cases_Bool (is_put_at i (puts_of_part part))) [
             | inl there ↦
                 let at = is_put_at-among i (puts_of_part part) there in
-                absurd (omega (arith, beyond, at.2, (among-all (IsPlaced (entries_of contents) contents.lines) (puts_of_part part) at.0 at.1 asked.placed).entry))
+                absurd (omega (
+                  arith,
+                  beyond,
+                  at.2,
+                  (among-all (IsPlaced (entries_of contents) contents.lines) (puts_of_part part) at.0 at.1 asked.placed).entry,
+                ))
             | inr none ↦ none
           ]
 

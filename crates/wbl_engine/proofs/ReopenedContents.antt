@@ -116,7 +116,8 @@ gapped_are {r} {d} {c} gapped over are i =
     within false zero counted cleared version = refl
 
 pub reopens : {r : Record} {d c : State} (role : Role) (counted : List (EntryNo × Entry)) (gapped : List EntryNo) → IsReopenedOver r d c → r.role ≡ role
-    → (ExhaustsReopening r → ⊥) → counted ≡ counted_below r (image_of d.words) (entries_of_lines r.layout d.lines) → gapped ≡ left_below r (image_of d.words) (entries_of_lines r.layout d.lines)
+    → (ExhaustsReopening r → ⊥) → counted ≡ counted_below r (image_of d.words) (entries_of_lines r.layout d.lines)
+    → gapped ≡ left_below r (image_of d.words) (entries_of_lines r.layout d.lines)
     → Reopens d.lines (image_of d.words) role (contents_of (reopened r) c) counted gapped
 reopens {r} {d} {c} role counted gapped over is fits counts gaps =
     record {

@@ -44,7 +44,8 @@ new_entries {new = new} reopens =
 none_free : {lines : ℕ} {image : Image} {role : Role} {new : Contents} {counted : List (EntryNo × Entry)} {gapped : List EntryNo}
     → Reopens lines image role new counted gapped → (i : ℕ) → IsTrue (new.is_free i) → new.versions i ≡ None
 none_free {lines} {image} reopens i free =
-    let parts = and_parts (nat_lt i (entries_of_lines reopens.before.layout lines)) (image (entry_word i 0) == 0 || is_cleared reopens.before (image (entry_word i 0)))
+    let parts = and_parts (nat_lt i (entries_of_lines reopens.before.layout lines))
+    (image (entry_word i 0) == 0 || is_cleared reopens.before (image (entry_word i 0)))
     (sym (reopens.is_free i) ∙ free) in
     let uncounted : counts reopens.before (image (entry_word i 0)) ≡ false =
     elim (or_cases (image (entry_word i 0) == 0) (is_cleared reopens.before (image (entry_word i 0))) parts.1) [

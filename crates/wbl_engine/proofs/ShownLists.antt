@@ -113,7 +113,8 @@ free_is {r} {d} {c} over i within =
     ∙ ap (λ (b : Bool). begin == 0 || b) (le-ltb (with_room r).cd begin (omega (arith, low))) ∙ or-false (begin == 0)
 
 pub shows : {r : Record} {d c : State} (counted : List (EntryNo × Entry)) (gapped : List EntryNo) → IsReopenedOver r d c
-    → counted ≡ counted_below r (image_of d.words) (entries_of_lines r.layout d.lines) → gapped ≡ left_below r (image_of d.words) (entries_of_lines r.layout d.lines)
+    → counted ≡ counted_below r (image_of d.words) (entries_of_lines r.layout d.lines)
+    → gapped ≡ left_below r (image_of d.words) (entries_of_lines r.layout d.lines)
     → IsShown (contents_of (reopened r) c) counted gapped (image_of c.words)
 shows {r} {d} {c} counted gapped over counts gaps =
     record {

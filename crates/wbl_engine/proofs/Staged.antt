@@ -60,7 +60,8 @@ free_begin r d rest i free =
     ]
 
 -- what is live, or is put, is of the directory
-pub live_within : (r : Record) (d : State) (parts : List Part) → AllByRecursion (IsPlaced (entries_of_lines r.layout d.lines) d.lines) (puts_of_parts parts) → (i : ℕ)
+pub live_within : (r : Record) (d : State) (parts : List Part)
+    → AllByRecursion (IsPlaced (entries_of_lines r.layout d.lines) d.lines) (puts_of_parts parts) → (i : ℕ)
     → IsTrue (is_live_version ((contents_of r d).versions i) || is_put_at i (puts_of_parts parts)) → i < entries_of_lines r.layout d.lines
 live_within r d parts placed i live =
     elim (or_cases (is_live_version ((contents_of r d).versions i)) (is_put_at i (puts_of_parts parts)) live) [
@@ -207,7 +208,14 @@ module _ {r : Record} {d : State} {parts : List Part} {position epoch : ℕ} (be
                     | inr second ↦ omega (arith, second, extent.of.low, at.high)
                   ]
               | inr (inl entry) ↦ omega (arith, entry.of.high, at.low, place.above, (placed_at entry.put entry.among).entry, entries_fit r.layout d.lines)
-              | inr (inr end) ↦ omega (arith, end.word_is, at.low, place.above, live_within r d parts begun.asked.placed end.entry end.live, entries_fit r.layout d.lines)
+              | inr (inr end) ↦ omega (
+                arith,
+                end.word_is,
+                at.low,
+                place.above,
+                live_within r d parts begun.asked.placed end.entry end.live,
+                entries_fit r.layout d.lines,
+              )
             ];
       }
 

@@ -116,7 +116,8 @@ consistent_without contents gone consistent =
 pub lawful_cleared : (old new : Contents) (cleared : List EntryNo) → Clears old cleared new → old.current.number + 1 < COUNTER_LIMIT
     → AreLawful old → AreLawful new
 lawful_cleared old new cleared clears room are =
-    lawful_from old new (subst IsLawful (sym clears.current) (lawful_but_one old.current are.current room)) (ap (λ (r : Record). r.layout) clears.current) clears.lines_are clears.versions are
+    lawful_from old new (subst IsLawful (sym clears.current) (lawful_but_one old.current are.current room))
+    (ap (λ (r : Record). r.layout) clears.current) clears.lines_are clears.versions are
 
 pub consistent_cleared : (old new : Contents) (cleared : List EntryNo) → Clears old cleared new → IsConsistent old → IsConsistent new
 consistent_cleared old new cleared clears consistent =
@@ -127,5 +128,6 @@ consistent_cleared old new cleared clears consistent =
             | inl was ↦ consistent.free i was
             | inr begun ↦ clears.held_none i begun
           ];
-      beyond = λ i above. clears.versions i ∙ consistent.beyond i (omega (arith, above, entries_same old new (ap (λ (r : Record). r.layout) clears.current) clears.lines_are));
+      beyond = λ i above. clears.versions i ∙ consistent.beyond i
+          (omega (arith, above, entries_same old new (ap (λ (r : Record). r.layout) clears.current) clears.lines_are));
     }

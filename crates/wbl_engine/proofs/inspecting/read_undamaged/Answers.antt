@@ -16,5 +16,6 @@ returns-in-Ok-clause-layout g c = layout_read c.in_ok-read_super.ensures.ok c.in
 
 pub returns-in-Err-clause-refused : goal.returns-in-Err-clause-refused
 returns-in-Err-clause-refused g c =
-    no_versions c.args.layout (g.P.Pmem.state c.args.device.now).lines (image_of (g.P.Pmem.state c.args.device.now).words) c.in_ok-current.current c.in-Err.refusal
+    no_versions c.args.layout (g.P.Pmem.state c.args.device.now).lines (image_of (g.P.Pmem.state c.args.device.now).words) c.in_ok-current.current
+    c.in-Err.refusal
     c.in_ok-current.ensures.ok (λ is. c.in-Err.ensures.damaged (ap Err is)) c.in-Err.ensures.causes

@@ -8,4 +8,5 @@ pub returns-then-not-is_full : goal.returns-then-not-is_full
 returns-then-not-is_full g c =
     let state = g.P.Pmem.state c.args.device.now in
     c.requires.gapped
-    ∙ left_gapped c.args.current.now (image_of state.words) (entries_of_lines c.args.current.now.layout state.lines) (sym c.is_full.ensures ∙ c.if-not-is_full.true)
+    ∙ left_gapped c.args.current.now (image_of state.words) (entries_of_lines c.args.current.now.layout state.lines)
+    (sym c.is_full.ensures ∙ c.if-not-is_full.true)

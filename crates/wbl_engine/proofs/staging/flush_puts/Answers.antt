@@ -12,7 +12,8 @@ loop-change-init g c = Runs-none (g.P.Pmem.state c.args.device.now)
 pub flush_change-requires : goal.flush_change-requires
 flush_change-requires g c =
     subst (λ (lines : ℕ). AllByRecursion (IsPlaced (directory_room lines) lines) (put_of c.change-item.result)) (sym c.loop-change.invariant.stays.lines)
-    (all_of_item (IsPlaced (directory_room (g.P.Pmem.state c.args.device.now).lines) (g.P.Pmem.state c.args.device.now).lines) put_of c.args.changes.now c.loop-change.change-index c.change-item.result
+    (all_of_item (IsPlaced (directory_room (g.P.Pmem.state c.args.device.now).lines) (g.P.Pmem.state c.args.device.now).lines) put_of
+    c.args.changes.now c.loop-change.change-index c.change-item.result
     c.loop-change-test.true c.change-item.is c.requires)
 
 pub loop-change-preserved : goal.loop-change-preserved

@@ -13,7 +13,8 @@ loop-i-init g c = (Runs-none (g.P.Pmem.state c.args.device.now), tt)
 pub store_part-requires-clause-placed : goal.store_part-requires-clause-placed
 store_part-requires-clause-placed g c =
     subst (λ (lines : ℕ). AllByRecursion (IsPlaced (directory_room lines) lines) (puts_of_part c.index-parts-i.result)) (sym c.loop-i.invariant.0.stays.lines)
-    (all_of_item (IsPlaced (directory_room (g.P.Pmem.state c.args.device.now).lines) (g.P.Pmem.state c.args.device.now).lines) puts_of_part c.args.parts.now c.loop-i.i c.index-parts-i.result
+    (all_of_item (IsPlaced (directory_room (g.P.Pmem.state c.args.device.now).lines) (g.P.Pmem.state c.args.device.now).lines) puts_of_part
+    c.args.parts.now c.loop-i.i c.index-parts-i.result
     c.loop-i-test.true c.index-parts-i.is c.requires.placed)
 
 pub store_part-requires-clause-fitting : goal.store_part-requires-clause-fitting

@@ -13,7 +13,8 @@ loop-change-init g c = (Runs-none (g.P.Pmem.state c.args.device.now), tt)
 pub store_change-requires-clause-placed : goal.store_change-requires-clause-placed
 store_change-requires-clause-placed g c =
     subst (λ (lines : ℕ). AllByRecursion (IsPlaced (directory_room lines) lines) (put_of c.change-item.result)) (sym c.loop-change.invariant.0.stays.lines)
-    (all_of_item (IsPlaced (directory_room (g.P.Pmem.state c.args.device.now).lines) (g.P.Pmem.state c.args.device.now).lines) put_of c.args.changes.now c.loop-change.change-index c.change-item.result
+    (all_of_item (IsPlaced (directory_room (g.P.Pmem.state c.args.device.now).lines) (g.P.Pmem.state c.args.device.now).lines) put_of
+    c.args.changes.now c.loop-change.change-index c.change-item.result
     c.loop-change-test.true c.change-item.is c.requires.placed)
 
 pub store_change-requires-clause-fitting : goal.store_change-requires-clause-fitting
