@@ -96,6 +96,7 @@ abbrev pub after_parts : ℕ → Contents → List Part → Contents
 after_parts epoch contents parts =
     record {
       current = record {
+        layout = contents.current.layout;
         number = contents.current.number + 1;
         position = last_position contents.current.position parts;
         cp = contents.current.cp + length parts;

@@ -16,6 +16,7 @@ use Rattle.heap_layout.specs.Version.{version_of}
 use Rattle.extent_heap.specs.Extents.{is_line_of}
 use Rattle.extent_heap.specs.Room.{Room, fresh_room, is_free_entry, is_free_line}
 use Rattle.extent_heap.proofs.RunsLemmas.{line_bounds, line_within}
+use Rattle.model.specs.declared.layout.Layout.{Layout}
 use Rattle.model.specs.Group.{Contents, Versions, IsConsistent, is_ended_version, entries_of}
 use Rattle.model.specs.Image.{Version, IsLive, counts, entries_of_lines, first_extent_line}
 use Rattle.model.specs.ReadImage.{is_clash}
@@ -56,13 +57,14 @@ pub record IsFresh (contents : Contents) (fresh : Room) : Type 0 where
   pub end_line : fresh.end_line ≡ contents.lines
   pub end_entry : fresh.end_entry ≡ entries_of contents
 
-pub fresh_of : (contents : Contents) (fresh : Room) (lines first count : ℕ) → contents.lines ≡ lines → first ≡ first_extent_line lines → count ≡ entries_of_lines lines
+pub fresh_of : (contents : Contents) (fresh : Room) (layout : Layout) (lines first count : ℕ) → contents.current.layout ≡ layout → contents.lines ≡ lines → first ≡ first_extent_line lines
+    → count ≡ entries_of_lines layout lines
     → ((line : ℕ) → IsTrue (is_free_line fresh line) ↔ ((first ≤ line) × (line < lines))) → ((i : ℕ) → IsTrue (is_free_entry fresh i) ↔ (i < count)) → fresh ≡ fresh_room first lines count → IsFresh contents fresh
-fresh_of contents fresh lines first count is first_is count_is free_lines free_entries room = record {
+fresh_of contents fresh layout lines first count layout_is is first_is count_is free_lines free_entries room = record {
   lines = subst₂ (λ (a b : ℕ). (line : ℕ) → IsTrue (is_free_line fresh line) ↔ ((a ≤ line) × (line < b))) (first_is ∙ ap first_extent_line (sym is)) (sym is) free_lines;
-  entries = subst (λ (n : ℕ). (i : ℕ) → IsTrue (is_free_entry fresh i) ↔ (i < n)) (count_is ∙ ap entries_of_lines (sym is)) free_entries;
+  entries = subst (λ (n : ℕ). (i : ℕ) → IsTrue (is_free_entry fresh i) ↔ (i < n)) (count_is ∙ sym (ap₂ entries_of_lines layout_is is)) free_entries;
   end_line = ap (λ (r : Room). r.end_line) room ∙ sym is;
-  end_entry = ap (λ (r : Room). r.end_entry) room ∙ count_is ∙ ap entries_of_lines (sym is);
+  end_entry = ap (λ (r : Room). r.end_entry) room ∙ count_is ∙ sym (ap₂ entries_of_lines layout_is is);
 }
 
 -- ---- what was read, and the contents
