@@ -6,8 +6,9 @@ use Rattle.std.specs.List.{AllByRecursion, IsDistinct}
 use Rattle.kv_types.specs.declared.place.EntryNo.{EntryNo}
 use Rattle.model.specs.declared.group.Part.{Part}
 use Rattle.model.specs.declared.group.Put.{Put}
-use Rattle.model.specs.Image.{Version, entries_of_lines}
+use Rattle.model.specs.Image.{Version}
 use Rattle.model.specs.Group.{AreAllApart, AreEnded, AreParts, Contents, IsPlaced, NamesEnded, Versions, is_ended_version, is_listed, is_live_version, is_put_at, part_versions, parts_versions, puts_of_part, entries_of}
+use Rattle.model.proofs.DirectoryLemmas.{entries_same}
 use Rattle.model.proofs.GroupsLemmas.{AreAllApart-rest, changes_versions-none}
 use Rattle.mv_keyspace.specs.Row.{numbers_of}
 use Rattle.mv_keyspace.proofs.DistinctLemmas.{here, later}
@@ -60,24 +61,25 @@ none_at_begun versions puts i version empty begun = false_from_ne_true (is_put_a
 abbrev IsBounded : Contents → Type 0
 IsBounded contents = (i : ℕ) → entries_of contents ≤ i → contents.versions i ≡ None
 
-not_beyond : (lines : ℕ) (puts : List Put) (i : ℕ) → AllByRecursion (IsPlaced lines) puts → entries_of_lines lines ≤ i → is_put_at i puts ≡ false
-not_beyond lines [] i placed le = refl
-not_beyond lines (put ∷ puts) i placed le = ap (λ b. b || is_put_at i puts) (ne_eqb i put.entry.0 (too_low placed.0.entry)) ∙ not_beyond lines puts i placed.1 le
+not_beyond : (entries lines : ℕ) (puts : List Put) (i : ℕ) → AllByRecursion (IsPlaced entries lines) puts → entries ≤ i → is_put_at i puts ≡ false
+not_beyond entries lines [] i placed le = refl
+not_beyond entries lines (put ∷ puts) i placed le = ap (λ b. b || is_put_at i puts) (ne_eqb i put.entry.0 (too_low placed.0.entry)) ∙ not_beyond entries lines puts i placed.1 le
   where
-    too_low : put.entry.0 < entries_of_lines lines → i ≡ put.entry.0 → ⊥
+    too_low : put.entry.0 < entries → i ≡ put.entry.0 → ⊥
     too_low lt e = omega arith
 
 -- ---- one part
 
-ended_behind : (contents after : Contents) → after.lines ≡ contents.lines → ((i : ℕ) → IsTrue (is_ended_version (contents.versions i)) → IsTrue (is_ended_version (after.versions i)))
+ended_behind : (contents after : Contents) → after.current.layout ≡ contents.current.layout → after.lines ≡ contents.lines
+    → ((i : ℕ) → IsTrue (is_ended_version (contents.versions i)) → IsTrue (is_ended_version (after.versions i)))
     → (more : List EntryNo) → ((i : ℕ) → IsTrue (is_ended_version (contents.versions i)) → is_listed i more ≡ false) → AreEnded after more
     → (listed : List EntryNo) → AreEnded contents listed → AreEnded after (listed ++ more)
-ended_behind contents after lines stay more fresh new [] are = new
-ended_behind contents after lines stay more fresh new (entry ∷ listed) are = (
-  subst (λ n. entry.0 < entries_of_lines n) (sym lines) are.0,
+ended_behind contents after layout lines stay more fresh new [] are = new
+ended_behind contents after layout lines stay more fresh new (entry ∷ listed) are = (
+  subst (λ n. entry.0 < n) (sym (entries_same contents after layout lines)) are.0,
   stay entry.0 are.1,
   listed-append entry.0 listed more ∙ ap₂ (λ a b. a || b) are.2 (fresh entry.0 are.1),
-  ended_behind contents after lines stay more fresh new listed are.3,
+  ended_behind contents after layout lines stay more fresh new listed are.3,
 )
 
 all_ended : (contents : Contents) (entries : List EntryNo) → IsDistinct nat_eq (numbers_of entries)
@@ -101,7 +103,7 @@ module _ (contents : Contents) (part : Part) (bounded : IsBounded contents) (nam
   puts = puts_of_part part
 
   bounded_after : IsBounded (after_part contents part)
-  bounded_after i le = changes_versions-none part.position contents.versions part.changes.items i (bounded i le) (not_beyond contents.lines puts i placed le)
+  bounded_after i le = changes_versions-none part.position contents.versions part.changes.items i (bounded i le) (not_beyond (entries_of contents) contents.lines puts i placed le)
 
   stays_ended : (i : ℕ) → IsTrue (is_ended_version (contents.versions i)) → IsTrue (is_ended_version (part_versions contents.versions part i))
   stays_ended i ended = by (contents.versions i) refl ended
@@ -136,7 +138,7 @@ module _ (contents : Contents) (part : Part) (bounded : IsBounded contents) (nam
       ]
 
   ended_after : (listed : List EntryNo) → AreEnded contents listed → AreEnded (after_part contents part) (listed ++ part.ended.items)
-  ended_after = ended_behind contents (after_part contents part) refl stays_ended part.ended.items not_named (all_ended (after_part contents part) part.ended.items once named_ended)
+  ended_after = ended_behind contents (after_part contents part) refl refl stays_ended part.ended.items not_named (all_ended (after_part contents part) part.ended.items once named_ended)
 
 -- ---- all parts
 
