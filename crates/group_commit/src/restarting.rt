@@ -108,6 +108,7 @@ impl<E: Restarting> Committer<E> {
         requires settled { (word : ℕ) → Only ((E.device self.old.engine).words word) (image_of (E.device self.old.engine).words word) }
         ensures reopens { IfOk result (λ versions. Reopens (E.device self.old.engine).lines (image_of (E.device self.old.engine).words) role
             (E.contents self.new.engine) versions.counted.items versions.gapped.items) }
+        ensures layout { OnOk result ((E.contents self.new.engine).current.layout ≡ (E.contents self.old.engine).current.layout) }
         ensures shown { IfOk result (λ versions.
             IsShown (E.contents self.new.engine) versions.counted.items versions.gapped.items (image_of (E.device self.new.engine).words)) }
         ensures durable { OnOk result (IsDurable (E.device self.new.engine) (E.contents self.new.engine)) }
