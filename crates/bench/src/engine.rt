@@ -10,7 +10,7 @@ use crate::refused::print_refusal;
 use crate::sets::frame_of;
 use extent_heap::ExtentHeap;
 use kv_types::Refusal;
-use model::{LAYOUT, MIN_LINES};
+use model::{Layout, LAYOUT, MIN_LINES};
 use mv_keyspace::{Keyspace, MvKeyspace};
 use placing::Rebuilt;
 use pmem::SimPmem;
@@ -34,7 +34,7 @@ fn free_room(alloc: Global) -> Result<Rebuilt, Refusal>
 {
     let heap = ExtentHeap::new(
         alloc,
-        LAYOUT.first_extent_line(MIN_LINES),
+        Layout::first_extent_line(MIN_LINES),
         MIN_LINES,
         LAYOUT.entries_of_lines(MIN_LINES),
     )?;

@@ -14,7 +14,7 @@ use cmd_core::Lookup;
 use extent_heap::ExtentHeap;
 use heap_layout::{lines_for, write_entry};
 use kv_types::{EntryNo, Extent, RecordId, Refusal};
-use model::{LAYOUT, LINE_WORDS, MAX_LINES, MIN_LINES, Put, STAMP_WINDOW};
+use model::{Layout, LAYOUT, LINE_WORDS, MAX_LINES, MIN_LINES, Put, STAMP_WINDOW};
 use mv_keyspace::MvKeyspace;
 use placing::{Rebuilt, rebuild};
 use pmem::{Crashing, Pmem, SimPmem, flush_lines, store_words};
@@ -52,7 +52,7 @@ fn put_of(alloc: Global, lines: u64, number: u64) -> Result<Put, Refusal>
     let id = RecordId::Str(key_of(alloc, number)?);
     let value = value_of(alloc)?;
     let extent = Extent {
-        first_line: LAYOUT.first_extent_line(lines).saturating_add(number),
+        first_line: Layout::first_extent_line(lines).saturating_add(number),
         lines: lines_for(&id, &value),
     };
     if number >= LAYOUT.entries_of_lines(lines)
@@ -139,7 +139,7 @@ fn reopen(alloc: Global, device: SimPmem) -> Result<Reopened, Refusal>
     ensures { IfOk result (λ o. (lines : ℕ) × (image : Image) × (role : NodeRole) × (contents : Contents)
         × Reopens lines image role contents o.versions.counted.items o.versions.gapped.items × (lines ≡ (⟦<SimPmem as Pmem>⟧.state o.device).lines)) }
 {
-    match WblEngine::reopen(alloc, device, Role::Primary) {
+    match WblEngine::reopen(alloc, device, LAYOUT, Role::Primary) {
         Ok((engine, versions)) => Ok(Reopened {
             position: engine.position(),
             device: engine.into_device(),

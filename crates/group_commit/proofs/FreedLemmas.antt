@@ -12,8 +12,9 @@ use Rattle.model.specs.declared.group.Part.{Part}
 use Rattle.model.specs.declared.group.PlacedChange.{PlacedChange}
 use Rattle.model.specs.declared.group.PlacedChange.TheVariants as placed
 use Rattle.model.specs.declared.group.Put.{Put}
-use Rattle.model.specs.Image.{Version, entries_of_lines}
+use Rattle.model.specs.Image.{Version}
 use Rattle.model.specs.Group.{AreEnded, AreParts, Contents, IsConsistent, IsGroup, IsUnused, NamesEnded, Versions, after_group, change_of, change_versions, changes_versions, ended_where_begun, ends_record, is_ended_version, is_listed, is_live_version, is_put_at, part_versions, parts_versions, put_of, puts_of_group, puts_of_part, version_of_put}
+use Rattle.model.proofs.DirectoryLemmas.{entries_same}
 use Rattle.model.proofs.GroupsLemmas.{IsConsistent-after_group, is_put_at-append}
 use Rattle.wbl_engine.specs.Freeing.{after_free, without}
 use Rattle.wbl_engine.proofs.FreeingLemmas.{ended_within}
@@ -227,21 +228,21 @@ pub AllEnded-listed : (contents : Contents) (entries : List EntryNo) → AreEnde
     → AllEnded (λ i. is_listed i entries) contents.versions
 AllEnded-listed contents entries ended i listed = (ended_within contents entries i ended listed).1
 
--- contents of as many lines, where they have ended too
-pub AreEnded-moved : (old new : Contents) (entries : List EntryNo) → new.lines ≡ old.lines → AllEnded (λ i. is_listed i entries) new.versions
+-- contents of the same layout and as many lines, where they have ended too
+pub AreEnded-moved : (old new : Contents) (entries : List EntryNo) → new.current.layout ≡ old.current.layout → new.lines ≡ old.lines → AllEnded (λ i. is_listed i entries) new.versions
     → AreEnded old entries → AreEnded new entries
-AreEnded-moved old new [] lines still ended = tt
-AreEnded-moved old new (entry ∷ entries) lines still ended = (
-  subst (λ (n : ℕ). entry.0 < entries_of_lines n) (sym lines) ended.0,
+AreEnded-moved old new [] layout lines still ended = tt
+AreEnded-moved old new (entry ∷ entries) layout lines still ended = (
+  subst (λ (n : ℕ). entry.0 < n) (sym (entries_same old new layout lines)) ended.0,
   still entry.0 (or_left (nat_eq entry.0 entry.0) (is_listed entry.0 entries) (eq-eqb entry.0 entry.0 refl)),
   ended.2,
-  AreEnded-moved old new entries lines (λ i listed. still i (or_right (nat_eq i entry.0) (is_listed i entries) listed)) ended.3,
+  AreEnded-moved old new entries layout lines (λ i listed. still i (or_right (nat_eq i entry.0) (is_listed i entries) listed)) ended.3,
 )
 
 pub AreEnded-after_group : (contents : Contents) (group : Group) (entries : List EntryNo) → IsConsistent contents → IsGroup contents group
     → AreEnded contents entries → AreEnded (after_group contents group) entries
 AreEnded-after_group contents group entries consistent is ended =
-    AreEnded-moved contents (after_group contents group) entries refl
+    AreEnded-moved contents (after_group contents group) entries refl refl
     (AllEnded-after_group (λ i. is_listed i entries) contents group consistent (AllEnded-listed contents entries ended) is) ended
 
 pub AreEnded-after_groups : (contents : Contents) (groups : List Group) (entries : List EntryNo) → IsConsistent contents → AreGroups contents groups
@@ -289,7 +290,7 @@ AreEnded-apart contents (entry ∷ a) b ended i listed =
 pub AreEnded-without : (gone : ℕ → Bool) (contents : Contents) (entries : List EntryNo)
     → ((i : ℕ) → IsTrue (is_listed i entries) → gone i ≡ false) → AreEnded contents entries → AreEnded (without gone contents) entries
 AreEnded-without gone contents entries apart ended =
-    AreEnded-moved contents (without gone contents) entries refl
+    AreEnded-moved contents (without gone contents) entries refl refl
     (λ i listed.
     ap is_ended_version (cond-false (gone i) None (contents.versions i) (apart i listed)) ∙ AllEnded-listed contents entries ended i listed) ended
 

@@ -4,6 +4,7 @@ use Rattle.pmem.specs.Runs.{pairs_from, IsStored, IsOutside, written}
 use Rattle.pmem.proofs.Staging.{IsStored-append, IsStored-pairs_from, pairs_from-outside, written-append, written-outside, written-pairs_from}
 use Rattle.model.specs.declared.group.Put.{Put}
 use Rattle.model.specs.Image.{Image, entry_word}
+use Rattle.model.specs.Layout.{directory_room}
 use Rattle.model.specs.Group.{IsPlaced}
 use Rattle.heap_layout.specs.Put.{word_of_bytes, version_bytes, entry_words, extent_words, put_pairs}
 use Rattle.heap_layout.proofs.Packing.{length-packed, get_or-packed}
@@ -49,7 +50,7 @@ put_pairs-entry lines stamp position put image k below =
     ∙ written-pairs_from (entry_word put.entry.0 0) (entry_words stamp position put) (written extent image) k below
 
 -- its extent
-pub put_pairs-extent : (lines stamp position : ℕ) (put : Put) (image : Image) (j : ℕ) → IsPlaced lines put → j < 8 * put.extent.lines
+pub put_pairs-extent : (lines stamp position : ℕ) (put : Put) (image : Image) (j : ℕ) → IsPlaced (directory_room lines) lines put → j < 8 * put.extent.lines
     → written (put_pairs stamp position put) image (8 * put.extent.first_line + j) ≡ word_of_bytes (version_bytes put) (8 * j)
 put_pairs-extent lines stamp position put image j at below =
     let extent : List (ℕ × ℕ) = pairs_from (8 * put.extent.first_line) (extent_words put) in

@@ -3,7 +3,7 @@ use Rattle.std.proofs.Common.{◌≡◌, ◌≢◌, ℕ, ◌+◌, ◌*◌, ◌/�
 use Rattle.pmem.specs.Runs.{written}
 use Rattle.pmem.proofs.Staging.{written-outside}
 use Rattle.model.specs.declared.group.Put.{Put}
-use Rattle.model.specs.Image.{Image, entry_word, entry_bytes, bytes_at, lines_of_bytes, entries_of_lines}
+use Rattle.model.specs.Image.{Image, entry_word, entry_bytes, bytes_at, lines_of_bytes, directory_room}
 use Rattle.model.specs.Group.{IsPlaced, AreApart}
 use Rattle.heap_layout.specs.Entry.{IsEntry, ReadsAlike, entry_in}
 use Rattle.heap_layout.specs.Put.{put_pairs}
@@ -50,7 +50,7 @@ entry_in-same old new i same extent =
     cc (same 0 (omega arith), same 1 (omega arith), same 2 (omega arith), same 4 (omega arith))
 
 -- a put stores to no word of another entry
-other_line : (lines stamp position : ℕ) (put : Put) (old new : Image) (i : ℕ) → IsPlaced lines put → i < entries_of_lines lines → i ≢ put.entry.0
+other_line : (lines stamp position : ℕ) (put : Put) (old new : Image) (i : ℕ) → IsPlaced (directory_room lines) lines put → i < directory_room lines → i ≢ put.entry.0
     → ((word : ℕ) → new word ≡ written (put_pairs stamp position put) old word) → SameLine old new i
 other_line lines stamp position put old new i placed below other is k small =
     is (entry_word i k)
@@ -59,7 +59,7 @@ other_line lines stamp position put old new i placed below other is k small =
     (λ of. other (omega (arith, of.low, of.high))))
 
 -- and to no word of an extent with other lines
-other_extent : (lines stamp position : ℕ) (put : Put) (old new : Image) (i : ℕ) → IsPlaced lines put → IsEntry lines old i
+other_extent : (lines stamp position : ℕ) (put : Put) (old new : Image) (i : ℕ) → IsPlaced (directory_room lines) lines put → IsEntry lines old i
     → AreApart (old (entry_word i 3)) (old (entry_word i 4)) put.extent.first_line put.extent.lines
     → ((word : ℕ) → new word ≡ written (put_pairs stamp position put) old word) → (j : ℕ) → j < (entry_bytes old i + 7) / 8
     → new (8 * old (entry_word i 3) + j) ≡ old (8 * old (entry_word i 3) + j)
@@ -73,7 +73,7 @@ other_extent lines stamp position put old new i placed entry apart is j below =
     (λ of. omega (arith, of.high, placed.entry, entry.above)))
 
 -- Every other entry reads as before.
-pub ReadsAlike-put : (lines stamp position : ℕ) (put : Put) (old new : Image) (i : ℕ) → IsPlaced lines put → i < entries_of_lines lines
+pub ReadsAlike-put : (lines stamp position : ℕ) (put : Put) (old new : Image) (i : ℕ) → IsPlaced (directory_room lines) lines put → i < directory_room lines
     → i ≢ put.entry.0 → ((word : ℕ) → new word ≡ written (put_pairs stamp position put) old word) → ReadsAlike lines old new put.extent i
 ReadsAlike-put lines stamp position put old new i placed below other is =
     let same = other_line lines stamp position put old new i placed below other is in

@@ -9,6 +9,7 @@ use Rattle.pmem.specs.Runs.{written}
 use Rattle.model.specs.declared.group.Put.{Put}
 use Rattle.model.specs.Image.{Image, id_of, entry_word, entry_bytes, key_bytes, field_bytes, bytes_at, lines_of_bytes}
 use Rattle.model.specs.ReadImage.{record_in}
+use Rattle.model.specs.Layout.{directory_room}
 use Rattle.model.specs.Group.{bytes_of_id, IsPlaced, HasItsLines}
 use Rattle.heap_layout.specs.declared.entry.TheConstants.{STRING_KIND, FIELD_KIND}
 use Rattle.heap_layout.specs.Entry.{IsEntry, entry_in}
@@ -28,7 +29,7 @@ pub record HasPut (image : Image) (stamp position : ℕ) (put : Put) : Type 0 wh
   pub extent : (j : ℕ) → j < 8 * put.extent.lines → image (8 * put.extent.first_line + j) ≡ word_of_bytes (version_bytes put) (8 * j)
 
 -- an image to which it was written
-HasPut-written : (lines stamp position : ℕ) (put : Put) (old new : Image) → IsPlaced lines put
+HasPut-written : (lines stamp position : ℕ) (put : Put) (old new : Image) → IsPlaced (directory_room lines) lines put
     → ((word : ℕ) → new word ≡ written (put_pairs stamp position put) old word) → HasPut new stamp position put
 HasPut-written lines stamp position put old new placed is =
     let at = λ (k : ℕ) (below : k < 8). is (entry_word put.entry.0 k) ∙ put_pairs-entry lines stamp position put old k below in
@@ -134,7 +135,7 @@ kind_of_name (Str key) kind field is none = inl (is, none)
 kind_of_name (Field key f) kind field is none = inr is
 
 -- It breaks no rule.
-pub IsEntry-put : (lines : ℕ) (image : Image) (stamp position : ℕ) (put : Put) → IsPlaced lines put → HasItsLines put → IsStorable put
+pub IsEntry-put : (lines : ℕ) (image : Image) (stamp position : ℕ) (put : Put) → IsPlaced (directory_room lines) lines put → HasItsLines put → IsStorable put
     → IsShortName put.id → length put.value ≤ 65536 → HasPut image stamp position put → IsEntry lines image put.entry.0
 IsEntry-put lines image stamp position put placed fits storable short small has =
     let i = put.entry.0 in
@@ -156,7 +157,7 @@ IsEntry-put lines image stamp position put placed fits storable short small has 
     }
 
 -- What was written is whole, and is read back.
-pub put_reads : (lines stamp position : ℕ) (put : Put) (old new : Image) → IsPlaced lines put → HasItsLines put → IsStorable put → IsShortName put.id → length put.value ≤ 65536
+pub put_reads : (lines stamp position : ℕ) (put : Put) (old new : Image) → IsPlaced (directory_room lines) lines put → HasItsLines put → IsStorable put → IsShortName put.id → length put.value ≤ 65536
     → ((word : ℕ) → new word ≡ written (put_pairs stamp position put) old word) → IsEntry lines new put.entry.0 × (entry_in new put.entry.0 ≡ entry_of_put stamp position put)
 put_reads lines stamp position put old new placed fits storable short small is =
     let has = HasPut-written lines stamp position put old new placed is in (

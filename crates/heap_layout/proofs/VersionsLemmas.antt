@@ -85,23 +85,23 @@ module _ (r : Record) (image : Image) where
         (All-picked (is_counted r image) (run_in image) (λ run. 0 < run.lines) n
         (λ i below counted. omega (arith, ((under i below).whole counted).lines_are, lines-positive (entry_bytes image i))))
 
-    pub runs-AreVersions : AreVersions r lines image → NoTwo overlap (runs_of (counted_below r image (entries_of_lines lines)))
+    pub runs-AreVersions : AreVersions r lines image → NoTwo overlap (runs_of (counted_below r image (entries_of_lines r.layout lines)))
     runs-AreVersions whole =
-        let n = entries_of_lines lines in
+        let n = entries_of_lines r.layout lines in
         subst (NoTwo overlap) (sym (runs_of-counted n))
         (NoTwo-picked (is_counted r image) (run_in image) overlap n
         (λ i j below below' other p q. not_overlap (run_in image i) (run_in image j) (whole.apart i j below below' other p q)))
 
-    pub ids-AreVersions : AreVersions r lines image → NoTwo is_clash (live_ids (counted_below r image (entries_of_lines lines)))
+    pub ids-AreVersions : AreVersions r lines image → NoTwo is_clash (live_ids (counted_below r image (entries_of_lines r.layout lines)))
     ids-AreVersions whole =
-        let n = entries_of_lines lines in
+        let n = entries_of_lines r.layout lines in
         subst (NoTwo is_clash) (sym (live_ids-counted n)) (NoTwo-picked (is_live r image) (id_in image) is_clash n whole.distinct)
 
-    pub AreVersions-from_lists : AreUnder r lines image (entries_of_lines lines)
-        → NoTwo overlap (runs_of (counted_below r image (entries_of_lines lines)))
-        → NoTwo is_clash (live_ids (counted_below r image (entries_of_lines lines))) → AreVersions r lines image
+    pub AreVersions-from_lists : AreUnder r lines image (entries_of_lines r.layout lines)
+        → NoTwo overlap (runs_of (counted_below r image (entries_of_lines r.layout lines)))
+        → NoTwo is_clash (live_ids (counted_below r image (entries_of_lines r.layout lines))) → AreVersions r lines image
     AreVersions-from_lists under runs ids =
-        let n = entries_of_lines lines in
+        let n = entries_of_lines r.layout lines in
         let apart = picked-NoTwo (is_counted r image) (run_in image) overlap overlap-flips n (subst (NoTwo overlap) (runs_of-counted n) runs) in
         record {
           entries = under;

@@ -30,10 +30,10 @@ LieApart image i j = AreApart (image (entry_word i 3)) (image (entry_word i 4)) 
 -- The versions of the image break no rule under this record: no entry by itself, no two extents overlap, no record lives twice, and no key
 -- has a live string and a live field.
 pub record AreVersions (r : Record) (lines' : ℕ) (image : Image) : Type 0 where
-  pub entries : (i : ℕ) → i < entries_of_lines lines' → IsUnder r lines' image i
-  pub apart : (i j : ℕ) → i < entries_of_lines lines' → j < entries_of_lines lines' → i ≢ j
+  pub entries : (i : ℕ) → i < entries_of_lines r.layout lines' → IsUnder r lines' image i
+  pub apart : (i j : ℕ) → i < entries_of_lines r.layout lines' → j < entries_of_lines r.layout lines' → i ≢ j
       → IsTrue (is_counted r image i) → IsTrue (is_counted r image j) → LieApart image i j
-  pub distinct : (i j : ℕ) → i < entries_of_lines lines' → j < entries_of_lines lines' → i ≢ j
+  pub distinct : (i j : ℕ) → i < entries_of_lines r.layout lines' → j < entries_of_lines r.layout lines' → i ≢ j
       → IsTrue (is_live r image i) → IsTrue (is_live r image j) → is_clash (record_in image i).0 (record_in image j).0 ≡ false
 
 -- ---- as they are read

@@ -43,7 +43,7 @@ pub struct Stamps {
 /// Reads the stamps of an entry, of a free one too.
 pub fn read_stamps<P: Pmem>(device: &P, no: EntryNo) -> Stamps
     requires image { MIN_LINES ≤ (P.state device.now).lines }
-    requires entry { no.0 < images.entries_of_lines (P.state device.now).lines }
+    requires entry { no.0 < images.directory_room (P.state device.now).lines }
     ensures begin { result.begin ≡ image_of (P.state device.now).words (images.entry_word no.0 0) }
     ensures end { result.end ≡ image_of (P.state device.now).words (images.entry_word no.0 1) }
 {
@@ -61,7 +61,7 @@ pub fn read_stamps<P: Pmem>(device: &P, no: EntryNo) -> Stamps
 /// count, `Damaged` means nothing.
 pub fn read_entry<P: Pmem>(alloc: Global, device: &P, no: EntryNo) -> Result<Option<Entry>, Refusal>
     requires image { MIN_LINES ≤ (P.state device.now).lines }
-    requires entry { no.0 < images.entries_of_lines (P.state device.now).lines }
+    requires entry { no.0 < images.directory_room (P.state device.now).lines }
     ensures ok { IfOk result (λ o. IfSome o (λ entry. entry ≡ entry_in (image_of (P.state device.now).words) no.0)) }
     ensures whole { IfOk result (λ o. IfSome o (λ entry. IsEntry (P.state device.now).lines (image_of (P.state device.now).words) no.0)) }
     ensures free { (result ≡ Ok None) ↔ (image_of (P.state device.now).words (images.entry_word no.0 0) ≡ 0) }
@@ -89,7 +89,7 @@ pub fn read_entry<P: Pmem>(alloc: Global, device: &P, no: EntryNo) -> Result<Opt
 /// Word `k` of an entry.
 pub(crate) fn load_of<P: Pmem>(device: &P, no: EntryNo, k: u64) -> u64
     requires image { MIN_LINES ≤ (P.state device.now).lines }
-    requires entry { no.0 < images.entries_of_lines (P.state device.now).lines }
+    requires entry { no.0 < images.directory_room (P.state device.now).lines }
     requires word { k < 8 }
     ensures { result ≡ image_of (P.state device.now).words (images.entry_word no.0 k) }
 {

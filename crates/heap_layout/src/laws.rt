@@ -1,6 +1,7 @@
 //! What writing and reading are to one another.
 ghost use Rattle.std.specs.Prelude.{◌≡◌, ◌≢◌, ◌≤◌, Some, IfOk, IfErr};
 ghost use Rattle.model.specs.declared.image.TheConstants.{MIN_LINES};
+ghost use Rattle.model.specs.Layout.{directory_room};
 ghost use Rattle.model.specs.Group.{IsPlaced, HasItsLines};
 ghost use Rattle.heap_layout.specs.Put.{entry_of_put};
 
@@ -20,7 +21,7 @@ pub fn put_is_read_back<P: Pmem>(
     position: u64,
 ) -> Result<Option<Entry>, Refusal>
     requires image { MIN_LINES ≤ (P.state device.old).lines }
-    requires placed { IsPlaced (P.state device.old).lines put.now }
+    requires placed { IsPlaced (directory_room (P.state device.old).lines) (P.state device.old).lines put.now }
     requires fitting { HasItsLines put.now }
     requires begun { begin ≢ 0 }
     ensures read { IfOk result (λ o. o ≡ Some (entry_of_put begin position put.now)) }

@@ -9,7 +9,7 @@ ghost use Rattle.heap_layout.specs.Shape.{IsShape, IsOfKind, IsShort, IsPlaced, 
 
 use crate::entry::{FIELD_KIND, STRING_KIND, load_of};
 use kv_types::{EntryNo, Extent, Key, MAX_KEY_BYTES, MAX_VALUE_BYTES, RecordId, Value};
-use model::{FIELD_LENGTH_UNIT, LAYOUT, LINE_WORDS, WORD_BYTES, lines_of_bytes};
+use model::{FIELD_LENGTH_UNIT, LINE_WORDS, Layout, WORD_BYTES, lines_of_bytes};
 use pmem::Pmem;
 use std::alloc::{AllocError, Global};
 
@@ -27,7 +27,7 @@ impl Shape {
     /// The shape of the record in an entry, or `None` where the entry breaks a rule.
     pub fn of_entry<P: Pmem>(device: &P, no: EntryNo) -> Option<Shape>
         requires image { MIN_LINES ≤ (P.state device.now).lines }
-        requires entry { no.0 < images.entries_of_lines (P.state device.now).lines }
+        requires entry { no.0 < images.directory_room (P.state device.now).lines }
         ensures { MatchOption result (¬ IsEntry (P.state device.now).lines (image_of (P.state device.now).words) no.0)
             (λ shape. IsShape (P.state device.now).lines (image_of (P.state device.now).words) no.0 shape) }
     {
@@ -75,7 +75,7 @@ impl Shape {
         ensures { IsTrue result ↔ IsPlaced lines self.now }
     {
         self.extent.lines == lines_of_bytes(self.key + self.field + self.value)
-            && LAYOUT.first_extent_line(lines) <= self.extent.first_line
+            && Layout::first_extent_line(lines) <= self.extent.first_line
             && self.extent.first_line <= lines
             && self.extent.lines <= lines - self.extent.first_line
     }

@@ -6,7 +6,7 @@ ghost use Rattle.model.specs.Image.{HasSuperblock, entries_of_lines, root_word};
 ghost use Rattle.heap_layout.specs.Superblock.{super_refusal};
 
 use kv_types::Refusal;
-use model::{LAYOUT, MAGIC, MAX_LINES, MIN_LINES};
+use model::{Layout, MAGIC, MAX_LINES, MIN_LINES};
 use pmem::Pmem;
 
 /// What the superblock of an image says.
@@ -20,17 +20,17 @@ pub struct Superblock {
     pub root: u64,
 }
 
-/// Reads the superblock. `WrongSize` if the device has fewer than 4,096 lines or more than 2^31; then `BadMagic`; then `BadVersion`; then
+/// Reads the superblock of an image of this layout. `WrongSize` if the device has fewer than 4,096 lines or more than 2^31; then `BadMagic`; then `BadVersion`, if the image has another version; then
 /// `WrongSize` if word 2 is not the number of the device's lines; then `Damaged` if word 3 is not how many of them are for the directory.
-pub fn read_super<P: Pmem>(device: &P) -> Result<Superblock, Refusal>
-    ensures ok { IfOk result (λ s. HasSuperblock s.lines (image_of (P.state device.now).words)) }
+pub fn read_super<P: Pmem>(device: &P, layout: Layout) -> Result<Superblock, Refusal>
+    ensures ok { IfOk result (λ s. HasSuperblock layout s.lines (image_of (P.state device.now).words)) }
     ensures lines { IfOk result (λ s. s.lines ≡ (P.state device.now).lines) }
     ensures many { IfOk result (λ s. MIN_LINES ≤ s.lines) }
     ensures few { IfOk result (λ s. s.lines ≤ MAX_LINES) }
-    ensures root { IfOk result (λ s. s.root ≡ image_of (P.state device.now).words root_word) }
-    ensures entries { IfOk result (λ s. s.entries ≡ entries_of_lines (P.state device.now).lines) }
-    ensures whole { IfOk result (λ s. super_refusal (P.state device.now).lines (image_of (P.state device.now).words) ≡ None) }
-    ensures err { IfErr result (λ refusal. super_refusal (P.state device.now).lines (image_of (P.state device.now).words) ≡ Some refusal) }
+    ensures root { IfOk result (λ s. s.root ≡ image_of (P.state device.now).words (root_word layout)) }
+    ensures entries { IfOk result (λ s. s.entries ≡ entries_of_lines layout (P.state device.now).lines) }
+    ensures whole { IfOk result (λ s. super_refusal layout (P.state device.now).lines (image_of (P.state device.now).words) ≡ None) }
+    ensures err { IfErr result (λ refusal. super_refusal layout (P.state device.now).lines (image_of (P.state device.now).words) ≡ Some refusal) }
 {
     let lines = device.lines();
     if lines < MIN_LINES || MAX_LINES < lines {
@@ -39,18 +39,18 @@ pub fn read_super<P: Pmem>(device: &P) -> Result<Superblock, Refusal>
     if device.load(0) != MAGIC {
         return Err(Refusal::BadMagic);
     }
-    if device.load(1) != LAYOUT.version {
+    if device.load(1) != layout.version() {
         return Err(Refusal::BadVersion);
     }
     if device.load(2) != lines {
         return Err(Refusal::WrongSize);
     }
-    if device.load(3) != LAYOUT.directory_room(lines) {
+    if device.load(3) != Layout::directory_room(lines) {
         return Err(Refusal::Damaged);
     }
     Ok(Superblock {
         lines,
-        entries: LAYOUT.entries_of_lines(lines),
-        root: device.load(LAYOUT.root_word),
+        entries: layout.entries_of_lines(lines),
+        root: device.load(layout.root_word()),
     })
 }

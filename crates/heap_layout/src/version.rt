@@ -2,7 +2,8 @@
 ghost use Rattle.std.specs.Prelude.{◌≡◌, ◌↔◌, ◌⊎◌, ◌<◌, ◌≤◌, Err, IfOk, IfErr, IfSome, OnOk};
 ghost use Rattle.pmem.specs.Crash.{image_of};
 ghost use Rattle.model.specs.declared.image.TheConstants.{MIN_LINES};
-ghost use Rattle.model.specs.Image.{entries_of_lines, version_at};
+ghost use Rattle.model.specs.Layout.{directory_room};
+ghost use Rattle.model.specs.Image.{version_at};
 ghost use Rattle.heap_layout.specs.Entry.{entry_in};
 ghost use Rattle.heap_layout.specs.Version.{version_if_read, IsUnder};
 
@@ -24,7 +25,7 @@ pub fn read_version<P: Pmem>(
     no: EntryNo,
 ) -> Result<Option<Entry>, Refusal>
     requires image { MIN_LINES ≤ (P.state device.now).lines }
-    requires entry { no.0 < entries_of_lines (P.state device.now).lines }
+    requires entry { no.0 < directory_room (P.state device.now).lines }
     ensures ok { IfOk result (λ o. IfSome o (λ entry. entry ≡ entry_in (image_of (P.state device.now).words) no.0)) }
     ensures version { IfOk result (λ o. version_if_read current.now o ≡ version_at current.now (image_of (P.state device.now).words) no.0) }
     ensures under { OnOk result (IsUnder current.now (P.state device.now).lines (image_of (P.state device.now).words) no.0) }

@@ -3,7 +3,8 @@ ghost use Rattle.std.specs.Prelude.{◌≡◌, ℕ, ◌⊎◌, ◌<◌, ◌≤�
 ghost use Rattle.kv_types.specs.declared.refusal.Refusal.{Refusal};
 ghost use Rattle.pmem.specs.Crash.{image_of};
 ghost use Rattle.model.specs.declared.image.TheConstants.{MIN_LINES};
-ghost use Rattle.model.specs.Image.{counts, entries_of_lines};
+ghost use Rattle.model.specs.Layout.{directory_room, entries_of_lines};
+ghost use Rattle.model.specs.Image.{counts};
 ghost use Rattle.model.specs.ReadImage.{is_clash};
 ghost use Rattle.heap_layout.specs.Version.{IsUnder};
 ghost use Rattle.heap_layout.specs.Versions.{AreVersions, AreUnder, NoTwo, overlap, runs_of, live_ids, counted_at, counted_below, gapped_at, gapped_below};
@@ -13,7 +14,7 @@ use crate::entry::{Entry, read_stamps};
 use crate::tagged::Tagged;
 use crate::version::read_version;
 use kv_types::{EntryNo, Extent, Refusal};
-use model::{LAYOUT, Record};
+use model::Record;
 use pmem::Pmem;
 use std::alloc::{AllocError, Global};
 
@@ -49,8 +50,8 @@ pub fn read_versions<P: Pmem>(
     current: &Record,
 ) -> Result<Versions, Refusal>
     requires image { MIN_LINES ≤ (P.state device.now).lines }
-    ensures counted { IfOk result (λ versions. versions.counted.items ≡ counted_below current.now (image_of (P.state device.now).words) (entries_of_lines (P.state device.now).lines)) }
-    ensures gapped { IfOk result (λ versions. versions.gapped.items ≡ gapped_below current.now (image_of (P.state device.now).words) (entries_of_lines (P.state device.now).lines)) }
+    ensures counted { IfOk result (λ versions. versions.counted.items ≡ counted_below current.now (image_of (P.state device.now).words) (entries_of_lines current.now.layout (P.state device.now).lines)) }
+    ensures gapped { IfOk result (λ versions. versions.gapped.items ≡ gapped_below current.now (image_of (P.state device.now).words) (entries_of_lines current.now.layout (P.state device.now).lines)) }
     ensures whole { OnOk result (AreVersions current.now (P.state device.now).lines (image_of (P.state device.now).words)) }
     ensures damaged { IsErrOf result Refusal.Damaged → ¬ AreVersions current.now (P.state device.now).lines (image_of (P.state device.now).words) }
     ensures causes { IfErr result (λ refusal. (refusal ≡ Refusal.Damaged) ⊎ (refusal ≡ Refusal.Memory)) }
@@ -66,17 +67,17 @@ pub fn read_versions<P: Pmem>(
 /// Reads the versions of all entries, each by itself.
 fn read_entries<P: Pmem>(alloc: Global, device: &P, current: &Record) -> Result<Versions, Refusal>
     requires image { MIN_LINES ≤ (P.state device.now).lines }
-    ensures counted { IfOk result (λ versions. versions.counted.items ≡ counted_below current.now (image_of (P.state device.now).words) (entries_of_lines (P.state device.now).lines)) }
-    ensures gapped { IfOk result (λ versions. versions.gapped.items ≡ gapped_below current.now (image_of (P.state device.now).words) (entries_of_lines (P.state device.now).lines)) }
-    ensures under { OnOk result (AreUnder current.now (P.state device.now).lines (image_of (P.state device.now).words) (entries_of_lines (P.state device.now).lines)) }
-    ensures damaged { IsErrOf result Refusal.Damaged → ¬ AreUnder current.now (P.state device.now).lines (image_of (P.state device.now).words) (entries_of_lines (P.state device.now).lines) }
+    ensures counted { IfOk result (λ versions. versions.counted.items ≡ counted_below current.now (image_of (P.state device.now).words) (entries_of_lines current.now.layout (P.state device.now).lines)) }
+    ensures gapped { IfOk result (λ versions. versions.gapped.items ≡ gapped_below current.now (image_of (P.state device.now).words) (entries_of_lines current.now.layout (P.state device.now).lines)) }
+    ensures under { OnOk result (AreUnder current.now (P.state device.now).lines (image_of (P.state device.now).words) (entries_of_lines current.now.layout (P.state device.now).lines)) }
+    ensures damaged { IsErrOf result Refusal.Damaged → ¬ AreUnder current.now (P.state device.now).lines (image_of (P.state device.now).words) (entries_of_lines current.now.layout (P.state device.now).lines) }
     ensures causes { IfErr result (λ refusal. (refusal ≡ Refusal.Damaged) ⊎ (refusal ≡ Refusal.Memory)) }
 {
     let mut versions = Versions {
         counted: Vec::new(alloc),
         gapped: Vec::new(alloc),
     };
-    for i in 0..LAYOUT.entries_of_lines(device.lines()) {
+    for i in 0..current.layout.entries_of_lines(device.lines()) {
         add_entry(alloc, device, current, EntryNo(i), &mut versions)?;
     }
     Ok(versions)
@@ -91,7 +92,7 @@ fn add_entry<P: Pmem>(
     versions: &mut Versions,
 ) -> Result<(), Refusal>
     requires image { MIN_LINES ≤ (P.state device.now).lines }
-    requires entry { no.0 < entries_of_lines (P.state device.now).lines }
+    requires entry { no.0 < directory_room (P.state device.now).lines }
     ensures counted { OnOk result (versions.new.counted.items ≡ versions.old.counted.items ++ counted_at current.now (image_of (P.state device.now).words) no.0) }
     ensures gapped { OnOk result (versions.new.gapped.items ≡ versions.old.gapped.items ++ gapped_at current.now (image_of (P.state device.now).words) no.0) }
     ensures under { OnOk result (IsUnder current.now (P.state device.now).lines (image_of (P.state device.now).words) no.0) }

@@ -13,7 +13,7 @@ ghost use Rattle.heap_layout.specs.Entry.{IsEntry, ReadsAlike, entry_in};
 use crate::entry::{FIELD_KIND, STRING_KIND};
 use crate::place::entry_word;
 use kv_types::{Extent, RecordId, Value};
-use model::{FIELD_LENGTH_UNIT, LAYOUT, LINE_WORDS, Put, WORD_BYTES, lines_of_bytes};
+use model::{FIELD_LENGTH_UNIT, LINE_WORDS, Layout, Put, WORD_BYTES, lines_of_bytes};
 use pmem::{Pmem, flush_lines, store_words};
 
 /// How many lines a record with this name and this value takes: at least one.
@@ -25,7 +25,7 @@ pub fn lines_for(id: &RecordId, value: &Value) -> u64
 
 /// Stores the entry and the extent of a put, begun with this stamp at this position of the list. Nothing is flushed.
 pub fn write_entry<P: Pmem>(device: &mut P, put: &Put, begin: u64, position: u64)
-    requires placed { IsPlaced (P.state device.old).lines put.now }
+    requires placed { IsPlaced (images.directory_room (P.state device.old).lines) (P.state device.old).lines put.now }
     requires fitting { HasItsLines put.now }
     ensures stored { Runs (P.state device.old) (P.state device.new) (stores (put_pairs begin position put.now) (P.state device.old).words) }
     ensures storable { IsStorable put.now }
@@ -33,7 +33,7 @@ pub fn write_entry<P: Pmem>(device: &mut P, put: &Put, begin: u64, position: u64
     ensures whole { IsEntry (P.state device.old).lines (image_of (P.state device.new).words) put.now.entry.0 }
     ensures read { entry_in (image_of (P.state device.new).words) put.now.entry.0 ≡ entry_of_put begin position put.now }
     // and every other entry as before, unless its extent has one of the lines
-    ensures others { (i : ℕ) → i < images.entries_of_lines (P.state device.old).lines → i ≢ put.now.entry.0
+    ensures others { (i : ℕ) → i < images.directory_room (P.state device.old).lines → i ≢ put.now.entry.0
         → ReadsAlike (P.state device.old).lines (image_of (P.state device.old).words) (image_of (P.state device.new).words) put.now.extent i }
 {
     let words = [
@@ -53,11 +53,11 @@ pub fn write_entry<P: Pmem>(device: &mut P, put: &Put, begin: u64, position: u64
 
 /// Flushes the extent and the entry of a put.
 pub fn flush_entry<P: Pmem>(device: &mut P, put: &Put)
-    requires placed { IsPlaced (P.state device.old).lines put.now }
+    requires placed { IsPlaced (images.directory_room (P.state device.old).lines) (P.state device.old).lines put.now }
     ensures { Runs (P.state device.old) (P.state device.new) (flushes (put_lines put.now) (P.state device.old).words) }
 {
     flush_lines(device, put.extent.first_line, put.extent.lines);
-    device.flush(LAYOUT.entry_line(put.entry.0));
+    device.flush(Layout::entry_line(put.entry.0));
 }
 
 /// The key of a record, and its field: empty for a string.

@@ -4,7 +4,7 @@ ghost use Rattle.model.specs.Layout as layouts;
 ghost use Rattle.model.specs.declared.layout.TheConstants.{LAYOUT};
 ghost use Rattle.links.specs.Usage.{percent_taken, usage_of};
 
-use model::LAYOUT;
+use model::{Layout, LAYOUT};
 use placing::Fill;
 use std::fmt;
 
@@ -34,11 +34,11 @@ impl Capacity {
     /// That of an image of so many lines.
     pub fn of_image(lines: u64) -> Capacity
         ensures versions { result.versions ≡ layouts.entries_of_lines LAYOUT lines }
-        ensures lines { result.lines ≡ lines - layouts.first_extent_line LAYOUT lines }
+        ensures lines { result.lines ≡ lines - layouts.first_extent_line lines }
     {
         Capacity {
             versions: LAYOUT.entries_of_lines(lines),
-            lines: lines.saturating_sub(LAYOUT.first_extent_line(lines)),
+            lines: lines.saturating_sub(Layout::first_extent_line(lines)),
         }
     }
 }

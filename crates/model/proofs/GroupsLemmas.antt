@@ -4,12 +4,12 @@ use Rattle.std.proofs.lemmas.Bool.{or_parts, and_parts}
 use Rattle.std.specs.List.{flat_map, AllByRecursion}
 use Rattle.kv_types.specs.Keyspace.{Keyspace, play, play_all}
 use Rattle.kv_types.proofs.PlayLemmas.{play_all-append}
-use Rattle.model.specs.Image.{IsMapOf, entries_of_lines}
+use Rattle.model.specs.Image.{IsMapOf}
 use Rattle.model.specs.declared.group.Group.{Group}
 use Rattle.model.specs.declared.group.Part.{Part}
 use Rattle.model.specs.declared.group.Put.{Put}
 use Rattle.model.specs.declared.group.PlacedChange.{PlacedChange}
-use Rattle.model.specs.Group.{change_of, put_of, changes_of_part, puts_of_part, changes_of_group, puts_of_group, Versions, change_versions, changes_versions, part_versions, parts_versions, is_put_at, IsPlaced, IsApartFrom, AreAllApart, IsUnused, Contents, IsGroup, IsConsistent, after_group}
+use Rattle.model.specs.Group.{change_of, put_of, changes_of_part, puts_of_part, changes_of_group, puts_of_group, Versions, change_versions, changes_versions, part_versions, parts_versions, is_put_at, IsPlaced, IsApartFrom, AreAllApart, IsUnused, Contents, IsGroup, IsConsistent, after_group, entries_of}
 use Rattle.model.proofs.VersionsLemmas.{HasRoom, IsMapOf-change}
 
 -- ---- facts of each element
@@ -52,6 +52,16 @@ AllBeside (x ∷ xs) ys h = All-both (IsApartFrom x) (IsBeside xs) (IsBeside (x 
 pub is_put_at-append : (i : ℕ) (xs ys : List Put) → is_put_at i (xs ++ ys) ≡ (is_put_at i xs || is_put_at i ys)
 is_put_at-append i [] ys = refl
 is_put_at-append i (x ∷ xs) ys = grind (arith, is_put_at-append i xs ys)
+
+-- ---- puts that are placed
+
+-- a directory with more entries has those of the puts
+pub placed_in_more : (entries more lines : ℕ) (puts : List Put) → entries ≤ more → AllByRecursion (IsPlaced entries lines) puts → AllByRecursion (IsPlaced more lines) puts
+placed_in_more entries more lines [] le placed = tt
+placed_in_more entries more lines (put ∷ puts) le placed = (
+  record { entry = omega (arith, placed.0.entry, le); above = placed.0.above; within = placed.0.within },
+  placed_in_more entries more lines puts le placed.1,
+)
 
 -- ---- entries that hold nothing
 
@@ -106,21 +116,21 @@ IsMapOf-parts versions entries s (part ∷ parts) room apart map =
 
 -- ---- a group
 
-rooms_of_group : (contents : Contents) (puts : List Put) → IsConsistent contents → AllByRecursion (IsPlaced contents.lines) puts → AllByRecursion (IsUnused contents.versions contents.is_free) puts → AllByRecursion (HasRoom contents.versions (entries_of_lines contents.lines)) puts
+rooms_of_group : (contents : Contents) (puts : List Put) → IsConsistent contents → AllByRecursion (IsPlaced (entries_of contents) contents.lines) puts → AllByRecursion (IsUnused contents.versions contents.is_free) puts → AllByRecursion (HasRoom contents.versions (entries_of contents)) puts
 rooms_of_group contents puts consistent placed unused =
-    All-both (IsPlaced contents.lines) (IsUnused contents.versions contents.is_free) (HasRoom contents.versions (entries_of_lines contents.lines))
+    All-both (IsPlaced (entries_of contents) contents.lines) (IsUnused contents.versions contents.is_free) (HasRoom contents.versions (entries_of contents))
     (λ put p u. record { within = p.entry; empty = consistent.free put.entry.0 u.entry }) puts placed unused
 
 -- the map of the contents moves by the changes of the group
-pub IsMapOf-after_group : (contents : Contents) (group : Group) (s : Keyspace) → IsConsistent contents → IsGroup contents group → IsMapOf contents.versions (entries_of_lines contents.lines) s
-    → IsMapOf (after_group contents group).versions (entries_of_lines contents.lines) (play_all s (changes_of_group group))
+pub IsMapOf-after_group : (contents : Contents) (group : Group) (s : Keyspace) → IsConsistent contents → IsGroup contents group → IsMapOf contents.versions (entries_of contents) s
+    → IsMapOf (after_group contents group).versions (entries_of contents) (play_all s (changes_of_group group))
 IsMapOf-after_group contents group s consistent lawful map =
-    IsMapOf-parts contents.versions (entries_of_lines contents.lines) s group.parts.items (rooms_of_group contents (puts_of_group group) consistent lawful.placed lawful.unused) lawful.apart map
+    IsMapOf-parts contents.versions (entries_of contents) s group.parts.items (rooms_of_group contents (puts_of_group group) consistent lawful.placed lawful.unused) lawful.apart map
 
 -- no put of a group has an entry beyond the directory
-not_beyond : (lines : ℕ) (puts : List Put) (i : ℕ) → AllByRecursion (IsPlaced lines) puts → entries_of_lines lines ≤ i → is_put_at i puts ≡ false
-not_beyond lines [] i placed le = refl
-not_beyond lines (put ∷ puts) i placed le = let low = placed.0.entry in rw (ne_eqb i put.entry.0 (λ e. omega arith)) (not_beyond lines puts i placed.1 le)
+not_beyond : (entries lines : ℕ) (puts : List Put) (i : ℕ) → AllByRecursion (IsPlaced entries lines) puts → entries ≤ i → is_put_at i puts ≡ false
+not_beyond entries lines [] i placed le = refl
+not_beyond entries lines (put ∷ puts) i placed le = let low = placed.0.entry in rw (ne_eqb i put.entry.0 (λ e. omega arith)) (not_beyond entries lines puts i placed.1 le)
 
 pub IsConsistent-after_group : (contents : Contents) (group : Group) → IsConsistent contents → IsGroup contents group → IsConsistent (after_group contents group)
 IsConsistent-after_group contents group consistent lawful = record {
@@ -128,5 +138,5 @@ IsConsistent-after_group contents group consistent lawful = record {
       let both = and_parts (contents.is_free i) _ is in
       let beside : is_put_at i (puts_of_group group) ≡ false = grind (arith, both.1) in
       parts_versions-none contents.versions group.parts.items i (consistent.free i both.0) beside;
-  beyond = λ i le. parts_versions-none contents.versions group.parts.items i (consistent.beyond i le) (not_beyond contents.lines (puts_of_group group) i lawful.placed le);
+  beyond = λ i le. parts_versions-none contents.versions group.parts.items i (consistent.beyond i le) (not_beyond (entries_of contents) contents.lines (puts_of_group group) i lawful.placed le);
 }

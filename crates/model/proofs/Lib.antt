@@ -7,6 +7,7 @@ pub mod MapLemmas
 pub mod VersionsLemmas
 pub mod GroupsLemmas
 pub mod DirectoryLemmas
+pub mod LayoutLemmas
 pub mod RecordLemmas
 pub mod StandingLemmas
 pub mod SessionLemmas

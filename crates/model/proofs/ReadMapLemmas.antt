@@ -9,7 +9,7 @@ use Rattle.kv_types.specs.Keyspace.{Keyspace, IsKeyspace, key_of, value_at, with
 use Rattle.kv_types.proofs.OrderLemmas.{same_record, record_itself, same_key, key_itself, same_strings, field_is_no_string}
 use Rattle.kv_types.proofs.LookUpLemmas.{is_same, is_same_key}
 use Rattle.model.specs.declared.record.Record.{Record}
-use Rattle.model.specs.Image.{Image, Version, IsLive, IsMapOf, version_in, version_at, with_version, entries_of_lines, counts, entry_word}
+use Rattle.model.specs.Image.{Image, HasSuperblock, Version, IsLive, IsMapOf, version_in, version_at, with_version, entries_of_lines, counts, entry_word}
 use Rattle.model.specs.ReadImage.{image_of, line_count, record_in, is_clash, IsRecordOf, HasMap, IsWhole, AddsEntry, CannotAdd}
 use Rattle.model.proofs.MapLemmas.{OnceBelow, more_version}
 use Rattle.model.proofs.RecordLemmas.{HasRecord-unique}
@@ -136,13 +136,13 @@ IsMapOf-added versions n old new adds map =
     rw add-one (subst (IsMapOf versions (suc n)) (sym adds.added) more)
 
 -- where an entry cannot be added, the image has no map
-pub no_map : (lines : ℕ) (r : Record) (image : Image) (i : ℕ) (s : Keyspace) → i < entries_of_lines lines → IsMapOf (version_at r image) i s → CannotAdd lines r image i s → HasMap lines r image → ⊥
+pub no_map : (lines : ℕ) (r : Record) (image : Image) (i : ℕ) (s : Keyspace) → i < entries_of_lines r.layout lines → IsMapOf (version_at r image) i s → CannotAdd lines r image i s → HasMap lines r image → ⊥
 no_map lines r image i s lt map (inl bad) has = bad.1 (has.in_format i lt bad.0)
 no_map lines r image i s lt map (inr clash) has =
     let other = some_is (value_at s clash.other) clash.there in
     let held = map.held clash.other other.0 other.1 in
     let own : IsLive (version_at r image) i clash.version.id clash.version.value = record { version = clash.version; begun = clash.begun; not_ended = clash.not_ended; id_is = refl; value_is = refl } in
-    let below : held.0 < entries_of_lines lines = omega (arith, held.1) in
+    let below : held.0 < entries_of_lines r.layout lines = omega (arith, held.1) in
     let there = has.map.found held.0 clash.other other.0 below held.2 in
     let here = has.map.found i clash.version.id clash.version.value lt own in
     let same = clash_apart has.keyspace has.lawful clash.other clash.version.id other.0 clash.version.value there here clash.clash in
@@ -150,8 +150,18 @@ no_map lines r image i s lt map (inr clash) has =
     let apart = held.1 in
     omega arith
 
+IsRecordOf-unique : (lines : ℕ) (image : Image) (a b : Record) → IsRecordOf lines image a → IsRecordOf lines image b → a ≡ b
+IsRecordOf-unique lines image a b in_a in_b = HasRecord-unique lines image a b in_a.few in_a.version_is in_b.version_is in_a.has_record in_b.has_record
+
+-- where the words have no superblock of the layout of their record, they are no whole image
+pub no_superblock : (words : List ℕ) (r : Record) → IsRecordOf (line_count words) (image_of words) r
+    → (HasSuperblock r.layout (line_count words) (image_of words) → ⊥) → IsWhole words → ⊥
+no_superblock words r is none whole =
+    let same : whole.current ≡ r = IsRecordOf-unique (line_count words) (image_of words) whole.current r whole.is_record is in
+    none (subst (λ (current : Record). HasSuperblock current.layout (line_count words) (image_of words)) same whole.superblock)
+
 -- where the entries have no map under the record that the image has, it is not whole
 pub not_whole : (words : List ℕ) (r : Record) → IsRecordOf (line_count words) (image_of words) r → (HasMap (line_count words) r (image_of words) → ⊥) → IsWhole words → ⊥
 not_whole words r is none whole =
-    let same : whole.current ≡ r = HasRecord-unique (line_count words) (image_of words) whole.current r whole.is_record.few whole.is_record.has_record is.has_record in
+    let same : whole.current ≡ r = IsRecordOf-unique (line_count words) (image_of words) whole.current r whole.is_record is in
     none (subst (λ current. HasMap (line_count words) current (image_of words)) same whole.has_map)

@@ -6,10 +6,10 @@ use Rattle.std.proofs.lemmas.List.{take-replicate, length-replicate, replicate_m
 use Rattle.model.specs.declared.record.Gap.{Gap}
 use Rattle.model.specs.declared.record.Record.{Record}
 use Rattle.model.specs.declared.record.Role.{Role}
-use Rattle.model.specs.declared.record.TheConstants.{MAX_GAPS}
-use Rattle.model.specs.declared.layout.TheConstants.{LAYOUT}
-use Rattle.model.specs.Layout.{first_word}
-use Rattle.model.specs.Image.{Image, HasWords, root_word, slot_line, record_word, gap_room, role_number, gap_words, gaps_words, record_words}
+use Rattle.model.specs.declared.layout.Layout.{Layout}
+use Rattle.model.specs.Layout.{first_word, gap_room, max_gaps, record_word, role_word, root_word, slot_line, version}
+use Rattle.model.specs.Image.{Image, HasWords, role_number, gap_words, gaps_words, record_words}
+use Rattle.model.proofs.LayoutLemmas.{same_version}
 use Rattle.model.proofs.RecordLemmas.{length-gaps_words}
 use Rattle.model.specs.ReadImage.{gaps_from, AreZero, IsFilled, IsRecordOf}
 
@@ -71,70 +71,128 @@ length-pairs [] = refl
 length-pairs (gap ∷ gaps) = let rest = length-pairs gaps in omega arith
 
 -- the words of the gaps are their pairs, and zeros
-gaps_words-pairs : (gaps : List Gap) → length gaps ≤ MAX_GAPS → gaps_words gaps ≡ flat_map gap_words gaps ++ replicate (gap_room - 2 * length gaps) 0
-gaps_words-pairs gaps few =
+gaps_words-pairs : (room : ℕ) (gaps : List Gap) → 2 * length gaps ≤ room
+    → gaps_words room gaps ≡ flat_map gap_words gaps ++ replicate (room - 2 * length gaps) 0
+gaps_words-pairs room gaps few =
     let pairs = flat_map gap_words gaps in
-    let room : 16 ≡ length pairs + (gap_room - 2 * length gaps) = omega (arith, length-pairs gaps) in
-    ap (λ n. take n (pairs ++ replicate 16 0)) room ∙ take-append-add pairs (replicate 16 0) (gap_room - 2 * length gaps) ∙ ap (λ zeros. pairs ++ zeros) (take-replicate (gap_room - 2 * length gaps) 16 0 (omega arith))
+    let whole : room ≡ length pairs + (room - 2 * length gaps) = omega (arith, length-pairs gaps, few) in
+    ap (λ n. take n (pairs ++ replicate room 0)) whole ∙ take-append-add pairs (replicate room 0) (room - 2 * length gaps)
+    ∙ ap (λ zeros. pairs ++ zeros) (take-replicate (room - 2 * length gaps) room 0 (omega arith))
 
 -- ---- a record
 
 -- the first word of the slot that the root names
-abbrev pub slot_word : ℕ → ℕ → ℕ
-slot_word lines root = first_word (slot_line lines root)
+abbrev pub slot_word : Layout → ℕ → ℕ → ℕ
+slot_word layout lines root = first_word (slot_line layout lines root)
+
+-- where a record of this layout is looked for: the image has the layout's version, and its root is this number, whose slot begins at this word
+pub record IsSought (layout : Layout) (lines : ℕ) (image : Image) (number first : ℕ) : Type 0 where
+  pub version_is : image 1 ≡ version layout
+  pub root : image (root_word layout) ≡ number
+  pub slot : first ≡ slot_word layout lines number
 
 -- ---- no record
+
+-- where the version is none
+pub no_record-version : (lines : ℕ) (image : Image) (number : ℕ) → image 1 ≡ number → ((layout : Layout) → version layout ≢ number) → (r : Record)
+    → IsRecordOf lines image r → ⊥
+no_record-version lines image number at none r is = none r.layout (sym is.version_is ∙ at)
 
 -- what is known of a record's slot where the root is this number
 record IsAt (image : Image) (number first : ℕ) (r : Record) : Type 0 where
   number_is : image first ≡ number
   count : image (first + 5) ≡ length r.gaps.items
-  unused : AreZero image (first + 6 + 2 * length r.gaps.items) (gap_room - 2 * length r.gaps.items)
-  role : image (first + LAYOUT.role_word) ≡ role_number r.role
-  last : image (first + (LAYOUT.role_word + 1)) ≡ 0
+  unused : AreZero image (first + 6 + 2 * length r.gaps.items) (gap_room r.layout - 2 * length r.gaps.items)
+  role : image (first + role_word r.layout) ≡ role_number r.role
+  last : image (first + (role_word r.layout + 1)) ≡ 0
 
-at_root : (lines : ℕ) (image : Image) (number first : ℕ) (r : Record) → image root_word ≡ number → first ≡ slot_word lines number → IsRecordOf lines image r → IsAt image number first r
-at_root lines image number first r root slot is =
-    let number_is : r.number ≡ number = sym is.has_record.root ∙ root in
-    let words = HasWords-at image (record_word lines r.number 0) first (record_words r) (add-zero (slot_word lines r.number) ∙ ap (slot_word lines) number_is ∙ sym slot) is.has_record.words in
+layout_sought : (layout : Layout) (lines : ℕ) (image : Image) (number first : ℕ) (r : Record) → IsSought layout lines image number first → IsRecordOf lines image r
+    → layout ≡ r.layout
+layout_sought layout lines image number first r sought is = same_version layout r.layout (sym sought.version_is ∙ is.version_is)
+
+at_root : (lines : ℕ) (image : Image) (number first : ℕ) (r : Record) → IsSought r.layout lines image number first → IsRecordOf lines image r → IsAt image number first r
+at_root lines image number first r sought is =
+    let room = gap_room r.layout in
+    let number_is : r.number ≡ number = sym is.has_record.root ∙ sought.root in
+    let words =
+    HasWords-at image (record_word r.layout lines r.number 0) first (record_words r)
+    (add-zero (slot_word r.layout lines r.number) ∙ ap (slot_word r.layout lines) number_is ∙ sym sought.slot) is.has_record.words in
     let pairs = flat_map gap_words r.gaps.items in
-    let unused : List ℕ = replicate (16 - 2 * length r.gaps.items) 0 in
+    let unused : List ℕ = replicate (room - 2 * length r.gaps.items) 0 in
     let ending = role_number r.role ∷ 0 ∷ [] in
-    let tail : HasWords image (first + 6) (gaps_words r.gaps.items ++ ending) = HasWords-at image (first + 1 + 1 + 1 + 1 + 1 + 1) (first + 6) (gaps_words r.gaps.items ++ ending) (omega arith) words.1.1.1.1.1.1 in
-    let middle : HasWords image (first + 6) (pairs ++ unused) = subst (HasWords image (first + 6)) (gaps_words-pairs r.gaps.items is.few)
-    (HasWords-prefix image (first + 6) (gaps_words r.gaps.items) ending tail) in
-    let after = simp (length-gaps_words, add_assoc) at (HasWords-rest image (first + 6) (gaps_words r.gaps.items) ending tail) in
+    let few : 2 * length r.gaps.items ≤ room = omega (arith, is.few) in
+    let tail : HasWords image (first + 6) (gaps_words room r.gaps.items ++ ending) =
+    HasWords-at image (first + 1 + 1 + 1 + 1 + 1 + 1) (first + 6) (gaps_words room r.gaps.items ++ ending) (omega arith) words.1.1.1.1.1.1 in
+    let middle : HasWords image (first + 6) (pairs ++ unused) =
+    subst (HasWords image (first + 6)) (gaps_words-pairs room r.gaps.items few) (HasWords-prefix image (first + 6) (gaps_words room r.gaps.items) ending tail) in
+    let after : HasWords image (first + role_word r.layout) ending =
+    HasWords-at image (first + 6 + length (gaps_words room r.gaps.items)) (first + role_word r.layout) ending (omega (arith, length-gaps_words room r.gaps.items))
+    (HasWords-rest image (first + 6) (gaps_words room r.gaps.items) ending tail) in
+    let behind : first + role_word r.layout + 1 ≡ first + (role_word r.layout + 1) = omega arith in
     record {
       number_is = words.0 ∙ number_is;
       count = simp add_assoc at words.1.1.1.1.1.0;
       unused = rw (length-pairs r.gaps.items) at (HasWords-rest image (first + 6) pairs unused middle);
       role = after.0;
-      last = after.1.0;
+      last = sym (ap image behind) ∙ after.1.0;
     }
 
-pub no_record-role : (lines : ℕ) (image : Image) (number first code : ℕ) → image root_word ≡ number → first ≡ slot_word lines number → image (first + LAYOUT.role_word) ≡ code → ((role : Role) → role_number role ≢ code) → (r : Record) → IsRecordOf lines image r → ⊥
-no_record-role lines image number first code root slot at none r is = let stands = at_root lines image number first r root slot is in none r.role (sym stands.role ∙ at)
+pub no_record-count : (layout : Layout) (lines : ℕ) (image : Image) (number first count : ℕ) → IsSought layout lines image number first
+    → image (first + 5) ≡ count → max_gaps layout < count → (r : Record) → IsRecordOf lines image r → ⊥
+no_record-count layout lines image number first count sought at many r is =
+    let same = layout_sought layout lines image number first r sought is in
+    let stands = at_root lines image number first r (subst (λ (l : Layout). IsSought l lines image number first) same sought) is in
+    let room = ap max_gaps same in
+    let length_is = stands.count in
+    omega (arith, is.few, many, at, room, length_is)
 
-pub no_record-filled : (lines : ℕ) (image : Image) (number first count : ℕ) → image root_word ≡ number → first ≡ slot_word lines number → image (first + 5) ≡ count → (IsFilled image first number count → ⊥) → (r : Record) → IsRecordOf lines image r → ⊥
-no_record-filled lines image number first count root slot at none r is =
-    let stands = at_root lines image number first r root slot is in
-    none (record { number_is = stands.number_is; last = stands.last; unused = subst (λ n. AreZero image (first + 6 + 2 * n) (gap_room - 2 * n)) (sym stands.count ∙ at) stands.unused })
+pub no_record-role : (layout : Layout) (lines : ℕ) (image : Image) (number first code : ℕ) → IsSought layout lines image number first
+    → image (first + role_word layout) ≡ code → ((role : Role) → role_number role ≢ code) → (r : Record) → IsRecordOf lines image r → ⊥
+no_record-role layout lines image number first code sought at none r is =
+    let same = layout_sought layout lines image number first r sought is in
+    let stands = at_root lines image number first r (subst (λ (l : Layout). IsSought l lines image number first) same sought) is in
+    none r.role (sym stands.role ∙ ap (λ (l : Layout). image (first + role_word l)) (sym same) ∙ at)
+
+pub no_record-filled : (layout : Layout) (lines : ℕ) (image : Image) (number first count : ℕ) → IsSought layout lines image number first
+    → image (first + 5) ≡ count → (IsFilled layout image first number count → ⊥) → (r : Record) → IsRecordOf lines image r → ⊥
+no_record-filled layout lines image number first count sought at none r is =
+    let same = layout_sought layout lines image number first r sought is in
+    let stands = at_root lines image number first r (subst (λ (l : Layout). IsSought l lines image number first) same sought) is in
+    let filled : IsFilled r.layout image first number count =
+    record {
+      number_is = stands.number_is;
+      last = stands.last;
+      unused = subst (λ n. AreZero image (first + 6 + 2 * n) (gap_room r.layout - 2 * n)) (sym stands.count ∙ at) stands.unused;
+    } in
+    none (subst (λ (l : Layout). IsFilled l image first number count) (sym same) filled)
 
 -- a record that was read
-pub IsRecordOf-read : (lines : ℕ) (image : Image) (number first count : ℕ) (r : Record) → image root_word ≡ number → first ≡ slot_word lines number → r.number ≡ number → image (first + 1) ≡ r.position → image (first + 2) ≡ r.cp
-    → image (first + 3) ≡ r.cd → image (first + 4) ≡ r.epoch → image (first + 5) ≡ count → count ≤ MAX_GAPS → r.gaps.items ≡ gaps_from image (first + 6) count
-    → image (first + LAYOUT.role_word) ≡ role_number r.role → IsFilled image first number count → IsRecordOf lines image r
-IsRecordOf-read lines image number first count r root slot number_is position cp cd epoch at few gaps role filled =
+pub IsRecordOf-read : (lines : ℕ) (image : Image) (number first count : ℕ) (r : Record) → IsSought r.layout lines image number first → r.number ≡ number
+    → image (first + 1) ≡ r.position → image (first + 2) ≡ r.cp → image (first + 3) ≡ r.cd → image (first + 4) ≡ r.epoch → image (first + 5) ≡ count
+    → count ≤ max_gaps r.layout → r.gaps.items ≡ gaps_from image (first + 6) count → image (first + role_word r.layout) ≡ role_number r.role
+    → IsFilled r.layout image first number count → IsRecordOf lines image r
+IsRecordOf-read lines image number first count r sought number_is position cp cd epoch at few gaps role filled =
+    let room = gap_room r.layout in
     let len : length r.gaps.items ≡ count = ap length gaps ∙ length-gaps_from image (first + 6) count in
+    let fits : 2 * length r.gaps.items ≤ room = omega (arith, len, few) in
     let pairs = flat_map gap_words r.gaps.items in
-    let unused : List ℕ = replicate (16 - 2 * length r.gaps.items) 0 in
+    let unused : List ℕ = replicate (room - 2 * length r.gaps.items) 0 in
     let ending = role_number r.role ∷ 0 ∷ [] in
-    let in_gaps : HasWords image (first + 6) pairs = subst (λ gaps. HasWords image (first + 6) (flat_map gap_words gaps)) (sym gaps) (HasWords-gaps_from image (first + 6) count) in
+    let in_gaps : HasWords image (first + 6) pairs =
+    subst (λ gaps. HasWords image (first + 6) (flat_map gap_words gaps)) (sym gaps) (HasWords-gaps_from image (first + 6) count) in
     let zeros : HasWords image (first + 6 + length pairs) unused = rw (length-pairs r.gaps.items, len) filled.unused in
-    let middle : HasWords image (first + 6) (gaps_words r.gaps.items) = subst (HasWords image (first + 6)) (sym (gaps_words-pairs r.gaps.items (omega arith)))
-    (HasWords-append image (first + 6) pairs unused in_gaps zeros) in
-    let after : HasWords image (first + 6 + length (gaps_words r.gaps.items)) ending = simp (length-gaps_words, add_assoc) (role, (filled.last, tt)) in
-    let tail : HasWords image (first + 6) (gaps_words r.gaps.items ++ ending) = HasWords-append image (first + 6) (gaps_words r.gaps.items) ending middle after in
+    let middle : HasWords image (first + 6) (gaps_words room r.gaps.items) =
+    subst (HasWords image (first + 6)) (sym (gaps_words-pairs room r.gaps.items fits)) (HasWords-append image (first + 6) pairs unused in_gaps zeros) in
+    let behind : first + role_word r.layout + 1 ≡ first + (role_word r.layout + 1) = omega arith in
+    let after : HasWords image (first + 6 + length (gaps_words room r.gaps.items)) ending =
+    HasWords-at image (first + role_word r.layout) (first + 6 + length (gaps_words room r.gaps.items)) ending (omega (arith, length-gaps_words room r.gaps.items))
+    (role, (ap image behind ∙ filled.last, tt)) in
+    let tail : HasWords image (first + 6) (gaps_words room r.gaps.items ++ ending) = HasWords-append image (first + 6) (gaps_words room r.gaps.items) ending middle after in
     let words : HasWords image first (record_words r) = simp add_assoc (filled.number_is ∙ sym number_is, (position, (cp, (cd, (epoch, (at ∙ sym len, tail)))))) in
-    let start : first ≡ record_word lines r.number 0 = slot ∙ ap (slot_word lines) (sym number_is) ∙ sym (add-zero (slot_word lines r.number)) in
-    record { has_record = record { root = root ∙ sym number_is; words = HasWords-at image first (record_word lines r.number 0) (record_words r) start words }; few = omega arith }
+    let start : first ≡ record_word r.layout lines r.number 0 =
+    sought.slot ∙ ap (slot_word r.layout lines) (sym number_is) ∙ sym (add-zero (slot_word r.layout lines r.number)) in
+    record {
+      version_is = sought.version_is;
+      has_record = record { root = sought.root ∙ sym number_is; words = HasWords-at image first (record_word r.layout lines r.number 0) (record_words r) start words };
+      few = omega (arith, len, few);
+    }

@@ -113,9 +113,9 @@ abbrev pub is_ended_version : Option Version → Bool
 is_ended_version None = false
 is_ended_version (Some version) = version.is_ended
 
--- the place of a put is in the image: its entry in the directory, and its extent after the directory
-pub record IsPlaced (lines : ℕ) (put : Put) : Type 0 where
-  pub entry : put.entry.0 < entries_of_lines lines
+-- the place of a put is in the image: its entry is one of those in the directory, and its extent after the directory
+pub record IsPlaced (entries lines : ℕ) (put : Put) : Type 0 where
+  pub entry : put.entry.0 < entries
   pub above : first_extent_line lines ≤ put.extent.first_line
   pub within : put.extent.first_line + put.extent.lines ≤ lines
 
@@ -173,6 +173,10 @@ pub record Contents : Type 0 where
   -- the entry's begin is 0
   pub is_free : ℕ → Bool
 
+-- how many entries its directory has
+abbrev pub entries_of : Contents → ℕ
+entries_of contents = entries_of_lines contents.current.layout contents.lines
+
 -- all that a commit requires of a group
 pub record IsGroup (contents : Contents) (group : Group) : Type 0 where
   -- the epoch of the record, or, where nothing was committed yet, a later one
@@ -181,7 +185,7 @@ pub record IsGroup (contents : Contents) (group : Group) : Type 0 where
   pub some : 0 < length group.parts.items
   pub few : length group.parts.items ≤ MAX_PARTS
   pub parts : AreParts group.before contents.versions group.parts.items
-  pub placed : AllByRecursion (IsPlaced contents.lines) (puts_of_group group)
+  pub placed : AllByRecursion (IsPlaced (entries_of contents) contents.lines) (puts_of_group group)
   pub fitting : AllByRecursion HasItsLines (puts_of_group group)
   pub unused : AllByRecursion (IsUnused contents.versions contents.is_free) (puts_of_group group)
   pub apart : AreAllApart (puts_of_group group)
@@ -194,6 +198,7 @@ last_position before (part ∷ parts) = last_position part.position parts
 abbrev pub next_record : Record → Group → Record
 next_record r group =
     record {
+      layout = r.layout;
       number = r.number + 1;
       position = last_position r.position group.parts.items;
       cp = r.cp + length group.parts.items;
@@ -216,7 +221,7 @@ after_group contents group =
 -- a free entry has no version, and neither does one beyond the directory
 pub record IsConsistent (contents : Contents) : Type 0 where
   pub free : (i : ℕ) → IsTrue (contents.is_free i) → contents.versions i ≡ None
-  pub beyond : (i : ℕ) → entries_of_lines contents.lines ≤ i → contents.versions i ≡ None
+  pub beyond : (i : ℕ) → entries_of contents ≤ i → contents.versions i ≡ None
 
 -- ---- entries of versions that have ended
 
@@ -227,7 +232,7 @@ is_listed i entries = list_any (λ entry. nat_eq i entry.0) entries
 abbrev pub AreEnded : Contents → List EntryNo → Type 0
 AreEnded contents [] = Unit {0}
 AreEnded contents (entry ∷ entries) =
-    (entry.0 < entries_of_lines contents.lines)
+    (entry.0 < entries_of contents)
     × IsTrue (is_ended_version (contents.versions entry.0))
     × (is_listed entry.0 entries ≡ false)
     × AreEnded contents entries

@@ -6,7 +6,9 @@ use Rattle.std.specs.Int.{w64, to_le_bytes, from_le_bytes}
 use Rattle.kv_types.specs.declared.record_id.RecordId.{RecordId}
 use Rattle.kv_types.specs.declared.record_id.RecordId.TheVariants.{Str, Field}
 use Rattle.kv_types.specs.Keyspace.{Keyspace, value_at, with_record}
-use Rattle.model.specs.declared.layout.TheConstants.{FIELD_LENGTH_UNIT, LAYOUT, LINE_BYTES, WORD_BYTES}
+use Rattle.model.specs.declared.layout.Layout.{Layout}
+use Rattle.model.specs.declared.layout.TheConstants.{FIELD_LENGTH_UNIT, LINE_BYTES, WORD_BYTES}
+pub use Rattle.model.specs.Layout.{directory_end, directory_room, entries_of_lines, entry_line, first_extent_line, gap_room, record_word, root_word, slot_line, slots_end}
 use Rattle.model.specs.Layout as layouts
 use Rattle.model.specs.declared.record.Gap.{Gap}
 use Rattle.model.specs.declared.record.Record.{Record}
@@ -32,36 +34,14 @@ words_from image first (suc count) = image first ∷ words_from image (first + 1
 abbrev pub magic_number : ℕ
 magic_number = from_le_bytes w64 (codes "WBLIMG01")
 
--- how many lines an image of `lines` lines has for its directory, with the slots behind it
-abbrev pub directory_room : ℕ → ℕ
-directory_room lines = layouts.directory_room LAYOUT lines
-
--- how many entries the directory has
-abbrev pub entries_of_lines : ℕ → ℕ
-entries_of_lines lines = layouts.entries_of_lines LAYOUT lines
-
--- the word that names the current record
-abbrev pub root_word : ℕ
-root_word = LAYOUT.root_word
-
-pub record HasSuperblock (lines : ℕ) (image : Image) : Type 0 where
+-- it says that the image has this layout and so many lines
+pub record HasSuperblock (layout : Layout) (lines : ℕ) (image : Image) : Type 0 where
   pub magic : image 0 ≡ magic_number
-  pub version : image 1 ≡ LAYOUT.version
+  pub version : image 1 ≡ layouts.version layout
   pub line_count : image 2 ≡ lines
   pub room : image 3 ≡ directory_room lines
 
 -- ---- records, in two slots that take turns
-
--- the first line of the slot of record n in an image of `lines` lines, and its word k
-abbrev pub slot_line : ℕ → ℕ → ℕ
-slot_line lines n = layouts.slot_line LAYOUT lines n
-
-abbrev pub record_word : ℕ → ℕ → ℕ → ℕ
-record_word lines n k = layouts.line_word (slot_line lines n) k
-
--- the line after both slots
-abbrev pub slots_end : ℕ → ℕ
-slots_end lines = layouts.slots_end LAYOUT lines
 
 abbrev pub role_number : Role → ℕ
 role_number Primary = 1
@@ -70,23 +50,19 @@ role_number Standby = 2
 abbrev pub gap_words : Gap → List ℕ
 gap_words gap = gap.first ∷ gap.last ∷ []
 
--- how many words a record has for its gaps
-abbrev pub gap_room : ℕ
-gap_room = layouts.gap_room LAYOUT
-
--- the pairs of the gaps, and zeros in the rest of the room for gaps
-abbrev pub gaps_words : List Gap → List ℕ
-gaps_words gaps = take gap_room (flat_map gap_words gaps ++ replicate gap_room 0)
+-- the pairs of the gaps, and zeros in the rest of `room` words
+abbrev pub gaps_words : ℕ → List Gap → List ℕ
+gaps_words room gaps = take room (flat_map gap_words gaps ++ replicate room 0)
 
 -- the words of a record
 abbrev pub record_words : Record → List ℕ
 record_words r =
-    r.number ∷ r.position ∷ r.cp ∷ r.cd ∷ r.epoch ∷ length r.gaps.items ∷ gaps_words r.gaps.items ++ role_number r.role ∷ 0 ∷ []
+    r.number ∷ r.position ∷ r.cp ∷ r.cd ∷ r.epoch ∷ length r.gaps.items ∷ gaps_words (gap_room r.layout) r.gaps.items ++ role_number r.role ∷ 0 ∷ []
 
 -- the current record of an image of `lines` lines: the root names it, and its slot holds it
 pub record HasRecord (lines : ℕ) (r : Record) (image : Image) : Type 0 where
-  pub root : image root_word ≡ r.number
-  pub words : HasWords image (record_word lines r.number 0) (record_words r)
+  pub root : image (root_word r.layout) ≡ r.number
+  pub words : HasWords image (record_word r.layout lines r.number 0) (record_words r)
 
 abbrev pub is_in_gap : ℕ → Gap → Bool
 is_in_gap stamp gap = nat_le gap.first stamp && nat_le stamp gap.last
@@ -97,20 +73,9 @@ counts r stamp = nat_lt 0 stamp && nat_le stamp r.cp && not (list_any (is_in_gap
 
 -- ---- the directory, one entry per line, and the extents
 
--- the line of entry i, and its word k
-abbrev pub entry_line : ℕ → ℕ
-entry_line i = layouts.entry_line LAYOUT i
-
+-- word k of entry i
 abbrev pub entry_word : ℕ → ℕ → ℕ
 entry_word i k = layouts.line_word (entry_line i) k
-
--- the line after the last entry
-abbrev pub directory_end : ℕ → ℕ
-directory_end lines = layouts.directory_end LAYOUT lines
-
--- the first line of the extents
-abbrev pub first_extent_line : ℕ → ℕ
-first_extent_line lines = layouts.first_extent_line LAYOUT lines
 
 -- how many lines `bytes` bytes take: at least one
 abbrev pub lines_of_bytes : ℕ → ℕ
@@ -192,6 +157,6 @@ map_below versions (suc i) = with_version (versions i) (map_below versions i)
 
 -- the image is whole, has this record, and its map is this keyspace
 pub record Holds (lines : ℕ) (r : Record) (s : Keyspace) (image : Image) : Type 0 where
-  pub superblock : HasSuperblock lines image
+  pub superblock : HasSuperblock r.layout lines image
   pub has_record : HasRecord lines r image
-  pub map : IsMapOf (version_at r image) (entries_of_lines lines) s
+  pub map : IsMapOf (version_at r image) (entries_of_lines r.layout lines) s

@@ -7,9 +7,10 @@ use Rattle.kv_types.specs.declared.record_id.RecordId.{RecordId}
 use Rattle.kv_types.specs.Keyspace.{Keyspace, IsKeyspace, value_at, key_of, field_of, record_cmp}
 use Rattle.model.specs.declared.record.Gap.{Gap}
 use Rattle.model.specs.declared.record.Record.{Record}
-use Rattle.model.specs.declared.record.TheConstants.{MAX_GAPS}
-use Rattle.model.specs.declared.layout.TheConstants.{GAPS_WORD, LAYOUT, LINE_WORDS}
-use Rattle.model.specs.Image.{Image, Version, HasSuperblock, HasWords, HasRecord, IsMapOf, version_at, with_version, counts, gap_room, entry_word, key_bytes, field_bytes, entry_bytes, bytes_at, id_of, entries_of_lines, lines_of_bytes}
+use Rattle.model.specs.declared.layout.Layout.{Layout}
+use Rattle.model.specs.declared.layout.TheConstants.{GAPS_WORD, LINE_WORDS}
+use Rattle.model.specs.Layout.{gap_room, max_gaps, role_word, version}
+use Rattle.model.specs.Image.{Image, Version, HasSuperblock, HasWords, HasRecord, IsMapOf, version_at, with_version, counts, entry_word, key_bytes, field_bytes, entry_bytes, bytes_at, id_of, entries_of_lines, lines_of_bytes}
 
 -- the image that the words make up, with zeros after them
 abbrev pub image_of : List ℕ → Image
@@ -29,15 +30,16 @@ abbrev pub AreZero : Image → ℕ → ℕ → Type 0
 AreZero image first count = HasWords image first (replicate count 0)
 
 -- the slot that begins at word `first` has this record number, and zeros in the room after `gaps` gaps and in its last word
-pub record IsFilled (image : Image) (first number gaps : ℕ) : Type 0 where
+pub record IsFilled (layout : Layout) (image : Image) (first number gaps : ℕ) : Type 0 where
   pub number_is : image first ≡ number
-  pub last : image (first + (LAYOUT.role_word + 1)) ≡ 0
-  pub unused : AreZero image (first + GAPS_WORD + 2 * gaps) (gap_room - 2 * gaps)
+  pub last : image (first + (role_word layout + 1)) ≡ 0
+  pub unused : AreZero image (first + GAPS_WORD + 2 * gaps) (gap_room layout - 2 * gaps)
 
--- the image of `lines` lines has this record, which has no more gaps than there is room for
+-- the image of `lines` lines has the version of this record, and the record, which has no more gaps than there is room for
 pub record IsRecordOf (lines : ℕ) (image : Image) (r : Record) : Type 0 where
+  pub version_is : image 1 ≡ version r.layout
   pub has_record : HasRecord lines r image
-  pub few : length r.gaps.items ≤ MAX_GAPS
+  pub few : length r.gaps.items ≤ max_gaps r.layout
 
 -- the lengths of entry i are within the limits, and its extent is within the image
 pub record IsInFormat (lines : ℕ) (image : Image) (i : ℕ) : Type 0 where
@@ -58,19 +60,19 @@ is_clash other id = pointwise nat_eq (key_of other) (key_of id) && (eq_by_cmp re
 
 -- each entry whose begin counts is in the format
 abbrev pub AreInFormat : ℕ → Record → Image → Type 0
-AreInFormat lines r image = (i : ℕ) → i < entries_of_lines lines → IsTrue (counts r (image (entry_word i 0))) → IsInFormat lines image i
+AreInFormat lines r image = (i : ℕ) → i < entries_of_lines r.layout lines → IsTrue (counts r (image (entry_word i 0))) → IsInFormat lines image i
 
 -- the entries are in the format, and have a map
 pub record HasMap (lines : ℕ) (r : Record) (image : Image) : Type 0 where
   pub keyspace : Keyspace
   pub lawful : IsKeyspace keyspace
-  pub map : IsMapOf (version_at r image) (entries_of_lines lines) keyspace
+  pub map : IsMapOf (version_at r image) (entries_of_lines r.layout lines) keyspace
   pub in_format : AreInFormat lines r image
 
 -- the words are those of an image that holds a record and a keyspace, with its entries in the format
 pub record IsWhole (words : List ℕ) : Type 0 where
   pub current : Record
-  pub superblock : HasSuperblock (line_count words) (image_of words)
+  pub superblock : HasSuperblock current.layout (line_count words) (image_of words)
   pub is_record : IsRecordOf (line_count words) (image_of words) current
   pub has_map : HasMap (line_count words) current (image_of words)
 

@@ -6,7 +6,7 @@ ghost use Rattle.model.specs.ReadImage.{image_of, line_count, is_clash as the_cl
 
 use crate::image_entries::read_entry;
 use crate::image_words::{entry_word, has_superblock, read_record, word_at};
-use crate::layout::{LAYOUT, LINE_WORDS};
+use crate::layout::LINE_WORDS;
 use crate::record::Record;
 use kv_types::{Change, PlainKeyspace, RecordId};
 use std::alloc::{AllocError, Global};
@@ -19,17 +19,17 @@ pub struct ImageContents {
 }
 
 /// Reads the words of an image: its current record, and the map of all versions whose begin counts and whose end does not. `None` where they
-/// are not a whole image: the superblock is not the one for their number of lines, the root's slot holds no record, or the entries have no map.
+/// are not a whole image: the superblock is none for their number of lines, the root's slot holds no record, or the entries have no map.
 pub fn read_image(alloc: Global, words: &[u64]) -> Result<Option<ImageContents>, AllocError>
     ensures whole { IfOk result (λ o. IfSome o (λ c. Holds (line_count words.now) c.record c.keyspace (image_of words.now))) }
     ensures refused { IfOk result (λ o. IfNone o (¬ IsWhole words.now)) }
 {
-    if !has_superblock(words) {
-        return Ok(None);
-    }
     let Some(record) = read_record(words) else {
         return Ok(None);
     };
+    if !has_superblock(words, record.layout) {
+        return Ok(None);
+    }
     let Some(keyspace) = read_map(alloc, words, &record)? else {
         return Ok(None);
     };
@@ -43,10 +43,13 @@ fn read_map(
     current: &Record,
 ) -> Result<Option<PlainKeyspace>, AllocError>
     ensures { IfOk result (λ o. MatchOption o (¬ HasMap (line_count words.now) current.now (image_of words.now))
-        (λ s. IsMapOf (version_at current.now (image_of words.now)) (entries_of_lines (line_count words.now)) s)) }
+        (λ s. IsMapOf (version_at current.now (image_of words.now)) (entries_of_lines current.now.layout (line_count words.now)) s)) }
 {
     let mut keyspace = PlainKeyspace::new(alloc);
-    for i in 0..LAYOUT.entries_of_lines(words.len() as u64 / LINE_WORDS) {
+    for i in 0..current
+        .layout
+        .entries_of_lines(words.len() as u64 / LINE_WORDS)
+    {
         if !add_entry(alloc, words, current, i, &mut keyspace)? {
             return Ok(None);
         }
@@ -62,7 +65,7 @@ fn add_entry(
     i: u64,
     keyspace: &mut PlainKeyspace,
 ) -> Result<bool, AllocError>
-    requires { i < entries_of_lines (line_count words.now) }
+    requires { i < entries_of_lines current.now.layout (line_count words.now) }
     ensures { IfOk result (λ added. MatchBool added (AddsEntry (version_at current.now (image_of words.now)) i keyspace.old keyspace.new)
         (CannotAdd (line_count words.now) current.now (image_of words.now) i keyspace.old)) }
 {

@@ -28,7 +28,7 @@ pub fn lines_of_bytes(bytes: u64) -> u64
 
 /// The shape of the record in entry `i`, or `None` where its lengths exceed the limits or its extent runs past the end of the image.
 fn shape_of(words: &[u64], i: u64) -> Option<Shape>
-    requires { i < images.entries_of_lines (line_count words.now) }
+    requires { i < images.directory_room (line_count words.now) }
     ensures { MatchOption result (¬ IsInFormat (line_count words.now) (image_of words.now) i) (λ shape. IsShape (line_count words.now) (image_of words.now) i shape) }
 {
     let names = word_at(words, entry_word(i, 6));
@@ -89,7 +89,7 @@ pub fn read_entry(
     words: &[u64],
     i: u64,
 ) -> Result<Option<(RecordId, Value)>, AllocError>
-    requires { i < images.entries_of_lines (line_count words.now) }
+    requires { i < images.directory_room (line_count words.now) }
     ensures { IfOk result (λ o. MatchOption o (¬ IsInFormat (line_count words.now) (image_of words.now) i)
         (λ read. IsInFormat (line_count words.now) (image_of words.now) i × (read ≡ record_in (image_of words.now) i))) }
 {

@@ -15,31 +15,36 @@ ghost use Rattle.model.specs.State.{State};
 ghost use Rattle.model.specs.Call.{MayReply, MayAnswer, admission_at, memory_reply, replies_in, all_made, changes_for, changes_of, is_memory, after_call, is_changing, AreAlike};
 ghost use Rattle.model.specs.Call.{IsLegal, state_after, keyspace_after, position_of, cut_at, items_of, IsPrefix};
 ghost use Rattle.model.specs.Position.{changes_at, changes_since};
-ghost use Rattle.model.specs.declared.layout.TheConstants.{LAYOUT, VERSION_1, VERSION_2};
-ghost use Rattle.model.specs.Layout.{first_word, directory_room, entries_of_lines as entries_in_layout, entry_line, directory_end, first_extent_line, slot_line, slots_end};
-ghost use Rattle.model.specs.Image.{Image, Version, IsMapOf, map_below, Holds, entries_of_lines};
-ghost use Rattle.model.specs.Group.{Contents, IsGroup, IsConsistent, after_group, changes_of_group};
+ghost use Rattle.model.specs.declared.layout.Layout.{Layout};
+ghost use Rattle.model.specs.declared.layout.Layout.TheVariants.{Version1, Version2};
+ghost use Rattle.model.specs.Layout.{first_word, version, directory_room, entries_of_lines, entry_line, directory_end, first_extent_line, root_word, slot_line, slot_lines, slots_end, max_gaps, role_word};
+ghost use Rattle.model.specs.Image.{Image, Version, IsMapOf, map_below, Holds};
+ghost use Rattle.model.specs.Group.{Contents, IsGroup, IsConsistent, after_group, changes_of_group, entries_of};
 ghost use Rattle.model.specs.Standing.{Holder, StandsAt};
 
 use crate::call::MAX_CHANGE_TEXT_BYTES;
 use crate::group::MAX_PARTS;
+use crate::image::MIN_LINES;
+use crate::layout::SUPERBLOCK_WORDS;
 use crate::record::MAX_GAPS;
 
-/// Where the parts of an image of 4,096 lines lie by the layout of each version: the first of its entries, the slots of records 2 and 3, and the extents;
-/// and how many entries there are, and which word of a record is its role. A record fills its slot. In any image both versions have the extents from the
-/// same line on and the same word 3; and in one of 144 lines or more the slots of version 2 lie between its directory and its extents.
+/// Where the parts of an image of 4,096 lines lie by each layout: the first of its entries, the slots of records 2 and 3, and the extents; and how many entries
+/// there are, and which word of a record is its role. A record fills its slot. In any image an entry is in the directory, the root is behind the words that say
+/// what the image is, and the slots are before the extents; and where there are 144 lines or more, the slots of version 2 lie between its directory and its
+/// extents.
 pub fn layouts_place_the_parts()
-    ensures version_1 { (entries_in_layout VERSION_1 4096 ≡ 512) × (entry_line VERSION_1 0 ≡ 8) × (slot_line VERSION_1 4096 2 ≡ 1)
-        × (slot_line VERSION_1 4096 3 ≡ 4) × (slots_end VERSION_1 4096 ≡ 7) × (first_extent_line VERSION_1 4096 ≡ 520) × (VERSION_1.role_word ≡ 22) }
-    ensures version_2 { (entries_in_layout VERSION_2 4096 ≡ 494) × (entry_line VERSION_2 0 ≡ 8) × (slot_line VERSION_2 4096 2 ≡ 502)
-        × (slot_line VERSION_2 4096 3 ≡ 511) × (slots_end VERSION_2 4096 ≡ 520) × (first_extent_line VERSION_2 4096 ≡ 520) × (VERSION_2.role_word ≡ 70) }
-    ensures records { (VERSION_1.max_gaps ≡ 8) × (VERSION_2.max_gaps ≡ 32) × (VERSION_1.role_word + 2 ≡ first_word VERSION_1.slot_lines)
-        × (VERSION_2.role_word + 2 ≡ first_word VERSION_2.slot_lines) × (LAYOUT.max_gaps ≡ MAX_GAPS) }
-    ensures entries { (lines : ℕ) → (entries_in_layout VERSION_1 lines ≡ lines / 8) × (entries_in_layout VERSION_2 lines ≡ lines / 8 - 18) }
-    ensures extents { (lines : ℕ) → (first_extent_line VERSION_1 lines ≡ first_extent_line VERSION_2 lines)
-        × (directory_room VERSION_1 lines ≡ directory_room VERSION_2 lines) }
-    ensures behind { (lines : ℕ) → 18 ≤ lines / 8 → (slot_line VERSION_2 lines 0 ≡ directory_end VERSION_2 lines)
-        × (slots_end VERSION_2 lines ≡ first_extent_line VERSION_2 lines) }
+    ensures version_1 { (entries_of_lines Version1 4096 ≡ 512) × (entry_line 0 ≡ 8) × (slot_line Version1 4096 2 ≡ 1) × (slot_line Version1 4096 3 ≡ 4)
+        × (slots_end Version1 4096 ≡ 7) × (first_extent_line 4096 ≡ 520) × (role_word Version1 ≡ 22) }
+    ensures version_2 { (entries_of_lines Version2 4096 ≡ 494) × (entry_line 0 ≡ 8) × (slot_line Version2 4096 2 ≡ 502) × (slot_line Version2 4096 3 ≡ 511)
+        × (slots_end Version2 4096 ≡ 520) × (first_extent_line 4096 ≡ 520) × (role_word Version2 ≡ 70) }
+    ensures records { (layout : Layout) → (role_word layout + 2 ≡ first_word (slot_lines layout)) × (max_gaps layout ≤ MAX_GAPS) }
+    ensures versions { (layout other : Layout) → version layout ≡ version other → layout ≡ other }
+    ensures entries { (lines : ℕ) → (entries_of_lines Version1 lines ≡ lines / 8) × (entries_of_lines Version2 lines ≡ lines / 8 - 18) }
+    ensures fit { (layout : Layout) (lines : ℕ) → entries_of_lines layout lines ≤ directory_room lines }
+    ensures root { (layout : Layout) → (SUPERBLOCK_WORDS ≤ root_word layout) × (root_word layout < first_word 1) }
+    ensures slots { (layout : Layout) (lines : ℕ) → MIN_LINES ≤ lines → slots_end layout lines ≤ first_extent_line lines }
+    ensures behind { (lines : ℕ) → 18 ≤ lines / 8 → (slot_line Version2 lines 0 ≡ directory_end Version2 lines)
+        × (slots_end Version2 lines ≡ first_extent_line lines) }
 {}
 
 /// A list with one more call: it is legal where the call's reply may be given at its end, its state is that after the call, its keyspace the one
@@ -133,7 +138,7 @@ pub fn lists_leave_keyspaces()
 pub fn images_hold_one_keyspace()
     ensures map { (versions : ℕ → Option Version) (entries : ℕ) (s t : Keyspace) → IsKeyspace s → IsKeyspace t
         → IsMapOf versions entries s → IsMapOf versions entries t → s ≡ t }
-    ensures current { (lines : ℕ) (a b : Record) (s t : Keyspace) (image : Image) → length a.gaps.items ≤ MAX_GAPS
+    ensures current { (lines : ℕ) (a b : Record) (s t : Keyspace) (image : Image) → length a.gaps.items ≤ max_gaps a.layout
         → Holds lines a s image → Holds lines b t image → a ≡ b }
     ensures keyspace { (lines : ℕ) (r : Record) (s t : Keyspace) (image : Image) → IsKeyspace s → IsKeyspace t
         → Holds lines r s image → Holds lines r t image → s ≡ t }
@@ -150,8 +155,8 @@ pub fn map_is_computed()
 /// A group moves the map by exactly its changes, in their order, and free entries stay without versions.
 pub fn map_moves_by_the_group()
     ensures map { (contents : Contents) (group : Group) (s : Keyspace) → IsConsistent contents → IsGroup contents group
-        → IsMapOf contents.versions (entries_of_lines contents.lines) s
-        → IsMapOf (after_group contents group).versions (entries_of_lines contents.lines) (play_all s (changes_of_group group)) }
+        → IsMapOf contents.versions (entries_of contents) s
+        → IsMapOf (after_group contents group).versions (entries_of contents) (play_all s (changes_of_group group)) }
     ensures consistent { (contents : Contents) (group : Group) → IsConsistent contents → IsGroup contents group
         → IsConsistent (after_group contents group) }
 {}

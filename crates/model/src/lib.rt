@@ -27,8 +27,8 @@ pub use laws::{
     refused_calls_change_nothing, sessions_are_read_off_the_list, transactions_answer_each_request,
 };
 pub use layout::{
-    FIELD_LENGTH_UNIT, GAPS_WORD, LAYOUT, LINE_BYTES, LINE_WORDS, Layout, Slots, VERSION_1,
-    VERSION_2, WORD_BYTES,
+    DIRECTORY_LINE, ENTRY_SHARE, FIELD_LENGTH_UNIT, GAPS_WORD, LAYOUT, LINE_BYTES, LINE_WORDS,
+    Layout, SUPERBLOCK_WORDS, WORD_BYTES,
 };
 pub use record::{FIRST_EPOCH, Gap, MAX_GAPS, Record, Role};
 pub use work::{FreeList, Work};

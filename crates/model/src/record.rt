@@ -1,8 +1,9 @@
 //! The commit record of an image: which stamps are durable.
+use crate::layout::Layout;
 use arrayvec::ArrayVec;
 
-/// How many gaps a record holds at most.
-pub const MAX_GAPS: usize = 8;
+/// How many gaps a record holds at most, of those of any layout.
+pub const MAX_GAPS: usize = 32;
 
 /// The epoch of new images. Each promotion adds one.
 pub const FIRST_EPOCH: u64 = 1;
@@ -24,6 +25,8 @@ pub struct Gap {
 /// What a commit makes durable in one step.
 #[derive(Debug, Drop)]
 pub struct Record {
+    /// The layout of the image that has it.
+    pub layout: Layout,
     /// Its number, from 1. Record `n` is in slot `n mod 2`.
     pub number: u64,
     /// The position of the list of calls: how many calls changed something.
@@ -35,7 +38,7 @@ pub struct Record {
     /// Which primary of the pair wrote it, from 1.
     pub epoch: u64,
     pub role: Role,
-    /// At most eight, in order of stamps.
+    /// At most as many as the layout has room for, in order of stamps.
     pub gaps: ArrayVec<Gap, MAX_GAPS>,
 }
 

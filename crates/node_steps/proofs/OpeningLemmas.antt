@@ -3,8 +3,7 @@ use Rattle.std.proofs.Common.{◌≡◌, ℕ, List, [], refl, sym, ap, subst, �
 use Rattle.model.specs.declared.call.Call.{Call}
 use Rattle.model.specs.declared.work.Work.{Work}
 use Rattle.model.specs.Call.{cut_at, keyspace_after, position_of}
-use Rattle.model.specs.Group.{AreEnded, Contents}
-use Rattle.model.specs.Image.{entries_of_lines}
+use Rattle.model.specs.Group.{AreEnded, Contents, entries_of}
 use Rattle.model.specs.Standing.{Holder}
 use Rattle.model.proofs.CallsLemmas.{IsKeyspace-keyspace_after, keyspace_after-cut_at-position}
 use Rattle.model.proofs.MapLemmas.{IsMapOf-unique}
@@ -27,7 +26,7 @@ use Rattle.node_steps.specs.Node.{past_of}
 table-there : (holder : Holder) (calls : List Call) (p : ℕ) (contents : Contents) (table : Table) → AreContentsAt holder calls p contents → IsTable contents.versions table
     → records table ≡ keyspace_after (cut_at calls p)
 table-there holder calls p contents table are is =
-    IsMapOf-unique (map-from_table contents.versions (entries_of_lines contents.lines) table are.consistent.beyond is) are.map is.keyspace (IsKeyspace-keyspace_after (cut_at calls p))
+    IsMapOf-unique (map-from_table contents.versions (entries_of contents) table are.consistent.beyond is) are.map is.keyspace (IsKeyspace-keyspace_after (cut_at calls p))
 
 -- a sequencer that starts over the contents at the end of the list
 sequencer-starts : (holder : Holder) (calls : List Call) (contents : Contents) (s : Sequencing) → AreContentsAt holder calls (position_of calls) contents → IsOver contents s

@@ -5,8 +5,8 @@ use Rattle.model.specs.declared.call.Call.{Call}
 use Rattle.model.specs.declared.work.FreeList.{FreeList}
 use Rattle.model.specs.declared.work.Work.{Work}
 use Rattle.model.specs.Call.{keyspace_after, cut_at}
-use Rattle.model.specs.Image.{IsMapOf, entries_of_lines}
-use Rattle.model.specs.Group.{Contents, IsConsistent}
+use Rattle.model.specs.Image.{IsMapOf}
+use Rattle.model.specs.Group.{Contents, IsConsistent, entries_of}
 use Rattle.model.specs.Standing.{Holder}
 use Rattle.wbl_engine.specs.Contents.{IsDurable}
 use Rattle.wbl_engine.specs.Lawful.{AreLawful}
@@ -26,7 +26,7 @@ pub record AreContentsAt (holder : Holder) (calls : List Call) (position : ℕ) 
   pub epoch_is : contents.current.epoch ≡ holder.epoch
   pub lines_are : contents.lines ≡ holder.lines
   pub consistent : IsConsistent contents
-  pub map : IsMapOf contents.versions (entries_of_lines contents.lines) (keyspace_after (cut_at calls position))
+  pub map : IsMapOf contents.versions (entries_of contents) (keyspace_after (cut_at calls position))
 
 -- a sound engine of this holder whose contents are those of the list at this position and obey the rules, over a device on which each crash leaves them
 pub record EngineStands (holder : Holder) (calls : List Call) (position : ℕ) (device : State) (contents : Contents) (is_faulted : Bool) : Type 0 where

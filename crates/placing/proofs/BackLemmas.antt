@@ -13,8 +13,10 @@ use Rattle.extent_heap.proofs.RunsLemmas.{has_line-append, line_bounds, line_wit
 use Rattle.model.specs.declared.group.Part.{Part}
 use Rattle.model.specs.declared.group.Put.{Put}
 use Rattle.model.specs.declared.group.PlacedChange.{PlacedChange}
-use Rattle.model.specs.Group.{AreApart, Contents, Versions, changes_versions, is_listed, is_put_at, parts_versions, puts_of_part}
+use Rattle.model.specs.declared.layout.Layout.{Layout}
+use Rattle.model.specs.Group.{AreApart, Contents, Versions, changes_versions, is_listed, is_put_at, parts_versions, puts_of_part, entries_of}
 use Rattle.model.specs.Image.{entries_of_lines, first_extent_line}
+use Rattle.model.proofs.DirectoryLemmas.{entries_same}
 use Rattle.model.proofs.GroupsLemmas.{changes_versions-none, is_put_at-append}
 use Rattle.mv_keyspace.specs.Row.{numbers_of}
 use Rattle.mv_keyspace.specs.Table.{puts_of}
@@ -152,7 +154,7 @@ module _ (contents : Contents) (room : Room) (e e' : List EntryNo) (x x' : List 
           out = record { end_line = gives.end_line ∙ back.out.end_line; end_entry = gives.end_entry ∙ back.out.end_entry; held = omega (arith, back.out.held, length-append x x', gives.held) };
         }
 
-    was_entry : (i : ℕ) → IsTrue (is_listed i e) → (i < entries_of_lines contents.lines) × IsTrue (contents.is_free i) × (contents.versions i ≡ None)
+    was_entry : (i : ℕ) → IsTrue (is_listed i e) → (i < entries_of contents) × IsTrue (contents.is_free i) × (contents.versions i ≡ None)
     was_entry i listed = let was = entry_first i listed in (was.within, was.is_free, was.none)
 
     was_line : (line : ℕ) → IsTrue (has_line x line) → (first_extent_line contents.lines ≤ line) × (line < contents.lines)
@@ -174,20 +176,25 @@ module _ (contents : Contents) (room : Room) (e e' : List EntryNo) (x x' : List 
 -- ---- a new heap
 
 -- of a heap without versions nothing is out
-pub fresh-has_out : (contents : Contents) (lines : ℕ) → contents.lines ≡ lines → ((i : ℕ) → contents.versions i ≡ None) → HasOut contents (fresh_room (first_extent_line lines) lines (entries_of_lines lines)) 0
-fresh-has_out contents lines is empty =
-    record { end_line = sym is; end_entry = ap entries_of_lines (sym is); held = omega (arith, none_counted contents.versions (entries_of_lines contents.lines) (λ i lt. ap has_version (empty i))) }
+pub fresh-has_out : (contents : Contents) (layout : Layout) (lines : ℕ) → contents.current.layout ≡ layout → contents.lines ≡ lines → ((i : ℕ) → contents.versions i ≡ None)
+    → HasOut contents (fresh_room (first_extent_line lines) lines (entries_of_lines layout lines)) 0
+fresh-has_out contents layout lines layout_is is empty =
+    record { end_line = sym is; end_entry = sym (ap₂ entries_of_lines layout_is is); held = omega (arith, none_counted contents.versions (entries_of contents) (λ i lt. ap has_version (empty i))) }
 
 -- ---- places are taken in between
 
 -- Contents and heap after changes that took their places from the heap: what comes back still does.
-module _ (contents after : Contents) (position : ℕ) (changes : List PlacedChange) (room left : Room) (e : List EntryNo) (x : List Extent) (lines_are : after.lines ≡ contents.lines)
+module _ (contents after : Contents) (position : ℕ) (changes : List PlacedChange) (room left : Room) (e : List EntryNo) (x : List Extent)
+    (layout_is : after.current.layout ≡ contents.current.layout) (lines_are : after.lines ≡ contents.lines)
     (versions_are : after.versions ≡ changes_versions position contents.versions changes)
     (is_free_are : (i : ℕ) → after.is_free i ≡ (contents.is_free i && not (is_put_at i (puts_of changes))))
     (empty : (i : ℕ) → IsTrue (is_free_entry room i) → contents.versions i ≡ None)
     (takes : TakesPlaces room (puts_of changes) left) (back : ComesBack contents room e x) where
   abbrev puts : List Put
   puts = puts_of changes
+
+  entries_are : entries_of after ≡ entries_of contents
+  entries_are = entries_same contents after layout_is lines_are
 
   puts_free : AllByRecursion (IsFree room) puts
   puts_free = places_free room puts left takes
@@ -199,7 +206,7 @@ module _ (contents after : Contents) (position : ℕ) (changes : List PlacedChan
   entry_after i was =
       let none = not_put_at_free room puts i puts_free was.out in
       record {
-        within = subst (λ n. i < entries_of_lines n) (sym lines_are) was.within;
+        within = subst (λ n. i < n) (sym entries_are) was.within;
         is_free = is_free_are i ∙ still_free (contents.is_free i) (is_put_at i puts) was.is_free none;
         none = ap (λ (versions : Versions). versions i) versions_are ∙ changes_versions-none position contents.versions changes i was.none none;
         out = not_free (is_free_entry left i) (is_free_entry room i) (within.entries i) was.out;
@@ -226,16 +233,16 @@ module _ (contents after : Contents) (position : ℕ) (changes : List PlacedChan
 
   out_after : HasOut after left (length x)
   out_after =
-      let n = entries_of_lines contents.lines in
+      let n = entries_of contents in
       let taken = places_held room puts left takes in
       let below = subst (λ m. AreBelow m puts) back.out.end_entry (places_below room puts left takes) in
       let none = All-map (IsFree room) (λ (put : Put). contents.versions put.entry.0 ≡ None) (λ put free. empty put.entry.0 free.entry) puts puts_free in
       let more = changes_counted position contents.versions changes n below none (AreDistinct-from_apart puts (places_apart room puts left takes)) in
-      let count : count_versions after.versions (entries_of_lines after.lines) ≡ count_versions (changes_versions position contents.versions changes) n =
-      ap₂ (λ (versions : Versions) (lines : ℕ). count_versions versions (entries_of_lines lines)) versions_are lines_are in
+      let count : count_versions after.versions (entries_of after) ≡ count_versions (changes_versions position contents.versions changes) n =
+      ap₂ count_versions versions_are entries_are in
       record {
         end_line = taken.end_line ∙ back.out.end_line ∙ sym lines_are;
-        end_entry = taken.end_entry ∙ back.out.end_entry ∙ ap entries_of_lines (sym lines_are);
+        end_entry = taken.end_entry ∙ back.out.end_entry ∙ sym entries_are;
         held = omega (arith, count, more, back.out.held, taken.held);
       }
 
@@ -253,7 +260,7 @@ pub comes-back-taken : (contents : Contents) (position : ℕ) (room left : Room)
     → ((i : ℕ) → IsTrue (is_free_entry room i) → contents.versions i ≡ None) → ComesBack contents room e x
     → ComesBack (record contents { versions = changes_versions position contents.versions changes; is_free = λ i. contents.is_free i && not (is_put_at i (puts_of changes)) }) left e x
 comes-back-taken contents position room left changes e x takes empty back =
-    comes-back-after contents _ position changes room left e x refl refl (λ i. refl) empty takes back
+    comes-back-after contents _ position changes room left e x refl refl refl (λ i. refl) empty takes back
 
 and_not_or : (a b c : Bool) → (a && not (b || c)) ≡ ((a && not b) && not c)
 and_not_or a b c = grind arith
@@ -263,7 +270,7 @@ pub comes-back-part : (epoch epoch' : ℕ) (contents : Contents) (waiting : List
     → ((i : ℕ) → IsTrue (is_free_entry room i) → parts_versions contents.versions waiting i ≡ None) → ComesBack (after_parts epoch contents waiting) room e x
     → ComesBack (after_parts epoch' contents (waiting ++ part ∷ [])) left e x
 comes-back-part epoch epoch' contents waiting part room left e x takes empty back =
-    comes-back-after (after_parts epoch contents waiting) (after_parts epoch' contents (waiting ++ part ∷ [])) part.position part.changes.items room left e x refl
+    comes-back-after (after_parts epoch contents waiting) (after_parts epoch' contents (waiting ++ part ∷ [])) part.position part.changes.items room left e x refl refl
     (parts_versions-append contents.versions waiting part)
     (λ i. rw (puts_of_parts-append waiting part, is_put_at-append i (flat_map puts_of_part waiting) (puts_of_part part)) (and_not_or (contents.is_free i) (is_put_at i (flat_map puts_of_part waiting)) (is_put_at i (puts_of_part part))))
     empty takes back

@@ -6,8 +6,8 @@ use Rattle.kv_types.specs.declared.change.Change.{Change}
 use Rattle.kv_types.specs.declared.place.EntryNo.{EntryNo}
 use Rattle.model.specs.declared.group.Put.{Put}
 use Rattle.model.specs.declared.group.PlacedChange.{PlacedChange}
-use Rattle.model.specs.Group.{AreEnded, Contents, Versions, change_of, put_of, change_versions, changes_versions, ended_where_begun, is_ended_version, is_listed, with_puts}
-use Rattle.model.specs.Image.{Version, entries_of_lines}
+use Rattle.model.specs.Group.{AreEnded, Contents, Versions, change_of, put_of, change_versions, changes_versions, ended_where_begun, is_ended_version, is_listed, with_puts, entries_of}
+use Rattle.model.specs.Image.{Version}
 use Rattle.mv_keyspace.specs.Table.{puts_of}
 use Rattle.mv_keyspace.proofs.PartTables.{AreDistinct, distinct-first, empty-rest, with_puts-other}
 use Rattle.mv_keyspace.proofs.VersionTables.{AreEmpty}
@@ -103,10 +103,10 @@ ended_is (Some version) ended = refl
 
 -- the versions without those of entries that have ended are as many fewer as there are entries
 pub freed_counted : (contents : Contents) (entries : List EntryNo) → AreEnded contents entries
-    → count_versions (λ i. if is_listed i entries then None else contents.versions i) (entries_of_lines contents.lines) + length entries ≡ count_versions contents.versions (entries_of_lines contents.lines)
+    → count_versions (λ i. if is_listed i entries then None else contents.versions i) (entries_of contents) + length entries ≡ count_versions contents.versions (entries_of contents)
 freed_counted contents [] ended = omega arith
 freed_counted contents (entry ∷ entries) ended =
-    let n = entries_of_lines contents.lines in
+    let n = entries_of contents in
     let after = λ (i : ℕ). cond (is_listed i (entry ∷ entries)) None (contents.versions i) in
     let between = λ (i : ℕ). cond (is_listed i entries) None (contents.versions i) in
     let rest = freed_counted contents entries ended.3 in

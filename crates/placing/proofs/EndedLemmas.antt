@@ -4,8 +4,7 @@ use Rattle.std.proofs.lemmas.Map.Keys.{IsDistinct-head, IsDistinct-tail}
 use Rattle.std.specs.List.{AllByRecursion, IsDistinct}
 use Rattle.kv_types.specs.declared.place.EntryNo.{EntryNo}
 use Rattle.extent_heap.specs.Room.{Room}
-use Rattle.model.specs.Group.{AreEnded, Contents, IsConsistent, is_ended_version, is_listed}
-use Rattle.model.specs.Image.{entries_of_lines}
+use Rattle.model.specs.Group.{AreEnded, Contents, IsConsistent, is_ended_version, is_listed, entries_of}
 use Rattle.model.proofs.DirectoryLemmas.{ended-directory}
 use Rattle.mv_keyspace.specs.Row.{numbers_of}
 use Rattle.placing.specs.Back.{ComesBack, HasOut}
@@ -18,7 +17,7 @@ unlisted n (entry ∷ entries) apart = ap (λ b. b || is_listed n entries) apart
 
 -- entries with distinct numbers, of which each holds a version that has ended
 pub AreEnded-from_members : (contents : Contents) (entries : List EntryNo) → IsDistinct nat_eq (numbers_of entries)
-    → ((i : ℕ) → Contains (numbers_of entries) i → (i < entries_of_lines contents.lines) × IsTrue (is_ended_version (contents.versions i))) → AreEnded contents entries
+    → ((i : ℕ) → Contains (numbers_of entries) i → (i < entries_of contents) × IsTrue (is_ended_version (contents.versions i))) → AreEnded contents entries
 AreEnded-from_members contents [] once told = tt
 AreEnded-from_members contents (entry ∷ entries) once told =
     let first = told entry.0 (here entry.0 (numbers_of entries)) in (

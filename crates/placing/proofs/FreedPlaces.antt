@@ -12,8 +12,9 @@ use Rattle.extent_heap.specs.Runs.{has_line}
 use Rattle.extent_heap.proofs.RunsLemmas.{has_line-append, line_bounds, line_within}
 use Rattle.model.specs.declared.group.Part.{Part}
 use Rattle.model.specs.declared.group.PlacedChange.{PlacedChange}
-use Rattle.model.specs.Group.{AreApart, AreEnded, Contents, Versions, after_free, change_of, put_of, puts_of_part, change_versions, changes_versions, part_versions, parts_versions, ended_where_begun, ends_record, extent_of, extents_of, is_ended_version, is_listed, is_put_at}
-use Rattle.model.specs.Image.{Version, entries_of_lines, first_extent_line}
+use Rattle.model.specs.Group.{AreApart, AreEnded, Contents, Versions, after_free, change_of, put_of, puts_of_part, change_versions, changes_versions, part_versions, parts_versions, ended_where_begun, ends_record, extent_of, extents_of, is_ended_version, is_listed, is_put_at, entries_of}
+use Rattle.model.specs.Image.{Version, first_extent_line}
+use Rattle.model.proofs.DirectoryLemmas.{entries_same}
 use Rattle.model.proofs.GroupsLemmas.{is_put_at-append}
 use Rattle.mv_keyspace.specs.Row.{numbers_of}
 use Rattle.mv_keyspace.proofs.DistinctLemmas.{distinct-append, distinct-one}
@@ -75,11 +76,11 @@ later_listed i entry entries listed = or_right (nat_eq i entry.0) (is_listed i e
 
 -- each of them is in the directory, and has a version that has ended
 pub ended_listed : (contents : Contents) (entries : List EntryNo) → AreEnded contents entries → (i : ℕ) → IsTrue (is_listed i entries)
-    → (i < entries_of_lines contents.lines) × IsTrue (is_ended_version (contents.versions i))
+    → (i < entries_of contents) × IsTrue (is_ended_version (contents.versions i))
 ended_listed contents [] ended i listed = absurd (false≢true listed)
 ended_listed contents (entry ∷ entries) ended i listed =
     either (nat_eq i entry.0) (is_listed i entries) listed
-    (λ is. subst (λ k. (k < entries_of_lines contents.lines) × IsTrue (is_ended_version (contents.versions k))) (sym (eqb-true i entry.0 is)) (ended.0, ended.1))
+    (λ is. subst (λ k. (k < entries_of contents) × IsTrue (is_ended_version (contents.versions k))) (sym (eqb-true i entry.0 is)) (ended.0, ended.1))
     (λ rest. ended_listed contents entries ended.3 i rest)
 
 begun_version : (entry : Option Version) → IsTrue (is_ended_version entry) → (version : Version) × (entry ≡ Some version)
@@ -115,8 +116,12 @@ line_either line xs ys has = either (has_line xs line) (has_line ys line) (sym (
 line_of_same : (versions other : Versions) → ((i : ℕ) → other i ≡ versions i) → (line : ℕ) → IsLineOfVersion other line → IsLineOfVersion versions line
 line_of_same versions other same line is = record { i = is.i; version = is.version; begun = sym (same is.i) ∙ is.begun; from = is.from; before = is.before }
 
--- the other contents have the same versions, and are of as many lines
-module _ (contents other : Contents) (room : Room) (lines : other.lines ≡ contents.lines) (versions : (i : ℕ) → other.versions i ≡ contents.versions i) where
+-- the other contents have the same versions, and are of the same layout and as many lines
+module _ (contents other : Contents) (room : Room) (layout : other.current.layout ≡ contents.current.layout) (lines : other.lines ≡ contents.lines)
+    (versions : (i : ℕ) → other.versions i ≡ contents.versions i) where
+  entries_are : entries_of other ≡ entries_of contents
+  entries_are = entries_same contents other layout lines
+
   line_back_same : (line : ℕ) → IsLineBack contents room line → IsLineBack other room line
   line_back_same line back = record {
     above = subst (λ n. first_extent_line n ≤ line) (sym lines) back.above;
@@ -127,13 +132,13 @@ module _ (contents other : Contents) (room : Room) (lines : other.lines ≡ cont
 
   out_same : (more : ℕ) → HasOut contents room more → HasOut other room more
   out_same more out =
-      let n = entries_of_lines contents.lines in
+      let n = entries_of contents in
       let held = out.held in
       let count = same_count contents.versions other.versions n (λ i lt. ap has_version (versions i)) in
       record {
         end_line = out.end_line ∙ sym lines;
-        end_entry = out.end_entry ∙ ap entries_of_lines (sym lines);
-        held = subst (λ k. count_versions other.versions (entries_of_lines k) + more ≤ room.held) (sym lines) (omega (arith, held, count));
+        end_entry = out.end_entry ∙ sym entries_are;
+        held = subst (λ k. count_versions other.versions k + more ≤ room.held) (sym entries_are) (omega (arith, held, count));
       }
 
   -- what comes back, comes back to a heap of the other contents, where what was free still is
@@ -142,7 +147,7 @@ module _ (contents other : Contents) (room : Room) (lines : other.lines ≡ cont
     once = back.once;
     entries_back = λ i listed.
         let was = back.entries_back i listed in
-        record { within = subst (λ n. i < entries_of_lines n) (sym lines) was.within; is_free = still i was.is_free; none = versions i ∙ was.none; out = was.out };
+        record { within = subst (λ n. i < n) (sym entries_are) was.within; is_free = still i was.is_free; none = versions i ∙ was.none; out = was.out };
     apart = back.apart;
     some = back.some;
     lines_back = λ line has. line_back_same line (back.lines_back line has);
@@ -151,7 +156,7 @@ module _ (contents other : Contents) (room : Room) (lines : other.lines ≡ cont
 
   -- and so do entries that are cleared
   pub comes-back-cleared : (entries cleared : List EntryNo) (extents : List Extent) → ((i : ℕ) → other.is_free i ≡ (contents.is_free i || is_listed i cleared))
-      → ((i : ℕ) → IsTrue (is_listed i cleared) → (i < entries_of_lines contents.lines) × (contents.is_free i ≡ false) × (contents.versions i ≡ None))
+      → ((i : ℕ) → IsTrue (is_listed i cleared) → (i < entries_of contents) × (contents.is_free i ≡ false) × (contents.versions i ≡ None))
       → IsDistinct nat_eq (numbers_of cleared) → ((i : ℕ) → IsTrue (is_free_entry room i) → IsTrue (contents.is_free i)) → ComesBack contents room entries extents → ComesBack other room (entries ++ cleared) extents
   comes-back-cleared entries cleared extents freed were once free back =
       let kept = comes-back-same entries extents (λ i was. freed i ∙ or_left (contents.is_free i) (is_listed i cleared) was) back in
@@ -162,7 +167,7 @@ module _ (contents other : Contents) (room : Room) (lines : other.lines ≡ cont
             (λ new.
             let was = were i new in
             record {
-              within = subst (λ n. i < entries_of_lines n) (sym lines) was.0;
+              within = subst (λ n. i < n) (sym entries_are) was.0;
               is_free = freed i ∙ or_right (contents.is_free i) (is_listed i cleared) new;
               none = versions i ∙ was.2;
               out = false_from_ne_true (is_free_entry room i) (λ is. false≢true (sym was.1 ∙ free i is));
@@ -374,15 +379,15 @@ still-ended versions (part ∷ parts) i beside ended =
     let apart = or_parts (is_put_at i (puts_of_part part)) (is_put_at i (flat_map puts_of_part parts)) (sym (is_put_at-append i (puts_of_part part) (flat_map puts_of_part parts)) ∙ beside) in
     still-ended (part_versions versions part) parts i apart.1 (still_ended_changes part.position versions part.changes.items i apart.0 ended)
 
--- so entries that have ended have so in contents of as many lines whose versions are those after parts
-pub AreEnded-after_parts : (contents other : Contents) (parts : List Part) (entries : List EntryNo) → other.lines ≡ contents.lines
+-- so entries that have ended have so in contents of the same layout and as many lines whose versions are those after parts
+pub AreEnded-after_parts : (contents other : Contents) (parts : List Part) (entries : List EntryNo) → other.current.layout ≡ contents.current.layout → other.lines ≡ contents.lines
     → ((i : ℕ) → IsTrue (is_listed i entries) → other.versions i ≡ parts_versions contents.versions parts i)
     → ((i : ℕ) → IsTrue (is_listed i entries) → is_put_at i (flat_map puts_of_part parts) ≡ false) → AreEnded contents entries → AreEnded other entries
-AreEnded-after_parts contents other parts [] lines after beside ended = tt
-AreEnded-after_parts contents other parts (entry ∷ entries) lines after beside ended =
+AreEnded-after_parts contents other parts [] layout lines after beside ended = tt
+AreEnded-after_parts contents other parts (entry ∷ entries) layout lines after beside ended =
     let listed = first_listed entry entries in (
-      subst (λ n. entry.0 < entries_of_lines n) (sym lines) ended.0,
+      subst (λ n. entry.0 < n) (sym (entries_same contents other layout lines)) ended.0,
       ap is_ended_version (after entry.0 listed) ∙ still-ended contents.versions parts entry.0 (beside entry.0 listed) ended.1,
       ended.2,
-      AreEnded-after_parts contents other parts entries lines (λ i more. after i (later_listed i entry entries more)) (λ i more. beside i (later_listed i entry entries more)) ended.3,
+      AreEnded-after_parts contents other parts entries layout lines (λ i more. after i (later_listed i entry entries more)) (λ i more. beside i (later_listed i entry entries more)) ended.3,
     )

@@ -7,7 +7,7 @@ use Rattle.model.specs.declared.group.Put.{Put}
 use Rattle.model.specs.declared.group.PlacedChange.{PlacedChange}
 use Rattle.model.specs.declared.image.TheConstants.{STAMP_WINDOW}
 use Rattle.model.specs.Image.{Version}
-use Rattle.model.specs.Group.{Contents, Versions, change_of, put_of, puts_of_part, with_puts, change_versions, changes_versions, part_versions, parts_versions, ended_where_begun, version_of_put, last_position, IsPlaced, IsUnused, AreApart, is_put_at}
+use Rattle.model.specs.Group.{Contents, Versions, change_of, put_of, puts_of_part, with_puts, change_versions, changes_versions, part_versions, parts_versions, ended_where_begun, version_of_put, last_position, IsPlaced, IsUnused, AreApart, is_put_at, entries_of}
 use Rattle.model.proofs.GroupsLemmas.{parts_versions-none}
 use Rattle.extent_heap.specs.Room.{Room}
 use Rattle.mv_keyspace.specs.Table.{puts_of}
@@ -17,7 +17,7 @@ use Rattle.placing.proofs.TakenLemmas.{All-map, All-prefix, All-rest, IsFree, Is
 
 -- ---- what is free of the heap is free in the contents
 
-pub placed_of_free : (contents : Contents) (room : Room) (put : Put) → IsLeftOf contents room → IsFree room put → IsPlaced contents.lines put
+pub placed_of_free : (contents : Contents) (room : Room) (put : Put) → IsLeftOf contents room → IsFree room put → IsPlaced (entries_of contents) contents.lines put
 placed_of_free contents room put left free =
     let first = left.lines put.extent.first_line (free.run put.extent.first_line (omega arith) (omega (arith, free.some))) in
     let end = put.extent.first_line + (put.extent.lines - 1) in
@@ -96,6 +96,7 @@ abbrev pub after_parts : ℕ → Contents → List Part → Contents
 after_parts epoch contents parts =
     record {
       current = record {
+        layout = contents.current.layout;
         number = contents.current.number + 1;
         position = last_position contents.current.position parts;
         cp = contents.current.cp + length parts;

@@ -6,7 +6,7 @@ use Rattle.model.specs.declared.group.Group.{Group}
 use Rattle.model.specs.declared.group.Part.{Part}
 use Rattle.model.specs.declared.group.Put.{Put}
 use Rattle.model.specs.declared.group.TheConstants.{MAX_PARTS}
-use Rattle.model.specs.Group.{Contents, Versions, IsGroup, puts_of_part, part_versions, parts_versions, AreParts, NamesEnded, last_position, IsPlaced, IsUnused, AreAllApart, HasItsLines}
+use Rattle.model.specs.Group.{Contents, Versions, IsGroup, puts_of_part, part_versions, parts_versions, AreParts, NamesEnded, last_position, IsPlaced, IsUnused, AreAllApart, HasItsLines, entries_of}
 
 -- ---- one more part
 
@@ -36,7 +36,7 @@ module _ (contents : Contents) (part : Part) (group : Group) (one : group.parts.
   all_of_group P h = subst (λ items. AllByRecursion P (flat_map puts_of_part items)) (sym one) (puts_alone P part h)
 
   -- the part alone is a group that a commit takes
-  pub IsGroup-alone : contents.current.position < part.position → NamesEnded contents.versions part → AllByRecursion (IsPlaced contents.lines) (puts_of_part part) → AllByRecursion HasItsLines (puts_of_part part)
+  pub IsGroup-alone : contents.current.position < part.position → NamesEnded contents.versions part → AllByRecursion (IsPlaced (entries_of contents) contents.lines) (puts_of_part part) → AllByRecursion HasItsLines (puts_of_part part)
       → AllByRecursion (IsUnused contents.versions contents.is_free) (puts_of_part part) → AreAllApart (puts_of_part part) → IsGroup contents group
   IsGroup-alone later names placed fitting unused apart = record {
     epoch = inl epoch;
@@ -44,7 +44,7 @@ module _ (contents : Contents) (part : Part) (group : Group) (one : group.parts.
     some = subst (λ (items : List Part). 0 < length items) (sym one) (omega arith);
     few = subst (λ (items : List Part). length items ≤ MAX_PARTS) (sym one) (omega arith);
     parts = subst (λ first. AreParts first contents.versions group.parts.items) (sym before) (subst (AreParts contents.current.position contents.versions) (sym one) (later, names, tt));
-    placed = all_of_group (IsPlaced contents.lines) placed;
+    placed = all_of_group (IsPlaced (entries_of contents) contents.lines) placed;
     fitting = all_of_group HasItsLines fitting;
     unused = all_of_group (IsUnused contents.versions contents.is_free) unused;
     apart = subst (λ items. AreAllApart (flat_map puts_of_part items)) (sym one) (subst AreAllApart (sym (append-nil (puts_of_part part))) apart);

@@ -18,10 +18,10 @@ use Rattle.heap_layout.specs.declared.entry.Entry.{Entry}
 use Rattle.heap_layout.specs.Versions.{counted_at, counted_below, counted_entry, gapped_at, gapped_below, is_counted, is_gapped, is_live}
 use Rattle.heap_layout.specs.Version.{version_of}
 use Rattle.model.specs.declared.record.Record.{Record}
-use Rattle.model.specs.Group.{Contents, AreApart}
+use Rattle.model.specs.Group.{Contents, AreApart, entries_of}
 use Rattle.model.specs.ReadImage.{is_clash, record_in}
 use Rattle.model.proofs.MapLemmas.{IsMapOf-map_below, IsMapOf-same, is_sorted-map_below}
-use Rattle.model.specs.Image.{Image, Version, IsLive, IsMapOf, counts, entries_of_lines, entry_bytes, entry_word, map_below, version_at, version_in}
+use Rattle.model.specs.Image.{Image, Version, IsLive, IsMapOf, counts, entry_bytes, entry_word, map_below, version_at, version_in}
 use Rattle.mv_keyspace.specs.Row.{numbers_of}
 use Rattle.placing.specs.Read.{AreInOrder, AreOf, IsRead, LiesIn, Shows, numbers_read}
 use Rattle.placing.proofs.MemberLemmas.{mapped_member, member-from_map, here, later, no_member, rises_more, rises_none}
@@ -133,7 +133,7 @@ module _ (contents : Contents) (image : Image) (shows : Shows contents image) wh
   r = contents.current
 
   abbrev count : ℕ
-  count = entries_of_lines contents.lines
+  count = entries_of contents
 
   abbrev counted : List (EntryNo × Entry)
   counted = counted_below r image count
@@ -275,7 +275,7 @@ module _ (contents : Contents) (image : Image) (shows : Shows contents image) wh
   }
 
   -- what is read of the image are the lists of its contents
-  pub read_is_of : AreOf contents (counted_below contents.current image (entries_of_lines contents.lines)) (gapped_below contents.current image (entries_of_lines contents.lines))
+  pub read_is_of : AreOf contents (counted_below contents.current image (entries_of contents)) (gapped_below contents.current image (entries_of contents))
   read_is_of = record {
     lawful = in_order;
     once = subst (λ reads. IsDistinct nat_eq (numbers_read reads)) (sym (counted_is r image count)) (numbers_distinct (λ (read : EntryNo × Entry). read.0.0) (is_counted r image) (entry_made r image) (λ i. refl) count);
@@ -286,5 +286,5 @@ module _ (contents : Contents) (image : Image) (shows : Shows contents image) wh
   }
 
   -- and in rising order
-  pub read_rises : IsStrictlySortedBy nat_cmp (numbers_read (counted_below contents.current image (entries_of_lines contents.lines)))
+  pub read_rises : IsStrictlySortedBy nat_cmp (numbers_read (counted_below contents.current image (entries_of contents)))
   read_rises = subst (λ reads. IsStrictlySortedBy nat_cmp (numbers_read reads)) (sym (counted_is r image count)) (numbers_rise (λ (read : EntryNo × Entry). read.0.0) (is_counted r image) (entry_made r image) (λ i. refl) count)

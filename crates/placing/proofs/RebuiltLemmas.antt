@@ -16,7 +16,8 @@ use Rattle.heap_layout.specs.Version.{version_of}
 use Rattle.extent_heap.specs.Extents.{is_line_of}
 use Rattle.extent_heap.specs.Room.{Room, fresh_room, is_free_entry, is_free_line}
 use Rattle.extent_heap.proofs.RunsLemmas.{line_bounds, line_within}
-use Rattle.model.specs.Group.{Contents, Versions, IsConsistent, is_ended_version}
+use Rattle.model.specs.declared.layout.Layout.{Layout}
+use Rattle.model.specs.Group.{Contents, Versions, IsConsistent, is_ended_version, entries_of}
 use Rattle.model.specs.Image.{Version, IsLive, counts, entries_of_lines, first_extent_line}
 use Rattle.model.specs.ReadImage.{is_clash}
 use Rattle.mv_keyspace.specs.Loading.{excludes, AreCompatible, HasRows}
@@ -52,17 +53,18 @@ clash_apart s lawful (Field a f) (Field b g) v w found found' clash =
 -- all lines of the extents and all entries of the directory are free
 pub record IsFresh (contents : Contents) (fresh : Room) : Type 0 where
   pub lines : (line : ℕ) → IsTrue (is_free_line fresh line) ↔ ((first_extent_line contents.lines ≤ line) × (line < contents.lines))
-  pub entries : (i : ℕ) → IsTrue (is_free_entry fresh i) ↔ (i < entries_of_lines contents.lines)
+  pub entries : (i : ℕ) → IsTrue (is_free_entry fresh i) ↔ (i < entries_of contents)
   pub end_line : fresh.end_line ≡ contents.lines
-  pub end_entry : fresh.end_entry ≡ entries_of_lines contents.lines
+  pub end_entry : fresh.end_entry ≡ entries_of contents
 
-pub fresh_of : (contents : Contents) (fresh : Room) (lines first count : ℕ) → contents.lines ≡ lines → first ≡ first_extent_line lines → count ≡ entries_of_lines lines
+pub fresh_of : (contents : Contents) (fresh : Room) (layout : Layout) (lines first count : ℕ) → contents.current.layout ≡ layout → contents.lines ≡ lines → first ≡ first_extent_line lines
+    → count ≡ entries_of_lines layout lines
     → ((line : ℕ) → IsTrue (is_free_line fresh line) ↔ ((first ≤ line) × (line < lines))) → ((i : ℕ) → IsTrue (is_free_entry fresh i) ↔ (i < count)) → fresh ≡ fresh_room first lines count → IsFresh contents fresh
-fresh_of contents fresh lines first count is first_is count_is free_lines free_entries room = record {
+fresh_of contents fresh layout lines first count layout_is is first_is count_is free_lines free_entries room = record {
   lines = subst₂ (λ (a b : ℕ). (line : ℕ) → IsTrue (is_free_line fresh line) ↔ ((a ≤ line) × (line < b))) (first_is ∙ ap first_extent_line (sym is)) (sym is) free_lines;
-  entries = subst (λ (n : ℕ). (i : ℕ) → IsTrue (is_free_entry fresh i) ↔ (i < n)) (count_is ∙ ap entries_of_lines (sym is)) free_entries;
+  entries = subst (λ (n : ℕ). (i : ℕ) → IsTrue (is_free_entry fresh i) ↔ (i < n)) (count_is ∙ sym (ap₂ entries_of_lines layout_is is)) free_entries;
   end_line = ap (λ (r : Room). r.end_line) room ∙ sym is;
-  end_entry = ap (λ (r : Room). r.end_entry) room ∙ count_is ∙ ap entries_of_lines (sym is);
+  end_entry = ap (λ (r : Room). r.end_entry) room ∙ count_is ∙ sym (ap₂ entries_of_lines layout_is is);
 }
 
 -- ---- what was read, and the contents
@@ -173,7 +175,7 @@ module _ (contents : Contents) (counted : List (EntryNo × Entry)) (gapped : Lis
         entry_is i = gaps.free i ∙ ap (λ b. b && not (has_entry gapped i)) (claims.entries i)
 
         -- a free entry of the heap is free in the contents
-        is_free_of : (i : ℕ) → i < entries_of_lines contents.lines → IsTrue (not (has_entry_read counted i)) → IsTrue (not (has_entry gapped i)) → (entry : Option Version) → versions i ≡ entry → (b : Bool) → contents.is_free i ≡ b → b ≡ true
+        is_free_of : (i : ℕ) → i < entries_of contents → IsTrue (not (has_entry_read counted i)) → IsTrue (not (has_entry gapped i)) → (entry : Option Version) → versions i ≡ entry → (b : Bool) → contents.is_free i ≡ b → b ≡ true
         is_free_of i lt unread ungapped entry is true free = refl
         is_free_of i lt unread ungapped None is false taken = absurd (true≢false (sym ungapped ∙ ap not (listed-from_member i gapped ((are.gapped_are i).1 (lt, taken, is)))))
         is_free_of i lt unread ungapped (Some v) is false taken =
@@ -188,7 +190,7 @@ module _ (contents : Contents) (counted : List (EntryNo × Entry)) (gapped : Lis
         no_gap : (i : ℕ) → contents.is_free i ≡ true → has_entry gapped i ≡ false
         no_gap i free = false_from_ne_true (has_entry gapped i) (λ t. true≢false (sym free ∙ ((are.gapped_are i).0 (member-from_listed i gapped t)).1))
 
-        free_entry : (i : ℕ) → IsTrue (is_free_entry room i) ↔ ((i < entries_of_lines contents.lines) × IsTrue (contents.is_free i))
+        free_entry : (i : ℕ) → IsTrue (is_free_entry room i) ↔ ((i < entries_of contents) × IsTrue (contents.is_free i))
         free_entry i = (
           λ free.
               let outer = and_parts (is_free_entry fresh i && not (has_entry_read counted i)) (not (has_entry gapped i)) (sym (entry_is i) ∙ free) in
@@ -222,7 +224,7 @@ module _ (contents : Contents) (counted : List (EntryNo × Entry)) (gapped : Lis
           beyond = λ i past. none_beyond i past (versions i) refl;
         }
           where
-            none_beyond : (i : ℕ) → entries_of_lines contents.lines ≤ i → (entry : Option Version) → versions i ≡ entry → versions i ≡ None
+            none_beyond : (i : ℕ) → entries_of contents ≤ i → (entry : Option Version) → versions i ≡ entry → versions i ≡ None
             none_beyond i past None is = is
             none_beyond i past (Some v) is = let lt = (are.lawful.begun i v is).0 in absurd (omega (arith, lt, past))
 
@@ -236,7 +238,7 @@ module _ (contents : Contents) (counted : List (EntryNo × Entry)) (gapped : Lis
         -- each version took an extent
         out_of : HasOut contents room 0
         out_of =
-            let few = listed_counted (numbers_read counted) versions (entries_of_lines contents.lines) (λ i has. number_read i (versions i) refl has) in
+            let few = listed_counted (numbers_read counted) versions (entries_of contents) (λ i has. number_read i (versions i) refl has) in
             record {
               end_line = gaps.end_line ∙ claims.end_line ∙ new.end_line;
               end_entry = gaps.end_entry ∙ claims.end_entry ∙ new.end_entry;

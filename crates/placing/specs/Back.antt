@@ -5,8 +5,8 @@ use Rattle.kv_types.specs.declared.place.EntryNo.{EntryNo}
 use Rattle.kv_types.specs.declared.place.Extent.{Extent}
 use Rattle.extent_heap.specs.Room.{Room, IsOutEntry, is_free_entry, is_free_line}
 use Rattle.extent_heap.specs.Runs.{has_line}
-use Rattle.model.specs.Group.{AreApart, Contents, is_listed}
-use Rattle.model.specs.Image.{entries_of_lines, first_extent_line}
+use Rattle.model.specs.Group.{AreApart, Contents, is_listed, entries_of}
+use Rattle.model.specs.Image.{first_extent_line}
 use Rattle.mv_keyspace.specs.Row.{numbers_of}
 use Rattle.placing.specs.Rebuilt.{IsLineOfVersion}
 pub use Rattle.placing.specs.Out.{has_version, count_versions, HasOut}
@@ -60,7 +60,7 @@ pub record GivesExtents (old : Room) (extents : List Extent) (new : Room) : Type
 
 -- the entry is free in the contents, and not in the heap
 pub record IsEntryBack (contents : Contents) (room : Room) (i : ℕ) : Type 0 where
-  pub within : i < entries_of_lines contents.lines
+  pub within : i < entries_of contents
   pub is_free : IsTrue (contents.is_free i)
   pub none : contents.versions i ≡ None
   pub out : is_free_entry room i ≡ false

@@ -1,8 +1,8 @@
 -- What a heap has left, compared with the contents of an image and with a table.
 use Rattle.std.specs.Prelude.{◌≡◌, ℕ, ◌+◌, ◌<◌, ◌≤◌, false, None, Some, IsTrue}
 use Rattle.model.specs.declared.group.Put.{Put}
-use Rattle.model.specs.Image.{Version, entries_of_lines, first_extent_line}
-use Rattle.model.specs.Group.{Contents, Versions}
+use Rattle.model.specs.Image.{Version, first_extent_line}
+use Rattle.model.specs.Group.{Contents, Versions, entries_of}
 use Rattle.extent_heap.specs.Room.{Room, is_free_entry, is_free_line}
 use Rattle.mv_keyspace.specs.Table.{Table, IsTable}
 
@@ -18,7 +18,7 @@ pub record IsTaken (room : Room) (put : Put) : Type 0 where
 
 -- What the heap has left is free in the contents.
 pub record IsLeftOf (contents : Contents) (room : Room) : Type 0 where
-  pub entries : (i : ℕ) → IsTrue (is_free_entry room i) → (i < entries_of_lines contents.lines) × IsTrue (contents.is_free i) × (contents.versions i ≡ None)
+  pub entries : (i : ℕ) → IsTrue (is_free_entry room i) → (i < entries_of contents) × IsTrue (contents.is_free i) × (contents.versions i ≡ None)
   pub lines : (line : ℕ) → IsTrue (is_free_line room line) → (first_extent_line contents.lines ≤ line) × (line < contents.lines)
   pub apart : (i : ℕ) (version : Version) → contents.versions i ≡ Some version → HasNoFreeLine room version.first_line version.lines
 

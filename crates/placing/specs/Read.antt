@@ -9,8 +9,8 @@ use Rattle.heap_layout.specs.declared.entry.Entry.{Entry}
 use Rattle.heap_layout.specs.Version.{version_of}
 use Rattle.heap_layout.specs.Versions.{AreVersions}
 use Rattle.model.specs.declared.record.Record.{Record}
-use Rattle.model.specs.Group.{Contents, AreApart, IsConsistent}
-use Rattle.model.specs.Image.{Image, Version, IsMapOf, counts, entries_of_lines, entry_word, first_extent_line, version_at}
+use Rattle.model.specs.Group.{Contents, AreApart, IsConsistent, entries_of}
+use Rattle.model.specs.Image.{Image, Version, IsMapOf, counts, entry_word, first_extent_line, version_at}
 use Rattle.mv_keyspace.specs.Row.{numbers_of}
 use Rattle.mv_keyspace.specs.Table.{Cell, Table}
 
@@ -49,13 +49,13 @@ pub record LiesIn (lines' : ℕ) (version : Version) : Type 0 where
 -- Each version lies in the extents and in an entry of the directory that was begun, no two of them share a line, and the live ones make up a
 -- keyspace.
 pub record AreInOrder (contents : Contents) : Type 0 where
-  pub begun : (i : ℕ) (version : Version) → contents.versions i ≡ Some version → (i < entries_of_lines contents.lines) × (contents.is_free i ≡ false)
+  pub begun : (i : ℕ) (version : Version) → contents.versions i ≡ Some version → (i < entries_of contents) × (contents.is_free i ≡ false)
   pub placed : (i : ℕ) (version : Version) → contents.versions i ≡ Some version → LiesIn contents.lines version
   pub apart : (i j : ℕ) (version other : Version) → i ≢ j → contents.versions i ≡ Some version → contents.versions j ≡ Some other
       → AreApart version.first_line version.lines other.first_line other.lines
   pub keyspace : Keyspace
   pub lawful : IsKeyspace keyspace
-  pub map : IsMapOf contents.versions (entries_of_lines contents.lines) keyspace
+  pub map : IsMapOf contents.versions (entries_of contents) keyspace
 
 -- entry i was read, with this version
 pub record IsRead (current : Record) (counted : List (EntryNo × Entry)) (i : ℕ) (version : Version) : Type 0 where
@@ -72,13 +72,13 @@ pub record AreOf (contents : Contents) (counted : List (EntryNo × Entry)) (gapp
   pub ends : (read : EntryNo × Entry) → Contains counted read → (read.1.end ≡ 0) ⊎ IsTrue (counts contents.current read.1.end)
   pub gapped_once : IsDistinct nat_eq (numbers_of gapped)
   pub gapped_are : (i : ℕ) → Contains (numbers_of gapped) i
-      ↔ ((i < entries_of_lines contents.lines) × (contents.is_free i ≡ false) × (contents.versions i ≡ None))
+      ↔ ((i < entries_of contents) × (contents.is_free i ≡ false) × (contents.versions i ≡ None))
 
 -- ---- an image and its contents
 
 -- The contents say of each entry what the image holds, and its versions break no rule.
 pub record Shows (contents : Contents) (image : Image) : Type 0 where
-  pub versions : (i : ℕ) → i < entries_of_lines contents.lines → version_at contents.current image i ≡ contents.versions i
-  pub is_free : (i : ℕ) → i < entries_of_lines contents.lines → contents.is_free i ≡ (image (entry_word i 0) == 0)
+  pub versions : (i : ℕ) → i < entries_of contents → version_at contents.current image i ≡ contents.versions i
+  pub is_free : (i : ℕ) → i < entries_of contents → contents.is_free i ≡ (image (entry_word i 0) == 0)
   pub consistent : IsConsistent contents
   pub rules : AreVersions contents.current contents.lines image

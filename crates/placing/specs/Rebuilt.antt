@@ -7,8 +7,8 @@ use Rattle.kv_types.specs.declared.place.EntryNo.{EntryNo}
 use Rattle.heap_layout.specs.declared.entry.Entry.{Entry}
 use Rattle.extent_heap.specs.Extents.{is_line_of}
 use Rattle.extent_heap.specs.Room.{Room, is_free_entry, is_free_line, IsFreeRun}
-use Rattle.model.specs.Group.{Contents, Versions, AreApart, IsConsistent, is_ended_version}
-use Rattle.model.specs.Image.{Version, entries_of_lines, first_extent_line}
+use Rattle.model.specs.Group.{Contents, Versions, AreApart, IsConsistent, is_ended_version, entries_of}
+use Rattle.model.specs.Image.{Version, first_extent_line}
 use Rattle.mv_keyspace.specs.Table.{Table, IsTable}
 use Rattle.placing.specs.Left.{IsLeftOf, IsBeside}
 use Rattle.placing.specs.Out.{HasOut}
@@ -76,7 +76,7 @@ pub record IsLineOfVersion (versions : Versions) (line : ℕ) : Type 0 where
 pub record IsHeapOf (contents : Contents) (room : Room) : Type 0 where
   pub lines : (line : ℕ) → IsTrue (is_free_line room line)
       ↔ ((first_extent_line contents.lines ≤ line) × (line < contents.lines) × (¬ IsLineOfVersion contents.versions line))
-  pub entries : (i : ℕ) → IsTrue (is_free_entry room i) ↔ ((i < entries_of_lines contents.lines) × IsTrue (contents.is_free i))
+  pub entries : (i : ℕ) → IsTrue (is_free_entry room i) ↔ ((i < entries_of contents) × IsTrue (contents.is_free i))
 
 -- These are the entries of versions that were ended, each once.
 pub record AreEndedOf (contents : Contents) (ended : List ℕ) : Type 0 where

@@ -9,7 +9,7 @@ ghost use Rattle.placing.specs.Rebuilt.{AreEndedOf, AreFreeEntries, CanClaimAll,
 use extent_heap::ExtentHeap;
 use heap_layout::Entry;
 use kv_types::{EntryNo, Refusal};
-use model::LAYOUT;
+use model::Layout;
 use mv_keyspace::{Keyspace, Row};
 use std::alloc::Global;
 
@@ -22,9 +22,9 @@ pub struct Rebuilt {
     pub ended: Vec<EntryNo>,
 }
 
-/// Makes the keyspace and the heap of an image of `lines` lines from what was read of it: `counted` has each entry whose begin counts, with an end
-/// of 0 where its version was not ended, and `gapped` each entry that a commit began and did not come to the end of. It takes some n log n steps
-/// for n entries.
+/// Makes the keyspace and the heap of an image of this layout and `lines` lines from what was read of it: `counted` has each entry whose begin counts,
+/// with an end of 0 where its version was not ended, and `gapped` each entry that a commit began and did not come to the end of. It takes some n log n
+/// steps for n entries.
 ///
 /// # Errors
 ///
@@ -32,13 +32,14 @@ pub struct Rebuilt {
 pub fn rebuild<K: Keyspace>(
     alloc: Global,
     keyspace: &mut K,
+    layout: Layout,
     lines: u64,
     counted: Vec<(EntryNo, Entry)>,
     gapped: &[EntryNo],
 ) -> Result<Rebuilt, Refusal>
     requires empty { K.table keyspace.old ≡ [] }
-    requires read { (contents : Contents) × (contents.lines ≡ lines) × AreOf contents counted.items gapped.now }
-    ensures ok { IfOk result (λ rebuilt. (contents : Contents) → contents.lines ≡ lines → AreOf contents counted.items gapped.now
+    requires read { (contents : Contents) × (contents.current.layout ≡ layout) × (contents.lines ≡ lines) × AreOf contents counted.items gapped.now }
+    ensures ok { IfOk result (λ rebuilt. (contents : Contents) → contents.current.layout ≡ layout → contents.lines ≡ lines → AreOf contents counted.items gapped.now
         → IsRebuilt contents (K.table keyspace.new) rebuilt.heap × AreEndedOf contents (numbers_of rebuilt.ended.items)) }
     ensures rising { IfOk result (λ rebuilt. RisesWith counted.items (numbers_of rebuilt.ended.items)) }
     ensures err { OnErr result (K.table keyspace.new ≡ []) }
@@ -46,9 +47,9 @@ pub fn rebuild<K: Keyspace>(
 {
     let mut heap = ExtentHeap::new(
         alloc,
-        LAYOUT.first_extent_line(lines),
+        Layout::first_extent_line(lines),
         lines,
-        LAYOUT.entries_of_lines(lines),
+        layout.entries_of_lines(lines),
     )?;
     claim_places(&mut heap, &counted)?;
     claim_entries(&mut heap, gapped);

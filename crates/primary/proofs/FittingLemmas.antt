@@ -7,8 +7,8 @@ use Rattle.kv_types.specs.declared.refusal.Refusal.TheVariants.{WrongSize}
 use Rattle.heap_layout.specs.Superblock.{super_refusal}
 use Rattle.model.specs.declared.image.TheConstants.{MAX_LINES, MIN_LINES}
 use Rattle.model.specs.declared.record.Record.{Record}
-use Rattle.model.specs.Group.{Contents, bytes_of_id}
-use Rattle.model.specs.Image.{Image, Version, bytes_at, counts, entries_of_lines, entry_bytes, entry_word, field_bytes, id_of, key_bytes, lines_of_bytes, version_in}
+use Rattle.model.specs.Group.{Contents, bytes_of_id, entries_of}
+use Rattle.model.specs.Image.{Image, Version, bytes_at, counts, entry_bytes, entry_word, field_bytes, id_of, key_bytes, lines_of_bytes, version_in}
 use Rattle.model.proofs.ReadEntryLemmas.{length-bytes_at}
 use Rattle.placing.specs.Read.{Shows}
 use Rattle.standby_stream.specs.Delta.{HaveTheirLines}
@@ -53,7 +53,7 @@ version_found r image i version false is found = cc
 -- the versions of an image whose entries obey the format have the lines that they need
 pub have_their_lines : (contents : Contents) (image : Image) → Shows contents image → HaveTheirLines contents
 have_their_lines contents image shows i version is =
-    let within : i < entries_of_lines contents.lines = elim (cases_lt i (entries_of_lines contents.lines)) [
+    let within : i < entries_of contents = elim (cases_lt i (entries_of contents)) [
       | inl within ↦ within
       | inr beyond ↦ let none : None ≡ Some version = sym (shows.consistent.beyond i beyond) ∙ is in cc
     ] in

@@ -13,7 +13,7 @@ use Rattle.model.specs.declared.record.Record.{Record}
 use Rattle.model.specs.declared.record.Role.{Role}
 use Rattle.model.specs.declared.work.FreeList.{FreeList}
 use Rattle.model.specs.declared.work.Work.{Work}
-use Rattle.model.specs.Group.{Contents, IsConsistent, Versions, after_group, without}
+use Rattle.model.specs.Group.{Contents, IsConsistent, Versions, after_group, without, entries_of}
 use Rattle.model.specs.Image.{HasRecord, Holds, Image, IsMapOf, entries_of_lines, version_at}
 use Rattle.model.proofs.GroupsLemmas.{IsConsistent-after_group}
 use Rattle.model.proofs.MapLemmas.{IsMapOf-same, IsMapOf-unique}
@@ -53,13 +53,13 @@ use Rattle.primary.proofs.TurnedLemmas.{group-is}
 
 -- they are the versions of the contents that it holds
 versions-kept : (contents : Contents) (image : Image) → IsConsistent contents → Keeps contents image → (i : ℕ) → versions_under contents.lines contents.current image i ≡ contents.versions i
-versions-kept contents image consistent held i = elim (cases_lt i (entries_of_lines contents.lines)) [
-  | inl within ↦ cond-true _ _ _ (lt-ltb i (entries_of_lines contents.lines) within) ∙ held.versions i within
-  | inr beyond ↦ cond-false _ _ _ (le-ltb i (entries_of_lines contents.lines) beyond) ∙ sym (consistent.beyond i beyond)
+versions-kept contents image consistent held i = elim (cases_lt i (entries_of contents)) [
+  | inl within ↦ cond-true _ _ _ (lt-ltb i (entries_of contents) within) ∙ held.versions i within
+  | inr beyond ↦ cond-false _ _ _ (le-ltb i (entries_of contents) beyond) ∙ sym (consistent.beyond i beyond)
 ]
 
 -- an image recalls what the contents do that it holds
-pub recalls-of : (low : ℕ) (past : Past) (contents : Contents) (image : Image) → IsConsistent contents → IsMapOf contents.versions (entries_of_lines contents.lines) (past contents.current.position)
+pub recalls-of : (low : ℕ) (past : Past) (contents : Contents) (image : Image) → IsConsistent contents → IsMapOf contents.versions (entries_of contents) (past contents.current.position)
     → RecallsEach low contents.current.position past contents → Keeps contents image → ImageRecalls low past image
 recalls-of low past contents image consistent now recalls held = record {
   lines = contents.lines;
@@ -227,7 +227,7 @@ module _ (low : ℕ) (past : Past) (lines' : ℕ) (image : Image) (role : Role) 
   versions_are : contents.versions ≡ versions_under lines' before image
   versions_are = fun_ext opened.reopens.versions
 
-  map_is : IsMapOf contents.versions (entries_of_lines contents.lines) (past contents.current.position)
+  map_is : IsMapOf contents.versions (entries_of contents) (past contents.current.position)
   map_is =
       subst (λ n. IsMapOf contents.versions (entries_of_lines n) (past contents.current.position)) (sym opened.reopens.lines_are)
       (subst (λ n. IsMapOf contents.versions (entries_of_lines lines') (past n)) (sym at)
@@ -245,7 +245,7 @@ module _ (low : ℕ) (past : Past) (lines' : ℕ) (image : Image) (role : Role) 
   module _ (s : Sequencing) (over : IsOver contents s) (consistent : IsConsistent contents) (keyspaces : AreKeyspaces past) where
     serves : records over.table ≡ past contents.current.position
     serves =
-        IsMapOf-unique (map-from_table contents.versions (entries_of_lines contents.lines) over.table consistent.beyond over.table_is) map_is over.table_is.keyspace
+        IsMapOf-unique (map-from_table contents.versions (entries_of contents) over.table consistent.beyond over.table_is) map_is over.table_is.keyspace
         (keyspaces contents.current.position)
 
     follows-opened : Follows past s

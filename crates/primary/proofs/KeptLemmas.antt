@@ -10,8 +10,8 @@ use Rattle.model.specs.declared.work.FreeList.{FreeList}
 use Rattle.model.specs.declared.work.Work.{Work}
 use Rattle.model.specs.declared.work.Work.TheVariants as work
 use Rattle.model.specs.Call.{changes_of}
-use Rattle.model.specs.Group.{AreEnded, Contents, IsConsistent, changes_of_part}
-use Rattle.model.specs.Image.{IsMapOf, entries_of_lines}
+use Rattle.model.specs.Group.{AreEnded, Contents, IsConsistent, changes_of_part, entries_of}
+use Rattle.model.specs.Image.{IsMapOf}
 use Rattle.multi_watch.specs.Session.{Session}
 use Rattle.mv_keyspace.specs.Table.{records}
 use Rattle.wbl_engine.specs.declared.freeing.Freed.{Freed}
@@ -70,7 +70,7 @@ module _ (past later : Past) (contents : Contents) (items : List Work) (aside : 
   -- it listed what it had listed, and follows the past as it is now
   keeps-later : (low : ℕ) → new.ended ≡ old.ended → new.newest ≡ old.newest → Follows later new → KeepsPast low past contents items aside old → KeepsPast low later contents items aside new
   keeps-later low ended newest follows keeps = record {
-    now = subst (IsMapOf contents.versions (entries_of_lines contents.lines)) (sym (agree contents.current.position reaches)) keeps.now;
+    now = subst (IsMapOf contents.versions (entries_of contents)) (sym (agree contents.current.position reaches)) keeps.now;
     follows = follows;
     remembers = remembers-on low low contents.current.position later contents items aside old new (le_refl low) ended newest
         (remembers-later low contents.current.position old.position past later contents items aside old refl behind (omega (arith, leads.stands.before, rises)) agree keeps.remembers);

@@ -7,8 +7,8 @@ use Rattle.model.specs.declared.group.Group.{Group}
 use Rattle.model.specs.declared.record.Record.{Record}
 use Rattle.model.specs.declared.work.FreeList.{FreeList}
 use Rattle.model.specs.declared.work.Work.{Work}
-use Rattle.model.specs.Group.{AreEnded, Contents, after_free, after_group, is_listed, last_position}
-use Rattle.model.specs.Image.{IsMapOf, entries_of_lines}
+use Rattle.model.specs.Group.{AreEnded, Contents, after_free, after_group, is_listed, last_position, entries_of}
+use Rattle.model.specs.Image.{IsMapOf}
 use Rattle.model.proofs.MapLemmas.{IsMapOf-same}
 use Rattle.wbl_engine.specs.declared.freeing.Freed.{Freed as Places}
 use Rattle.wbl_engine.proofs.WithoutLemmas.{IsMapOf-contents_without}
@@ -43,7 +43,7 @@ pub keeps-same : (low : ℕ) (past : Past) (contents new : Contents) (items : Li
 keeps-same low past contents new items aside s at lines versions keeps =
     let same = remembers-same low contents.current.position past contents new items aside s versions keeps.remembers in
     record {
-      now = rw (at, lines) (IsMapOf-same contents.versions new.versions (entries_of_lines contents.lines) (past contents.current.position) (λ i within. sym (versions i)) keeps.now);
+      now = rw (at, lines) (IsMapOf-same contents.versions new.versions (entries_of contents) (past contents.current.position) (λ i within. sym (versions i)) keeps.now);
       follows = keeps.follows;
       remembers = subst (λ p. Remembers low p past new items aside s) (sym at) same;
     }
@@ -73,7 +73,7 @@ module _ {E : Type 0} (device : E → State) (contents : E → Contents) (is_fau
       let map_is = map-committed low c.current.position past c took.lists group after.items old.aside.items s refl over.consistent keeps.now lawful remembers in
       let remembered = remembers-committed low c.current.position past c took.lists group after.items old.aside.items s refl over.consistent keeps.now lawful remembers in
       record {
-        now = subst (λ p. IsMapOf (after_group c group).versions (entries_of_lines c.lines) (past p)) ends map_is;
+        now = subst (λ p. IsMapOf (after_group c group).versions (entries_of c) (past p)) ends map_is;
         follows = keeps.follows;
         remembers = subst (λ p. Remembers low p past (after_group c group) after.items (old.aside.items ++ took.lists) s) ends remembered;
       }

@@ -1,7 +1,6 @@
 -- What a standby is told of a primary that was opened.
 use Rattle.std.proofs.Common.{◌≡◌, ap, sym, ◌∙◌}
-use Rattle.model.specs.Group.{Contents, IsConsistent}
-use Rattle.model.specs.Image.{entries_of_lines}
+use Rattle.model.specs.Group.{Contents, IsConsistent, entries_of}
 use Rattle.mv_keyspace.specs.Table.{records}
 use Rattle.mv_keyspace.proofs.PartTables.{map-from_table}
 use Rattle.redis_core.specs.Sequencing.{Sequencing}
@@ -15,5 +14,5 @@ pub leads_to : (contents : Contents) (s : Sequencing) (opening : Opening) → Is
 leads_to contents s opening consistent over is = λ from past lawful recalls.
     let served : records s.table ≡ records over.table = ap (λ (one : Sequencing). records one.table) over.starts_so in
     delta_leads_on contents opening (λ i. Unit {0}) from past (records over.table) is lawful over.table_is.keyspace
-    (map-from_table contents.versions (entries_of_lines contents.lines) over.table consistent.beyond over.table_is) consistent.beyond recalls
+    (map-from_table contents.versions (entries_of contents) over.table consistent.beyond over.table_is) consistent.beyond recalls
     ∙ sym served

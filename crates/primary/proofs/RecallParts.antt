@@ -13,8 +13,8 @@ use Rattle.model.specs.declared.group.Put.{Put}
 use Rattle.model.specs.declared.work.FreeList.{FreeList}
 use Rattle.model.specs.declared.work.Work.{Work}
 use Rattle.model.specs.declared.work.Work.TheVariants as work
-use Rattle.model.specs.Group.{AreAllApart, AreParts, Contents, IsConsistent, IsGroup, IsPlaced, IsUnused, NamesEnded, Versions, after_group, change_of, change_versions, changes_versions, ended_by, ended_where_begun, ends_record, is_ended_version, is_live_version, is_put_at, last_position, part_versions, parts_versions, put_of, puts_of_group, puts_of_part, version_of_put}
-use Rattle.model.specs.Image.{IsLive, IsMapOf, Version, entries_of_lines}
+use Rattle.model.specs.Group.{AreAllApart, AreParts, Contents, IsConsistent, IsGroup, IsPlaced, IsUnused, NamesEnded, Versions, after_group, change_of, change_versions, changes_versions, ended_by, ended_where_begun, ends_record, is_ended_version, is_live_version, is_put_at, last_position, part_versions, parts_versions, put_of, puts_of_group, puts_of_part, version_of_put, entries_of}
+use Rattle.model.specs.Image.{IsLive, IsMapOf, Version}
 use Rattle.model.proofs.GroupsLemmas.{AreAllApart-prefix, AreAllApart-rest, IsMapOf-changes, changes_versions-none, is_put_at-append}
 use Rattle.model.proofs.MapLemmas.{not_live}
 use Rattle.model.proofs.VersionsLemmas.{HasRoom}
@@ -256,7 +256,7 @@ module _ (Held : ℕ → ℕ → Type 0) (past : Past) (low entries : ℕ) where
 
 -- a group that waits behind free lists commits
 module _ (low position : ℕ) (past : Past) (contents : Contents) (lists : List FreeList) (group : Group) (rest : List Work) (aside : List FreeList) (s : Sequencing) (at : contents.current.position ≡ position)
-    (consistent : IsConsistent contents) (map_is : IsMapOf contents.versions (entries_of_lines contents.lines) (past position)) (lawful : IsGroup contents group)
+    (consistent : IsConsistent contents) (map_is : IsMapOf contents.versions (entries_of contents) (past position)) (lawful : IsGroup contents group)
     (remembers : Remembers low position past contents (map work.Free lists ++ work.Commit group ∷ rest) aside s) where
   abbrev behind : List Work
   behind = work.Commit group ∷ rest
@@ -274,19 +274,19 @@ module _ (low position : ℕ) (past : Past) (contents : Contents) (lists : List 
   groups : AllByRecursion (IsRecalled Kept past) (group ∷ groups_of rest)
   groups = subst (AllByRecursion (IsRecalled Kept past)) (groups_of-lists lists behind) remembers.groups
 
-  rooms : AllByRecursion (HasRoom contents.versions (entries_of_lines contents.lines)) (puts_of_group group)
+  rooms : AllByRecursion (HasRoom contents.versions (entries_of contents)) (puts_of_group group)
   rooms =
-      All-both (IsPlaced contents.lines) (IsUnused contents.versions contents.is_free) (HasRoom contents.versions (entries_of_lines contents.lines))
+      All-both (IsPlaced (entries_of contents) contents.lines) (IsUnused contents.versions contents.is_free) (HasRoom contents.versions (entries_of contents))
       (λ put placed unused. record { within = placed.entry; empty = consistent.free put.entry.0 unused.entry }) (puts_of_group group) lawful.placed lawful.unused
 
-  reached : IsReached Kept past low (entries_of_lines contents.lines) last (parts_versions contents.versions group.parts.items)
+  reached : IsReached Kept past low (entries_of contents) last (parts_versions contents.versions group.parts.items)
   reached =
-      reached-parts Kept past low (entries_of_lines contents.lines) group.before contents.versions group.parts.items rooms lawful.apart lawful.parts groups.0.ended groups.0.parts
-      (subst (λ n. IsReached Kept past low (entries_of_lines contents.lines) n contents.versions) (sym (lawful.before ∙ at))
+      reached-parts Kept past low (entries_of contents) group.before contents.versions group.parts.items rooms lawful.apart lawful.parts groups.0.ended groups.0.parts
+      (subst (λ n. IsReached Kept past low (entries_of contents) n contents.versions) (sym (lawful.before ∙ at))
       (record { beyond = consistent.beyond; map_is = map_is; recalls = remembers.earlier }))
 
   -- its versions are the keyspace where it ends
-  pub map-committed : IsMapOf (after_group contents group).versions (entries_of_lines contents.lines) (past last)
+  pub map-committed : IsMapOf (after_group contents group).versions (entries_of contents) (past last)
   map-committed = reached.map_is
 
   -- and what was remembered is so after it

@@ -8,7 +8,7 @@ use Rattle.model.specs.declared.group.Part.{Part}
 use Rattle.model.specs.declared.record.Record.{Record}
 use Rattle.model.specs.declared.work.FreeList.{FreeList}
 use Rattle.model.specs.declared.work.Work.{Work}
-use Rattle.model.specs.Group.{Contents, Versions, changes_of_part, is_listed}
+use Rattle.model.specs.Group.{Contents, Versions, changes_of_part, is_listed, entries_of}
 use Rattle.model.specs.Image.{Holds, Image, IsMapOf, entries_of_lines, version_at}
 use Rattle.mv_keyspace.specs.Table.{records}
 use Rattle.wbl_engine.specs.declared.freeing.Freed.{Freed}
@@ -68,7 +68,7 @@ pub record Follows (past : Past) (s : Sequencing) : Type 0 where
 
 -- The live versions are the keyspace at the position of the contents, and each from `low` on up to there is remembered.
 pub record KeepsPast (low : ℕ) (past : Past) (contents : Contents) (items : List Work) (aside : List FreeList) (s : Sequencing) : Type 0 where
-  pub now : IsMapOf contents.versions (entries_of_lines contents.lines) (past contents.current.position)
+  pub now : IsMapOf contents.versions (entries_of contents) (past contents.current.position)
   pub follows : Follows past s
   pub remembers : Remembers low contents.current.position past contents items aside s
 

@@ -1,4 +1,5 @@
 //! A primary that is made of its image.
+ghost use Rattle.model.specs.declared.layout.TheConstants.{LAYOUT};
 ghost use Rattle.std.specs.Prelude.{◌≡◌, ◌⊎◌, ◌<◌, ◌≤◌, ℕ, [], false, IfOk, IfErr};
 ghost use Rattle.pmem.specs.Device.{Only};
 ghost use Rattle.pmem.specs.Crash.{image_of};
@@ -14,6 +15,7 @@ ghost use Rattle.primary.specs.Recalling.{AreKeyspaces, BackKeeps, DeltaLeads, I
 ghost use Rattle.primary.specs.Resuming.{IsOpened};
 ghost use Rattle.primary.specs.Standing.{Stands};
 
+use model::LAYOUT;
 use crate::primary::Primary;
 use crate::resuming::{Resumed, resume};
 use kv_types::Refusal;
@@ -65,9 +67,9 @@ pub fn open<P: Pmem + Drop, K: Keyspace + Drop>(
     ensures delta { IfOk result (λ opened. (low : ℕ) (past : Past) → AreKeyspaces past → ImageRecalls low past (image_of (P.state device).words)
         → DeltaLeads low opened.position past opened.opening) }
     ensures refused { IfErr result (λ refusal. (refusal ≡ Refusal.Fault) ⊎ ((refusal ≡ Refusal.Memory)
-        ⊎ RefusesReopening (P.state device).lines (image_of (P.state device).words) Role.Primary refusal)) }
+        ⊎ RefusesReopening LAYOUT (P.state device).lines (image_of (P.state device).words) Role.Primary refusal)) }
 {
-    match WblEngine::reopen(alloc, device, Role::Primary) {
+    match WblEngine::reopen(alloc, device, LAYOUT, Role::Primary) {
         Ok((engine, versions)) => assemble(alloc, engine, versions, hash_builder),
         Err((refusal, _)) => Err(refusal),
     }

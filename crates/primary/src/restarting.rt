@@ -56,7 +56,7 @@ impl<E: Restarting, K: Keyspace + Drop> Primary<E, K> {
             → DeltaLeads low (E.contents self.new.back.committer.engine).current.position past opening) }
         ensures failures { ¬ IsErrOf result Refusal.Fault → (E.device self.new.back.committer.engine).failures ≡ (E.device self.old.back.committer.engine).failures }
         ensures refused { IfErr result (λ refusal. (refusal ≡ Refusal.Fault) ⊎ ((refusal ≡ Refusal.Memory)
-            ⊎ (RefusesReopening (E.device self.old.back.committer.engine).lines (image_of (E.device self.old.back.committer.engine).words) Role.Primary refusal
+            ⊎ (RefusesReopening (E.contents self.old.back.committer.engine).current.layout (E.device self.old.back.committer.engine).lines (image_of (E.device self.old.back.committer.engine).words) Role.Primary refusal
             × (E.device self.new.back.committer.engine ≡ E.device self.old.back.committer.engine)))) }
         ensures fault { IsErrOf result Refusal.Fault → (E.device self.old.back.committer.engine).failures < (E.device self.new.back.committer.engine).failures }
         ensures lines { (E.device self.new.back.committer.engine).lines ≡ (E.device self.old.back.committer.engine).lines }

@@ -1,5 +1,5 @@
 -- What a sequencer expects to come back to its heap stays so, whatever calls do.
-use Rattle.std.proofs.Common.{rules, ℕ, Bool, IsTrue, List, [], ◌∷◌, ◌++◌, nat_eq, refl, sym, subst₂}
+use Rattle.std.proofs.Common.{rules, ◌≡◌, ℕ, Bool, IsTrue, List, [], ◌∷◌, ◌++◌, nat_eq, refl, sym, subst₂}
 use Rattle.kv_types.specs.declared.change.Change.{Change}
 use Rattle.kv_types.specs.declared.place.EntryNo.{EntryNo}
 use Rattle.kv_types.specs.declared.place.Extent.{Extent}
@@ -12,6 +12,7 @@ use Rattle.multi_watch.specs.Sessions.{Sessions}
 use Rattle.placing.specs.Back.{ComesBack, HasOut}
 use Rattle.placing.specs.Place.{TakesPlaces}
 use Rattle.placing.proofs.BackLemmas.{comes-back-part}
+use Rattle.placing.proofs.FreedPlaces.{comes-back-same}
 use Rattle.placing.proofs.LeftLemmas.{after_parts, left-after_parts}
 use Rattle.placing.proofs.MemberLemmas.{distinct_none}
 use Rattle.redis_core.specs.Sequencing.{Sequencing, Expects, IsAheadOf, contents_ahead, starts}
@@ -19,12 +20,16 @@ use Rattle.redis_core.specs.Turn.{Moves}
 
 -- ---- contents that differ in nothing that counts
 
--- the record of the contents does not matter, and what is free may be more
-pub comes_back-like : (lines : ℕ) (versions : Versions) (current current' : Record) (is_free is_free' : ℕ → Bool) → ((i : ℕ) → IsTrue (is_free i) → IsTrue (is_free' i))
+-- of the record of the contents only the layout matters, and what is free may be more
+pub comes_back-like : (lines : ℕ) (versions : Versions) (current current' : Record) (is_free is_free' : ℕ → Bool) → current'.layout ≡ current.layout
+    → ((i : ℕ) → IsTrue (is_free i) → IsTrue (is_free' i))
     → (room : Room) (entries : List EntryNo) (extents : List Extent)
     → ComesBack (record { current = current; lines = lines; versions = versions; is_free = is_free }) room entries extents
     → ComesBack (record { current = current'; lines = lines; versions = versions; is_free = is_free' }) room entries extents
-comes_back-like lines versions current current' is_free is_free' more room entries extents back = search (rules, more)
+comes_back-like lines versions current current' is_free is_free' layout more room entries extents back =
+    let old : Contents = record { current = current; lines = lines; versions = versions; is_free = is_free } in
+    let new : Contents = record { current = current'; lines = lines; versions = versions; is_free = is_free' } in
+    comes-back-same old new room layout refl (λ i. refl) entries extents more back
 
 -- ---- a new sequencer
 
@@ -41,9 +46,9 @@ module _ (s : Sequencing) (contents : Contents) (part : Part) (room : Room) (ent
       let ahead = contents_ahead contents s.waiting in
       let before = after_parts 0 contents s.waiting in
       let after = after_parts 0 contents (s.waiting ++ part ∷ []) in
-      comes_back-like contents.lines after.versions after.current contents.current after.is_free after.is_free (λ i free. free) room entries extents
+      comes_back-like contents.lines after.versions after.current contents.current after.is_free after.is_free refl (λ i free. free) room entries extents
       (comes-back-part 0 0 contents s.waiting part s.room room entries extents takes (λ i free. ((left-after_parts 0 contents s.room s.waiting stands.left stands.taken).entries i free).2)
-      (comes_back-like contents.lines before.versions contents.current before.current before.is_free before.is_free (λ i free. free) s.room entries extents expects))
+      (comes_back-like contents.lines before.versions contents.current before.current before.is_free before.is_free refl (λ i free. free) s.room entries extents expects))
 
 -- ---- calls
 

@@ -1,10 +1,11 @@
 -- Where a group leaves, the sequencer leads on: it expects what it expected, and has listed entries of ended versions alone.
-use Rattle.std.proofs.Common.{ℕ, Bool, true, false, ◌&&◌, IsTrue, List, [], ◌∷◌, ◌++◌, sym, subst, append_assoc}
+use Rattle.std.proofs.Common.{◌≡◌, ℕ, ◌<◌, Bool, true, false, ◌&&◌, IsTrue, List, [], ◌∷◌, ◌++◌, refl, sym, subst, append_assoc}
 use Rattle.kv_types.specs.declared.place.EntryNo.{EntryNo}
 use Rattle.kv_types.specs.declared.place.Extent.{Extent}
 use Rattle.model.specs.declared.group.Group.{Group}
 use Rattle.model.specs.declared.record.Record.{Record}
 use Rattle.model.specs.Group.{AreEnded, Contents, IsConsistent, after_group, parts_versions}
+use Rattle.model.proofs.DirectoryLemmas.{entries_same}
 use Rattle.placing.proofs.LeftLemmas.{after_parts}
 use Rattle.redis_core.specs.Sequencing.{Sequencing, Expects, HandsOut, IsAheadOf, LeadsOn, contents_ahead, ended_by_parts, newest_end}
 use Rattle.redis_core.proofs.ExpectingLemmas.{comes_back-like}
@@ -13,10 +14,15 @@ use Rattle.redis_core.proofs.StandingLemmas.{IsAheadOf-group}
 
 -- ---- contents that differ in nothing that counts
 
-ended_like : (contents : Contents) (current : Record) (is_free : ℕ → Bool) (entries : List EntryNo) → AreEnded contents entries
+ended_like : (contents : Contents) (current : Record) (is_free : ℕ → Bool) → current.layout ≡ contents.current.layout → (entries : List EntryNo) → AreEnded contents entries
     → AreEnded (record contents { current = current; is_free = is_free }) entries
-ended_like contents current is_free [] ended = tt
-ended_like contents current is_free (entry ∷ entries) ended = (ended.0, ended.1, ended.2, ended_like contents current is_free entries ended.3)
+ended_like contents current is_free layout [] ended = tt
+ended_like contents current is_free layout (entry ∷ entries) ended = (
+  subst (λ n. entry.0 < n) (sym (entries_same contents (record contents { current = current; is_free = is_free }) layout refl)) ended.0,
+  ended.1,
+  ended.2,
+  ended_like contents current is_free layout entries ended.3,
+)
 
 -- ---- a group leaves
 
@@ -34,7 +40,7 @@ module _ (old : Sequencing) (group : Group) (new : Sequencing) (hands : HandsOut
       let ahead = contents_ahead contents old.waiting in
       subst (λ s. Expects s (after_group contents group) entries extents) (sym hands.after)
       (subst (λ items. Expects later (after_parts group.epoch contents items) entries extents) (sym hands.all)
-      (comes_back-like contents.lines ahead.versions ahead.current after.current ahead.is_free (λ i. ahead.is_free i && true) (λ i free. also (ahead.is_free i) free) old.room entries extents expects))
+      (comes_back-like contents.lines ahead.versions ahead.current after.current ahead.is_free (λ i. ahead.is_free i && true) refl (λ i free. also (ahead.is_free i) free) old.room entries extents expects))
 
   lists_on : (contents : Contents) (listed : List EntryNo) → IsAheadOf old contents → IsConsistent contents → AreEnded contents (listed ++ old.ended) → AreEnded (after_group contents group) (listed ++ new.ended)
   lists_on contents listed stands consistent ended =
@@ -42,7 +48,7 @@ module _ (old : Sequencing) (group : Group) (new : Sequencing) (hands : HandsOut
       let all = ended-parts old.before contents old.waiting consistent.beyond stands.parts stands.once stands.placed stands.empty stands.apart (listed ++ old.ended) ended in
       subst (λ (s : Sequencing). AreEnded (after_group contents group) (listed ++ s.ended)) (sym hands.after)
       (subst (λ items. AreEnded (after_parts group.epoch contents items) (listed ++ later.ended)) (sym hands.all)
-      (ended_like (record contents { versions = parts_versions contents.versions old.waiting }) after.current after.is_free (listed ++ later.ended)
+      (ended_like (record contents { versions = parts_versions contents.versions old.waiting }) after.current after.is_free refl (listed ++ later.ended)
       (subst (AreEnded (record contents { versions = parts_versions contents.versions old.waiting })) (append_assoc listed old.ended (ended_by_parts old.waiting)) all)))
 
   pub LeadsOn-group : LeadsOn old group new

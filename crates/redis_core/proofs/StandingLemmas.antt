@@ -7,7 +7,7 @@ use Rattle.model.specs.declared.group.Group.{Group}
 use Rattle.model.specs.declared.group.Part.{Part}
 use Rattle.model.specs.declared.group.Put.{Put}
 use Rattle.model.specs.declared.group.TheConstants.{MAX_PARTS}
-use Rattle.model.specs.Group.{Contents, IsGroup, after_group, puts_of_part, parts_versions, AreParts, IsPlaced, IsUnused, AreAllApart, HasItsLines}
+use Rattle.model.specs.Group.{Contents, IsGroup, after_group, puts_of_part, parts_versions, AreParts, IsPlaced, IsUnused, AreAllApart, HasItsLines, entries_of}
 use Rattle.model.proofs.GroupsLemmas.{parts_versions-none}
 use Rattle.extent_heap.specs.Room.{Room}
 use Rattle.mv_keyspace.specs.Table.{IsTable, AreEnded, place_all}
@@ -55,7 +55,7 @@ module _ (s : Sequencing) (contents : Contents) (stands : IsAheadOf s contents) 
         parts = AreParts-append s.before contents.versions s.waiting part stands.parts (omega (arith, stands.last, next))
             (names-ended (parts_versions contents.versions s.waiting) s.table part new_empty new_distinct stands.table ended);
         once = All-append NamesOnce s.waiting (part ∷ []) stands.once (ended.once, tt);
-        placed = All (IsPlaced contents.lines) stands.placed (All-map (IsFree s.room) (IsPlaced contents.lines) (λ put. placed_of_free contents s.room put stands.left) new new_free);
+        placed = All (IsPlaced (entries_of contents) contents.lines) stands.placed (All-map (IsFree s.room) (IsPlaced (entries_of contents) contents.lines) (λ put. placed_of_free contents s.room put stands.left) new new_free);
         fitting = All HasItsLines stands.fitting (places_fitting s.room new room takes);
         unused = All (IsUnused contents.versions contents.is_free) stands.unused
             (All-map (IsFree s.room) (IsUnused contents.versions contents.is_free) (λ put. unused_of_free contents s.room put stands.left) new new_free);
@@ -88,7 +88,7 @@ IsAheadOf-group old group new hands contents stands =
       some = is (λ items. 0 < length items) hands.some;
       few = is (λ items. length items ≤ MAX_PARTS) hands.few;
       parts = subst (λ first. AreParts first contents.versions group.parts.items) (sym hands.before) (is (AreParts old.before contents.versions) stands.parts);
-      placed = is (λ items. AllByRecursion (IsPlaced contents.lines) (puts_of_parts items)) stands.placed;
+      placed = is (λ items. AllByRecursion (IsPlaced (entries_of contents) contents.lines) (puts_of_parts items)) stands.placed;
       fitting = is (λ items. AllByRecursion HasItsLines (puts_of_parts items)) stands.fitting;
       unused = is (λ items. AllByRecursion (IsUnused contents.versions contents.is_free) (puts_of_parts items)) stands.unused;
       apart = is (λ items. AreAllApart (puts_of_parts items)) stands.apart;

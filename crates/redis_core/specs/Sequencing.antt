@@ -10,7 +10,7 @@ use Rattle.model.specs.declared.group.Part.{Part}
 use Rattle.model.specs.declared.group.Put.{Put}
 use Rattle.model.specs.Call.{is_nonempty}
 use Rattle.model.specs.State.{State}
-use Rattle.model.specs.Group.{Contents, AreAllApart, AreParts, HasItsLines, IsPlaced, IsUnused, IsGroup, IsConsistent, AreEnded, after_group, is_put_at, last_position, parts_versions, puts_of_part}
+use Rattle.model.specs.Group.{Contents, AreAllApart, AreParts, HasItsLines, IsPlaced, IsUnused, IsGroup, IsConsistent, AreEnded, after_group, is_put_at, last_position, parts_versions, puts_of_part, entries_of}
 use Rattle.extent_heap.specs.Room.{Room}
 use Rattle.multi_watch.specs.Session.{Session}
 use Rattle.multi_watch.specs.Sessions.{Sessions, session_at, Moves}
@@ -84,7 +84,7 @@ pub record IsAheadOf (s : Sequencing) (contents : Contents) : Type 0 where
   pub last : last_position s.before s.waiting ≡ s.position
   pub parts : AreParts s.before contents.versions s.waiting
   pub once : AllByRecursion NamesOnce s.waiting
-  pub placed : AllByRecursion (IsPlaced contents.lines) (puts_of_parts s.waiting)
+  pub placed : AllByRecursion (IsPlaced (entries_of contents) contents.lines) (puts_of_parts s.waiting)
   pub fitting : AllByRecursion HasItsLines (puts_of_parts s.waiting)
   pub unused : AllByRecursion (IsUnused contents.versions contents.is_free) (puts_of_parts s.waiting)
   pub empty : AllByRecursion (λ put. contents.versions put.entry.0 ≡ None) (puts_of_parts s.waiting)

@@ -1,4 +1,5 @@
 -- What is lost, and what a person says to it.
+use Rattle.model.specs.declared.layout.TheConstants.{LAYOUT}
 use Rattle.std.specs.Prelude.{◌≡◌, ◌⊎◌, ℕ, ◌<◌, ◌≤◌, Some, List, ◌++◌, codes}
 use Rattle.kv_types.specs.declared.refusal.Refusal.{Refusal}
 use Rattle.kv_types.specs.declared.refusal.Refusal.TheVariants.{Damaged as BreaksRule}
@@ -34,7 +35,7 @@ pub record IsEmpty (lines : ℕ) (image : Image) : Type 0 where
 -- the superblock is no image's
 pub record IsNone (lines : ℕ) (image : Image) : Type 0 where
   pub refusal : Refusal
-  pub refused : super_refusal lines image ≡ Some refusal
+  pub refused : super_refusal LAYOUT lines image ≡ Some refusal
 
 -- there is nothing to lose
 abbrev pub HoldsNothing : ℕ → Image → Type 0
@@ -43,7 +44,7 @@ HoldsNothing lines image = IsNone lines image ⊎ IsEmpty lines image
 -- what is lost with an image
 abbrev pub IsLoss : (lines : ℕ) (image : Image) → Loss → Type 0
 IsLoss lines image (Whole held) = IsHeld lines image held
-IsLoss lines image Damaged = RefusesReading lines image BreaksRule
+IsLoss lines image Damaged = RefusesReading LAYOUT lines image BreaksRule
 
 -- an undamaged image is at this position or above it
 pub record IsAtLeast (lines : ℕ) (image : Image) (least : ℕ) : Type 0 where

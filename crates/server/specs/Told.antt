@@ -1,4 +1,5 @@
 -- What the program tells where it did not do what it was asked.
+use Rattle.model.specs.declared.layout.TheConstants.{LAYOUT}
 use Rattle.std.specs.Prelude.{ℕ, List, [], ◌∷◌, ◌++◌, Option, Some, None, codes, ⊤}
 use Rattle.std.specs.Fmt.{decimal}
 use Rattle.std.specs.Io.KnownBytes.{Keeps}
@@ -53,7 +54,7 @@ text_of (Kept why) = Some (kept_text why)
 
 -- If an image was refused, it was for what reading it refuses, and nothing was printed.
 abbrev pub IsReadingRefusal : ServeError → ℕ → Image → (before after : Option (List ℕ)) → Type 0
-IsReadingRefusal (Refused refusal) lines image before after = RefusesReading lines image refusal × Keeps before after
+IsReadingRefusal (Refused refusal) lines image before after = RefusesReading LAYOUT lines image refusal × Keeps before after
 IsReadingRefusal (Read error) lines image before after = ⊥
 IsReadingRefusal (Random error) lines image before after = ⊥
 IsReadingRefusal (Socket error) lines image before after = ⊥

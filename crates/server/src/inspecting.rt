@@ -8,7 +8,7 @@ ghost use Rattle.server.specs.Told.{IsRefusalOf};
 use crate::failure::Failure;
 use crate::images::Images;
 use crate::serve::ServeError;
-use model::{Gap, Record, Role};
+use model::{Gap, LAYOUT, Record, Role};
 use pmem::Pmem;
 use std::alloc::Global;
 use std::io::{self, Write};
@@ -33,7 +33,7 @@ fn print_image<P: Pmem, W: Write>(alloc: Global, device: &P, writer: &mut W) -> 
     ensures refused { IfErr result (IsRefusalOf (P.state device.now).lines (image_of (P.state device.now).words)
         (W.contents writer.old) (W.contents writer.new)) }
 {
-    let (current, live) = wbl_engine::inspect(alloc, device)?;
+    let (current, live) = wbl_engine::inspect(alloc, device, LAYOUT)?;
     match print(&current, live, writer) {
         Ok(()) => Ok(()),
         Err(error) => Err(Failure::Stopped(ServeError::Write(error))),

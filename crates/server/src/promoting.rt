@@ -20,7 +20,7 @@ use crate::losing::count_keys;
 use crate::serve::ServeError;
 use failover::operator_fence;
 use kv_types::Refusal;
-use model::MIN_LINES;
+use model::{LAYOUT, MIN_LINES};
 use mv_keyspace::MvKeyspace;
 use pmem::Pmem;
 use standby::Standby;
@@ -79,7 +79,7 @@ fn may_promote<P: Pmem, R: Read, E: Write>(
     ensures asked { (r : CommitRecord) → IsUndamaged (P.state device.now).lines r (image_of (P.state device.now).words) → r.position ≡ 0 → r.role ≡ role.Standby
         → is_asked ≡ true → OnOk result (Consumes (R.remaining reader.old) (R.remaining reader.new) yes_line) }
 {
-    let (current, _) = wbl_engine::inspect(alloc, device)?;
+    let (current, _) = wbl_engine::inspect(alloc, device, LAYOUT)?;
     let position = current.position;
     if position < at_least {
         return Err(Failure::Kept(Kept::Below { position, at_least }));
@@ -124,7 +124,7 @@ fn tell_promoted<P: Pmem, E: Write>(alloc: Global, name: &str, device: &P, error
     if device.lines() < MIN_LINES {
         return;
     }
-    let Ok((current, _)) = wbl_engine::inspect(alloc, device) else {
+    let Ok((current, _)) = wbl_engine::inspect(alloc, device, LAYOUT) else {
         return;
     };
     let Ok(keys) = count_keys(alloc, device, &current) else {

@@ -13,7 +13,7 @@ use crate::inspecting::{print_number, print_role};
 use crate::serve::ServeError;
 use heap_layout::{Versions, read_versions};
 use kv_types::Refusal;
-use model::{LAYOUT, Record};
+use model::{Layout, LAYOUT, Record};
 use pmem::Pmem;
 use std::alloc::Global;
 use std::io::{self, Write};
@@ -83,7 +83,7 @@ fn read<P: Pmem>(alloc: Global, device: &P) -> Result<Reading, Refusal>
     requires { MIN_LINES ≤ (P.state device.now).lines }
     ensures { IfOk result (λ reading. IsReading (P.state device.now).lines (image_of (P.state device.now).words) reading) }
 {
-    let (current, _) = wbl_engine::inspect(alloc, device)?;
+    let (current, _) = wbl_engine::inspect(alloc, device, LAYOUT)?;
     let versions = read_versions(alloc, device, &current)?;
     Ok(Reading {
         current,
@@ -110,7 +110,7 @@ fn print_reading<W: Write>(reading: &Reading, writer: &mut W) -> io::Result<()>
     let taken = lines_taken(&reading.versions);
     let room = reading
         .lines
-        .saturating_sub(LAYOUT.first_extent_line(reading.lines));
+        .saturating_sub(Layout::first_extent_line(reading.lines));
     print_numbers(reading, taken, room, writer)
 }
 

@@ -12,8 +12,8 @@ use Rattle.model.specs.declared.group.Part.{Part}
 use Rattle.model.specs.declared.group.Put.{Put}
 use Rattle.model.specs.declared.image.TheConstants.{COUNTER_LIMIT, STAMP_WINDOW}
 use Rattle.model.specs.declared.record.Record.{Record}
-use Rattle.model.specs.Image.{Image, IsMapOf, Version, entries_of_lines}
-use Rattle.model.specs.Group.{AreEnded as AreEndedIn, Contents, Versions, IsConsistent, IsGroup, after_group, change_of, puts_of_part, part_versions, parts_versions, last_position, IsPlaced, IsUnused, AreAllApart, NamesEnded, is_ended_version, is_listed, is_live_version, is_put_at}
+use Rattle.model.specs.Image.{Image, IsMapOf, Version}
+use Rattle.model.specs.Group.{AreEnded as AreEndedIn, Contents, Versions, IsConsistent, IsGroup, after_group, change_of, puts_of_part, part_versions, parts_versions, last_position, IsPlaced, IsUnused, AreAllApart, NamesEnded, is_ended_version, is_listed, is_live_version, is_put_at, entries_of}
 use Rattle.model.proofs.DirectoryLemmas.{ended-directory}
 use Rattle.model.proofs.GroupsLemmas.{IsConsistent-after_group, changes_versions-none}
 use Rattle.extent_heap.specs.Room.{Room}
@@ -53,7 +53,7 @@ module _ (contents : Contents) (table : Table) (room : Room) (is_left : IsLeftOf
       let own : Contents = record contents { current = record contents.current { epoch = group.epoch } } in
       let is : IsGroup own group =
       IsGroup-alone own part group one before refl later (names-ended contents.versions table part none_there (AreDistinct-from_apart (puts_of_part part) takes.apart) table_is ended)
-      (All-map (IsFree room) (IsPlaced contents.lines) (λ put. placed_of_free contents room put is_left) (puts_of_part part) takes.free) takes.fitting
+      (All-map (IsFree room) (IsPlaced (entries_of contents) contents.lines) (λ put. placed_of_free contents room put is_left) (puts_of_part part) takes.free) takes.fitting
       (All-map (IsFree room) (IsUnused contents.versions contents.is_free) (λ put. unused_of_free contents room put is_left) (puts_of_part part) takes.free) takes.apart in
       search rules
 
@@ -129,7 +129,7 @@ module _ (contents : Contents) (table : Table) (room : Room) (follows : Follows 
 
   out_after : (epoch : ℕ) → HasOut (after_parts epoch contents (part ∷ [])) left 0
   out_after epoch =
-      let n = entries_of_lines contents.lines in
+      let n = entries_of contents in
       let below = subst (λ m. AreBelow m puts) follows.out.end_entry takes.below in
       let more = changes_counted part.position contents.versions part.changes.items n below empty distinct in
       let held = takes.held in
@@ -163,7 +163,7 @@ module _ (contents : Contents) (table : Table) (room : Room) (follows : Follows 
     position = position;
     same = same;
     names = names;
-    placed = All-map (IsFree room) (IsPlaced contents.lines) (λ put. placed_of_free contents room put follows.left) puts free;
+    placed = All-map (IsFree room) (IsPlaced (entries_of contents) contents.lines) (λ put. placed_of_free contents room put follows.left) puts free;
     fitting = takes.fitting;
     unused = All-map (IsFree room) (IsUnused contents.versions contents.is_free) (λ put. unused_of_free contents room put follows.left) puts free;
     apart = apart;
@@ -233,8 +233,8 @@ module _ (contents : Contents) (table : Table) (frame : Frame) (part : Part) (sa
       role = refl;
       epoch = own;
       consistent = follows.consistent;
-      map = subst (IsMapOf (after_group contents group).versions (entries_of_lines contents.lines)) keyspace_after
-          (map-from_table (after_group contents group).versions (entries_of_lines contents.lines) (place_all part.position table part.changes.items) follows.consistent.beyond follows.table_is);
+      map = subst (IsMapOf (after_group contents group).versions (entries_of contents)) keyspace_after
+          (map-from_table (after_group contents group).versions (entries_of contents) (place_all part.position table part.changes.items) follows.consistent.beyond follows.table_is);
       lawful = λ are. group_lawful contents group are is (not_exhausted fits);
     }
 

@@ -10,8 +10,8 @@ use Rattle.model.specs.declared.group.Part.{Part}
 use Rattle.model.specs.declared.group.Put.{Put}
 use Rattle.model.specs.declared.group.PlacedChange.{PlacedChange}
 use Rattle.model.specs.declared.group.PlacedChange.TheVariants as placed
-use Rattle.model.specs.Group.{Contents, HasItsLines, IsConsistent, Versions, change_of, changes_versions, ended_by, ended_where_begun, part_versions, puts_of_part, put_of, version_of_put}
-use Rattle.model.specs.Image.{Image, IsMapOf, Version, counts, entries_of_lines, entry_word, version_in}
+use Rattle.model.specs.Group.{Contents, HasItsLines, IsConsistent, Versions, change_of, changes_versions, ended_by, ended_where_begun, part_versions, puts_of_part, put_of, version_of_put, entries_of}
+use Rattle.model.specs.Image.{Image, IsMapOf, Version, counts, entry_word, version_in}
 use Rattle.model.proofs.DirectoryLemmas.{in-directory}
 use Rattle.model.proofs.MapLemmas.{IsMapOf-unique}
 use Rattle.extent_heap.specs.Extents.{is_line_of}
@@ -277,7 +277,7 @@ module _ (contents : Contents) (table : Table) (room : Room) (follows : Follows 
   pub records-moved : records after ≡ records table
   records-moved =
       let now = Follows-moved (after_relocation contents part) (record { current = refl; lines = refl; versions = λ i. refl; is_free = λ i. refl }) in
-      let n = entries_of_lines contents.lines in
+      let n = entries_of contents in
       let was : IsMapOf contents.versions n (records table) = map-from_table contents.versions n table follows.consistent.beyond follows.table_is in
       IsMapOf-unique (map-from_table (part_versions contents.versions part) n after now.consistent.beyond now.table_is) (relocated_map follows.consistent relocates (records table) follows.table_is.keyspace was)
       now.table_is.keyspace follows.table_is.keyspace

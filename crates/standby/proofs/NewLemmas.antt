@@ -3,7 +3,7 @@ use Rattle.std.proofs.Common.{◌≡◌, ℕ, ◌<◌, ◌≤◌, ◌↔◌, [],
 use Rattle.std.proofs.lemmas.Bool.{true≢false}
 use Rattle.std.proofs.lemmas.Option.{none-some}
 use Rattle.model.specs.Image.{entries_of_lines, first_extent_line}
-use Rattle.model.specs.Group.{Contents, IsConsistent, is_ended_version}
+use Rattle.model.specs.Group.{Contents, IsConsistent, is_ended_version, entries_of}
 use Rattle.model.specs.declared.record.Role.{Role}
 use Rattle.extent_heap.specs.Room.{Room, is_free_entry, is_free_line}
 use Rattle.mv_keyspace.specs.Table.{Table, IsTable}
@@ -25,7 +25,7 @@ pub new-table : (lines : ℕ) (role : Role) (contents : Contents) (table : Table
 new-table lines role contents table new empty = subst (IsTable contents.versions) (sym empty) (table-none contents.versions new.versions)
 
 entries-left : (lines : ℕ) (role : Role) (contents : Contents) (room : Room) → IsNew lines role contents → HasAll lines room
-    → (i : ℕ) → IsTrue (is_free_entry room i) → (i < entries_of_lines contents.lines) × IsTrue (contents.is_free i) × (contents.versions i ≡ None)
+    → (i : ℕ) → IsTrue (is_free_entry room i) → (i < entries_of contents) × IsTrue (contents.is_free i) × (contents.versions i ≡ None)
 entries-left lines role contents room new all i free =
     let within = (all.entries_free i).0 free in
     (subst (λ n. i < entries_of_lines n) (sym new.line_count) within, new.is_free i within, new.versions i)
@@ -48,7 +48,7 @@ new-consistent lines role contents new = record { free = λ i free. new.versions
 -- nothing is out of the heap
 out-new : (lines : ℕ) (role : Role) (contents : Contents) (room : Room) → IsNew lines role contents → HasAll lines room → HasOut contents room 0
 out-new lines role contents room new all =
-    let none = none_counted contents.versions (entries_of_lines contents.lines) (λ i lt. ap has_version (new.versions i)) in
+    let none = none_counted contents.versions (entries_of contents) (λ i lt. ap has_version (new.versions i)) in
     record {
       end_line = all.end_line ∙ sym new.line_count;
       end_entry = all.end_entry ∙ ap entries_of_lines (sym new.line_count);

@@ -6,7 +6,7 @@ use Rattle.pmem.specs.Device.{State}
 use Rattle.pmem.specs.Runs.{LeavesOnly}
 use Rattle.pmem.proofs.Leaving.{LeavesOnly-weaken}
 use Rattle.model.specs.declared.record.Record.{Record}
-use Rattle.model.specs.Group.{AreEnded, Contents, IsConsistent, Versions, is_ended_version, is_listed}
+use Rattle.model.specs.Group.{AreEnded, Contents, IsConsistent, Versions, is_ended_version, is_listed, entries_of}
 use Rattle.model.specs.Image.{Image, IsMapOf, Version, entries_of_lines}
 use Rattle.model.proofs.MapLemmas.{IsMapOf-same}
 use Rattle.mv_keyspace.specs.Table.{Table, records}
@@ -74,7 +74,7 @@ IsRearranged-recorded a b position epoch role lines versions lawful = record {
   line_count = lines;
   map = λ s _ map.
       subst (λ (n : ℕ). IsMapOf b.versions (entries_of_lines n) s) (sym lines)
-      (IsMapOf-same a.versions b.versions (entries_of_lines a.lines) s (λ i within. sym (versions i)) map);
+      (IsMapOf-same a.versions b.versions (entries_of a) s (λ i within. sym (versions i)) map);
   lawful = lawful;
   stood = λ i version is. Stood-self a.versions i version (sym (versions i) ∙ is);
 }
@@ -145,7 +145,7 @@ IsWhole-rearranged frame before between after old table first same whole = recor
   role = whole.role ∙ first.role;
   epoch = whole.epoch;
   consistent = whole.consistent;
-  map = subst (λ s. IsMapOf after.versions (entries_of_lines after.lines) (play_all s frame.changes.items)) same whole.map;
+  map = subst (λ s. IsMapOf after.versions (entries_of after) (play_all s frame.changes.items)) same whole.map;
   lawful = λ lawful. whole.lawful (first.lawful lawful);
 }
 

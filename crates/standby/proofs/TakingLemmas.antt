@@ -7,8 +7,8 @@ use Rattle.pmem.specs.Runs.{LeavesOnly}
 use Rattle.pmem.proofs.Leaving.{LeavesOnly-then, LeavesOnly-weaken, none_leaves}
 use Rattle.kv_types.specs.Keyspace.{play_all}
 use Rattle.placing.specs.Place.{HasRoomFor}
-use Rattle.model.specs.Group.{Contents}
-use Rattle.model.specs.Image.{IsMapOf, entries_of_lines}
+use Rattle.model.specs.Group.{Contents, entries_of}
+use Rattle.model.specs.Image.{IsMapOf}
 use Rattle.mv_keyspace.specs.Table.{Table, records}
 use Rattle.mv_keyspace.proofs.PartTables.{map-from_table}
 use Rattle.wbl_engine.specs.Freeing.{KeepsWithoutSome, after_free, is_listed, without}
@@ -342,8 +342,8 @@ module _ {E K D : Type 0} (device : E → State) (contents : E → Contents) (is
           role = is.role;
           epoch = is.epoch;
           consistent = follows.consistent;
-          map = subst (IsMapOf after.versions (entries_of_lines after.lines)) is.keyspace
-              (map-from_table after.versions (entries_of_lines after.lines) (table mid.keyspace) follows.consistent.beyond follows.table_is);
+          map = subst (IsMapOf after.versions (entries_of after)) is.keyspace
+              (map-from_table after.versions (entries_of after) (table mid.keyspace) follows.consistent.beyond follows.table_is);
           lawful = took.lawful;
         }
 

@@ -5,8 +5,8 @@ use Rattle.kv_types.specs.Keyspace.{IsKeyspace, Keyspace, play_all}
 use Rattle.extent_heap.specs.Room.{Room}
 use Rattle.model.specs.declared.image.TheConstants.{COUNTER_LIMIT, STAMP_WINDOW}
 use Rattle.model.specs.declared.record.Record.{Record}
-use Rattle.model.specs.Image.{Image, IsMapOf, Version, entries_of_lines}
-use Rattle.model.specs.Group.{AreApart, Contents, IsConsistent, Versions, is_ended_version}
+use Rattle.model.specs.Image.{Image, IsMapOf, Version}
+use Rattle.model.specs.Group.{AreApart, Contents, IsConsistent, Versions, is_ended_version, entries_of}
 use Rattle.mv_keyspace.specs.Table.{Table, IsTable, records}
 use Rattle.placing.specs.Back.{GivesAll, HasOut}
 use Rattle.placing.specs.Fitting.{fits_surely}
@@ -121,7 +121,7 @@ pub record IsRearranged (before after : Contents) : Type 0 where
   pub epoch : after.current.epoch ≡ before.current.epoch
   pub role : after.current.role ≡ before.current.role
   pub line_count : after.lines ≡ before.lines
-  pub map : (s : Keyspace) → IsKeyspace s → IsMapOf before.versions (entries_of_lines before.lines) s → IsMapOf after.versions (entries_of_lines after.lines) s
+  pub map : (s : Keyspace) → IsKeyspace s → IsMapOf before.versions (entries_of before) s → IsMapOf after.versions (entries_of after) s
   pub lawful : AreLawful before → AreLawful after
   pub stood : (i : ℕ) (version : Version) → after.versions i ≡ Some version → Stood before.versions version
 
@@ -149,7 +149,7 @@ pub record IsWhole (frame : Frame) (before : Contents) (table : Table) (after : 
   pub role : after.current.role ≡ before.current.role
   pub epoch : after.current.epoch ≡ frame.epoch
   pub consistent : IsConsistent after
-  pub map : IsMapOf after.versions (entries_of_lines after.lines) (play_all (records table) frame.changes.items)
+  pub map : IsMapOf after.versions (entries_of after) (play_all (records table) frame.changes.items)
   pub lawful : AreLawful before → AreLawful after
 
 -- the image holds all of the frame

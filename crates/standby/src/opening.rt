@@ -1,4 +1,5 @@
 //! A standby that is made of its image.
+ghost use Rattle.model.specs.declared.layout.TheConstants.{LAYOUT};
 ghost use Rattle.std.specs.Prelude.{◌≡◌, ◌⊎◌, ℕ, false, IfOk, IfErr};
 ghost use Rattle.kv_types.specs.declared.refusal.Refusal.TheVariants.{Fault, Memory};
 ghost use Rattle.model.specs.declared.record.Role.TheVariants as role;
@@ -11,6 +12,7 @@ ghost use Rattle.wbl_engine.specs.Reopening.{RefusesReopening};
 ghost use Rattle.standby.specs.Following.{Follows};
 ghost use Rattle.wbl_engine.specs.Restarting.{IsReopened};
 
+use model::LAYOUT;
 use crate::standby::Standby;
 use kv_types::Refusal;
 use mv_keyspace::Keyspace;
@@ -36,9 +38,9 @@ pub fn open<P: Pmem + Drop, K: Keyspace + Drop>(
     ensures durable { IfOk result (λ node. IsDurable (⟦<WblEngine<P> as Durable>⟧.device node.engine) (⟦<WblEngine<P> as Durable>⟧.contents node.engine)) }
     ensures sound { IfOk result (λ node. ⟦<WblEngine<P> as Durable>⟧.is_faulted node.engine ≡ false) }
     ensures refused { IfErr result (λ refusal. (refusal ≡ Fault) ⊎ ((refusal ≡ Memory)
-        ⊎ RefusesReopening (P.state device).lines (image_of (P.state device).words) role.Standby refusal)) }
+        ⊎ RefusesReopening LAYOUT (P.state device).lines (image_of (P.state device).words) role.Standby refusal)) }
 {
-    match WblEngine::reopen(alloc, device, Role::Standby) {
+    match WblEngine::reopen(alloc, device, LAYOUT, Role::Standby) {
         Ok((engine, versions)) => {
             let (keyspace, room) = read_back(alloc, engine.lines(), versions)?;
             Ok(Standby::new(engine, keyspace, room))

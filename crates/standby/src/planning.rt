@@ -11,7 +11,7 @@ use crate::standby::Standby;
 use frames::Frame;
 use heap_layout::lines_for;
 use kv_types::{Change, Extent, Refusal};
-use model::LAYOUT;
+use model::{Layout, LAYOUT};
 use mv_keyspace::{Keyspace, Row};
 use packing::{Move, make_window, push_down, slide_down};
 use std::alloc::{AllocError, Global};
@@ -146,7 +146,7 @@ fn plan(
 ) -> Result<Option<Vec<Move>>, AllocError>
     ensures found { way ≡ Way.Down → CanSlide (first_extent_line lines) end lines need extents.now → IfOk result (λ plan. ¬ (plan ≡ None)) }
 {
-    let first = LAYOUT.directory_line + LAYOUT.directory_room(lines);
+    let first = Layout::first_extent_line(lines);
     match way {
         Way::Window => make_window(alloc, extents, first, end, need),
         Way::Down => match push_down(alloc, extents, first, end, lines, need)? {

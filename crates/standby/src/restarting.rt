@@ -119,9 +119,9 @@ impl<E: Restarting, K: Keyspace + Drop> Standby<E, K> {
         ensures stopped { IsErrOf result Refusal.Fault → E.is_faulted self.new.engine ≡ true }
         ensures failures { ¬ IsErrOf result Refusal.Fault → (E.device self.new.engine).failures ≡ (E.device self.old.engine).failures }
         ensures refused { IfErr result (λ refusal. (refusal ≡ Refusal.Fault) ⊎ ((refusal ≡ Refusal.Memory)
-            ⊎ (RefusesReopening (E.device self.old.engine).lines (image_of (E.device self.old.engine).words) Role.Standby refusal × (self.new ≡ self.old)))) }
+            ⊎ (RefusesReopening (E.contents self.old.engine).current.layout (E.device self.old.engine).lines (image_of (E.device self.old.engine).words) Role.Standby refusal × (self.new ≡ self.old)))) }
         ensures fault { IsErrOf result Refusal.Fault → (E.device self.old.engine).failures < (E.device self.new.engine).failures }
-        ensures superblock { (refusal : Cause) → super_refusal (E.device self.old.engine).lines (image_of (E.device self.old.engine).words) ≡ Some refusal
+        ensures superblock { (refusal : Cause) → super_refusal (E.contents self.old.engine).current.layout (E.device self.old.engine).lines (image_of (E.device self.old.engine).words) ≡ Some refusal
             → result ≡ Err refusal }
         ensures lines { (E.device self.new.engine).lines ≡ (E.device self.old.engine).lines }
         ensures asked_moment { (E.device self.new.engine).kept ≡ (E.device self.old.engine).kept }

@@ -9,8 +9,8 @@ use Rattle.kv_types.specs.Keyspace.{Keyspace, IsKeyspace, key_of, value_at, play
 use Rattle.kv_types.proofs.OrderLemmas.{same_key, same_record}
 use Rattle.kv_types.proofs.LookUpLemmas.{is_same, is_same_at, is_other, is_same_key, value_at-put_field, value_at-put_string, value_at-without_record}
 use Rattle.kv_types.proofs.PlayLemmas.{is_keyspace-play_all, play_all-append, same_keyspace}
-use Rattle.model.specs.Group.{Contents}
-use Rattle.model.specs.Image.{IsLive, IsMapOf, entries_of_lines}
+use Rattle.model.specs.Group.{Contents, entries_of}
+use Rattle.model.specs.Image.{IsLive, IsMapOf}
 use Rattle.model.proofs.MapLemmas.{not_live}
 use Rattle.mv_keyspace.specs.declared.row.Row.{Row}
 use Rattle.mv_keyspace.specs.Row.{cell_of_row}
@@ -170,7 +170,7 @@ module _ (t : Keyspace) (lawful : IsKeyspace t) where
 -- ---- the whole delta
 
 module _ (contents : Contents) (opening : Opening) (Counts : ℕ → Type 0) (from : ℕ) (s t : Keyspace) (is : IsOpening contents opening) (lawful_s : IsKeyspace s) (lawful : IsKeyspace t)
-    (map_is : IsMapOf contents.versions (entries_of_lines contents.lines) t) (beyond : (i : ℕ) → entries_of_lines contents.lines ≤ i → contents.versions i ≡ None) (recalls : Recalls contents.versions Counts from s) where
+    (map_is : IsMapOf contents.versions (entries_of contents) t) (beyond : (i : ℕ) → entries_of contents ≤ i → contents.versions i ≡ None) (recalls : Recalls contents.versions Counts from s) where
   abbrev left : Keyspace
   left = play_all s (map Drop opening.gone.items)
 
@@ -179,9 +179,9 @@ module _ (contents : Contents) (opening : Opening) (Counts : ℕ → Type 0) (fr
 
   found_live : (i : ℕ) (id : RecordId) (value : List ℕ) → IsLive contents.versions i id value → value_at t id ≡ Some value
   found_live i id value live =
-      ⊎_elim (λ (lt : i < entries_of_lines contents.lines). map_is.found i id value lt live)
-      (λ (le : entries_of_lines contents.lines ≤ i). absurd (not_live (beyond i le) live))
-      (cases_lt i (entries_of_lines contents.lines))
+      ⊎_elim (λ (lt : i < entries_of contents). map_is.found i id value lt live)
+      (λ (le : entries_of contents ≤ i). absurd (not_live (beyond i le) live))
+      (cases_lt i (entries_of contents))
 
   -- what is gone is not live
   not_gone : (q : RecordId) (value : List ℕ) → value_at t q ≡ Some value → ¬ Contains opening.gone.items q

@@ -11,8 +11,8 @@ use Rattle.kv_types.specs.Change.{changes_size}
 use Rattle.kv_types.specs.Keyspace.{Keyspace, play_all, record_cmp, value_at, IsKeyspace}
 use Rattle.heap_layout.specs.declared.entry.Entry.{Entry}
 use Rattle.model.specs.declared.image.TheConstants.{MAX_LINES}
-use Rattle.model.specs.Group.{Contents, Versions, bytes_of_id}
-use Rattle.model.specs.Image.{IsLive, IsMapOf, Version, entries_of_lines, lines_of_bytes}
+use Rattle.model.specs.Group.{Contents, Versions, bytes_of_id, entries_of}
+use Rattle.model.specs.Image.{IsLive, IsMapOf, Version, lines_of_bytes}
 use Rattle.frames.specs.declared.frame.Frame.{Frame}
 use Rattle.mv_keyspace.specs.declared.row.Row.{Row}
 use Rattle.mv_keyspace.specs.Row.{table_of}
@@ -84,7 +84,7 @@ LeadsTo contents opening t = (from : ℕ) (s : Keyspace) → IsKeyspace s → Re
 abbrev pub DeltasLeadOn : Type 0
 DeltasLeadOn =
     (contents : Contents) (opening : Opening) (from : ℕ) (s t : Keyspace) → IsOpening contents opening → IsKeyspace s → IsKeyspace t
-    → IsMapOf contents.versions (entries_of_lines contents.lines) t → ((i : ℕ) → entries_of_lines contents.lines ≤ i → contents.versions i ≡ None)
+    → IsMapOf contents.versions (entries_of contents) t → ((i : ℕ) → entries_of contents ≤ i → contents.versions i ≡ None)
     → Recalls contents.versions (λ i. Unit {0}) from s → play_all s (delta_changes opening from) ≡ t
 
 -- each version has as many lines as its record needs

@@ -10,6 +10,7 @@ use Rattle.model.specs.declared.group.Part.{Part}
 use Rattle.model.specs.declared.group.Put.{Put}
 use Rattle.model.specs.Image.{Image, entry_word, entries_of_lines, counts, version_in}
 use Rattle.model.specs.Group.{is_put_at, parts_versions}
+use Rattle.model.proofs.LayoutLemmas.{entries_fit}
 use Rattle.heap_layout.specs.Put.{entry_words}
 use Rattle.heap_layout.proofs.PutWords.{IsOfExtent}
 use Rattle.wbl_engine.specs.AtRest.{contents_of, Matters}
@@ -50,9 +51,11 @@ module _ {r : Record} {d : State} {parts : List Part} {position epoch : ℕ} (be
   pub after_sound : IsSound (record_after r parts position epoch) d.lines (made_image r d parts)
   after_sound =
       record {
-        superblock = HasSuperblock-same d.lines (image_of d.words) (made_image r d parts)
+        superblock = HasSuperblock-same r.layout d.lines (image_of d.words) (made_image r d parts)
             (λ word low.
-            written-outside (group_pairs r parts) (image_of d.words) word (λ x stored. omega (arith, low, group_behind begun word x stored)))
+            written-outside (group_pairs r parts) (image_of d.words) word
+            (λ x stored.
+            elim (group_behind begun word x stored) [ inl directory ↦ omega (arith, low, directory.0) | inr extents ↦ omega (arith, low, extents) ]))
             begun.rest.whole.superblock;
         entries = after_fits.entries;
         positions = λ i within counted.
@@ -61,20 +64,20 @@ module _ {r : Record} {d : State} {parts : List Part} {position epoch : ℕ} (be
             (sym (after_fits.same i within) ∙ cond-true (counts (record_after r parts position epoch) (made_image r d parts (entry_word i 0))) _ _ counted);
       }
 
-  pub after_below : AreBelow d.lines (made_image r d parts) ((record_after r parts position epoch).cp + 1)
+  pub after_below : AreBelow r.layout d.lines (made_image r d parts) ((record_after r parts position epoch).cp + 1)
   after_below i zero within low = omega (arith, after_fits.begins i within)
   after_below i (suc zero) within low = omega (arith, after_fits.ends i within)
   after_below i (suc (suc k)) within low = absurd (omega (arith, low))
 
   -- an entry at which nothing is put keeps its words, but for the end
-  pub kept_word : (i k : ℕ) → i < entries_of_lines d.lines → k < 8 → k ≢ 1 → is_put_at i (puts_of_parts parts) ≡ false
+  pub kept_word : (i k : ℕ) → i < entries_of_lines r.layout d.lines → k < 8 → k ≢ 1 → is_put_at i (puts_of_parts parts) ≡ false
       → made_image r d parts (entry_word i k) ≡ image_of d.words (entry_word i k)
   kept_word i k within below other none =
       elim (written-cases (group_pairs r parts) (image_of d.words) (entry_word i k)) [
         | inl out ↦ out.1
         | inr stored ↦
             elim (stored_by begun (entry_word i k) (made_image r d parts (entry_word i k)) stored) [
-              | inl extent ↦ absurd (omega (arith, extent.of.low, within, below, (placed_at begun extent.put extent.among).above))
+              | inl extent ↦ absurd (omega (arith, extent.of.low, within, below, (placed_at begun extent.put extent.among).above, entries_fit r.layout d.lines))
               | inr (inl entry) ↦
                   let same : entry.put.entry.0 ≡ i = omega (arith, entry.of.low, entry.of.high, below) in
                   absurd (both_ways (is_put_at i (puts_of_parts parts)) none
@@ -94,7 +97,14 @@ module _ {r : Record} {d : State} {parts : List Part} {position epoch : ℕ} (be
       (λ y there.
       elim (stored_by begun (entry_word put.entry.0 k) y there) [
         | inl extent ↦
-            absurd (omega (arith, extent.of.low, (placed_at begun put among).entry, below, (placed_at begun extent.put extent.among).above))
+            absurd (omega (
+              arith,
+              extent.of.low,
+              (placed_at begun put among).entry,
+              below,
+              (placed_at begun extent.put extent.among).above,
+              entries_fit r.layout d.lines,
+            ))
         | inr (inl entry) ↦
             let same : entry.put.entry.0 ≡ put.entry.0 = omega (arith, entry.of.low, entry.of.high, below) in
             let is : entry.put ≡ put = among_same (puts_of_parts parts) entry.put put begun.asked.apart entry.among among same in

@@ -12,6 +12,7 @@ use Rattle.model.specs.declared.image.TheConstants.{MIN_LINES}
 use Rattle.model.specs.declared.record.Record.{Record}
 use Rattle.model.specs.Image.{Image, counts, entry_word, entries_of_lines, is_in_gap, version_in}
 use Rattle.model.proofs.RecordLemmas.{HasRecord-lines}
+use Rattle.model.proofs.LayoutLemmas.{entries_fit}
 use Rattle.wbl_record.specs.Current.{IsLawful}
 use Rattle.wbl_record.specs.Record.{IsRecorded, IsRecordWord, IsSucceeded, IsEitherRecord}
 use Rattle.wbl_engine.specs.AtRest.{IsAtRest, Matters, contents_of}
@@ -23,7 +24,7 @@ use Rattle.wbl_engine.proofs.Erased.{AreBelow, CountAlike, IsErased, directory_m
 use Rattle.wbl_engine.proofs.ErasedStamps.{AreGone, IsErasing, erase_behind, erase_line, erased_below, erased_over, is_erased_at, made_free, within_from, written_stamp}
 use Rattle.wbl_engine.proofs.GapLemmas.{IsOldest, in_oldest, inside_not_free, not_in_oldest, oldest, zero_outside}
 use Rattle.wbl_engine.proofs.ListedEntries.{listed_stamped, stamped_once}
-use Rattle.wbl_engine.proofs.Storing.{AgreesOn, beside_record, partly_over, partly_recorded, recorded_only, staged_only, staged_recorded, written_over}
+use Rattle.wbl_engine.proofs.Storing.{AgreesOn, beside_at, beside_next, partly_over, partly_recorded, recorded_only, staged_only, staged_recorded, written_over}
 
 -- ---- the stamps of the gap
 
@@ -31,24 +32,25 @@ use Rattle.wbl_engine.proofs.Storing.{AgreesOn, beside_record, partly_over, part
 pub record AreStamped (r : Record) (d : State) (begins ends : List EntryNo) : Type 0 where
   pub lawful : IsLawful r
   pub some : 0 < length r.gaps.items
-  pub begins_are : begins ≡ stamped_below (oldest_gap r) (image_of d.words) 0 (entries_of_lines d.lines)
-  pub ends_are : ends ≡ stamped_below (oldest_gap r) (image_of d.words) 1 (entries_of_lines d.lines)
+  pub begins_are : begins ≡ stamped_below (oldest_gap r) (image_of d.words) 0 (entries_of_lines r.layout d.lines)
+  pub ends_are : ends ≡ stamped_below (oldest_gap r) (image_of d.words) 1 (entries_of_lines r.layout d.lines)
 
 module _ {r : Record} {d : State} {begins ends : List EntryNo} (are : AreStamped r d begins ends) where
   first_gap : IsOldest r (oldest_gap r)
   first_gap = oldest r are.lawful are.some
 
   stamped_is : (i k : ℕ) → k < 2
-      → is_erased_at begins ends i k ≡ (nat_lt i (entries_of_lines d.lines) && is_in_gap (image_of d.words (entry_word i k)) (oldest_gap r))
-  stamped_is i zero low = ap (is_listed i) are.begins_are ∙ listed_stamped (oldest_gap r) (image_of d.words) 0 (entries_of_lines d.lines) i
-  stamped_is i (suc zero) low = ap (is_listed i) are.ends_are ∙ listed_stamped (oldest_gap r) (image_of d.words) 1 (entries_of_lines d.lines) i
+      → is_erased_at begins ends i k ≡ (nat_lt i (entries_of_lines r.layout d.lines) && is_in_gap (image_of d.words (entry_word i k)) (oldest_gap r))
+  stamped_is i zero low = ap (is_listed i) are.begins_are ∙ listed_stamped (oldest_gap r) (image_of d.words) 0 (entries_of_lines r.layout d.lines) i
+  stamped_is i (suc zero) low = ap (is_listed i) are.ends_are ∙ listed_stamped (oldest_gap r) (image_of d.words) 1 (entries_of_lines r.layout d.lines) i
   stamped_is i (suc (suc k)) low = absurd (omega (arith, low))
 
   stamped_where : (i k : ℕ) → k < 2 → IsTrue (is_erased_at begins ends i k)
-      → (i < entries_of_lines d.lines) × IsTrue (is_in_gap (image_of d.words (entry_word i k)) (oldest_gap r))
+      → (i < entries_of_lines r.layout d.lines) × IsTrue (is_in_gap (image_of d.words (entry_word i k)) (oldest_gap r))
   stamped_where i k low listed =
-      let parts = and_parts (nat_lt i (entries_of_lines d.lines)) (is_in_gap (image_of d.words (entry_word i k)) (oldest_gap r)) (sym (stamped_is i k low) ∙ listed) in
-      (ltb-true i (entries_of_lines d.lines) parts.0, parts.1)
+      let parts = and_parts (nat_lt i (entries_of_lines r.layout d.lines)) (is_in_gap (image_of d.words (entry_word i k)) (oldest_gap r))
+      (sym (stamped_is i k low) ∙ listed) in
+      (ltb-true i (entries_of_lines r.layout d.lines) parts.0, parts.1)
 
   pub gap_erasing : IsErasing r d.lines (image_of d.words) begins ends
   gap_erasing =
@@ -68,23 +70,23 @@ module _ {r : Record} {d : State} {begins ends : List EntryNo} (are : AreStamped
 
   pub stamped_lines : MIN_LINES ≤ d.lines → AreWithin d.lines begins × AreWithin d.lines ends
   stamped_lines many = (
-    within_from d begins (λ i listed. omega (arith, (stamped_where i 0 (omega arith) listed).0, many)),
-    within_from d ends (λ i listed. omega (arith, (stamped_where i 1 (omega arith) listed).0, many)),
+    within_from d begins (λ i listed. omega (arith, (stamped_where i 0 (omega arith) listed).0, many, entries_fit r.layout d.lines)),
+    within_from d ends (λ i listed. omega (arith, (stamped_where i 1 (omega arith) listed).0, many, entries_fit r.layout d.lines)),
   )
 
   -- each stamp of the gap is 0, once it is erased
-  pub gap_stamp : (i k : ℕ) → i < entries_of_lines d.lines → k < 2
+  pub gap_stamp : (i k : ℕ) → i < entries_of_lines r.layout d.lines → k < 2
       → written (erase_pairs begins ends) (image_of d.words) (entry_word i k)
       ≡ cond (is_in_gap (image_of d.words (entry_word i k)) (oldest_gap r)) 0 (image_of d.words (entry_word i k))
   gap_stamp i k within low =
       written_stamp begins ends (image_of d.words) i k low
       ∙ ap (λ (b : Bool). cond b 0 (image_of d.words (entry_word i k)))
       (stamped_is i k low
-      ∙ ap (λ (b : Bool). b && is_in_gap (image_of d.words (entry_word i k)) (oldest_gap r)) (lt-ltb i (entries_of_lines d.lines) within))
+      ∙ ap (λ (b : Bool). b && is_in_gap (image_of d.words (entry_word i k)) (oldest_gap r)) (lt-ltb i (entries_of_lines r.layout d.lines) within))
 
 -- where no stamp of the gap is left, the others count alike without it
 pub without_alike : (r : Record) (lines : ℕ) (base image : Image) → IsLawful r → 0 < length r.gaps.items
-    → ((i k : ℕ) → i < entries_of_lines lines → k < 2
+    → ((i k : ℕ) → i < entries_of_lines r.layout lines → k < 2
     → image (entry_word i k) ≡ cond (is_in_gap (base (entry_word i k)) (oldest_gap r)) 0 (base (entry_word i k)))
     → CountAlike lines image r (record_after_clearing r)
 without_alike r lines base image lawful some erased i k within low =
@@ -109,8 +111,8 @@ pub record IsClearing (r : Record) (d : State) (begins ends : List EntryNo) : Ty
 
 pub clearing : {r : Record} {d : State} {begins ends listed_begins listed_ends : List EntryNo} → IsAtRest r d → 0 < length r.gaps.items
     → begins ≡ listed_begins → ends ≡ listed_ends
-    → listed_begins ≡ stamped_below (oldest_gap r) (image_of d.words) 0 (entries_of_lines d.lines)
-    → listed_ends ≡ stamped_below (oldest_gap r) (image_of d.words) 1 (entries_of_lines d.lines) → IsClearing r d begins ends
+    → listed_begins ≡ stamped_below (oldest_gap r) (image_of d.words) 0 (entries_of_lines r.layout d.lines)
+    → listed_ends ≡ stamped_below (oldest_gap r) (image_of d.words) 1 (entries_of_lines r.layout d.lines) → IsClearing r d begins ends
 clearing rest some is_begins is_ends begins_are ends_are =
     record {
       rest = rest;
@@ -134,12 +136,13 @@ module _ {r : Record} {d : State} {begins ends : List EntryNo} (begun : IsCleari
   -- and under the one without the gap.
   cleared_new : (image : Image) → AreErased r d begins ends image → IsErased r (record_after_clearing r) d.lines nothing (image_of d.words) image
   cleared_new image made =
-      erased_under (record_after_clearing r) (cleared_old image made)
+      erased_under (record_after_clearing r) refl (cleared_old image made)
       (without_alike r d.lines (image_of d.words) image begun.rest.lawful begun.stamped.some
       (λ i k within low.
       made (entry_word i k) (directory_matters r d.lines (image_of d.words) i k within (omega (arith, low))) ∙ gap_stamp begun.stamped i k within low))
 
-  cleared_below : {top : ℕ} (image : Image) → AreErased r d begins ends image → AreBelow d.lines (image_of d.words) top → AreBelow d.lines image top
+  cleared_below : {top : ℕ} (image : Image) → AreErased r d begins ends image → AreBelow r.layout d.lines (image_of d.words) top
+      → AreBelow r.layout d.lines image top
   cleared_below image made below =
       erased_below (whole_sound begun.rest.whole) (gap_erasing begun.stamped) image
       (written_over (Matters r d.lines (image_of d.words)) (image_of d.words) image (erase_pairs begins ends) made) below
@@ -152,7 +155,7 @@ module _ {r : Record} {d : State} {begins ends : List EntryNo} (begun : IsCleari
       let begin : ℕ = image_of d.words (entry_word i 0) in
       let at = stamped_where begun.stamped i 0 (omega arith) listed in
       let first = first_gap begun.stamped in (
-        and_right (nat_lt i (entries_of_lines d.lines)) _ (inside_not_free r (oldest_gap r) begin first at.1),
+        and_right (nat_lt i (entries_of_lines r.layout d.lines)) _ (inside_not_free r (oldest_gap r) begin first at.1),
         versions-within r d i at.0 ∙ cond-false (counts r begin) (Some (version_in r (image_of d.words) i)) None (in_oldest r (oldest_gap r) begin first at.1),
       )
 
@@ -169,7 +172,7 @@ module _ {r : Record} {d : State} {begins ends : List EntryNo} (begun : IsCleari
         were_not_free = λ i listed. (begun_in_gap i listed).0;
         held_none = λ i listed. (begun_in_gap i listed).1;
         once = subst (λ (l : List EntryNo). IsDistinct nat_eq (map (λ (entry : EntryNo). entry.0) l)) (sym begun.stamped.begins_are)
-            (stamped_once (oldest_gap r) (image_of d.words) 0 (entries_of_lines d.lines));
+            (stamped_once (oldest_gap r) (image_of d.words) 0 (entries_of_lines r.layout d.lines));
       }
 
   pub keeps_versions : (c : State) → c.lines ≡ d.lines → AreErased r d begins ends (image_of c.words) → KeepsVersions (contents_of r d) (contents_of r c)
@@ -193,27 +196,30 @@ module _ {r : Record} {d : State} {begins ends : List EntryNo} (begun : IsCleari
       let sound = whole_sound begun.rest.whole in
       inl (erased_keeps (contents_of r d) sound (erased_over sound (gap_erasing begun.stamped) nothing image over (nothing_gone begun.stamped image))
       (omega arith) (erased_below sound (gap_erasing begun.stamped) image over (rest_below begun.rest)) (λ i within. sym (versions-within r d i within))
-      (partly_recorded d image (erase_pairs begins ends) (erase_behind begins ends) begun.rest.recorded partly)))
+      (partly_recorded d image (erase_pairs begins ends) begun.rest.many (erase_behind (gap_erasing begun.stamped)) begun.rest.recorded partly)))
       moments
 
 -- what is written beside the words on which the map depends leaves it
-pub recorded_erased : {r : Record} {d b : State} {begins ends : List EntryNo} (c : State) (n : ℕ) → IsClearing r d begins ends
+pub recorded_erased : {r : Record} {d b : State} {begins ends : List EntryNo} (c : State) (next : Record) → next.layout ≡ r.layout → IsClearing r d begins ends
     → Staged d b (erase_pairs begins ends) (erase_lines begins ends)
-    → ((word : ℕ) → (IsRecordWord b.lines n word → ⊥) → image_of c.words word ≡ image_of b.words word) → AreErased r d begins ends (image_of c.words)
-recorded_erased {r} {d} c n begun staged newest word matters =
-    newest word (beside_record d.lines n word (matters_beside (whole_sound begun.rest.whole) word matters)) ∙ staged.newest word
+    → ((word : ℕ) → (IsRecordWord next.layout b.lines next.number word → ⊥) → image_of c.words word ≡ image_of b.words word)
+    → AreErased r d begins ends (image_of c.words)
+recorded_erased {r} {d} c next is begun staged newest word matters =
+    newest word (beside_next next is staged.stays.lines begun.rest.many word (matters_beside (whole_sound begun.rest.whole) word matters))
+    ∙ staged.newest word
 
 module _ {r : Record} {d b : State} {begins ends : List EntryNo} (begun : IsClearing r d begins ends) (lawful : IsLawful (record_after_clearing r))
     (staged : Staged d b (erase_pairs begins ends) (erase_lines begins ends)) where
-  matters_out : (word : ℕ) → Matters r d.lines (image_of d.words) word → IsRecordWord d.lines (r.number + 1) word → ⊥
-  matters_out word matters = beside_record d.lines (r.number + 1) word (matters_beside (whole_sound begun.rest.whole) word matters)
+  matters_out : (word : ℕ) → Matters r d.lines (image_of d.words) word → IsRecordWord r.layout b.lines (r.number + 1) word → ⊥
+  matters_out word matters =
+      beside_at r.layout (r.number + 1) word staged.stays.lines begun.rest.many (matters_beside (whole_sound begun.rest.whole) word matters)
 
   staged_certain : (word : ℕ) → Matters r d.lines (image_of d.words) word → Only (b.words word) (image_of b.words word)
   staged_certain word matters = staged_only (erase_line begins ends) staged word (λ out. begun.rest.certain word matters)
 
   pub cleared_rest : {c : State} → IsRecorded b c (record_after_clearing r) → IsAtRest (record_after_clearing r) c
   cleared_rest {c} recorded =
-      let made = recorded_erased c (r.number + 1) begun staged recorded.newest in
+      let made = recorded_erased c (record_after_clearing r) refl begun staged recorded.newest in
       erased_rest begun.rest.many begun.rest.few (whole_sound begun.rest.whole) (cleared_new begun (image_of c.words) made) lawful (omega arith)
       (cleared_below begun (image_of c.words) made (whole_below begun.rest.whole)) (recorded.stays.lines ∙ staged.stays.lines) recorded.durable
       (λ word matters. recorded_only recorded word (matters_out word matters) (staged_certain word matters))
@@ -238,7 +244,11 @@ module _ {r : Record} {d b : State} {begins ends : List EntryNo} (begun : IsClea
   clear_moments moments =
       LeavesOnly-then (erase_moments begun staged.moments)
       (LeavesOnly-weaken (IsClearedOrNot r d) clear_either
-      (moments r (record { number = refl; durable = staged_recorded (erase_behind begins ends) staged begun.rest.recorded })))
+      (moments r (record {
+        layout = refl;
+        number = refl;
+        durable = staged_recorded begun.rest.many (erase_behind (gap_erasing begun.stamped)) staged begun.rest.recorded;
+      })))
 
 -- where nothing was stored
 pub clear_none : {r : Record} {d : State} → IsAtRest r d → ((image : Image) → IsImage d.words image → Keeps (contents_of r d) image)

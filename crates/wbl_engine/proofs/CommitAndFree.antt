@@ -75,9 +75,12 @@ module _ {r : Record} {d : State} {parts : List Part} {position epoch : ℕ} (en
 
   -- ---- until the first fence
 
-  both_behind : AreBehind pairs
+  both_behind : AreBehind r.layout d.lines pairs
   both_behind word x stored =
-      elim (IsStored-append erased group word x stored) [ inl zero_there ↦ erase_behind entries [] word x zero_there | inr part ↦ group_behind begun word x part ]
+      elim (IsStored-append erased group word x stored) [
+        | inl zero_there ↦ erase_behind (ended_erasing r d entries ended) word x zero_there
+        | inr part ↦ group_behind begun word x part
+      ]
 
   both_harmless : IsHarmless r d.lines base pairs
   both_harmless =
@@ -98,7 +101,7 @@ module _ {r : Record} {d : State} {parts : List Part} {position epoch : ℕ} (en
     abbrev gone : ℕ → Bool
     gone i = is_listed i entries && (image (entry_word i 0) == 0)
 
-    begin_now : (i : ℕ) → i < entries_of_lines d.lines → counts r (image (entry_word i 0)) ≡ (not (gone i) && counts r (base (entry_word i 0)))
+    begin_now : (i : ℕ) → i < entries_of_lines r.layout d.lines → counts r (image (entry_word i 0)) ≡ (not (gone i) && counts r (base (entry_word i 0)))
     begin_now i within =
         let was : Bool = counts r (base (entry_word i 0)) in
         let now : ℕ = image (entry_word i 0) in
@@ -127,7 +130,7 @@ module _ {r : Record} {d : State} {parts : List Part} {position epoch : ℕ} (en
     both_erased : IsErased r r d.lines gone base image
     both_erased = stored_erased gone sound both_harmless over begin_now
 
-    both_below : AreBelow d.lines image (r.cp + length parts + 1)
+    both_below : AreBelow r.layout d.lines image (r.cp + length parts + 1)
     both_below i k within low =
         let was = whole_below begun.rest.whole i k within low in
         elim (over (entry_word i k) (directory_matters r d.lines base i k within (omega (arith, low)))) [
@@ -139,7 +142,8 @@ module _ {r : Record} {d : State} {parts : List Part} {position epoch : ℕ} (en
               ]
         ]
       where
-        below_of : (i k : ℕ) → i < entries_of_lines d.lines → k < 2 → PutsAt r d parts i k (image (entry_word i k)) ⊎ EndsAt r d parts i k (image (entry_word i k)) → image (entry_word i k) < r.cp + length parts + 1
+        below_of : (i k : ℕ) → i < entries_of_lines r.layout d.lines → k < 2
+            → PutsAt r d parts i k (image (entry_word i k)) ⊎ EndsAt r d parts i k (image (entry_word i k)) → image (entry_word i k) < r.cp + length parts + 1
         below_of i zero within low (inl put) = omega (arith, (put.begin refl).1)
         below_of i (suc zero) within low (inl put) = omega (arith, put.end refl)
         below_of i (suc (suc k)) within low (inl put) = absurd (omega (arith, low))
@@ -153,7 +157,7 @@ module _ {r : Record} {d : State} {parts : List Part} {position epoch : ℕ} (en
         erased_keeps (without (gone image over) (contents_of r d)) sound (both_erased image over) (omega arith)
             (λ i k within low. let at = both_below image over i k within low in omega (arith, at, begun.rest.lawful.limit, begun.asked.few))
             (λ i within. ap (λ (v : Option Version). cond (gone image over i) None v) (sym (versions-within r d i within)))
-            (partly_recorded d image pairs both_behind begun.rest.recorded partly),
+            (partly_recorded d image pairs begun.rest.many both_behind begun.rest.recorded partly),
       )
 
   -- ---- the device as it would be, were the begins erased before
@@ -192,7 +196,7 @@ module _ {r : Record} {d : State} {parts : List Part} {position epoch : ℕ} (en
       (erased_over sound (ended_erasing r d entries ended) (λ i. is_listed i entries) (image_of freed_words) over
       (listed_gone r d entries (image_of freed_words) (λ word matters. freed_newest word)))
       begun.rest.lawful (omega arith) (erased_below sound (ended_erasing r d entries ended) (image_of freed_words) over (whole_below begun.rest.whole)) refl
-      (λ image is. partly_recorded d image erased (erase_behind entries []) begun.rest.recorded (freed_partly image is))
+      (λ image is. partly_recorded d image erased begun.rest.many (erase_behind (ended_erasing r d entries ended)) begun.rest.recorded (freed_partly image is))
       (λ word matters.
       picked (λ (w : Word). Only w w.newest) (stored_or_outside erased word) (settled (written erased base word)) (d.words word)
       (λ stored. record { only = only_settled (written erased base word) }) (λ out. begun.rest.certain word matters))
@@ -316,4 +320,4 @@ module _ {r : Record} {d : State} {parts : List Part} {position epoch : ℕ} (en
             (subst (λ (q : Record). LeavesOnly b c (IsEitherRecord b r q)) is
             (moments r
             (subst (λ (q : Record). IsSucceeded b r q) (sym is)
-            (record { number = refl; durable = staged_recorded both_behind staged begun.rest.recorded })))))
+            (record { layout = refl; number = refl; durable = staged_recorded begun.rest.many both_behind staged begun.rest.recorded })))))

@@ -27,7 +27,7 @@ use Rattle.wbl_engine.proofs.Covering.{IsStoredPut, parts_stored_put, entry_stor
 use Rattle.wbl_engine.proofs.Erased.{agrees_below, agrees_erased, erased_free, erased_keeps, erased_rest, erased_versions, matters_beside, versions-beyond, versions-within, whole_sound}
 use Rattle.wbl_engine.proofs.PartEffects.{is_put_at-among}
 use Rattle.wbl_engine.proofs.Staged.{IsCommitting, group_begin, group_behind, group_below, group_erased, group_pairs, stored_at}
-use Rattle.wbl_engine.proofs.Storing.{AgreesOn, IsStoredOver, beside_record, partly_over, partly_recorded, recorded_only, staged_recorded, written_over}
+use Rattle.wbl_engine.proofs.Storing.{AgreesOn, IsStoredOver, beside_at, beside_next, partly_over, partly_recorded, recorded_only, staged_recorded, written_over}
 
 -- from the contracts of what is called
 pub committing : {r : Record} {d : State} {parts : List Part} (next : Record) → IsAtRest r d → AreCommittable (contents_of r d) parts next.position
@@ -50,7 +50,7 @@ free_stays cp old new top (inr put) =
 
 module _ {r : Record} {d : State} {parts : List Part} {position epoch : ℕ} (begun : IsCommitting r d parts position epoch) where
   -- the begin of a put counts under the next record alone
-  put_begin : (i : ℕ) → i < entries_of_lines d.lines → is_put_at i (puts_of_parts parts) ≡ true → r.cp < made_image r d parts (entry_word i 0)
+  put_begin : (i : ℕ) → i < entries_of_lines r.layout d.lines → is_put_at i (puts_of_parts parts) ≡ true → r.cp < made_image r d parts (entry_word i 0)
   put_begin i within put =
       let at = is_put_at-among i (puts_of_parts parts) put in
       let place : IsStoredPut (group_pairs r parts) at.0 = parts_stored_put (r.cp + 1) parts at.0 at.1 in
@@ -66,7 +66,7 @@ module _ {r : Record} {d : State} {parts : List Part} {position epoch : ℕ} (be
             ]
       ]
 
-  free_after : (i now : ℕ) → i < entries_of_lines d.lines → now ≡ made_image r d parts (entry_word i 0)
+  free_after : (i now : ℕ) → i < entries_of_lines r.layout d.lines → now ≡ made_image r d parts (entry_word i 0)
       → (now == 0 || nat_lt (record_after r parts position epoch).cp now)
       ≡ ((image_of d.words (entry_word i 0) == 0 || nat_lt r.cp (image_of d.words (entry_word i 0))) && not (is_put_at i (puts_of_parts parts)))
   free_after i now within is =
@@ -86,7 +86,7 @@ module _ {r : Record} {d : State} {parts : List Part} {position epoch : ℕ} (be
 
   -- ---- the contents, of an image that agrees with what the parts made, but for the record
 
-  commit_same : (c : State) → c.lines ≡ d.lines → AgreesOn (IsBesideRecords d.lines) (made_image r d parts) (image_of c.words)
+  commit_same : (c : State) → c.lines ≡ d.lines → AgreesOn (IsBesideRecords r.layout d.lines) (made_image r d parts) (image_of c.words)
       → Same (after_parts (contents_of r d) parts position epoch) (contents_of (record_after r parts position epoch) c)
   commit_same c lines agrees =
       record {
@@ -101,10 +101,10 @@ module _ {r : Record} {d : State} {parts : List Part} {position epoch : ℕ} (be
             erased_free (record_after r parts position epoch) c i ((was == 0 || nat_lt r.cp was) && not put) lines
             (λ within.
             free_after i (image_of c.words (entry_word i 0)) within (agrees (entry_word i 0) (inr (inl (omega arith, omega (arith, within))))))
-            ∙ sym (and_assoc (nat_lt i (entries_of_lines d.lines)) (was == 0 || nat_lt r.cp was) (not put));
+            ∙ sym (and_assoc (nat_lt i (entries_of_lines r.layout d.lines)) (was == 0 || nat_lt r.cp was) (not put));
       }
 
-  pub fault_same : (c : State) → c.lines ≡ d.lines → AgreesOn (IsBesideRecords d.lines) (made_image r d parts) (image_of c.words)
+  pub fault_same : (c : State) → c.lines ≡ d.lines → AgreesOn (IsBesideRecords r.layout d.lines) (made_image r d parts) (image_of c.words)
       → Same (contents_of r d) (contents_of r c)
   fault_same c lines agrees =
       let over : IsStoredOver (Matters r d.lines (image_of d.words)) (image_of d.words) (group_pairs r parts) (image_of c.words) =
@@ -141,7 +141,7 @@ module _ {r : Record} {d : State} {parts : List Part} {position epoch : ℕ} (be
       LeavesOnly-weaken (IsBeforeOrAfter r d parts position epoch)
       (λ image partly.
       inl (old_keeps image (partly_over (Matters r d.lines (image_of d.words)) d image (group_pairs r parts) begun.rest.certain partly)
-      (partly_recorded d image (group_pairs r parts) (group_behind begun) begun.rest.recorded partly)))
+      (partly_recorded d image (group_pairs r parts) begun.rest.many (group_behind begun) begun.rest.recorded partly)))
       moments
 
 module _ {r : Record} {d b : State} {parts : List Part} {position epoch : ℕ} {next : Record} (begun : IsCommitting r d parts position epoch) (is : next ≡ record_after r parts position epoch)
@@ -155,7 +155,8 @@ module _ {r : Record} {d b : State} {parts : List Part} {position epoch : ℕ} {
             (written_over (Matters r d.lines (image_of d.words)) (image_of d.words) image (group_pairs r parts)
             (λ word matters.
             (stage_certain begun staged word (inl matters)).only (image word)
-            (recorded.elsewhere word (beside_record d.lines (r.number + 1) word (matters_beside (whole_sound begun.rest.whole) word matters)))
+            (recorded.elsewhere word (beside_at r.layout (r.number + 1) word staged.stays.lines begun.rest.many
+            (matters_beside (whole_sound begun.rest.whole) word matters)))
             ∙ staged.newest word))
             (HasRecord-lines staged.stays.lines old))
         | inr new ↦
@@ -163,7 +164,7 @@ module _ {r : Record} {d b : State} {parts : List Part} {position epoch : ℕ} {
             let agrees : AgreesOn (Matters (record_after r parts position epoch) d.lines (made_image r d parts)) (made_image r d parts) image =
             λ word matters.
             (stage_certain begun staged word (inr matters)).only (image word)
-            (recorded.elsewhere word (beside_record d.lines (r.number + 1) word (matters_beside sound word matters)))
+            (recorded.elsewhere word (beside_at r.layout (r.number + 1) word staged.stays.lines begun.rest.many (matters_beside sound word matters)))
             ∙ staged.newest word in
             inr (erased_keeps (after_parts (contents_of r d) parts position epoch) sound (agrees_erased sound agrees) (omega arith)
             (λ i k within low. let at = agrees_below (record_after r parts position epoch) d.lines agrees (after_below begun) i k within low in omega (arith, at)) (after_fits begun).same
@@ -178,12 +179,13 @@ module _ {r : Record} {d b : State} {parts : List Part} {position epoch : ℕ} {
       (subst (λ (q : Record). LeavesOnly b c (IsEitherRecord b r q)) is
       (moments r
       (subst (λ (q : Record). IsSucceeded b r q) (sym is)
-      (record { number = refl; durable = staged_recorded (group_behind begun) staged begun.rest.recorded })))))
+      (record { layout = refl; number = refl; durable = staged_recorded begun.rest.many (group_behind begun) staged begun.rest.recorded })))))
 
   -- what loads return beside the records
-  recorded_made : (c : State) → ((word : ℕ) → (IsRecordWord b.lines next.number word → ⊥) → image_of c.words word ≡ image_of b.words word)
-      → AgreesOn (IsBesideRecords d.lines) (made_image r d parts) (image_of c.words)
-  recorded_made c newest word beside = newest word (beside_record d.lines next.number word beside) ∙ staged.newest word
+  recorded_made : (c : State) → ((word : ℕ) → (IsRecordWord next.layout b.lines next.number word → ⊥) → image_of c.words word ≡ image_of b.words word)
+      → AgreesOn (IsBesideRecords r.layout d.lines) (made_image r d parts) (image_of c.words)
+  recorded_made c newest word beside =
+      newest word (beside_next next (ap (λ (q : Record). q.layout) is) staged.stays.lines begun.rest.many word beside) ∙ staged.newest word
 
   -- where a later fence failed
   pub later_fault : {c : State} → IsRecordFault b c next → Same (contents_of r d) (contents_of r c)
@@ -200,7 +202,8 @@ module _ {r : Record} {d b : State} {parts : List Part} {position epoch : ℕ} {
       (erased_rest begun.rest.many begun.rest.few sound (agrees_erased sound agrees) (subst IsLawful is lawful) (omega arith)
       (agrees_below (record_after r parts position epoch) d.lines agrees (after_below begun)) (recorded.stays.lines ∙ staged.stays.lines) now.durable
       (λ word matters.
-      recorded_only now word (beside_record d.lines (r.number + 1) word (matters_beside sound word matters)) (stage_certain begun staged word (inr matters))))
+      recorded_only now word (beside_at r.layout (r.number + 1) word staged.stays.lines begun.rest.many (matters_beside sound word matters))
+      (stage_certain begun staged word (inr matters))))
 
   pub done_same : {c : State} → IsRecorded b c next → Same (after_parts (contents_of r d) parts position epoch) (contents_of next c)
   done_same {c} recorded =

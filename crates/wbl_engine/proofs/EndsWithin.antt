@@ -6,6 +6,7 @@ use Rattle.pmem.specs.Device.{State}
 use Rattle.model.specs.declared.record.Record.{Record}
 use Rattle.model.specs.declared.group.Part.{Part}
 use Rattle.model.specs.Group.{Versions, is_put_at, is_live_version, part_versions}
+use Rattle.model.proofs.LayoutLemmas.{entries_fit}
 use Rattle.wbl_engine.specs.AtRest.{contents_of, IsAtRest}
 use Rattle.wbl_engine.specs.Committing.{AreCommittable, AreNamed}
 use Rattle.wbl_engine.specs.Stage.{puts_of_parts, AreEndsWithin}
@@ -35,4 +36,4 @@ pub ends_within : (r : Record) (d : State) (parts : List Part) (position : ℕ) 
     → AreEndsWithin d.lines parts
 ends_within r d parts position rest asked =
     each_ended (λ i. 8 + i < d.lines) parts (contents_of r d).versions
-    (λ i live. omega (arith, live_within r d parts asked.placed i live, rest.many)) asked.names
+    (λ i live. omega (arith, live_within r d parts asked.placed i live, rest.many, entries_fit r.layout d.lines)) asked.names

@@ -10,6 +10,7 @@ use Rattle.pmem.specs.Runs.{IsStored, IsLine, written}
 use Rattle.pmem.proofs.Staging.{IsStored-append, IsStored-append_left, IsStored-append_right, IsLine-append_left, IsLine-append_right, written-outside, written-stored}
 use Rattle.model.specs.declared.record.Record.{Record}
 use Rattle.model.specs.Image.{Image, entry_line, entry_word, entries_of_lines, counts}
+use Rattle.model.proofs.LayoutLemmas.{entries_fit}
 use Rattle.wbl_engine.specs.AtRest.{Matters, contents_of}
 use Rattle.wbl_engine.specs.Erasing.{zero_pairs, erase_pairs, erase_lines}
 use Rattle.wbl_engine.specs.Freeing.{is_listed}
@@ -75,9 +76,6 @@ module _ (begins ends : List EntryNo) where
             record { entry = at.0; k = 1; low = omega arith; listed = at.1; word_is = at.2; zero_is = at.3 }
       ]
 
-  pub erase_behind : AreBehind (erase_pairs begins ends)
-  erase_behind word x stored = omega (arith, (erased_where word x stored).word_is)
-
   -- and in word k of entry i
   pub stamp_of : (i k x : ℕ) → k < 8 → IsStored (erase_pairs begins ends) (entry_word i k) x → (x ≡ 0) × (k < 2) × IsTrue (is_erased_at begins ends i k)
   stamp_of i k x below stored =
@@ -119,25 +117,40 @@ module _ (begins ends : List EntryNo) where
 
 -- The stamps that are erased are in the directory, and no end among them counts.
 pub record IsErasing (r : Record) (lines : ℕ) (base : Image) (begins ends : List EntryNo) : Type 0 where
-  pub within : (i k : ℕ) → k < 2 → IsTrue (is_erased_at begins ends i k) → i < entries_of_lines lines
+  pub within : (i k : ℕ) → k < 2 → IsTrue (is_erased_at begins ends i k) → i < entries_of_lines r.layout lines
   pub uncounted : (i : ℕ) → IsTrue (is_listed i ends) → counts r (base (entry_word i 1)) ≡ false
 
 -- the versions that are gone lost their begin, and an erased begin counted only if its version is gone
 pub record AreGone (r : Record) (lines : ℕ) (base : Image) (begins : List EntryNo) (gone : ℕ → Bool) (image : Image) : Type 0 where
-  pub zero_is : (i : ℕ) → i < entries_of_lines lines → gone i ≡ true → image (entry_word i 0) ≡ 0
+  pub zero_is : (i : ℕ) → i < entries_of_lines r.layout lines → gone i ≡ true → image (entry_word i 0) ≡ 0
   pub erased : (i : ℕ) → IsTrue (is_listed i begins) → image (entry_word i 0) ≡ 0 → gone i ≡ false → counts r (base (entry_word i 0)) ≡ false
+
+pub erase_behind : {r : Record} {lines : ℕ} {base : Image} {begins ends : List EntryNo} → IsErasing r lines base begins ends
+    → AreBehind r.layout lines (erase_pairs begins ends)
+erase_behind {begins = begins} {ends} erasing word x stored =
+    let at = erased_where begins ends word x stored in
+    let within = erasing.within at.entry at.k at.low at.listed in
+    inl (omega (arith, at.word_is), omega (arith, at.word_is, at.low, within))
 
 module _ {r : Record} {lines : ℕ} {base : Image} {begins ends : List EntryNo} (sound : IsSound r lines base) (erasing : IsErasing r lines base begins ends) where
   pub harmless : IsHarmless r lines base (erase_pairs begins ends)
   harmless =
       record {
-        behind = erase_behind begins ends;
+        behind = erase_behind erasing;
         end = λ i x within counted stored.
             let at = stamp_of begins ends i 1 x (omega arith) stored in ap (counts r) at.0 ∙ sym (erasing.uncounted i at.2);
         words = λ i k x within counted low below stored. omega (arith, low, (stamp_of begins ends i k x below stored).1);
         extents = λ i word x within counted at stored.
             let s = erased_where begins ends word x stored in
-            omega (arith, at.low, (sound.entries i within counted).above, s.word_is, s.low, erasing.within s.entry s.k s.low s.listed);
+            omega (
+              arith,
+              at.low,
+              (sound.entries i within counted).above,
+              s.word_is,
+              s.low,
+              erasing.within s.entry s.k s.low s.listed,
+              entries_fit r.layout lines,
+            );
       }
 
   -- Such an image has lost just what is gone.
@@ -159,8 +172,8 @@ module _ {r : Record} {lines : ℕ} {base : Image} {begins ends : List EntryNo} 
             ∙ sym (ap (λ (b : Bool). not b && was) left)
       ])
 
-  pub erased_below : {top : ℕ} (image : Image) → IsStoredOver (Matters r lines base) base (erase_pairs begins ends) image → AreBelow lines base top
-      → AreBelow lines image top
+  pub erased_below : {top : ℕ} (image : Image) → IsStoredOver (Matters r lines base) base (erase_pairs begins ends) image → AreBelow r.layout lines base top
+      → AreBelow r.layout lines image top
   erased_below image over below i k within low =
       let was = below i k within low in
       elim (over (entry_word i k) (directory_matters r lines base i k within (omega (arith, low)))) [
@@ -190,8 +203,8 @@ made_free {r} {begins} {ends} d c erasing made same i =
     ap (λ (x : ℕ). x == 0 || nat_lt r.cp x)
     (made (entry_word i 0) (directory_matters r d.lines (image_of d.words) i 0 within (omega arith)) ∙ written_stamp begins ends (image_of d.words) i 0 (omega arith))
     ∙ free_or was r.cp (is_listed i begins))
-    ∙ or_within (nat_lt i (entries_of_lines d.lines)) (was == 0 || nat_lt r.cp was) (is_listed i begins)
-    (λ listed. lt-ltb i (entries_of_lines d.lines) (erasing.within i 0 (omega arith) listed))
+    ∙ or_within (nat_lt i (entries_of_lines r.layout d.lines)) (was == 0 || nat_lt r.cp was) (is_listed i begins)
+    (λ listed. lt-ltb i (entries_of_lines r.layout d.lines) (erasing.within i 0 (omega arith) listed))
 
 -- the lines of the entries are on the device
 pub within_from : (d : State) (entries : List EntryNo) → ((i : ℕ) → IsTrue (is_listed i entries) → entry_line i < d.lines) → AreWithin d.lines entries

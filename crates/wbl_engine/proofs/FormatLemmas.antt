@@ -7,6 +7,7 @@ use Rattle.pmem.specs.Runs.{LeavesOnly, Staged, StageFailed, IsPartlyStored, IsS
 use Rattle.pmem.proofs.Leaving.{LeavesOnly-then, LeavesOnly-weaken}
 use Rattle.pmem.proofs.Staging.{same_or_other, IsLine-lines_from}
 use Rattle.model.specs.declared.image.TheConstants.{MIN_LINES, MAX_LINES}
+use Rattle.model.specs.declared.layout.TheConstants.{LAYOUT}
 use Rattle.model.specs.declared.record.Role.{Role}
 use Rattle.model.specs.Image.{Image, HasSuperblock, HasRecord, magic_number, entry_word, entries_of_lines, first_extent_line, record_words, version_at, counts}
 use Rattle.model.proofs.RecordLemmas.{HasRecord-lines}
@@ -36,9 +37,9 @@ no_magic image none is = omega (arith, none, is)
 record HasNew (lines : ℕ) (role : Role) (image : Image) : Type 0 where
   super : (k : ℕ) → k < 7 → image (1 + k) ≡ get_or (superblock_words lines) k 0
   first : (k : ℕ) → k < 24 → image (32 + k) ≡ get_or (record_words (first_record role)) k 0
-  entry : (i k : ℕ) → i < entries_of_lines lines → k < 8 → image (entry_word i k) ≡ 0
+  entry : (i k : ℕ) → i < entries_of_lines LAYOUT lines → k < 8 → image (entry_word i k) ≡ 0
 
-new_superblock : (lines : ℕ) (role : Role) (image : Image) → image 0 ≡ magic_number → HasNew lines role image → HasSuperblock lines image
+new_superblock : (lines : ℕ) (role : Role) (image : Image) → image 0 ≡ magic_number → HasNew lines role image → HasSuperblock LAYOUT lines image
 new_superblock lines role image magic has =
     record {
       magic = magic;
@@ -51,13 +52,13 @@ new_record : (lines : ℕ) (role : Role) (image : Image) → HasNew lines role i
 new_record lines role image has = record_is lines (first_record role) image (has.super 3 (omega arith)) has.first
 
 -- no begin counts
-not_begun : (lines : ℕ) (role : Role) (image : Image) → HasNew lines role image → (i : ℕ) → i < entries_of_lines lines
+not_begun : (lines : ℕ) (role : Role) (image : Image) → HasNew lines role image → (i : ℕ) → i < entries_of_lines LAYOUT lines
     → IsTrue (counts (first_record role) (image (entry_word i 0))) → ⊥
 not_begun lines role image has i within begun =
     both_ways (counts (first_record role) (image (entry_word i 0)))
     (ap (counts (first_record role)) (has.entry i 0 within (omega arith)) ∙ counts-zero (first_record role)) begun
 
-no_version : (lines : ℕ) (role : Role) (image : Image) → HasNew lines role image → (i : ℕ) → i < entries_of_lines lines
+no_version : (lines : ℕ) (role : Role) (image : Image) → HasNew lines role image → (i : ℕ) → i < entries_of_lines LAYOUT lines
     → version_at (first_record role) image i ≡ None
 no_version lines role image has i within =
     cond-false _ _ _ (ap (counts (first_record role)) (has.entry i 0 within (omega arith)) ∙ counts-zero (first_record role))

@@ -10,8 +10,10 @@ use Rattle.pmem.specs.Runs.{LeavesOnly, Staged, IsPartlyStored, written}
 use Rattle.pmem.proofs.Leaving.{LeavesOnly-weaken, none_leaves}
 use Rattle.model.specs.declared.record.Record.{Record}
 use Rattle.model.specs.Image.{Image, IsMapOf, Version, entry_word, entries_of_lines, counts, version_at, version_in}
-use Rattle.model.specs.Group.{Contents, Versions, is_ended_version}
+use Rattle.model.specs.Group.{Contents, Versions, is_ended_version, entries_of}
 use Rattle.model.proofs.MapLemmas.{IsMapOf-same}
+use Rattle.model.proofs.DirectoryLemmas.{entries_same}
+use Rattle.model.proofs.LayoutLemmas.{entries_fit}
 use Rattle.wbl_engine.specs.AtRest.{IsAtRest, Matters, contents_of}
 use Rattle.wbl_engine.specs.Contents.{Same}
 use Rattle.wbl_engine.specs.Erasing.{erase_pairs, erase_lines, extent_in}
@@ -25,7 +27,7 @@ use Rattle.wbl_engine.proofs.WithoutLemmas.{IsMapOf-without}
 -- ---- what is asked of the entries
 
 pub ended_within : (contents : Contents) (entries : List EntryNo) (i : ℕ) → AreEnded contents entries → IsTrue (is_listed i entries)
-    → (i < entries_of_lines contents.lines) × IsTrue (is_ended_version (contents.versions i))
+    → (i < entries_of contents) × IsTrue (is_ended_version (contents.versions i))
 ended_within contents [] i ended listed = absurd (both_ways false refl listed)
 ended_within contents (entry ∷ entries) i ended listed =
     elim (or_cases (nat_eq i entry.0) (is_listed i entries) listed) [
@@ -38,14 +40,14 @@ ended_within contents (entry ∷ entries) i ended listed =
 -- the lines of the entries are on the device
 pub ended_lines : (r : Record) (d : State) (entries : List EntryNo) → IsAtRest r d → AreEnded (contents_of r d) entries → AreWithin d.lines entries
 ended_lines r d [] rest ended = tt
-ended_lines r d (entry ∷ entries) rest ended = (omega (arith, ended.0, rest.many), ended_lines r d entries rest ended.3)
+ended_lines r d (entry ∷ entries) rest ended = (omega (arith, ended.0, rest.many, entries_fit r.layout d.lines), ended_lines r d entries rest ended.3)
 
 -- only begins are erased
 pub ended_erasing : (r : Record) (d : State) (entries : List EntryNo) → AreEnded (contents_of r d) entries
     → IsErasing r d.lines (image_of d.words) entries []
 ended_erasing r d entries ended = record { within = within; uncounted = λ i listed. absurd (both_ways false refl listed) }
   where
-    within : (i k : ℕ) → k < 2 → IsTrue (is_erased_at entries [] i k) → i < entries_of_lines d.lines
+    within : (i k : ℕ) → k < 2 → IsTrue (is_erased_at entries [] i k) → i < entries_of_lines r.layout d.lines
     within i zero low listed = (ended_within (contents_of r d) entries i ended listed).0
     within i (suc k) low listed = absurd (both_ways false refl listed)
 
@@ -113,7 +115,7 @@ module _ (r : Record) (d : State) (entries : List EntryNo) (rest : IsAtRest r d)
       (erased_over sound (ended_erasing r d entries ended) (λ i. is_listed i entries) (image_of b.words) over
       (listed_gone r d entries (image_of b.words) (λ word matters. staged.newest word)))
       rest.lawful (omega arith) (erased_below sound (ended_erasing r d entries ended) (image_of b.words) over (whole_below rest.whole)) staged.stays.lines
-      (staged_recorded (erase_behind entries []) staged rest.recorded)
+      (staged_recorded rest.many (erase_behind (ended_erasing r d entries ended)) staged rest.recorded)
       (λ word matters. staged_only (erase_line entries []) staged word (λ out. rest.certain word matters))
 
   -- ---- at each crash
@@ -135,7 +137,7 @@ module _ (r : Record) (d : State) (entries : List EntryNo) (rest : IsAtRest r d)
         erased_keeps (without gone (contents_of r d)) sound (erased_over sound (ended_erasing r d entries ended) gone image over are) (omega arith)
             (erased_below sound (ended_erasing r d entries ended) image over (rest_below rest))
             (λ i within. ap (λ (v : Option Version). cond (gone i) None v) (sym (versions-within r d i within)))
-            (partly_recorded d image (erase_pairs entries []) (erase_behind entries []) rest.recorded partly),
+            (partly_recorded d image (erase_pairs entries []) rest.many (erase_behind (ended_erasing r d entries ended)) rest.recorded partly),
       )
 
   pub freed_moments : (b : State) → LeavesOnly d b (IsPartlyStored (erase_pairs entries []) d.words) → LeavesOnly d b (KeepsWithoutSome entries (contents_of r d))
@@ -151,7 +153,7 @@ module _ (r : Record) (d : State) (entries : List EntryNo) (rest : IsAtRest r d)
 pub freed_map : (old new : Contents) (entries : List EntryNo) → AreEnded old entries → Same (after_free entries old) new → KeepsMap old new
 freed_map old new entries ended same s map =
     let left : Versions = (after_free entries old).versions in
-    subst (λ (n : ℕ). IsMapOf new.versions (entries_of_lines n) s) (sym same.lines)
-    (IsMapOf-same left new.versions (entries_of_lines old.lines) s (λ i within. sym (same.versions i))
-    (IsMapOf-without (λ i. is_listed i entries) old.versions (entries_of_lines old.lines) s
+    subst (λ (n : ℕ). IsMapOf new.versions n s) (sym (entries_same old new (ap (λ (r : Record). r.layout) same.current) same.lines))
+    (IsMapOf-same left new.versions (entries_of old) s (λ i within. sym (same.versions i))
+    (IsMapOf-without (λ i. is_listed i entries) old.versions (entries_of old) s
     (λ i listed. (ended_within old entries i ended listed).1) map))

@@ -5,7 +5,7 @@ use Rattle.model.specs.declared.group.Group.{Group}
 use Rattle.model.specs.declared.group.Part.{Part}
 use Rattle.model.specs.declared.group.Put.{Put}
 use Rattle.model.specs.declared.record.Record.{Record}
-use Rattle.model.specs.Group.{AreAllApart, AreParts, Contents, HasItsLines, IsGroup, IsPlaced, IsUnused, Versions, after_group, is_put_at, last_position, next_record, part_versions, puts_of_part}
+use Rattle.model.specs.Group.{AreAllApart, AreParts, Contents, HasItsLines, IsGroup, IsPlaced, IsUnused, Versions, after_group, is_put_at, last_position, next_record, part_versions, puts_of_part, entries_of}
 use Rattle.wbl_engine.specs.Committing.{AreCommittable, AreNamed, after_parts, record_after}
 use Rattle.wbl_engine.specs.Relocating.{IsRelocation, after_relocation, relocated_record}
 use Rattle.wbl_engine.specs.Stage.{puts_of_parts}
@@ -76,7 +76,7 @@ relocation_committable contents part asked =
       made = (asked.position, tt);
       few = omega arith;
       names = (asked.names, tt);
-      placed = subst (AllByRecursion (IsPlaced contents.lines)) same asked.placed;
+      placed = subst (AllByRecursion (IsPlaced (entries_of contents) contents.lines)) same asked.placed;
       fitting = subst (AllByRecursion HasItsLines) same asked.fitting;
       unused = subst (AllByRecursion (IsUnused contents.versions contents.is_free)) same asked.unused;
       apart = subst AreAllApart same asked.apart;

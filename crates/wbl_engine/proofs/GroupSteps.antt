@@ -1,5 +1,5 @@
 -- A group moves the versions of an image exactly as its changes say.
-use Rattle.std.proofs.Common.{◌≡◌, ℕ, suc, ◌+◌, Bool, false, List, [], ◌∷◌, ◌++◌, inl, inr, Option, None, Some, length, refl, sym, ap, subst, ◌∙◌, arith}
+use Rattle.std.proofs.Common.{◌≡◌, ℕ, suc, ◌+◌, ◌≤◌, Bool, false, List, [], ◌∷◌, ◌++◌, inl, inr, Option, None, Some, length, refl, sym, ap, subst, ◌∙◌, arith}
 use Rattle.std.specs.List.{AllByRecursion}
 use Rattle.std.proofs.lemmas.Bool.{cases_Bool}
 use Rattle.pmem.specs.Runs.{written}
@@ -7,8 +7,11 @@ use Rattle.pmem.proofs.Staging.{written-append}
 use Rattle.model.specs.declared.record.Record.{Record}
 use Rattle.model.specs.declared.group.Part.{Part}
 use Rattle.model.specs.declared.group.Put.{Put}
+use Rattle.model.specs.Layout.{directory_room, entries_of_lines}
 use Rattle.model.specs.Image.{Image, Version}
 use Rattle.model.specs.Group.{Versions, IsPlaced, HasItsLines, AreApart, IsApartFrom, AreAllApart, is_put_at, puts_of_part, part_versions, parts_versions, version_of_put}
+use Rattle.model.proofs.GroupsLemmas.{placed_in_more}
+use Rattle.model.proofs.LayoutLemmas.{entries_fit}
 use Rattle.wbl_engine.specs.Committing.{AreNamed}
 use Rattle.wbl_engine.specs.Stage.{IsWritable, part_pairs, parts_pairs, puts_of_parts}
 use Rattle.wbl_engine.proofs.CountLemmas.{with_cp}
@@ -60,13 +63,13 @@ flip_apart a b c d (inl before) = inr before
 flip_apart a b c d (inr after) = inl after
 
 -- the part's own puts
-part_stored : (lines : ℕ) (versions : Versions) (image : Image) (part : Part) (parts : List Part)
-    → AreStored lines versions image (puts_of_parts (part ∷ parts)) → AreStored lines versions image (puts_of_part part)
-part_stored lines versions image part parts stored =
+part_stored : (entries lines : ℕ) (versions : Versions) (image : Image) (part : Part) (parts : List Part)
+    → AreStored entries lines versions image (puts_of_parts (part ∷ parts)) → AreStored entries lines versions image (puts_of_part part)
+part_stored entries lines versions image part parts stored =
     let a : List Put = puts_of_part part in
     let b : List Put = puts_of_parts parts in
     record {
-      placed = all-prefix (IsPlaced lines) a b stored.placed;
+      placed = all-prefix (IsPlaced entries lines) a b stored.placed;
       fitting = all-prefix HasItsLines a b stored.fitting;
       writable = all-prefix IsWritable a b stored.writable;
       ready = all-prefix (IsReady versions image) a b stored.ready;
@@ -74,19 +77,21 @@ part_stored lines versions image part parts stored =
     }
 
 -- a put of a later part still has its place
-still_ready : (lines stamp : ℕ) (versions : Versions) (image : Image) (part : Part) (parts : List Part)
-    → AreStored lines versions image (puts_of_parts (part ∷ parts)) → (put : Put) → IsAmong put (puts_of_parts parts)
+still_ready : (entries lines stamp : ℕ) (versions : Versions) (image : Image) (part : Part) (parts : List Part)
+    → entries ≤ directory_room lines → AreStored entries lines versions image (puts_of_parts (part ∷ parts)) → (put : Put) → IsAmong put (puts_of_parts parts)
     → IsReady (part_versions versions part) (written (part_pairs stamp part) image) put
-still_ready lines stamp versions image part parts stored put among =
+still_ready entries lines stamp versions image part parts fit stored put among =
     let a : List Put = puts_of_part part in
     let b : List Put = puts_of_parts parts in
     let was : IsReady versions image put = among-all (IsReady versions image) (a ++ b) put (among-back a b put among) stored.ready in
-    let placed : IsPlaced lines put = among-all (IsPlaced lines) (a ++ b) put (among-back a b put among) stored.placed in
+    let placed : IsPlaced entries lines put = among-all (IsPlaced entries lines) (a ++ b) put (among-back a b put among) stored.placed in
     let none : is_put_at put.entry.0 a ≡ false =
     none-from put.entry.0 a (λ other there e. (apart-across a b stored.apart other put there among).entries (sym e)) in
     record {
       free =
-          part_word-kept lines stamp part image (all-prefix (IsPlaced lines) a b stored.placed) put.entry.0 0 placed.entry (omega arith) (omega arith) none
+          part_word-kept lines stamp part image (placed_in_more entries (directory_room lines) lines a fit
+          (all-prefix (IsPlaced entries lines) a b stored.placed))
+          put.entry.0 0 (omega (arith, placed.entry, fit)) (omega arith) (omega arith) none
           ∙ was.free;
       lines = λ i version is.
           elim (cases_Bool (is_put_at i a)) [
@@ -113,24 +118,24 @@ still_ready lines stamp versions image part parts stored put among =
         let is : version ≡ end_if test v = cc in
         subst (λ (w : Version). AreApart put.extent.first_line put.extent.lines w.first_line w.lines) (sym is) (apart v refl)
 
-rest_stored : (lines stamp : ℕ) (versions : Versions) (image : Image) (part : Part) (parts : List Part)
-    → AreStored lines versions image (puts_of_parts (part ∷ parts))
-    → AreStored lines (part_versions versions part) (written (part_pairs stamp part) image) (puts_of_parts parts)
-rest_stored lines stamp versions image part parts stored =
+rest_stored : (entries lines stamp : ℕ) (versions : Versions) (image : Image) (part : Part) (parts : List Part)
+    → entries ≤ directory_room lines → AreStored entries lines versions image (puts_of_parts (part ∷ parts))
+    → AreStored entries lines (part_versions versions part) (written (part_pairs stamp part) image) (puts_of_parts parts)
+rest_stored entries lines stamp versions image part parts fit stored =
     let a : List Put = puts_of_part part in
     let b : List Put = puts_of_parts parts in
     record {
-      placed = all-back (IsPlaced lines) a b stored.placed;
+      placed = all-back (IsPlaced entries lines) a b stored.placed;
       fitting = all-back HasItsLines a b stored.fitting;
       writable = all-back IsWritable a b stored.writable;
       ready = all-from (IsReady (part_versions versions part) (written (part_pairs stamp part) image)) b
-          (λ put among. still_ready lines stamp versions image part parts stored put among);
+          (λ put among. still_ready entries lines stamp versions image part parts fit stored put among);
       apart = apart-back a b stored.apart;
     }
 
 -- The versions after the stores of all parts, under the record with one more stamp for each part, are those after their changes.
 pub parts_fit : (lines : ℕ) (parts : List Part) (r : Record) (image : Image) (versions : Versions) → Fits r lines image versions
-    → AreStored lines versions image (puts_of_parts parts) → AreNamed versions parts
+    → AreStored (entries_of_lines r.layout lines) lines versions image (puts_of_parts parts) → AreNamed versions parts
     → Fits (with_cp r (r.cp + length parts)) lines (written (parts_pairs (r.cp + 1) parts) image) (parts_versions versions parts)
 parts_fit lines [] r image versions fits stored follow =
     let e : r.cp ≡ r.cp + 0 = omega arith in
@@ -139,10 +144,10 @@ parts_fit lines (part ∷ parts) r image versions fits stored follow =
     let r' : Record = with_cp r (r.cp + 1) in
     let image' : Image = written (part_pairs (r.cp + 1) part) image in
     let first : Fits r' lines image' (part_versions versions part) =
-    part_fits part fits (part_stored lines versions image part parts stored) follow.0 in
+    part_fits part fits (part_stored (entries_of_lines r.layout lines) lines versions image part parts stored) follow.0 in
     let rest : Fits (with_cp r ((r.cp + 1) + length parts)) lines (written (parts_pairs ((r.cp + 1) + 1) parts) image') (parts_versions versions (part ∷ parts)) =
     parts_fit lines parts r' image' (part_versions versions part) first
-    (rest_stored lines (r.cp + 1) versions image part parts stored) follow.1 in
+    (rest_stored (entries_of_lines r.layout lines) lines (r.cp + 1) versions image part parts (entries_fit r.layout lines) stored) follow.1 in
     let e : (r.cp + 1) + length parts ≡ r.cp + suc (length parts) = omega arith in
     subst (λ (n : ℕ). Fits (with_cp r n) lines (written (parts_pairs (r.cp + 1) (part ∷ parts)) image) (parts_versions versions (part ∷ parts))) e
     (subst (λ (f : ℕ → ℕ). Fits (with_cp r ((r.cp + 1) + length parts)) lines f (parts_versions versions (part ∷ parts)))

@@ -6,10 +6,12 @@ use Rattle.model.specs.declared.group.Group.{Group}
 use Rattle.model.specs.declared.image.TheConstants.{MIN_LINES, MAX_LINES, COUNTER_LIMIT}
 use Rattle.model.specs.declared.record.Gap.{Gap}
 use Rattle.model.specs.declared.record.Role.{Role}
-use Rattle.model.specs.Group.{Versions, Contents, IsGroup, next_record, after_group}
-use Rattle.model.specs.Image.{Image, Version, IsMapOf, map_below, entries_of_lines, entry_word, version_in, counts}
+use Rattle.model.specs.declared.record.Record.{Record}
+use Rattle.model.specs.Group.{Versions, Contents, IsGroup, next_record, after_group, entries_of}
+use Rattle.model.specs.Image.{Image, Version, IsMapOf, map_below, entry_word, version_in, counts}
 use Rattle.model.proofs.MapLemmas.{IsMapOf-none, IsMapOf-same}
 use Rattle.heap_layout.specs.Versions.{is_counted, is_live}
+use Rattle.model.proofs.DirectoryLemmas.{entries_same}
 use Rattle.wbl_record.specs.Current.{AreGaps, IsLawful}
 use Rattle.wbl_engine.specs.Contents.{Keeps, IsNew, Same, Exhausts}
 use Rattle.wbl_engine.specs.Lawful.{AreLawful, IsUndamaged}
@@ -46,7 +48,7 @@ new_lawful lines role contents new many few =
       apart = λ i j v w differ is_v is_w. absurd (some_version v (sym (new.versions i) ∙ is_v));
       keyspace = [];
       lawful = is_keyspace-empty;
-      map = IsMapOf-none contents.versions (entries_of_lines contents.lines) (λ i within. new.versions i);
+      map = IsMapOf-none contents.versions (entries_of contents) (λ i within. new.versions i);
     }
 
 -- ---- a group
@@ -70,16 +72,16 @@ group_current contents group lawful asked room =
     })
     refl refl (omega arith)
     (elim asked.epoch [ inl same ↦ omega (arith, same) | inr later ↦ omega (arith, later.1) ])
-    refl
+    refl refl
 
 -- no two live versions clash
-pub lawful_distinct : (contents : Contents) → AreLawful contents → AreDistinct contents.versions (entries_of_lines contents.lines)
-lawful_distinct contents are = map_distinct contents.versions (entries_of_lines contents.lines) are.keyspace are.lawful are.map
+pub lawful_distinct : (contents : Contents) → AreLawful contents → AreDistinct contents.versions (entries_of contents)
+lawful_distinct contents are = map_distinct contents.versions (entries_of contents) are.keyspace are.lawful are.map
 
 pub group_lawful : (contents : Contents) (group : Group) → AreLawful contents → IsGroup contents group
     → (Exhausts contents group → ⊥) → AreLawful (after_group contents group)
 group_lawful contents group are asked room =
-    let entries : ℕ = entries_of_lines contents.lines in
+    let entries : ℕ = entries_of contents in
     let versions : Versions = (after_group contents group).versions in
     let distinct : AreDistinct versions entries =
     parts_distinct group.parts.items contents.versions entries (lawful_distinct contents are) in
@@ -96,9 +98,10 @@ group_lawful contents group are asked room =
 -- ---- contents with the same versions
 
 -- they obey the rules, if their record does
-pub lawful_from : (old new : Contents) → IsLawful new.current → new.lines ≡ old.lines → ((i : ℕ) → new.versions i ≡ old.versions i)
+pub lawful_from : (old new : Contents) → IsLawful new.current → new.current.layout ≡ old.current.layout → new.lines ≡ old.lines
+    → ((i : ℕ) → new.versions i ≡ old.versions i)
     → AreLawful old → AreLawful new
-lawful_from old new current lines versions are =
+lawful_from old new current layout lines versions are =
     record {
       many = omega (arith, lines, are.many);
       few = omega (arith, lines, are.few);
@@ -106,23 +109,24 @@ lawful_from old new current lines versions are =
       apart = λ i j v w differ is_v is_w. are.apart i j v w differ (sym (versions i) ∙ is_v) (sym (versions j) ∙ is_w);
       keyspace = are.keyspace;
       lawful = are.lawful;
-      map = subst (λ (n : ℕ). IsMapOf new.versions (entries_of_lines n) are.keyspace) (sym lines)
-          (IsMapOf-same old.versions new.versions (entries_of_lines old.lines) are.keyspace (λ i within. sym (versions i)) are.map);
+      map = subst (λ (n : ℕ). IsMapOf new.versions n are.keyspace) (sym (entries_same old new layout lines))
+          (IsMapOf-same old.versions new.versions (entries_of old) are.keyspace (λ i within. sym (versions i)) are.map);
     }
 
 pub same_lawful : (old new : Contents) → Same old new → AreLawful old → AreLawful new
-same_lawful old new same are = lawful_from old new (subst IsLawful (sym same.current) are.current) same.lines same.versions are
+same_lawful old new same are = lawful_from old new (subst IsLawful (sym same.current) are.current) (ap (λ (r : Record). r.layout) same.current)
+    same.lines same.versions are
 
 -- ---- an image
 
 -- an entry whose begin counts holds the version that the contents have
-counted_version : (contents : Contents) (image : Image) → Keeps contents image → (i : ℕ) → i < entries_of_lines contents.lines
+counted_version : (contents : Contents) (image : Image) → Keeps contents image → (i : ℕ) → i < entries_of contents
     → is_counted contents.current image i ≡ true → contents.versions i ≡ Some (version_in contents.current image i)
 counted_version contents image keeps i within counted =
     sym (keeps.versions i within) ∙ cond-true (is_counted contents.current image i) _ _ counted
 
 -- and of one that is live the version is not ended
-live_version : (contents : Contents) (image : Image) → Keeps contents image → (i : ℕ) → i < entries_of_lines contents.lines
+live_version : (contents : Contents) (image : Image) → Keeps contents image → (i : ℕ) → i < entries_of contents
     → is_live contents.current image i ≡ true
     → (contents.versions i ≡ Some (version_in contents.current image i)) × (counts contents.current (image (entry_word i 1)) ≡ false)
 live_version contents image keeps i within live =
@@ -134,7 +138,7 @@ pub lawful_undamaged : (contents : Contents) (image : Image) → AreLawful conte
 lawful_undamaged contents image are keeps =
     record {
       superblock = keeps.superblock;
-      current = record { has_record = keeps.has_record; lawful = are.current };
+      current = record { version_is = keeps.superblock.version; has_record = keeps.has_record; lawful = are.current };
       versions = record {
         entries = keeps.entries;
         apart = λ i j within_i within_j differ counted_i counted_j.

@@ -3,10 +3,11 @@ use Rattle.std.proofs.Common.{◌≡◌, ℕ, zero, suc, ◌+◌, ◌-◌, ◌*�
 use Rattle.std.specs.Prelude.{replicate}
 use Rattle.pmem.specs.Runs.{pairs_from, IsStored, IsOutside, written}
 use Rattle.pmem.proofs.Staging.{IsStored-append, IsStored-pairs_from, written-append, written-outside, written-pairs_from}
+use Rattle.model.specs.declared.layout.TheConstants.{LAYOUT}
 use Rattle.model.specs.declared.record.Role.{Role}
 use Rattle.model.specs.Image.{Image, entry_word, entries_of_lines, record_words}
 use Rattle.wbl_engine.specs.Formatting.{first_record, superblock_words, new_pairs}
-use Rattle.wbl_record.proofs.RecordWords.{length-record_words}
+use Rattle.model.proofs.RecordLemmas.{length-record_words}
 
 abbrev pub zeros : ℕ → List ℕ
 zeros n = replicate n 0
@@ -51,7 +52,7 @@ module _ (lines : ℕ) (role : Role) where
       let b : List (ℕ × ℕ) = a ++ pairs_from 8 (replicate 24 0) in
       let first : List ℕ = record_words (first_record role) in
       let some : 1 ≤ 0 =
-      run_low (b ++ pairs_from 32 first) 56 (replicate (8 + 8 * entries_of_lines lines) 0) 0 x (omega arith)
+      run_low (b ++ pairs_from 32 first) 56 (replicate (8 + 8 * entries_of_lines LAYOUT lines) 0) 0 x (omega arith)
       (run_low b 32 first 0 x (omega arith)
       (run_low a 8 (replicate 24 0) 0 x (omega arith) (λ early. (IsStored-pairs_from 1 (superblock_words lines) 0 x early).0)))
       stored in
@@ -64,7 +65,7 @@ module _ (lines : ℕ) (role : Role) where
       let a : List (ℕ × ℕ) = pairs_from 1 (superblock_words lines) in
       let b : List (ℕ × ℕ) = a ++ pairs_from 8 (replicate 24 0) in
       let first : List ℕ = record_words (first_record role) in
-      before_run (b ++ pairs_from 32 first) 56 (replicate (8 + 8 * entries_of_lines lines) 0) base (1 + k) (omega (arith, below))
+      before_run (b ++ pairs_from 32 first) 56 (replicate (8 + 8 * entries_of_lines LAYOUT lines) 0) base (1 + k) (omega (arith, below))
       ∙ before_run b 32 first base (1 + k) (omega (arith, below)) ∙ before_run a 8 (replicate 24 0) base (1 + k) (omega (arith, below))
       ∙ written-pairs_from 1 (superblock_words lines) base k below
 
@@ -75,15 +76,15 @@ module _ (lines : ℕ) (role : Role) where
   new_first base k below =
       let b : List (ℕ × ℕ) = pairs_from 1 (superblock_words lines) ++ pairs_from 8 (replicate 24 0) in
       let first : List ℕ = record_words (first_record role) in
-      before_run (b ++ pairs_from 32 first) 56 (replicate (8 + 8 * entries_of_lines lines) 0) base (32 + k) (omega (arith, below))
+      before_run (b ++ pairs_from 32 first) 56 (replicate (8 + 8 * entries_of_lines LAYOUT lines) 0) base (32 + k) (omega (arith, below))
       ∙ in_run b 32 first base k (omega (arith, below, length-record_words (first_record role)))
 
   -- the directory
-  pub new_entry : (base : Image) (i k : ℕ) → i < entries_of_lines lines → k < 8 → written (new_pairs lines role) base (entry_word i k) ≡ 0
+  pub new_entry : (base : Image) (i k : ℕ) → i < entries_of_lines LAYOUT lines → k < 8 → written (new_pairs lines role) base (entry_word i k) ≡ 0
   unfolding new_pairs
   new_entry base i k within below =
       let b : List (ℕ × ℕ) = pairs_from 1 (superblock_words lines) ++ pairs_from 8 (replicate 24 0) in
-      let n : ℕ = 8 + 8 * entries_of_lines lines in
+      let n : ℕ = 8 + 8 * entries_of_lines LAYOUT lines in
       let j : ℕ = entry_word i k - 56 in
       let at : 56 + j ≡ entry_word i k = omega arith in
       ap (written (new_pairs lines role) base) (sym at)

@@ -7,7 +7,7 @@ use Rattle.pmem.specs.Runs.{written}
 use Rattle.pmem.proofs.Staging.{written-append, written-outside, same_or_other}
 use Rattle.model.specs.declared.group.Part.{Part}
 use Rattle.model.specs.declared.group.Put.{Put}
-use Rattle.model.specs.Image.{Image, entry_word, entries_of_lines, first_extent_line}
+use Rattle.model.specs.Image.{Image, directory_room, entry_word, first_extent_line}
 use Rattle.model.specs.Group.{IsPlaced, AreAllApart, is_put_at, puts_of_part}
 use Rattle.heap_layout.specs.Put.{entry_words}
 use Rattle.wbl_engine.specs.Stage.{puts_pairs, end_pairs, part_pairs}
@@ -61,7 +61,7 @@ part_word-named stamp part image i named =
     part_word stamp part image (entry_word i 1)
     ∙ end_pairs-named stamp part.ended.items (written (puts_pairs stamp part.position (puts_of_part part)) image) i named
 
-module _ (lines stamp : ℕ) (part : Part) (image : Image) (placed : AllByRecursion (IsPlaced lines) (puts_of_part part)) where
+module _ (lines stamp : ℕ) (part : Part) (image : Image) (placed : AllByRecursion (IsPlaced (directory_room lines) lines) (puts_of_part part)) where
   -- the end word of a put that the part itself did not end
   pub part_word-end_of_put : AreAllApart (puts_of_part part) → (put : Put) → IsAmong put (puts_of_part part)
       → (IsNamed put.entry.0 part.ended.items → ⊥) → written (part_pairs stamp part) image (entry_word put.entry.0 1) ≡ 0
@@ -71,7 +71,7 @@ module _ (lines stamp : ℕ) (part : Part) (image : Image) (placed : AllByRecurs
       ∙ puts_pairs-entry lines stamp part.position (puts_of_part part) put image 1 (omega arith) among placed apart
 
   -- all else of a put
-  pub part_words-put : AreAllApart (puts_of_part part) → ((i : ℕ) → IsNamed i part.ended.items → i < entries_of_lines lines) → (put : Put)
+  pub part_words-put : AreAllApart (puts_of_part part) → ((i : ℕ) → IsNamed i part.ended.items → i < directory_room lines) → (put : Put)
       → IsAmong put (puts_of_part part) → HasPut (written (part_pairs stamp part) image) stamp part.position put
   part_words-put apart within put among =
       let at : (k : ℕ) → k < 8 → k ≢ 1 → written (part_pairs stamp part) image (entry_word put.entry.0 k) ≡ get_or (entry_words stamp part.position put) k 0 =
@@ -88,30 +88,30 @@ module _ (lines stamp : ℕ) (part : Part) (image : Image) (placed : AllByRecurs
         value_length = at 7 (omega arith) (omega arith);
         extent = λ j below.
             part_word-other stamp part image (8 * put.extent.first_line + j)
-            (λ i named e. omega (arith, e, within i named, (among-all (IsPlaced lines) (puts_of_part part) put among placed).above))
+            (λ i named e. omega (arith, e, within i named, (among-all (IsPlaced (directory_room lines) lines) (puts_of_part part) put among placed).above))
             ∙ puts_pairs-extent lines stamp part.position (puts_of_part part) put image j below among placed apart;
       }
 
   -- a word of the directory that belongs to no put's entry
-  entry_outside : (i k : ℕ) → i < entries_of_lines lines → k < 8 → is_put_at i (puts_of_part part) ≡ false
+  entry_outside : (i k : ℕ) → i < directory_room lines → k < 8 → is_put_at i (puts_of_part part) ≡ false
       → written (puts_pairs stamp part.position (puts_of_part part)) image (entry_word i k) ≡ image (entry_word i k)
   entry_outside i k within below none =
       written-outside (puts_pairs stamp part.position (puts_of_part part)) image (entry_word i k)
       (puts_pairs-outside stamp part.position (puts_of_part part) (entry_word i k)
-      (λ put among of. omega (arith, of.low, within, (among-all (IsPlaced lines) (puts_of_part part) put among placed).above))
+      (λ put among of. omega (arith, of.low, within, (among-all (IsPlaced (directory_room lines) lines) (puts_of_part part) put among placed).above))
       (λ put among of.
       let same : put.entry.0 ≡ i = omega (arith, of.low, of.high) in
       both_ways (is_put_at put.entry.0 (puts_of_part part)) (ap (λ (n : ℕ). is_put_at n (puts_of_part part)) same ∙ none)
       (among-is_put_at put (puts_of_part part) among)))
 
   -- an entry where the part puts nothing: all but the end word stays
-  pub part_word-kept : (i k : ℕ) → i < entries_of_lines lines → k < 8 → k ≢ 1 → is_put_at i (puts_of_part part) ≡ false
+  pub part_word-kept : (i k : ℕ) → i < directory_room lines → k < 8 → k ≢ 1 → is_put_at i (puts_of_part part) ≡ false
       → written (part_pairs stamp part) image (entry_word i k) ≡ image (entry_word i k)
   part_word-kept i k within below other none =
       part_word-other stamp part image (entry_word i k) (λ n named e. other (omega (arith, e))) ∙ entry_outside i k within below none
 
   -- and the end word where the part did not end it
-  pub part_word-kept_end : (i : ℕ) → i < entries_of_lines lines → (IsNamed i part.ended.items → ⊥) → is_put_at i (puts_of_part part) ≡ false
+  pub part_word-kept_end : (i : ℕ) → i < directory_room lines → (IsNamed i part.ended.items → ⊥) → is_put_at i (puts_of_part part) ≡ false
       → written (part_pairs stamp part) image (entry_word i 1) ≡ image (entry_word i 1)
   part_word-kept_end i within unnamed none =
       part_word-other stamp part image (entry_word i 1)
@@ -119,10 +119,10 @@ module _ (lines stamp : ℕ) (part : Part) (image : Image) (placed : AllByRecurs
       ∙ entry_outside i 1 within (omega arith) none
 
   -- a word after the directory that belongs to no put's extent
-  pub part_word-behind : (word : ℕ) → 8 * first_extent_line lines ≤ word → ((i : ℕ) → IsNamed i part.ended.items → i < entries_of_lines lines)
+  pub part_word-behind : (word : ℕ) → 8 * first_extent_line lines ≤ word → ((i : ℕ) → IsNamed i part.ended.items → i < directory_room lines)
       → ((put : Put) → IsAmong put (puts_of_part part) → IsOfExtent put word → ⊥) → written (part_pairs stamp part) image word ≡ image word
   part_word-behind word behind within other =
       part_word-other stamp part image word (λ i named e. omega (arith, e, within i named, behind))
       ∙ written-outside (puts_pairs stamp part.position (puts_of_part part)) image word
       (puts_pairs-outside stamp part.position (puts_of_part part) word other
-      (λ put among of. omega (arith, of.high, behind, (among-all (IsPlaced lines) (puts_of_part part) put among placed).entry)))
+      (λ put among of. omega (arith, of.high, behind, (among-all (IsPlaced (directory_room lines) lines) (puts_of_part part) put among placed).entry)))

@@ -6,6 +6,7 @@ use Rattle.pmem.specs.Runs.{IsStored, IsOutside, written}
 use Rattle.pmem.proofs.Staging.{IsStored-append, written-append, written-outside, written-stored}
 use Rattle.model.specs.declared.group.Put.{Put}
 use Rattle.model.specs.Image.{Image, entry_word}
+use Rattle.model.specs.Layout.{directory_room}
 use Rattle.model.specs.Group.{IsPlaced, IsApartFrom, AreAllApart}
 use Rattle.heap_layout.specs.Put.{word_of_bytes, version_bytes, entry_words, put_pairs}
 use Rattle.wbl_engine.specs.Stage.{puts_pairs, end_pairs}
@@ -47,27 +48,29 @@ puts_pairs-one stamp position (other ∷ puts) put image word x value out (inr l
 
 -- the entry of one of several puts
 pub puts_pairs-entry : (lines stamp position : ℕ) (puts : List Put) (put : Put) (image : Image) (k : ℕ) → k < 8 → IsAmong put puts
-    → AllByRecursion (IsPlaced lines) puts → AreAllApart puts
+    → AllByRecursion (IsPlaced (directory_room lines) lines) puts → AreAllApart puts
     → written (puts_pairs stamp position puts) image (entry_word put.entry.0 k) ≡ get_or (entry_words stamp position put) k 0
 puts_pairs-entry lines stamp position puts put image k below among placed apart =
-    let at = among-all (IsPlaced lines) puts put among placed in
+    let at = among-all (IsPlaced (directory_room lines) lines) puts put among placed in
     puts_pairs-one stamp position puts put image (entry_word put.entry.0 k) (get_or (entry_words stamp position put) k 0)
     (λ base. put_pairs-entry lines stamp position put base k below)
-    (λ q there away.
-    (λ of. omega (arith, of.low, at.entry, (among-all (IsPlaced lines) puts q there placed).above), λ of. away.entries (omega (arith, of.low, of.high))))
+    (λ q there away. (
+      λ of. omega (arith, of.low, at.entry, (among-all (IsPlaced (directory_room lines) lines) puts q there placed).above),
+      λ of. away.entries (omega (arith, of.low, of.high)),
+    ))
     among apart
 
 -- the extent of one of several puts
 pub puts_pairs-extent : (lines stamp position : ℕ) (puts : List Put) (put : Put) (image : Image) (j : ℕ) → j < 8 * put.extent.lines → IsAmong put puts
-    → AllByRecursion (IsPlaced lines) puts → AreAllApart puts
+    → AllByRecursion (IsPlaced (directory_room lines) lines) puts → AreAllApart puts
     → written (puts_pairs stamp position puts) image (8 * put.extent.first_line + j) ≡ word_of_bytes (version_bytes put) (8 * j)
 puts_pairs-extent lines stamp position puts put image j below among placed apart =
-    let at = among-all (IsPlaced lines) puts put among placed in
+    let at = among-all (IsPlaced (directory_room lines) lines) puts put among placed in
     puts_pairs-one stamp position puts put image (8 * put.extent.first_line + j) (word_of_bytes (version_bytes put) (8 * j))
     (λ base. put_pairs-extent lines stamp position put base j at below)
     (λ q there away. (
       λ of. elim away.lines [ inl before ↦ omega (arith, before, of.low) | inr after ↦ omega (arith, after, of.high) ],
-      λ of. omega (arith, at.above, (among-all (IsPlaced lines) puts q there placed).entry, of.high),
+      λ of. omega (arith, at.above, (among-all (IsPlaced (directory_room lines) lines) puts q there placed).entry, of.high),
     ))
     among apart
 

@@ -16,11 +16,12 @@ use Rattle.model.specs.declared.group.Part.{Part}
 use Rattle.model.specs.declared.group.PlacedChange.{PlacedChange}
 use Rattle.model.specs.declared.group.Put.{Put}
 use Rattle.model.specs.declared.record.Record.{Record}
-use Rattle.model.specs.Group.{Contents, IsConsistent, IsPlaced, IsUnused, Versions, change_of, ends_record, is_put_at, part_versions, put_of, puts_of_part}
+use Rattle.model.specs.Group.{Contents, IsConsistent, IsPlaced, IsUnused, Versions, change_of, ends_record, is_put_at, part_versions, put_of, puts_of_part, entries_of}
 use Rattle.model.specs.Image.{IsLive, IsMapOf, counts, entries_of_lines, entry_word, map_below}
 use Rattle.model.proofs.GroupsLemmas.{IsMapOf-changes, changes_versions-none}
 use Rattle.model.proofs.MapLemmas.{IsMapOf-same}
 use Rattle.model.proofs.VersionsLemmas.{HasRoom, value_at-put, without_ended}
+use Rattle.model.proofs.DirectoryLemmas.{entries_same}
 use Rattle.wbl_engine.specs.AtRest.{contents_of}
 use Rattle.wbl_engine.specs.Contents.{Same}
 use Rattle.wbl_engine.specs.Lawful.{AreLawful}
@@ -94,8 +95,8 @@ contents_consistent r d =
     record {
       free = λ i is.
           let begin : ℕ = image_of d.words (entry_word i 0) in
-          let both = and_parts (nat_lt i (entries_of_lines d.lines)) (begin == 0 || nat_lt r.cp begin) is in
-          versions-within r d i (ltb-true i (entries_of_lines d.lines) both.0)
+          let both = and_parts (nat_lt i (entries_of_lines r.layout d.lines)) (begin == 0 || nat_lt r.cp begin) is in
+          versions-within r d i (ltb-true i (entries_of_lines r.layout d.lines) both.0)
           ∙ cond-false (counts r begin) _ _ (uncounted begin (or_cases (begin == 0) (nat_lt r.cp begin) both.1));
       beyond = versions-beyond r d;
     }
@@ -111,9 +112,9 @@ module _ {contents : Contents} {part : Part} (consistent : IsConsistent contents
   one_put = ap (flat_map put_of) asked.same.changes
 
   -- it lies in the directory
-  moved_within : asked.same.entry < entries_of_lines contents.lines
+  moved_within : asked.same.entry < entries_of contents
   moved_within =
-      elim (cases_lt asked.same.entry (entries_of_lines contents.lines)) [
+      elim (cases_lt asked.same.entry (entries_of contents)) [
         | inl within ↦ within
         | inr beyond ↦ absurd (none_some (sym (consistent.beyond asked.same.entry beyond) ∙ asked.same.held))
       ]
@@ -128,19 +129,19 @@ module _ {contents : Contents} {part : Part} (consistent : IsConsistent contents
         value_is = asked.same.value_is;
       }
 
-  rooms : AllByRecursion (HasRoom contents.versions (entries_of_lines contents.lines)) (puts_of_part part)
+  rooms : AllByRecursion (HasRoom contents.versions (entries_of contents)) (puts_of_part part)
   rooms =
-      all-from (HasRoom contents.versions (entries_of_lines contents.lines)) (puts_of_part part)
+      all-from (HasRoom contents.versions (entries_of contents)) (puts_of_part part)
       (λ put among.
       record {
-        within = (among-all (IsPlaced contents.lines) (puts_of_part part) put among asked.placed).entry;
+        within = (among-all (IsPlaced (entries_of contents) contents.lines) (puts_of_part part) put among asked.placed).entry;
         empty = consistent.free put.entry.0
             (among-all (IsUnused contents.versions contents.is_free) (puts_of_part part) put among asked.unused).entry;
       })
 
   pub relocated_map : KeepsKeyspace contents (after_relocation contents part)
   relocated_map s lawful map_is =
-      let entries : ℕ = entries_of_lines contents.lines in
+      let entries : ℕ = entries_of contents in
       let put : Put = asked.same.put in
       let found = map_is.found asked.same.entry put.id put.value moved_within moved_live in
       let again : play_all s (map change_of part.changes.items) ≡ s =
@@ -151,8 +152,8 @@ module _ {contents : Contents} {part : Part} (consistent : IsConsistent contents
   -- what the device holds then
   pub relocated_keeps : (new : Contents) → Same (after_relocation contents part) new → KeepsKeyspace contents new
   relocated_keeps new same s lawful map_is =
-      subst (λ (n : ℕ). IsMapOf new.versions (entries_of_lines n) s) (sym same.lines)
-      (IsMapOf-same (part_versions contents.versions part) new.versions (entries_of_lines contents.lines) s (λ i within. sym (same.versions i))
+      subst (λ (n : ℕ). IsMapOf new.versions n s) (sym (entries_same contents new (ap (λ (r : Record). r.layout) same.current) same.lines))
+      (IsMapOf-same (part_versions contents.versions part) new.versions (entries_of contents) s (λ i within. sym (same.versions i))
       (relocated_map s lawful map_is))
 
   pub relocated_consistent : IsConsistent (after_relocation contents part)
@@ -166,19 +167,24 @@ module _ {contents : Contents} {part : Part} (consistent : IsConsistent contents
             changes_versions-none part.position contents.versions part.changes.items i (consistent.beyond i beyond) (not_beyond i beyond);
       }
     where
-      not_beyond : (i : ℕ) → entries_of_lines contents.lines ≤ i → is_put_at i (puts_of_part part) ≡ false
+      not_beyond : (i : ℕ) → entries_of contents ≤ i → is_put_at i (puts_of_part part) ≡ false
       not_beyond i beyond =
           elim (cases_Bool (is_put_at i (puts_of_part part))) [
             | inl there ↦
                 let at = is_put_at-among i (puts_of_part part) there in
-                absurd (omega (arith, beyond, at.2, (among-all (IsPlaced contents.lines) (puts_of_part part) at.0 at.1 asked.placed).entry))
+                absurd (omega (
+                  arith,
+                  beyond,
+                  at.2,
+                  (among-all (IsPlaced (entries_of contents) contents.lines) (puts_of_part part) at.0 at.1 asked.placed).entry,
+                ))
             | inr none ↦ none
           ]
 
 pub relocated_lawful : (contents : Contents) (part : Part) → AreLawful contents → IsRelocation contents part
     → (ExhaustsRelocation contents.current → ⊥) → AreLawful (after_relocation contents part)
 relocated_lawful contents part are asked room =
-    let entries : ℕ = entries_of_lines contents.lines in
+    let entries : ℕ = entries_of contents in
     let versions : Versions = part_versions contents.versions part in
     let r : Record = contents.current in
     let distinct : AreDistinct versions entries = parts_distinct (part ∷ []) contents.versions entries (lawful_distinct contents are) in
@@ -192,7 +198,7 @@ relocated_lawful contents part are asked room =
             room = below_limit (relocated_record r).cd (λ reached. room (inl reached));
             epoch = are.current.epoch;
           })
-          refl refl (omega arith) (omega arith) refl;
+          refl refl (omega arith) (omega arith) refl refl;
       apart = part_apart contents.versions part are.apart
           (all-from (IsFresh contents.versions) (puts_of_part part)
           (λ put among. (among-all (IsUnused contents.versions contents.is_free) (puts_of_part part) put among asked.unused).lines))

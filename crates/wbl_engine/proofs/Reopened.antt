@@ -9,7 +9,7 @@ use Rattle.std.proofs.lemmas.List.Folds.{list_any-append}
 use Rattle.model.specs.declared.image.TheConstants.{COUNTER_LIMIT, STAMP_WINDOW}
 use Rattle.model.specs.declared.record.Gap.{Gap}
 use Rattle.model.specs.declared.record.Record.{Record}
-use Rattle.model.specs.declared.record.TheConstants.{MAX_GAPS}
+use Rattle.model.specs.Layout.{max_gaps}
 use Rattle.model.specs.Image.{counts, is_in_gap}
 use Rattle.wbl_record.specs.Current.{AreGaps, IsLawful}
 use Rattle.wbl_engine.specs.Reopening.{open_gap, with_open_gap}
@@ -27,7 +27,7 @@ gaps_more low (g ∷ gaps) cp gap cp' above beyond some high are = (
 )
 
 -- the record with one more gap obeys its rules
-pub open_lawful : (r : Record) → IsLawful r → length r.gaps.items < MAX_GAPS → r.cd + 1 + STAMP_WINDOW < COUNTER_LIMIT → r.number + 1 < COUNTER_LIMIT
+pub open_lawful : (r : Record) → IsLawful r → length r.gaps.items < max_gaps r.layout → r.cd + 1 + STAMP_WINDOW < COUNTER_LIMIT → r.number + 1 < COUNTER_LIMIT
     → IsLawful (with_open_gap r)
 open_lawful r lawful room limit number =
     record {

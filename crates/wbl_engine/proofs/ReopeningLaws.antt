@@ -8,42 +8,51 @@ use Rattle.kv_types.specs.declared.refusal.Refusal.TheVariants.{BadMagic, BadVer
 use Rattle.heap_layout.specs.declared.entry.Entry.{Entry}
 use Rattle.heap_layout.specs.Superblock.{is_wrong_size, super_refusal}
 use Rattle.model.specs.declared.image.TheConstants.{MIN_LINES, MAX_LINES}
-use Rattle.model.specs.declared.layout.TheConstants.{LAYOUT}
+use Rattle.model.specs.declared.layout.Layout.{Layout}
 use Rattle.model.specs.declared.record.Record.{Record}
 use Rattle.model.specs.declared.record.Role.{Role}
-use Rattle.model.specs.Group.{Contents}
-use Rattle.model.specs.Image.{HasSuperblock, Image, IsMapOf, Version, counts, directory_room, entries_of_lines, entry_word, magic_number, version_at}
+use Rattle.model.specs.Group.{Contents, entries_of}
+use Rattle.model.specs.Layout.{directory_room, entries_of_lines, version}
+use Rattle.model.specs.Image.{HasSuperblock, Image, IsMapOf, Version, counts, entry_word, magic_number, version_at}
 use Rattle.model.proofs.MapLemmas.{IsMapOf-same}
-use Rattle.wbl_record.specs.Current.{IsLawful}
+use Rattle.wbl_record.specs.Current.{IsCurrent, IsLawful}
 use Rattle.wbl_engine.specs.Contents.{Keeps}
-use Rattle.wbl_engine.specs.Lawful.{AreLawful}
+use Rattle.wbl_engine.specs.Lawful.{AreLawful, IsUndamaged}
 use Rattle.wbl_engine.specs.Reopening.{ExhaustsReopening, KeepsThrough, RefusesReopening, Reopens, is_cleared, reopened, with_room}
 use Rattle.wbl_engine.proofs.GapLemmas.{lawful_but_one}
 use Rattle.wbl_engine.proofs.LawfulLemmas.{lawful_undamaged, some_version}
 use Rattle.wbl_engine.proofs.ReadingLemmas.{undamaged_unique}
 use Rattle.wbl_engine.proofs.Reopened.{open_lawful}
-use Rattle.wbl_engine.proofs.RoomLemmas.{HasLimits, cleared_uncounted, has_limits, room_cases}
+use Rattle.wbl_engine.proofs.RoomLemmas.{HasLimits, cleared_uncounted, has_limits, room_cases, room_layout}
 
 -- ---- the contents
 
 -- no entry beyond the directory has a version
 none_beyond : {lines : ℕ} {image : Image} {role : Role} {new : Contents} {counted : List (EntryNo × Entry)} {gapped : List EntryNo}
-    → Reopens lines image role new counted gapped → (i : ℕ) → entries_of_lines lines ≤ i → new.versions i ≡ None
+    → (reopens : Reopens lines image role new counted gapped) → (i : ℕ) → entries_of_lines reopens.before.layout lines ≤ i → new.versions i ≡ None
 none_beyond {lines} reopens i beyond =
-    reopens.versions i ∙ cond-false (nat_lt i (entries_of_lines lines)) _ _ (le-ltb i (entries_of_lines lines) beyond)
+    let entries : ℕ = entries_of_lines reopens.before.layout lines in reopens.versions i ∙ cond-false (nat_lt i entries) _ _ (le-ltb i entries beyond)
+
+-- the directory has as many entries as before
+pub new_entries : {lines : ℕ} {image : Image} {role : Role} {new : Contents} {counted : List (EntryNo × Entry)} {gapped : List EntryNo}
+    → (reopens : Reopens lines image role new counted gapped) → entries_of new ≡ entries_of_lines reopens.before.layout lines
+new_entries {new = new} reopens =
+    ap (λ (layout : Layout). entries_of_lines layout new.lines) (ap (λ (r : Record). r.layout) reopens.current ∙ room_layout reopens.before)
+    ∙ ap (entries_of_lines reopens.before.layout) reopens.lines_are
 
 -- neither has a free one
 none_free : {lines : ℕ} {image : Image} {role : Role} {new : Contents} {counted : List (EntryNo × Entry)} {gapped : List EntryNo}
     → Reopens lines image role new counted gapped → (i : ℕ) → IsTrue (new.is_free i) → new.versions i ≡ None
 none_free {lines} {image} reopens i free =
-    let parts = and_parts (nat_lt i (entries_of_lines lines)) (image (entry_word i 0) == 0 || is_cleared reopens.before (image (entry_word i 0)))
+    let parts = and_parts (nat_lt i (entries_of_lines reopens.before.layout lines))
+    (image (entry_word i 0) == 0 || is_cleared reopens.before (image (entry_word i 0)))
     (sym (reopens.is_free i) ∙ free) in
     let uncounted : counts reopens.before (image (entry_word i 0)) ≡ false =
     elim (or_cases (image (entry_word i 0) == 0) (is_cleared reopens.before (image (entry_word i 0))) parts.1) [
       | inl zero ↦ ap (counts reopens.before) (eqb-true (image (entry_word i 0)) 0 zero)
       | inr cleared ↦ cleared_uncounted reopens.before reopens.undamaged.current.lawful (image (entry_word i 0)) cleared
     ] in
-    reopens.versions i ∙ cond-true (nat_lt i (entries_of_lines lines)) _ _ parts.0
+    reopens.versions i ∙ cond-true (nat_lt i (entries_of_lines reopens.before.layout lines)) _ _ parts.0
     ∙ cond-false (counts reopens.before (image (entry_word i 0))) _ _ uncounted
 
 -- the image has one record
@@ -52,11 +61,17 @@ same_record : {old new : Contents} {image : Image} {role : Role} {counted : List
 same_record {old} {new} {image} are keeps reopens =
     undamaged_unique old.current reopens.before (lawful_undamaged old image are keeps).current reopens.undamaged
 
+old_entries : {old new : Contents} {image : Image} {role : Role} {counted : List (EntryNo × Entry)} {gapped : List EntryNo}
+    → AreLawful old → Keeps old image → (reopens : Reopens old.lines image role new counted gapped)
+    → entries_of_lines reopens.before.layout old.lines ≡ entries_of old
+old_entries {old} are keeps reopens = ap (λ (r : Record). entries_of_lines r.layout old.lines) (same_record are keeps reopens)
+
 same_versions : {old new : Contents} {image : Image} {role : Role} {counted : List (EntryNo × Entry)} {gapped : List EntryNo}
     → AreLawful old → Keeps old image → Reopens old.lines image role new counted gapped
-    → (i : ℕ) → i < entries_of_lines old.lines → new.versions i ≡ old.versions i
+    → (i : ℕ) → i < entries_of old → new.versions i ≡ old.versions i
 same_versions {old} {new} {image} are keeps reopens i within =
-    reopens.versions i ∙ cond-true (nat_lt i (entries_of_lines old.lines)) _ _ (lt-ltb i (entries_of_lines old.lines) within)
+    let entries : ℕ = entries_of_lines reopens.before.layout old.lines in
+    reopens.versions i ∙ cond-true (nat_lt i entries) _ _ (lt-ltb i entries (omega (arith, within, old_entries are keeps reopens)))
     ∙ ap (λ (r : Record). version_at r image i) (same_record are keeps reopens) ∙ keeps.versions i within
 
 pub keeps_through : (old new : Contents) (image : Image) (role : Role) (counted : List (EntryNo × Entry)) (gapped : List EntryNo)
@@ -68,7 +83,7 @@ keeps_through old new image role counted gapped are keeps reopens =
       versions = same_versions are keeps reopens;
       consistent = record {
         free = none_free reopens;
-        beyond = λ i beyond. none_beyond reopens i (subst (λ (lines : ℕ). entries_of_lines lines ≤ i) reopens.lines_are beyond);
+        beyond = λ i beyond. none_beyond reopens i (omega (arith, beyond, new_entries reopens));
       };
     }
 
@@ -89,9 +104,9 @@ pub reopening_lawful : (old new : Contents) (image : Image) (role : Role) (count
 reopening_lawful old new image role counted gapped are keeps reopens =
     let was : (i : ℕ) (v : Version) → new.versions i ≡ Some v → old.versions i ≡ Some v =
     λ i v is.
-    elim (cases_lt i (entries_of_lines old.lines)) [
+    elim (cases_lt i (entries_of old)) [
       | inl within ↦ sym (same_versions are keeps reopens i within) ∙ is
-      | inr beyond ↦ absurd (some_version v (sym (none_beyond reopens i beyond) ∙ is))
+      | inr beyond ↦ absurd (some_version v (sym (none_beyond reopens i (omega (arith, beyond, old_entries are keeps reopens))) ∙ is))
     ] in
     record {
       many = omega (arith, reopens.lines_are, are.many);
@@ -100,18 +115,19 @@ reopening_lawful old new image role counted gapped are keeps reopens =
       apart = λ i j v w differ is_v is_w. are.apart i j v w differ (was i v is_v) (was j w is_w);
       keyspace = are.keyspace;
       lawful = are.lawful;
-      map = subst (λ (lines : ℕ). IsMapOf new.versions (entries_of_lines lines) are.keyspace) (sym reopens.lines_are)
-          (IsMapOf-same old.versions new.versions (entries_of_lines old.lines) are.keyspace (λ i within. sym (same_versions are keeps reopens i within)) are.map);
+      map = subst (λ (entries : ℕ). IsMapOf new.versions entries are.keyspace) (sym (new_entries reopens ∙ old_entries are keeps reopens))
+          (IsMapOf-same old.versions new.versions (entries_of old) are.keyspace (λ i within. sym (same_versions are keeps reopens i within)) are.map);
     }
 
 -- ---- refusals
 
 -- a superblock that breaks no rule earns no refusal
-pub super_none : (lines : ℕ) (image : Image) → MIN_LINES ≤ lines → lines ≤ MAX_LINES → HasSuperblock lines image → super_refusal lines image ≡ None
-super_none lines image many few has =
-    earns_none (is_wrong_size lines) (image 0 == magic_number) (image 1 == LAYOUT.version) (image 2 == lines) (image 3 == directory_room lines)
+pub super_none : (layout : Layout) (lines : ℕ) (image : Image) → MIN_LINES ≤ lines → lines ≤ MAX_LINES → HasSuperblock layout lines image
+    → super_refusal layout lines image ≡ None
+super_none layout lines image many few has =
+    earns_none (is_wrong_size lines) (image 0 == magic_number) (image 1 == version layout) (image 2 == lines) (image 3 == directory_room lines)
     (or_from (nat_lt lines MIN_LINES) (nat_lt MAX_LINES lines) (le-ltb lines MIN_LINES many) (le-ltb MAX_LINES lines few))
-    (eq-eqb (image 0) magic_number has.magic) (eq-eqb (image 1) LAYOUT.version has.version) (eq-eqb (image 2) lines has.line_count)
+    (eq-eqb (image 0) magic_number has.magic) (eq-eqb (image 1) (version layout) has.version) (eq-eqb (image 2) lines has.line_count)
     (eq-eqb (image 3) (directory_room lines) has.room)
   where
     earns_none : (size magic version count entries : Bool)
@@ -123,11 +139,18 @@ super_none lines image many few has =
 some_refusal : (refusal : Refusal) → None ≡ Some refusal → ⊥
 some_refusal refusal e = cc
 
+-- the superblock of an undamaged image earns no refusal for the layout of its record
+pub never_refused : {lines : ℕ} {image : Image} {refusal : Refusal} (r s : Record) → MIN_LINES ≤ lines → lines ≤ MAX_LINES → IsCurrent lines image r
+    → IsUndamaged lines s image → super_refusal r.layout lines image ≡ Some refusal → ⊥
+never_refused {lines} {image} {refusal} r s many few current whole refused =
+    some_refusal refusal (sym (super_none r.layout lines image many few
+    (subst (λ (q : Record). HasSuperblock q.layout lines image) (undamaged_unique r s current whole) whole.superblock)) ∙ refused)
+
 pub lawful_refusal : (contents : Contents) (image : Image) (refusal : Refusal) → AreLawful contents → Keeps contents image
-    → RefusesReopening contents.lines image contents.current.role refusal
+    → RefusesReopening contents.current.layout contents.lines image contents.current.role refusal
     → (refusal ≡ Memory) ⊎ ((refusal ≡ Exhausted) × ExhaustsReopening contents.current)
 lawful_refusal contents image refusal are keeps (inl (inl super)) =
-    absurd (some_refusal refusal (sym (super_none contents.lines image are.many are.few keeps.superblock) ∙ super))
+    absurd (some_refusal refusal (sym (super_none contents.current.layout contents.lines image are.many are.few keeps.superblock) ∙ super))
 lawful_refusal contents image refusal are keeps (inl (inr (inl damaged))) =
     absurd (damaged.1 contents.current (lawful_undamaged contents image are keeps))
 lawful_refusal contents image refusal are keeps (inl (inr (inr memory))) = inl memory

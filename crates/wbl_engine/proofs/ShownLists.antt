@@ -12,14 +12,14 @@ use Rattle.model.specs.declared.record.Record.{Record}
 use Rattle.model.specs.Image.{counts, entries_of_lines, entry_word}
 use Rattle.wbl_engine.specs.AtRest.{contents_of}
 use Rattle.wbl_engine.specs.Reopening.{IsShown, is_cleared, is_left, left_at, left_below, reopened, with_room}
-use Rattle.wbl_engine.proofs.ReopenedContents.{IsReopenedOver, begin_is, over_erased, over_low}
+use Rattle.wbl_engine.proofs.ReopenedContents.{IsReopenedOver, begin_is, over_entries, over_erased, over_low}
 use Rattle.wbl_engine.proofs.RoomLemmas.{cleared_uncounted}
 use Rattle.wbl_engine.proofs.VersionLemmas.{record_in-same}
 
 -- ---- one entry
 
 -- a stamp that counts is not cleared
-same_stamp : {r : Record} {d c : State} → IsReopenedOver r d c → (i k : ℕ) → i < entries_of_lines d.lines → k < 2
+same_stamp : {r : Record} {d c : State} → IsReopenedOver r d c → (i k : ℕ) → i < entries_of_lines r.layout d.lines → k < 2
     → counts r (image_of d.words (entry_word i k)) ≡ true → image_of c.words (entry_word i k) ≡ image_of d.words (entry_word i k)
 same_stamp {r} {d} {c} over i k within low counted =
     over.cleared.stamps i k within low
@@ -30,7 +30,7 @@ same_stamp {r} {d} {c} over i k within low counted =
     ]
 
 -- and the end of an entry is read as it was
-same_end : {r : Record} {d c : State} → IsReopenedOver r d c → (i : ℕ) → i < entries_of_lines d.lines
+same_end : {r : Record} {d c : State} → IsReopenedOver r d c → (i : ℕ) → i < entries_of_lines r.layout d.lines
     → IsTrue (counts r (image_of d.words (entry_word i 0)))
     → cond (counts (reopened r) (image_of c.words (entry_word i 1))) (image_of c.words (entry_word i 1)) 0
     ≡ cond (counts r (image_of d.words (entry_word i 1))) (image_of d.words (entry_word i 1)) 0
@@ -46,7 +46,7 @@ same_end {r} {d} {c} over i within begun =
           ∙ sym (cond-false (counts r (image_of d.words (entry_word i 1))) _ _ live)
     ]
 
-same_counted : {r : Record} {d c : State} → IsReopenedOver r d c → (i : ℕ) → i < entries_of_lines d.lines
+same_counted : {r : Record} {d c : State} → IsReopenedOver r d c → (i : ℕ) → i < entries_of_lines r.layout d.lines
     → is_counted r (image_of d.words) i ≡ true → counted_entry (reopened r) (image_of c.words) i ≡ counted_entry r (image_of d.words) i
 same_counted {r} {d} {c} over i within begun =
     let same = (over_erased over).entry i within begun in
@@ -58,7 +58,7 @@ same_counted {r} {d} {c} over i within begun =
     let held = record_in-same (image_of d.words) (image_of c.words) i same in
     cc
 
-counted_same : {r : Record} {d c : State} → IsReopenedOver r d c → (i : ℕ) → i < entries_of_lines d.lines
+counted_same : {r : Record} {d c : State} → IsReopenedOver r d c → (i : ℕ) → i < entries_of_lines r.layout d.lines
     → counted_at (reopened r) (image_of c.words) i ≡ counted_at r (image_of d.words) i
 counted_same {r} {d} {c} over i within =
     let alike = (over_erased over).begun i within in
@@ -77,7 +77,7 @@ gapped_bit : (begin : ℕ) (counted cleared : Bool)
 gapped_bit begin counted true = sym (and_right (not (begin == 0)) (not counted && false) (and_right (not counted) false refl))
 gapped_bit begin counted false = ap (λ (b : Bool). not (begin == 0) && b) (sym (and-true (not counted)))
 
-gapped_same : {r : Record} {d c : State} → IsReopenedOver r d c → (i : ℕ) → i < entries_of_lines d.lines
+gapped_same : {r : Record} {d c : State} → IsReopenedOver r d c → (i : ℕ) → i < entries_of_lines r.layout d.lines
     → gapped_at (reopened r) (image_of c.words) i ≡ left_at r (image_of d.words) i
 gapped_same {r} {d} {c} over i within =
     let same : is_gapped (reopened r) (image_of c.words) i ≡ is_left r (image_of d.words (entry_word i 0)) =
@@ -88,7 +88,7 @@ gapped_same {r} {d} {c} over i within =
 
 -- ---- all of them
 
-counted_as : {r : Record} {d c : State} → IsReopenedOver r d c → (n : ℕ) → n ≤ entries_of_lines d.lines
+counted_as : {r : Record} {d c : State} → IsReopenedOver r d c → (n : ℕ) → n ≤ entries_of_lines r.layout d.lines
     → counted_below r (image_of d.words) n ≡ counted_below (reopened r) (image_of c.words) n
 counted_as over zero within = refl
 counted_as {r} {d} {c} over (suc n) within =
@@ -96,7 +96,7 @@ counted_as {r} {d} {c} over (suc n) within =
     ∙ sym (ap (λ (entries : List (EntryNo × Entry)). counted_below (reopened r) (image_of c.words) n ++ entries)
     (counted_same over n (omega (arith, within))))
 
-gapped_as : {r : Record} {d c : State} → IsReopenedOver r d c → (n : ℕ) → n ≤ entries_of_lines d.lines
+gapped_as : {r : Record} {d c : State} → IsReopenedOver r d c → (n : ℕ) → n ≤ entries_of_lines r.layout d.lines
     → left_below r (image_of d.words) n ≡ gapped_below (reopened r) (image_of c.words) n
 gapped_as over zero within = refl
 gapped_as {r} {d} {c} over (suc n) within =
@@ -104,23 +104,24 @@ gapped_as {r} {d} {c} over (suc n) within =
     ∙ sym (ap (λ (entries : List EntryNo). gapped_below (reopened r) (image_of c.words) n ++ entries) (gapped_same over n (omega (arith, within))))
 
 -- an entry of the reopened image is free where its begin is 0, since no begin is above the last stamp
-free_is : {r : Record} {d c : State} → IsReopenedOver r d c → (i : ℕ) → i < entries_of_lines c.lines
+free_is : {r : Record} {d c : State} → IsReopenedOver r d c → (i : ℕ) → i < entries_of_lines (reopened r).layout c.lines
     → (contents_of (reopened r) c).is_free i ≡ (image_of c.words (entry_word i 0) == 0)
 free_is {r} {d} {c} over i within =
     let begin : ℕ = image_of c.words (entry_word i 0) in
     let low = over_low over i 0 within (omega arith) in
-    ap (λ (b : Bool). b && (begin == 0 || nat_lt (with_room r).cd begin)) (lt-ltb i (entries_of_lines c.lines) within)
+    ap (λ (b : Bool). b && (begin == 0 || nat_lt (with_room r).cd begin)) (lt-ltb i (entries_of_lines (reopened r).layout c.lines) within)
     ∙ ap (λ (b : Bool). begin == 0 || b) (le-ltb (with_room r).cd begin (omega (arith, low))) ∙ or-false (begin == 0)
 
 pub shows : {r : Record} {d c : State} (counted : List (EntryNo × Entry)) (gapped : List EntryNo) → IsReopenedOver r d c
-    → counted ≡ counted_below r (image_of d.words) (entries_of_lines d.lines) → gapped ≡ left_below r (image_of d.words) (entries_of_lines d.lines)
+    → counted ≡ counted_below r (image_of d.words) (entries_of_lines r.layout d.lines)
+    → gapped ≡ left_below r (image_of d.words) (entries_of_lines r.layout d.lines)
     → IsShown (contents_of (reopened r) c) counted gapped (image_of c.words)
 shows {r} {d} {c} counted gapped over counts gaps =
     record {
       undamaged = over.readable.undamaged;
-      counted = counts ∙ counted_as over (entries_of_lines d.lines) (omega arith)
-          ∙ ap (λ (lines : ℕ). counted_below (reopened r) (image_of c.words) (entries_of_lines lines)) (sym over.lines_are);
-      gapped = gaps ∙ gapped_as over (entries_of_lines d.lines) (omega arith)
-          ∙ ap (λ (lines : ℕ). gapped_below (reopened r) (image_of c.words) (entries_of_lines lines)) (sym over.lines_are);
+      counted = counts ∙ counted_as over (entries_of_lines r.layout d.lines) (omega arith)
+          ∙ ap (counted_below (reopened r) (image_of c.words)) (sym (over_entries over));
+      gapped = gaps ∙ gapped_as over (entries_of_lines r.layout d.lines) (omega arith)
+          ∙ ap (gapped_below (reopened r) (image_of c.words)) (sym (over_entries over));
       is_free = free_is over;
     }

@@ -12,6 +12,7 @@ use Rattle.model.specs.declared.group.Put.{Put}
 use Rattle.model.specs.Image.{Image, Version, entry_word, entries_of_lines, version_in, counts}
 use Rattle.model.specs.Group.{IsPlaced, IsUnused, is_put_at, is_live_version}
 use Rattle.heap_layout.specs.Put.{entry_words}
+use Rattle.model.proofs.LayoutLemmas.{entries_fit}
 use Rattle.wbl_engine.specs.AtRest.{contents_of, IsAtRest, Matters}
 use Rattle.wbl_engine.specs.Committing.{AreCommittable}
 use Rattle.wbl_engine.specs.Stage.{IsWritable, puts_of_parts, parts_pairs}
@@ -43,7 +44,7 @@ rest_fits r d rest =
 pub rest_made : (r : Record) (d : State) → IsAtRest r d → AreMadeUpTo r.position (contents_of r d).versions
 rest_made r d rest i version is =
     let fits : Fits r d.lines (image_of d.words) (contents_of r d).versions = rest_fits r d rest in
-    let within : i < entries_of_lines d.lines = within_directory fits i version is in
+    let within : i < entries_of_lines r.layout d.lines = within_directory fits i version is in
     let begun = begun_version fits i version within is in
     omega (arith, ap (λ (v : Version). v.position) begun.1, rest.whole.positions i within begun.0)
 
@@ -51,27 +52,28 @@ rest_made r d rest i version is =
 free_begin : (r : Record) (d : State) → IsAtRest r d → (i : ℕ) → IsTrue ((contents_of r d).is_free i) → image_of d.words (entry_word i 0) ≡ 0
 free_begin r d rest i free =
     let begin : ℕ = image_of d.words (entry_word i 0) in
-    let parts = and_parts (nat_lt i (entries_of_lines d.lines)) (begin == 0 || nat_lt r.cp begin) free in
+    let parts = and_parts (nat_lt i (entries_of_lines r.layout d.lines)) (begin == 0 || nat_lt r.cp begin) free in
     elim (or_cases (begin == 0) (nat_lt r.cp begin) parts.1) [
       | inl none ↦ eqb-true begin 0 none
       | inr above ↦
-          absurd (omega (arith, ltb-true r.cp begin above, rest.whole.begins i (ltb-true i (entries_of_lines d.lines) parts.0)))
+          absurd (omega (arith, ltb-true r.cp begin above, rest.whole.begins i (ltb-true i (entries_of_lines r.layout d.lines) parts.0)))
     ]
 
 -- what is live, or is put, is of the directory
-pub live_within : (r : Record) (d : State) (parts : List Part) → AllByRecursion (IsPlaced d.lines) (puts_of_parts parts) → (i : ℕ)
-    → IsTrue (is_live_version ((contents_of r d).versions i) || is_put_at i (puts_of_parts parts)) → i < entries_of_lines d.lines
+pub live_within : (r : Record) (d : State) (parts : List Part)
+    → AllByRecursion (IsPlaced (entries_of_lines r.layout d.lines) d.lines) (puts_of_parts parts) → (i : ℕ)
+    → IsTrue (is_live_version ((contents_of r d).versions i) || is_put_at i (puts_of_parts parts)) → i < entries_of_lines r.layout d.lines
 live_within r d parts placed i live =
     elim (or_cases (is_live_version ((contents_of r d).versions i)) (is_put_at i (puts_of_parts parts)) live) [
       | inl now ↦
-          elim (cases_lt i (entries_of_lines d.lines)) [
+          elim (cases_lt i (entries_of_lines r.layout d.lines)) [
             | inl below ↦ below
             | inr beyond ↦
                 absurd (both_ways (is_live_version ((contents_of r d).versions i)) (ap is_live_version (versions-beyond r d i beyond)) now)
           ]
       | inr put ↦
           let at = is_put_at-among i (puts_of_parts parts) put in
-          omega (arith, at.2, (among-all (IsPlaced d.lines) (puts_of_parts parts) at.0 at.1 placed).entry)
+          omega (arith, at.2, (among-all (IsPlaced (entries_of_lines r.layout d.lines) d.lines) (puts_of_parts parts) at.0 at.1 placed).entry)
     ]
 
 -- ---- parts that are being committed, under a record of this position and this epoch
@@ -100,7 +102,7 @@ pub record EndsAt (r : Record) (d : State) (parts : List Part) (i k x : ℕ) : T
 
 module _ {r : Record} {d : State} {parts : List Part} {position epoch : ℕ} (begun : IsCommitting r d parts position epoch) where
   -- its puts may be stored
-  pub group_stored : AreStored d.lines (contents_of r d).versions (image_of d.words) (puts_of_parts parts)
+  pub group_stored : AreStored (entries_of_lines r.layout d.lines) d.lines (contents_of r d).versions (image_of d.words) (puts_of_parts parts)
   group_stored =
       record {
         placed = begun.asked.placed;
@@ -113,8 +115,8 @@ module _ {r : Record} {d : State} {parts : List Part} {position epoch : ℕ} (be
         apart = begun.asked.apart;
       }
 
-  pub placed_at : (put : Put) → IsAmong put (puts_of_parts parts) → IsPlaced d.lines put
-  placed_at put among = among-all (IsPlaced d.lines) (puts_of_parts parts) put among begun.asked.placed
+  pub placed_at : (put : Put) → IsAmong put (puts_of_parts parts) → IsPlaced (entries_of_lines r.layout d.lines) d.lines put
+  placed_at put among = among-all (IsPlaced (entries_of_lines r.layout d.lines) d.lines) (puts_of_parts parts) put among begun.asked.placed
 
   ready_at : (put : Put) → IsAmong put (puts_of_parts parts) → IsReady (contents_of r d).versions (image_of d.words) put
   ready_at put among =
@@ -124,19 +126,21 @@ module _ {r : Record} {d : State} {parts : List Part} {position epoch : ℕ} (be
       → IsStoredBy (contents_of r d).versions (r.cp + 1) (length parts) (puts_of_parts parts) word x
   stored_by word x stored = parts_by parts (contents_of r d).versions (r.cp + 1) word x begun.asked.names stored
 
-  pub group_behind : AreBehind (group_pairs r parts)
+  pub group_behind : AreBehind r.layout d.lines (group_pairs r parts)
   group_behind word x stored =
       elim (stored_by word x stored) [
-        | inl extent ↦ omega (arith, extent.of.low, (placed_at extent.put extent.among).above)
-        | inr (inl entry) ↦ omega (arith, entry.of.low)
-        | inr (inr end) ↦ omega (arith, end.word_is)
+        | inl extent ↦ inr (omega (arith, extent.of.low, (placed_at extent.put extent.among).above))
+        | inr (inl entry) ↦ inl (omega (arith, entry.of.low), omega (arith, entry.of.high, (placed_at entry.put entry.among).entry))
+        | inr (inr end) ↦
+            let within = live_within r d parts begun.asked.placed end.entry end.live in
+            inl (omega (arith, end.word_is), omega (arith, end.word_is, within))
       ]
 
-  pub stored_at : (i k x : ℕ) → i < entries_of_lines d.lines → k < 8 → IsStored (group_pairs r parts) (entry_word i k) x
+  pub stored_at : (i k x : ℕ) → i < entries_of_lines r.layout d.lines → k < 8 → IsStored (group_pairs r parts) (entry_word i k) x
       → PutsAt r d parts i k x ⊎ EndsAt r d parts i k x
   stored_at i k x within below stored =
       elim (stored_by (entry_word i k) x stored) [
-        | inl extent ↦ absurd (omega (arith, extent.of.low, within, below, (placed_at extent.put extent.among).above))
+        | inl extent ↦ absurd (omega (arith, extent.of.low, within, below, (placed_at extent.put extent.among).above, entries_fit r.layout d.lines))
         | inr (inl entry) ↦
             let same : entry.put.entry.0 ≡ i = omega (arith, entry.of.low, entry.of.high, below) in
             let place : entry_word i k - entry_word entry.put.entry.0 0 ≡ k = omega (arith, same) in
@@ -170,7 +174,7 @@ module _ {r : Record} {d : State} {parts : List Part} {position epoch : ℕ} (be
         | inr none ↦ none
       ]
 
-  version_begun : (i : ℕ) → i < entries_of_lines d.lines → IsTrue (counts r (image_of d.words (entry_word i 0)))
+  version_begun : (i : ℕ) → i < entries_of_lines r.layout d.lines → IsTrue (counts r (image_of d.words (entry_word i 0)))
       → (contents_of r d).versions i ≡ Some (version_in r (image_of d.words) i)
   version_begun i within counted = versions-within r d i within ∙ cond-true (counts r (image_of d.words (entry_word i 0))) _ _ counted
 
@@ -203,8 +207,15 @@ module _ {r : Record} {d : State} {parts : List Part} {position epoch : ℕ} (be
                     | inl first ↦ omega (arith, first, extent.of.high, at.low)
                     | inr second ↦ omega (arith, second, extent.of.low, at.high)
                   ]
-              | inr (inl entry) ↦ omega (arith, entry.of.high, at.low, place.above, (placed_at entry.put entry.among).entry)
-              | inr (inr end) ↦ omega (arith, end.word_is, at.low, place.above, live_within r d parts begun.asked.placed end.entry end.live)
+              | inr (inl entry) ↦ omega (arith, entry.of.high, at.low, place.above, (placed_at entry.put entry.among).entry, entries_fit r.layout d.lines)
+              | inr (inr end) ↦ omega (
+                arith,
+                end.word_is,
+                at.low,
+                place.above,
+                live_within r d parts begun.asked.placed end.entry end.live,
+                entries_fit r.layout d.lines,
+              )
             ];
       }
 
@@ -212,7 +223,7 @@ module _ {r : Record} {d : State} {parts : List Part} {position epoch : ℕ} (be
 
   -- the begin of an entry is as before, or that of a put at a free entry
   pub group_begin : (image : Image) → IsStoredOver (Matters r d.lines (image_of d.words)) (image_of d.words) (group_pairs r parts) image
-      → (i : ℕ) → i < entries_of_lines d.lines → (image (entry_word i 0) ≡ image_of d.words (entry_word i 0))
+      → (i : ℕ) → i < entries_of_lines r.layout d.lines → (image (entry_word i 0) ≡ image_of d.words (entry_word i 0))
       ⊎ ((image_of d.words (entry_word i 0) ≡ 0) × (r.cp < image (entry_word i 0)) × (image (entry_word i 0) ≤ r.cp + length parts))
   group_begin image over i within =
       elim (over (entry_word i 0) (directory_matters r d.lines (image_of d.words) i 0 within (omega arith))) [
@@ -237,7 +248,7 @@ module _ {r : Record} {d : State} {parts : List Part} {position epoch : ℕ} (be
 
   -- and the stamps that were stored are new ones
   pub group_below : (image : Image) → IsStoredOver (Matters r d.lines (image_of d.words)) (image_of d.words) (group_pairs r parts) image
-      → AreBelow d.lines image (r.cp + length parts + 1)
+      → AreBelow r.layout d.lines image (r.cp + length parts + 1)
   group_below image over i zero within low =
       elim (group_begin image over i within) [ inl same ↦ omega (arith, same, begun.rest.whole.begins i within) | inr put ↦ omega (arith, put.2) ]
   group_below image over i (suc zero) within low =

@@ -4,6 +4,7 @@ use Rattle.model.specs.declared.group.Part.{Part}
 use Rattle.model.specs.declared.image.TheConstants.{COUNTER_LIMIT, STAMP_WINDOW}
 use Rattle.model.specs.declared.record.Gap.{Gap}
 use Rattle.model.specs.declared.record.Record.{Record}
+use Rattle.model.specs.Layout.{max_gaps}
 use Rattle.model.specs.Group.{last_position}
 use Rattle.wbl_record.specs.Current.{AreGaps, IsLawful}
 use Rattle.wbl_engine.proofs.CountLemmas.{AreGaps-later}
@@ -15,10 +16,10 @@ pub record AreBelowLimit (r : Record) : Type 0 where
   pub room : r.cd < COUNTER_LIMIT
   pub epoch : r.epoch < COUNTER_LIMIT
 
--- A later record with the same gaps obeys the rules.
+-- A later record of the same layout with the same gaps obeys the rules.
 pub lawful_later : (r next : Record) → IsLawful r → AreBelowLimit next → next.number ≡ r.number + 1 → next.cd ≡ next.cp + 1 + STAMP_WINDOW
-    → r.cp ≤ next.cp → r.epoch ≤ next.epoch → next.gaps.items ≡ r.gaps.items → IsLawful next
-lawful_later r next lawful below number limit up epoch gaps =
+    → r.cp ≤ next.cp → r.epoch ≤ next.epoch → next.gaps.items ≡ r.gaps.items → next.layout ≡ r.layout → IsLawful next
+lawful_later r next lawful below number limit up epoch gaps layout =
     record {
       some = omega (arith, number);
       number = below.number;
@@ -27,7 +28,7 @@ lawful_later r next lawful below number limit up epoch gaps =
       room = below.room;
       some_epoch = omega (arith, lawful.some_epoch, epoch);
       epoch = below.epoch;
-      few = omega (arith, ap length gaps, lawful.few);
+      few = omega (arith, ap length gaps, ap max_gaps layout, lawful.few);
       gaps = subst (λ (gs : List Gap). AreGaps 0 gs next.cp) (sym gaps) (AreGaps-later 0 r.gaps.items r.cp next.cp up lawful.gaps);
     }
 

@@ -1,13 +1,15 @@
 -- Contents without versions that have ended, and contents whose oldest gap is cleared.
-use Rattle.std.proofs.Common.{◌≡◌, ℕ, ◌+◌, ◌<◌, ◌≤◌, Bool, true, false, cond, ◌||◌, IsTrue, List, inl, inr, Option, None, Some, refl, sym, ap, subst, ◌∙◌}
+use Rattle.std.proofs.Common.{◌≡◌, ℕ, ◌+◌, ◌<◌, Bool, true, false, cond, ◌||◌, IsTrue, List, inl, inr, Option, None, Some, refl, sym, ap, subst, ◌∙◌, arith}
 use Rattle.std.proofs.lemmas.Bool.{cond-false, cases_Bool, or_cases, both_ways}
 use Rattle.kv_types.specs.declared.place.EntryNo.{EntryNo}
 use Rattle.kv_types.specs.declared.record_id.RecordId.{RecordId}
 use Rattle.kv_types.specs.Keyspace.{Keyspace}
 use Rattle.model.specs.declared.image.TheConstants.{COUNTER_LIMIT}
-use Rattle.model.specs.Group.{Contents, IsConsistent, Versions, is_ended_version}
-use Rattle.model.specs.Image.{IsLive, IsMapOf, Version, entries_of_lines}
+use Rattle.model.specs.Group.{Contents, IsConsistent, Versions, is_ended_version, entries_of}
+use Rattle.model.specs.Image.{IsLive, IsMapOf, Version}
 use Rattle.wbl_record.specs.Current.{IsLawful}
+use Rattle.model.specs.declared.record.Record.{Record}
+use Rattle.model.proofs.DirectoryLemmas.{entries_same}
 use Rattle.wbl_engine.specs.Freeing.{Clears, is_listed, without}
 use Rattle.wbl_engine.specs.Lawful.{AreLawful}
 use Rattle.wbl_engine.proofs.GapLemmas.{lawful_but_one}
@@ -75,9 +77,9 @@ IsMapOf-without gone versions entries s ended map =
 
 pub IsMapOf-contents_without : (contents : Contents) (gone : ℕ → Bool) (s : Keyspace)
     → ((i : ℕ) → IsTrue (gone i) → IsTrue (is_ended_version (contents.versions i)))
-    → IsMapOf contents.versions (entries_of_lines contents.lines) s
-    → IsMapOf (without gone contents).versions (entries_of_lines contents.lines) s
-IsMapOf-contents_without contents gone s ended map = IsMapOf-without gone contents.versions (entries_of_lines contents.lines) s ended map
+    → IsMapOf contents.versions (entries_of contents) s
+    → IsMapOf (without gone contents).versions (entries_of contents) s
+IsMapOf-contents_without contents gone s ended map = IsMapOf-without gone contents.versions (entries_of contents) s ended map
 
 pub lawful_without : (contents : Contents) (gone : ℕ → Bool) → ((i : ℕ) → IsTrue (gone i) → IsTrue (is_ended_version (contents.versions i)))
     → AreLawful contents → AreLawful (without gone contents)
@@ -114,7 +116,8 @@ consistent_without contents gone consistent =
 pub lawful_cleared : (old new : Contents) (cleared : List EntryNo) → Clears old cleared new → old.current.number + 1 < COUNTER_LIMIT
     → AreLawful old → AreLawful new
 lawful_cleared old new cleared clears room are =
-    lawful_from old new (subst IsLawful (sym clears.current) (lawful_but_one old.current are.current room)) clears.lines_are clears.versions are
+    lawful_from old new (subst IsLawful (sym clears.current) (lawful_but_one old.current are.current room))
+    (ap (λ (r : Record). r.layout) clears.current) clears.lines_are clears.versions are
 
 pub consistent_cleared : (old new : Contents) (cleared : List EntryNo) → Clears old cleared new → IsConsistent old → IsConsistent new
 consistent_cleared old new cleared clears consistent =
@@ -125,5 +128,6 @@ consistent_cleared old new cleared clears consistent =
             | inl was ↦ consistent.free i was
             | inr begun ↦ clears.held_none i begun
           ];
-      beyond = λ i above. clears.versions i ∙ consistent.beyond i (subst (λ (n : ℕ). entries_of_lines n ≤ i) clears.lines_are above);
+      beyond = λ i above. clears.versions i ∙ consistent.beyond i
+          (omega (arith, above, entries_same old new (ap (λ (r : Record). r.layout) clears.current) clears.lines_are));
     }

@@ -6,11 +6,11 @@ use Rattle.std.proofs.lemmas.Bool.{both_ways}
 use Rattle.pmem.specs.Device.{State, Only}
 use Rattle.pmem.specs.Crash.{IsImage, image_of}
 use Rattle.model.specs.declared.image.TheConstants.{MIN_LINES, MAX_LINES}
-use Rattle.model.specs.declared.layout.TheConstants.{LAYOUT}
+use Rattle.model.specs.declared.layout.TheConstants.{DIRECTORY_LINE, SUPERBLOCK_WORDS}
 use Rattle.model.specs.declared.record.Gap.{Gap}
 use Rattle.model.specs.declared.record.Record.{Record}
 use Rattle.model.specs.Layout.{first_word}
-use Rattle.model.specs.Image.{Image, HasSuperblock, HasWords, HasRecord, root_word, entries_of_lines, directory_end, entry_word, field_bytes, version_at, counts}
+use Rattle.model.specs.Image.{Image, HasSuperblock, HasWords, HasRecord, entries_of_lines, directory_end, entry_word, field_bytes, version_at, counts}
 use Rattle.model.specs.Group.{Contents}
 use Rattle.heap_layout.specs.declared.entry.TheConstants.{STRING_KIND, FIELD_KIND}
 use Rattle.heap_layout.specs.Entry.{IsKind, IsEntry}
@@ -22,19 +22,19 @@ contents_of r d =
     record {
       current = r;
       lines = d.lines;
-      versions = λ i. if nat_lt i (entries_of_lines d.lines) then version_at r (image_of d.words) i else None;
+      versions = λ i. if nat_lt i (entries_of_lines r.layout d.lines) then version_at r (image_of d.words) i else None;
       is_free = λ i.
-          nat_lt i (entries_of_lines d.lines)
+          nat_lt i (entries_of_lines r.layout d.lines)
           && (image_of d.words (entry_word i 0) == 0 || nat_lt r.cp (image_of d.words (entry_word i 0)));
     }
 
 -- the directory has no stamp that was not given out, and each version whose begin counts obeys the rules of entries
 pub record IsWhole (r : Record) (lines : ℕ) (image : Image) : Type 0 where
-  pub superblock : HasSuperblock lines image
-  pub begins : (i : ℕ) → i < entries_of_lines lines → image (entry_word i 0) ≤ r.cp
-  pub ends : (i : ℕ) → i < entries_of_lines lines → image (entry_word i 1) ≤ r.cp
-  pub entries : (i : ℕ) → i < entries_of_lines lines → IsTrue (counts r (image (entry_word i 0))) → IsEntry lines image i
-  pub positions : (i : ℕ) → i < entries_of_lines lines → IsTrue (counts r (image (entry_word i 0))) → image (entry_word i 2) ≤ r.position
+  pub superblock : HasSuperblock r.layout lines image
+  pub begins : (i : ℕ) → i < entries_of_lines r.layout lines → image (entry_word i 0) ≤ r.cp
+  pub ends : (i : ℕ) → i < entries_of_lines r.layout lines → image (entry_word i 1) ≤ r.cp
+  pub entries : (i : ℕ) → i < entries_of_lines r.layout lines → IsTrue (counts r (image (entry_word i 0))) → IsEntry lines image i
+  pub positions : (i : ℕ) → i < entries_of_lines r.layout lines → IsTrue (counts r (image (entry_word i 0))) → image (entry_word i 2) ≤ r.position
 
 -- the word belongs to the extent that entry i names
 pub record IsInExtent (image : Image) (i word : ℕ) : Type 0 where
@@ -44,9 +44,9 @@ pub record IsInExtent (image : Image) (i word : ℕ) : Type 0 where
 -- The map depends on this word: it belongs to the superblock's prefix, to the directory, or to the extent of an entry whose begin counts.
 abbrev pub Matters : Record → ℕ → Image → ℕ → Type 0
 Matters r lines image word =
-    (word < root_word)
-    ⊎ ((first_word LAYOUT.directory_line ≤ word) × (word < first_word (directory_end lines)))
-    ⊎ ((i : ℕ) × (i < entries_of_lines lines) × IsTrue (counts r (image (entry_word i 0))) × IsInExtent image i word)
+    (word < SUPERBLOCK_WORDS)
+    ⊎ ((first_word DIRECTORY_LINE ≤ word) × (word < first_word (directory_end r.layout lines)))
+    ⊎ ((i : ℕ) × (i < entries_of_lines r.layout lines) × IsTrue (counts r (image (entry_word i 0))) × IsInExtent image i word)
 
 -- Each crash leaves the record, and each word on which the map depends as loads return it.
 pub record IsAtRest (r : Record) (d : State) : Type 0 where

@@ -5,7 +5,7 @@ use Rattle.model.specs.declared.group.Part.{Part}
 use Rattle.model.specs.declared.group.TheConstants.{MAX_PARTS}
 use Rattle.model.specs.declared.image.TheConstants.{STAMP_WINDOW}
 use Rattle.model.specs.declared.record.Record.{Record}
-use Rattle.model.specs.Group.{AreAllApart, Contents, HasItsLines, IsPlaced, IsUnused, NamesEnded, Versions, is_put_at, part_versions, parts_versions}
+use Rattle.model.specs.Group.{AreAllApart, Contents, HasItsLines, IsPlaced, IsUnused, NamesEnded, Versions, entries_of, is_put_at, part_versions, parts_versions}
 use Rattle.wbl_engine.specs.Stage.{puts_of_parts}
 
 -- each part names what it ended
@@ -19,7 +19,7 @@ pub record AreCommittable (contents : Contents) (parts : List Part) (position : 
   pub made : AllByRecursion (λ part. part.position ≤ position) parts
   pub few : length parts ≤ MAX_PARTS
   pub names : AreNamed contents.versions parts
-  pub placed : AllByRecursion (IsPlaced contents.lines) (puts_of_parts parts)
+  pub placed : AllByRecursion (IsPlaced (entries_of contents) contents.lines) (puts_of_parts parts)
   pub fitting : AllByRecursion HasItsLines (puts_of_parts parts)
   pub unused : AllByRecursion (IsUnused contents.versions contents.is_free) (puts_of_parts parts)
   pub apart : AreAllApart (puts_of_parts parts)
@@ -28,6 +28,7 @@ pub record AreCommittable (contents : Contents) (parts : List Part) (position : 
 abbrev pub record_after : Record → List Part → ℕ → ℕ → Record
 record_after r parts position epoch =
     record {
+      layout = r.layout;
       number = r.number + 1;
       position = position;
       cp = r.cp + length parts;

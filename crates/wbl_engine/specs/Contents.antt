@@ -4,19 +4,20 @@ use Rattle.pmem.specs.Device.{State}
 use Rattle.pmem.specs.Crash.{IsImage}
 use Rattle.model.specs.declared.group.Group.{Group}
 use Rattle.model.specs.declared.image.TheConstants.{COUNTER_LIMIT, STAMP_WINDOW}
+use Rattle.model.specs.declared.layout.TheConstants.{LAYOUT}
 use Rattle.model.specs.declared.record.TheConstants.{FIRST_EPOCH}
 use Rattle.model.specs.declared.record.Role.{Role}
-use Rattle.model.specs.Image.{Image, HasSuperblock, HasRecord, entries_of_lines, version_at}
-use Rattle.model.specs.Group.{Contents, next_record}
+use Rattle.model.specs.Image.{Image, HasSuperblock, HasRecord, version_at}
+use Rattle.model.specs.Group.{Contents, entries_of, next_record}
 use Rattle.heap_layout.specs.Version.{IsUnder}
 
 -- The image holds these contents: its record is the current one, each entry holds the version that it should, and breaks no rule under the
 -- record: every stamp in it is below the record's limit.
 pub record Keeps (contents : Contents) (image : Image) : Type 0 where
-  pub superblock : HasSuperblock contents.lines image
+  pub superblock : HasSuperblock contents.current.layout contents.lines image
   pub has_record : HasRecord contents.lines contents.current image
-  pub versions : (i : ℕ) → i < entries_of_lines contents.lines → version_at contents.current image i ≡ contents.versions i
-  pub entries : (i : ℕ) → i < entries_of_lines contents.lines → IsUnder contents.current contents.lines image i
+  pub versions : (i : ℕ) → i < entries_of contents → version_at contents.current image i ≡ contents.versions i
+  pub entries : (i : ℕ) → i < entries_of contents → IsUnder contents.current contents.lines image i
 
 -- every crash now leaves an image that holds the contents
 abbrev pub IsDurable : State → Contents → Type 0
@@ -40,6 +41,7 @@ Exhausts contents group =
 
 -- the contents of a new image
 pub record IsNew (lines : ℕ) (role : Role) (contents : Contents) : Type 0 where
+  pub layout : contents.current.layout ≡ LAYOUT
   pub number : contents.current.number ≡ 1
   pub position : contents.current.position ≡ 0
   pub cp : contents.current.cp ≡ 0
@@ -49,4 +51,4 @@ pub record IsNew (lines : ℕ) (role : Role) (contents : Contents) : Type 0 wher
   pub gaps : contents.current.gaps.items ≡ []
   pub line_count : contents.lines ≡ lines
   pub versions : (i : ℕ) → contents.versions i ≡ None
-  pub is_free : (i : ℕ) → i < entries_of_lines lines → contents.is_free i ≡ true
+  pub is_free : (i : ℕ) → i < entries_of contents → contents.is_free i ≡ true

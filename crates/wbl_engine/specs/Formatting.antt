@@ -4,11 +4,11 @@ use Rattle.pmem.specs.Device.{Word}
 use Rattle.pmem.specs.Crash.{IsImage}
 use Rattle.pmem.specs.Runs.{pairs_from}
 use Rattle.model.specs.declared.image.TheConstants.{STAMP_WINDOW}
-use Rattle.model.specs.declared.layout.TheConstants.{LAYOUT}
+use Rattle.model.specs.declared.layout.TheConstants.{DIRECTORY_LINE, LAYOUT}
 use Rattle.model.specs.declared.record.Record.{Record}
 use Rattle.model.specs.declared.record.TheConstants.{FIRST_EPOCH}
 use Rattle.model.specs.declared.record.Role.{Role}
-use Rattle.model.specs.Layout.{first_word}
+use Rattle.model.specs.Layout.{first_word, slot_lines, version}
 use Rattle.model.specs.Image.{Image, magic_number, directory_room, entries_of_lines, record_words, slot_line}
 use Rattle.model.specs.Group.{Contents}
 use Rattle.wbl_engine.specs.Contents.{Keeps}
@@ -17,6 +17,7 @@ use Rattle.wbl_engine.specs.Contents.{Keeps}
 abbrev pub first_record : Role → Record
 first_record role =
     record {
+      layout = LAYOUT;
       number = 1;
       position = 0;
       cp = 0;
@@ -33,22 +34,22 @@ new_contents lines role =
       current = first_record role;
       lines = lines;
       versions = λ i. None;
-      is_free = λ i. nat_lt i (entries_of_lines lines);
+      is_free = λ i. nat_lt i (entries_of_lines LAYOUT lines);
     }
 
 -- the superblock after the magic
 abbrev pub superblock_words : ℕ → List ℕ
-superblock_words lines = LAYOUT.version ∷ lines ∷ directory_room lines ∷ 1 ∷ 0 ∷ 0 ∷ 0 ∷ []
+superblock_words lines = version LAYOUT ∷ lines ∷ directory_room lines ∷ 1 ∷ 0 ∷ 0 ∷ 0 ∷ []
 
 -- how many words a record slot has, where the two slots begin, and where they end
 abbrev pub slot_words : ℕ
-slot_words = first_word LAYOUT.slot_lines
+slot_words = first_word (slot_lines LAYOUT)
 
 abbrev pub slot_0 : ℕ → ℕ
-slot_0 lines = first_word (slot_line lines 0)
+slot_0 lines = first_word (slot_line LAYOUT lines 0)
 
 abbrev pub slot_1 : ℕ → ℕ
-slot_1 lines = first_word (slot_line lines 1)
+slot_1 lines = first_word (slot_line LAYOUT lines 1)
 
 abbrev pub behind_slots : ℕ → ℕ
 behind_slots lines = slot_1 lines + slot_words
@@ -60,7 +61,7 @@ run_pairs lines super slot first rest =
 
 -- how many words are between the slots and the extents: those before the directory, and its own
 abbrev pub rest_words : ℕ → ℕ
-rest_words lines = first_word LAYOUT.directory_line - behind_slots lines + first_word (entries_of_lines lines)
+rest_words lines = first_word DIRECTORY_LINE - behind_slots lines + first_word (entries_of_lines LAYOUT lines)
 
 -- all words of a new image but the magic, up to the extents
 unfoldable pub new_pairs : ℕ → Role → List (ℕ × ℕ)

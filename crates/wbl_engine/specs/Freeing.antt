@@ -5,8 +5,8 @@ use Rattle.std.specs.List.{IsDistinct}
 use Rattle.kv_types.specs.Keyspace.{Keyspace}
 use Rattle.kv_types.specs.declared.place.EntryNo.{EntryNo}
 use Rattle.model.specs.declared.record.Record.{Record}
-use Rattle.model.specs.Group.{Contents}
-use Rattle.model.specs.Image.{Image, IsMapOf, entries_of_lines}
+use Rattle.model.specs.Group.{Contents, entries_of}
+use Rattle.model.specs.Image.{Image, IsMapOf}
 use Rattle.wbl_engine.specs.Contents.{Keeps}
 
 -- the image holds what is left where some of the entries are freed
@@ -21,7 +21,7 @@ KeepsFreedOr entries old new image = KeepsWithoutSome entries old image ⊎ Keep
 -- the live versions make up the map that they made up before
 abbrev pub KeepsMap : Contents → Contents → Type 0
 KeepsMap old new =
-    (s : Keyspace) → IsMapOf old.versions (entries_of_lines old.lines) s → IsMapOf new.versions (entries_of_lines new.lines) s
+    (s : Keyspace) → IsMapOf old.versions (entries_of old) s → IsMapOf new.versions (entries_of new) s
 
 -- ---- gaps
 
@@ -40,7 +40,7 @@ pub record Clears (old : Contents) (cleared : List EntryNo) (new : Contents) : T
   pub versions : (i : ℕ) → new.versions i ≡ old.versions i
   pub is_free : (i : ℕ) → new.is_free i ≡ (old.is_free i || is_listed i cleared)
   -- each of them is in the directory, and none was free, or held a version
-  pub within : (i : ℕ) → IsTrue (is_listed i cleared) → i < entries_of_lines old.lines
+  pub within : (i : ℕ) → IsTrue (is_listed i cleared) → i < entries_of old
   pub were_not_free : (i : ℕ) → IsTrue (is_listed i cleared) → old.is_free i ≡ false
   pub held_none : (i : ℕ) → IsTrue (is_listed i cleared) → old.versions i ≡ None
   pub once : IsDistinct nat_eq (map (λ entry. entry.0) cleared)

@@ -4,8 +4,8 @@ use Rattle.kv_types.specs.Keyspace.{Keyspace, IsKeyspace}
 use Rattle.heap_layout.specs.Versions.{AreVersions}
 use Rattle.model.specs.declared.image.TheConstants.{MIN_LINES, MAX_LINES}
 use Rattle.model.specs.declared.record.Record.{Record}
-use Rattle.model.specs.Group.{AreApart, Contents}
-use Rattle.model.specs.Image.{Image, HasSuperblock, IsMapOf, Version, entries_of_lines}
+use Rattle.model.specs.Group.{AreApart, Contents, entries_of}
+use Rattle.model.specs.Image.{Image, HasSuperblock, IsMapOf, Version}
 use Rattle.wbl_record.specs.Current.{IsCurrent, IsLawful}
 
 -- The record obeys its rules, no two versions have a line in common, and the live ones make up a keyspace.
@@ -17,10 +17,10 @@ pub record AreLawful (contents : Contents) : Type 0 where
       → AreApart v.first_line v.lines w.first_line w.lines
   pub keyspace : Keyspace
   pub lawful : IsKeyspace keyspace
-  pub map : IsMapOf contents.versions (entries_of_lines contents.lines) keyspace
+  pub map : IsMapOf contents.versions (entries_of contents) keyspace
 
 -- The image breaks no rule of the format: this is its record, and each entry obeys its rules under it.
 pub record IsUndamaged (lines' : ℕ) (r : Record) (image : Image) : Type 0 where
-  pub superblock : HasSuperblock lines' image
+  pub superblock : HasSuperblock r.layout lines' image
   pub current : IsCurrent lines' image r
   pub versions : AreVersions r lines' image

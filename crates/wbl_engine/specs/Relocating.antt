@@ -7,8 +7,8 @@ use Rattle.model.specs.declared.group.PlacedChange.TheVariants as placed
 use Rattle.model.specs.declared.group.Put.{Put}
 use Rattle.model.specs.declared.image.TheConstants.{COUNTER_LIMIT, STAMP_WINDOW}
 use Rattle.model.specs.declared.record.Record.{Record}
-use Rattle.model.specs.Group.{AreAllApart, Contents, HasItsLines, IsPlaced, IsUnused, NamesEnded, is_put_at, part_versions, puts_of_part}
-use Rattle.model.specs.Image.{IsMapOf, Version, entries_of_lines}
+use Rattle.model.specs.Group.{AreAllApart, Contents, HasItsLines, IsPlaced, IsUnused, NamesEnded, entries_of, is_put_at, part_versions, puts_of_part}
+use Rattle.model.specs.Image.{IsMapOf, Version}
 
 -- The part's one put makes again a version that is live: the same record and value, at the position of the part.
 pub record MakesAgain (contents : Contents) (part : Part) : Type 0 where
@@ -27,7 +27,7 @@ pub record IsRelocation (contents : Contents) (part : Part) : Type 0 where
   pub position : part.position ≤ contents.current.position
   pub same : MakesAgain contents part
   pub names : NamesEnded contents.versions part
-  pub placed : AllByRecursion (IsPlaced contents.lines) (puts_of_part part)
+  pub placed : AllByRecursion (IsPlaced (entries_of contents) contents.lines) (puts_of_part part)
   pub fitting : AllByRecursion HasItsLines (puts_of_part part)
   pub unused : AllByRecursion (IsUnused contents.versions contents.is_free) (puts_of_part part)
   pub apart : AreAllApart (puts_of_part part)
@@ -53,4 +53,4 @@ ExhaustsRelocation r = (COUNTER_LIMIT ≤ (relocated_record r).cd) ⊎ (COUNTER_
 -- the live versions make up the keyspace that they made up before
 abbrev pub KeepsKeyspace : Contents → Contents → Type 0
 KeepsKeyspace old new =
-    (s : Keyspace) → IsKeyspace s → IsMapOf old.versions (entries_of_lines old.lines) s → IsMapOf new.versions (entries_of_lines new.lines) s
+    (s : Keyspace) → IsKeyspace s → IsMapOf old.versions (entries_of old) s → IsMapOf new.versions (entries_of new) s

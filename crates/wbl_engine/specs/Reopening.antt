@@ -9,14 +9,14 @@ use Rattle.heap_layout.specs.Superblock.{super_refusal}
 use Rattle.pmem.specs.Device.{State, Only}
 use Rattle.pmem.specs.Crash.{IsImage, image_of}
 use Rattle.model.specs.declared.image.TheConstants.{COUNTER_LIMIT, MAX_LINES, MIN_LINES, STAMP_WINDOW}
-use Rattle.model.specs.declared.layout.TheConstants.{LAYOUT}
-use Rattle.model.specs.Layout.{first_word}
+use Rattle.model.specs.declared.layout.Layout.{Layout}
+use Rattle.model.specs.declared.layout.TheConstants.{DIRECTORY_LINE, SUPERBLOCK_WORDS}
+use Rattle.model.specs.Layout.{first_word, max_gaps}
 use Rattle.model.specs.declared.record.Gap.{Gap}
 use Rattle.model.specs.declared.record.Record.{Record}
 use Rattle.model.specs.declared.record.Role.{Role}
-use Rattle.model.specs.declared.record.TheConstants.{MAX_GAPS}
-use Rattle.model.specs.Group.{Contents, IsConsistent}
-use Rattle.model.specs.Image.{Image, HasRecord, counts, directory_end, entries_of_lines, entry_word, first_extent_line, is_in_gap, root_word, version_at}
+use Rattle.model.specs.Group.{Contents, IsConsistent, entries_of}
+use Rattle.model.specs.Image.{Image, HasRecord, counts, directory_end, entries_of_lines, entry_word, first_extent_line, is_in_gap, version_at}
 use Rattle.wbl_engine.specs.Erasing.{oldest_gap}
 use Rattle.wbl_engine.specs.Freeing.{is_listed, record_after_clearing}
 use Rattle.wbl_engine.specs.Lawful.{IsUndamaged}
@@ -39,7 +39,7 @@ with_open_gap r =
 
 -- the record holds as many gaps as it can
 abbrev pub is_full : Record → Bool
-is_full r = length r.gaps.items == MAX_GAPS
+is_full r = length r.gaps.items == max_gaps r.layout
 
 -- the record with room for a gap: where there is none, its oldest gap is cleared
 abbrev pub with_room : Record → Record
@@ -70,12 +70,12 @@ abbrev pub left_below : Record → Image → ℕ → List EntryNo
 left_below r image zero = []
 left_below r image (suc i) = left_below r image i ++ left_at r image i
 
--- In the second image the stamps that pass the test are 0, and beside the records nothing else has changed.
-pub record AreCleared (lines : ℕ) (test : ℕ → Bool) (image image' : Image) : Type 0 where
-  pub superblock : (word : ℕ) → word < root_word → image' word ≡ image word
-  pub stamps : (i k : ℕ) → i < entries_of_lines lines → k < 2
+-- Both images have this layout. In the second one the stamps that pass the test are 0, and beside the records nothing else has changed.
+pub record AreCleared (layout : Layout) (lines : ℕ) (test : ℕ → Bool) (image image' : Image) : Type 0 where
+  pub superblock : (word : ℕ) → word < SUPERBLOCK_WORDS → image' word ≡ image word
+  pub stamps : (i k : ℕ) → i < entries_of_lines layout lines → k < 2
       → image' (entry_word i k) ≡ (if test (image (entry_word i k)) then 0 else image (entry_word i k))
-  pub words : (i k : ℕ) → i < entries_of_lines lines → 2 ≤ k → k < 8 → image' (entry_word i k) ≡ image (entry_word i k)
+  pub words : (i k : ℕ) → i < entries_of_lines layout lines → 2 ≤ k → k < 8 → image' (entry_word i k) ≡ image (entry_word i k)
   pub extents : (word : ℕ) → first_word (first_extent_line lines) ≤ word → image' word ≡ image word
 
 -- The image was undamaged, with a record of this role, and these are the contents and the lists of versions once it is reopened.
@@ -88,54 +88,54 @@ pub record Reopens (lines' : ℕ) (image : Image) (role : Role) (contents : Cont
   pub current : contents.current ≡ reopened before
   pub lines_are : contents.lines ≡ lines'
   -- each version stays
-  pub versions : (i : ℕ) → contents.versions i ≡ (if nat_lt i (entries_of_lines lines') then version_at before image i else None)
+  pub versions : (i : ℕ) → contents.versions i ≡ (if nat_lt i (entries_of_lines before.layout lines') then version_at before image i else None)
   -- an entry is free if it was, or if the reopening cleared its begin
   pub is_free : (i : ℕ) → contents.is_free i
-      ≡ (nat_lt i (entries_of_lines lines') && (image (entry_word i 0) == 0 || is_cleared before (image (entry_word i 0))))
-  pub counted : counted' ≡ counted_below before image (entries_of_lines lines')
+      ≡ (nat_lt i (entries_of_lines before.layout lines') && (image (entry_word i 0) == 0 || is_cleared before (image (entry_word i 0))))
+  pub counted : counted' ≡ counted_below before image (entries_of_lines before.layout lines')
   -- the entries that are not free and hold no version, each once, in rising order
-  pub left : gapped' ≡ left_below before image (entries_of_lines lines')
+  pub left : gapped' ≡ left_below before image (entries_of_lines before.layout lines')
   pub gapped : (i : ℕ) → is_listed i gapped'
-      ≡ (nat_lt i (entries_of_lines lines') && (not (contents.is_free i) && is_none (contents.versions i)))
+      ≡ (nat_lt i (entries_of_lines before.layout lines') && (not (contents.is_free i) && is_none (contents.versions i)))
 
 -- The lists are what this image has under the record of the contents, entry by entry. The image is undamaged, and an entry is free where its begin is 0.
 pub record IsShown (contents : Contents) (counted' : List (EntryNo × Entry)) (gapped' : List EntryNo) (image : Image) : Type 0 where
   pub undamaged : IsUndamaged contents.lines contents.current image
-  pub counted : counted' ≡ counted_below contents.current image (entries_of_lines contents.lines)
-  pub gapped : gapped' ≡ gapped_below contents.current image (entries_of_lines contents.lines)
-  pub is_free : (i : ℕ) → i < entries_of_lines contents.lines → contents.is_free i ≡ (image (entry_word i 0) == 0)
+  pub counted : counted' ≡ counted_below contents.current image (entries_of contents)
+  pub gapped : gapped' ≡ gapped_below contents.current image (entries_of contents)
+  pub is_free : (i : ℕ) → i < entries_of contents → contents.is_free i ≡ (image (entry_word i 0) == 0)
 
 -- a reopening leads from these contents to those: no version changes, and the record goes on with the same position, epoch and role
 pub record KeepsThrough (old new : Contents) : Type 0 where
   pub current : new.current ≡ reopened old.current
   pub lines_are : new.lines ≡ old.lines
-  pub versions : (i : ℕ) → i < entries_of_lines old.lines → new.versions i ≡ old.versions i
+  pub versions : (i : ℕ) → i < entries_of old → new.versions i ≡ old.versions i
   -- a free entry has no version, and neither does one beyond the directory
   pub consistent : IsConsistent new
 
 -- ---- refusals
 
--- Why an image is not read: the superblock earns this refusal, or the image breaks a rule, or an allocation was refused.
-abbrev pub RefusesReading : ℕ → Image → Refusal → Type 0
-RefusesReading lines image refusal =
-    (super_refusal lines image ≡ Some refusal)
+-- Why an image of this layout is not read: the superblock earns this refusal, or the image breaks a rule, or an allocation was refused.
+abbrev pub RefusesReading : Layout → ℕ → Image → Refusal → Type 0
+RefusesReading layout lines image refusal =
+    (super_refusal layout lines image ≡ Some refusal)
     ⊎ ((refusal ≡ Damaged) × ((r : Record) → IsUndamaged lines r image → ⊥))
     ⊎ (refusal ≡ Memory)
 
 -- Why it is not reopened in this role, with nothing stored.
-abbrev pub RefusesReopening : ℕ → Image → Role → Refusal → Type 0
-RefusesReopening lines image role refusal =
-    RefusesReading lines image refusal
+abbrev pub RefusesReopening : Layout → ℕ → Image → Role → Refusal → Type 0
+RefusesReopening layout lines image role refusal =
+    RefusesReading layout lines image refusal
     ⊎ ((refusal ≡ WrongRole) × ((r : Record) → IsUndamaged lines r image → r.role ≢ role))
     ⊎ ((refusal ≡ Exhausted) × ((r : Record) → IsUndamaged lines r image → ExhaustsReopening r))
 
 -- ---- what a crash leaves
 
--- in an image of `lines` lines the word belongs to no record: it is before the root, in the directory, or in an extent
-abbrev pub IsBesideRecords : ℕ → ℕ → Type 0
-IsBesideRecords lines word =
-    (word < root_word)
-    ⊎ ((first_word LAYOUT.directory_line ≤ word) × (word < first_word (directory_end lines)))
+-- in an image of this layout and `lines` lines the word belongs to no record: it says what the image is, or is in the directory, or in an extent
+abbrev pub IsBesideRecords : Layout → ℕ → ℕ → Type 0
+IsBesideRecords layout lines word =
+    (word < SUPERBLOCK_WORDS)
+    ⊎ ((first_word DIRECTORY_LINE ≤ word) × (word < first_word (directory_end layout lines)))
     ⊎ (first_word (first_extent_line lines) ≤ word)
 
 -- Each crash leaves this record and, beside the records, what loads return; and that is an undamaged image.
@@ -144,14 +144,15 @@ pub record IsReadable (r : Record) (d : State) : Type 0 where
   pub few : d.lines ≤ MAX_LINES
   pub undamaged : IsUndamaged d.lines r (image_of d.words)
   pub recorded : (image : Image) → IsImage d.words image → HasRecord d.lines r image
-  pub certain : (word : ℕ) → IsBesideRecords d.lines word → Only (d.words word) (image_of d.words word)
+  pub certain : (word : ℕ) → IsBesideRecords r.layout d.lines word → Only (d.words word) (image_of d.words word)
 
--- The second image is undamaged, and has the versions that the first has under this record, and the record's position, epoch and role.
+-- The second image is undamaged, and has the versions that the first has under this record, and the record's layout, position, epoch and role.
 -- So it can be reopened again.
 pub record StaysReadable (lines' : ℕ) (r : Record) (image image' : Image) : Type 0 where
   pub current : Record
   pub undamaged : IsUndamaged lines' current image'
+  pub layout : current.layout ≡ r.layout
   pub position : current.position ≡ r.position
   pub epoch : current.epoch ≡ r.epoch
   pub role : current.role ≡ r.role
-  pub versions : (i : ℕ) → i < entries_of_lines lines' → version_at current image' i ≡ version_at r image i
+  pub versions : (i : ℕ) → i < entries_of_lines r.layout lines' → version_at current image' i ≡ version_at r image i

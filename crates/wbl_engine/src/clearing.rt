@@ -14,7 +14,7 @@ use crate::erasing::erase_stamps;
 use crate::successor::copy_gaps;
 use heap_layout::read_stamps;
 use kv_types::EntryNo;
-use model::{COUNTER_LIMIT, Gap, LAYOUT, Record};
+use model::{COUNTER_LIMIT, Gap, Layout, Record};
 use pmem::{Fault, Pmem};
 use std::alloc::{AllocError, Global};
 use wbl_record::write_next;
@@ -28,17 +28,22 @@ pub struct Stamped {
     pub ends: Vec<EntryNo>,
 }
 
-/// Lists the entries that have a stamp in a gap. `AllocError` if an allocation was refused.
-pub fn stamped_in<P: Pmem>(alloc: Global, device: &P, gap: Gap) -> Result<Stamped, AllocError>
+/// Lists the entries of an image of this layout that have a stamp in a gap. `AllocError` if an allocation was refused.
+pub fn stamped_in<P: Pmem>(
+    alloc: Global,
+    device: &P,
+    layout: Layout,
+    gap: Gap,
+) -> Result<Stamped, AllocError>
     requires { MIN_LINES ≤ (P.state device.now).lines }
     ensures begins { IfOk result (λ stamped.
-        stamped.begins.items ≡ stamped_below gap (image_of (P.state device.now).words) 0 (entries_of_lines (P.state device.now).lines)) }
+        stamped.begins.items ≡ stamped_below gap (image_of (P.state device.now).words) 0 (entries_of_lines layout (P.state device.now).lines)) }
     ensures ends { IfOk result (λ stamped.
-        stamped.ends.items ≡ stamped_below gap (image_of (P.state device.now).words) 1 (entries_of_lines (P.state device.now).lines)) }
+        stamped.ends.items ≡ stamped_below gap (image_of (P.state device.now).words) 1 (entries_of_lines layout (P.state device.now).lines)) }
 {
     let mut begins = Vec::new(alloc);
     let mut ends = Vec::new(alloc);
-    for i in 0..LAYOUT.entries_of_lines(device.lines()) {
+    for i in 0..layout.entries_of_lines(device.lines()) {
         let stamps = read_stamps(device, EntryNo(i));
         push_if(&mut begins, EntryNo(i), gap.holds(stamps.begin))?;
         push_if(&mut ends, EntryNo(i), gap.holds(stamps.end))?;
@@ -94,9 +99,9 @@ pub fn clear_oldest<P: Pmem>(
     requires some { 0 < length current.now.gaps.items }
     requires room { current.now.number + 1 < COUNTER_LIMIT }
     requires begins { stamped.now.begins.items
-        ≡ stamped_below (oldest_gap current.now) (image_of (P.state device.old).words) 0 (entries_of_lines (P.state device.old).lines) }
+        ≡ stamped_below (oldest_gap current.now) (image_of (P.state device.old).words) 0 (entries_of_lines current.now.layout (P.state device.old).lines) }
     requires ends { stamped.now.ends.items
-        ≡ stamped_below (oldest_gap current.now) (image_of (P.state device.old).words) 1 (entries_of_lines (P.state device.old).lines) }
+        ≡ stamped_below (oldest_gap current.now) (image_of (P.state device.old).words) 1 (entries_of_lines current.now.layout (P.state device.old).lines) }
     ensures rest { IfOk result (λ next. IsAtRest next (P.state device.new)) }
     ensures clears { IfOk result (λ next.
         Clears (contents_of current.now (P.state device.old)) stamped.now.begins.items (contents_of next (P.state device.new))) }
@@ -126,6 +131,7 @@ pub(crate) fn without_oldest_gap(current: &Record) -> Record
     let mut gaps = copy_gaps(&current.gaps);
     gaps.remove(0);
     Record {
+        layout: current.layout,
         number: current.number + 1,
         position: current.position,
         cp: current.cp,

@@ -2,6 +2,7 @@
 ghost use Rattle.std.specs.Prelude.{◌≡◌, ◌+◌, ◌^◌, ◌<◌, ◌++◌, [], length, OnOk, OnErr};
 ghost use Rattle.std.specs.List.{AllByRecursion};
 ghost use Rattle.pmem.specs.Runs.{LeavesOnly, Staged, StageFailed};
+ghost use Rattle.model.specs.Layout.{directory_room};
 ghost use Rattle.model.specs.Group.{HasItsLines, IsGroup, IsPlaced, next_record, after_group};
 ghost use Rattle.wbl_engine.specs.AtRest.{IsAtRest, contents_of};
 ghost use Rattle.wbl_engine.specs.Committing.{AreCommittable, after_parts, record_after};
@@ -87,7 +88,7 @@ fn stage_and_erase<P: Pmem>(
     entries: &[EntryNo],
     stamp: u64,
 ) -> Result<(), Fault>
-    requires placed { AllByRecursion (IsPlaced (P.state device.old).lines) (puts_of_parts parts.now) }
+    requires placed { AllByRecursion (IsPlaced (directory_room (P.state device.old).lines) (P.state device.old).lines) (puts_of_parts parts.now) }
     requires fitting { AllByRecursion HasItsLines (puts_of_parts parts.now) }
     requires ends { AreEndsWithin (P.state device.old).lines parts.now }
     requires begins { AreWithin (P.state device.old).lines entries.now }

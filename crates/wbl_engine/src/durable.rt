@@ -3,8 +3,8 @@ ghost use Rattle.std.specs.Prelude.{◌≡◌, ◌⊎◌, ◌+◌, ◌<◌, ◌�
 ghost use Rattle.pmem.specs.Device.{State};
 ghost use Rattle.pmem.specs.Runs.{LeavesOnly};
 ghost use Rattle.model.specs.declared.group.Group.{Group};
-ghost use Rattle.model.specs.Image.{Version, entries_of_lines};
-ghost use Rattle.model.specs.Group.{Contents, IsGroup, after_group};
+ghost use Rattle.model.specs.Image.{Version};
+ghost use Rattle.model.specs.Group.{Contents, IsGroup, after_group, entries_of};
 ghost use Rattle.model.specs.declared.image.TheConstants.{COUNTER_LIMIT};
 ghost use Rattle.wbl_engine.specs.Contents.{Keeps, IsDurable, Same, Exhausts};
 ghost use Rattle.wbl_engine.specs.Freeing.{AreEnded, Clears, KeepsFreedOr, KeepsMap, KeepsVersions, KeepsWithoutSome, after_free, cleared_contents, extents_of};
@@ -173,7 +173,7 @@ pub trait Durable {
     /// The lines that the version in this entry takes.
     fn extent_of(&self, entry: EntryNo) -> Extent
         requires sound { is_faulted self.now ≡ false }
-        requires within { entry.0 < entries_of_lines (contents self.now).lines }
+        requires within { entry.0 < entries_of (contents self.now) }
         ensures { (version : Version) → (contents self.now).versions entry.0 ≡ Some version
             → (result.first_line ≡ version.first_line) × (result.lines ≡ version.lines) };
 

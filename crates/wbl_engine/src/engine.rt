@@ -18,7 +18,7 @@ use crate::restarting::Restarting;
 use crate::successor::next_record;
 use heap_layout::Versions;
 use kv_types::{EntryNo, Extent, Refusal};
-use model::{Group, MAX_LINES, MIN_LINES, Part, Record, Role};
+use model::{Group, Layout, MAX_LINES, MIN_LINES, Part, Record, Role};
 use pmem::{Crashing, Fault, Pmem};
 use std::alloc::{AllocError, Global};
 
@@ -86,8 +86,8 @@ impl<P: Pmem> WblEngine<P> {
         }
     }
 
-    /// Reopens the image of a device in its role: no stamp counts from then on that a crash may have cut off. Returns the engine, and all
-    /// versions of the image. Where the record holds 8 gaps, the oldest is cleared first.
+    /// Reopens the image of a device, which is to have this layout, in its role: no stamp counts from then on that a crash may have cut off.
+    /// Returns the engine, and all versions of the image. Where the record holds as many gaps as it can, the oldest is cleared first.
     ///
     /// At any moment a crash leaves an undamaged image with the same versions, which can be reopened again.
     ///
@@ -99,20 +99,22 @@ impl<P: Pmem> WblEngine<P> {
     pub fn reopen(
         alloc: Global,
         device: P,
+        layout: Layout,
         role: Role,
     ) -> Result<(WblEngine<P>, Versions), (Refusal, P)>
         requires settled { (word : ℕ) → Only ((P.state device).words word) (image_of (P.state device).words word) }
         ensures reopens { IfOk result (λ o. Reopens (P.state device).lines (image_of (P.state device).words) role
             (⟦<WblEngine<P> as Durable>⟧.contents o.0) o.1.counted.items o.1.gapped.items) }
+        ensures layout { IfOk result (λ o. (⟦<WblEngine<P> as Durable>⟧.contents o.0).current.layout ≡ layout) }
         ensures shown { IfOk result (λ o. IsShown (⟦<WblEngine<P> as Durable>⟧.contents o.0) o.1.counted.items o.1.gapped.items
             (image_of (⟦<WblEngine<P> as Durable>⟧.device o.0).words)) }
         ensures durable { IfOk result (λ o. IsDurable (⟦<WblEngine<P> as Durable>⟧.device o.0) (⟦<WblEngine<P> as Durable>⟧.contents o.0)) }
         ensures sound { IfOk result (λ o. (⟦<WblEngine<P> as Durable>⟧.is_faulted o.0 ≡ false)
             × ((⟦<WblEngine<P> as Durable>⟧.device o.0).failures ≡ (P.state device).failures)) }
         ensures refused { IfErr result (λ refused. (refused.0 ≡ Refusal.Fault)
-            ⊎ (RefusesReopening (P.state device).lines (image_of (P.state device).words) role refused.0 × (refused.1 ≡ device))) }
+            ⊎ (RefusesReopening layout (P.state device).lines (image_of (P.state device).words) role refused.0 × (refused.1 ≡ device))) }
         ensures fault { IfErr result (λ refused. refused.0 ≡ Refusal.Fault → (P.state device).failures < (P.state refused.1).failures) }
-        ensures superblock { (refusal : Cause) → super_refusal (P.state device).lines (image_of (P.state device).words) ≡ Some refusal
+        ensures superblock { (refusal : Cause) → super_refusal layout (P.state device).lines (image_of (P.state device).words) ≡ Some refusal
             → result ≡ Err (refusal, device) }
         ensures moments { (r : CommitRecord) → IsUndamaged (P.state device).lines r (image_of (P.state device).words)
             → MatchResult result
@@ -122,7 +124,7 @@ impl<P: Pmem> WblEngine<P> {
             (StaysReadable (P.state device).lines r (image_of (P.state device).words))) }
     {
         let mut device = device;
-        match reopen_device(alloc, &mut device, role) {
+        match reopen_device(alloc, &mut device, layout, role) {
             Ok((current, versions)) => Ok((
                 WblEngine {
                     device,
@@ -231,7 +233,12 @@ impl<P: Pmem> Durable for WblEngine<P> {
         if is_last(&self.current) {
             return Err(Refusal::Exhausted);
         }
-        let stamped = stamped_in(alloc, &self.device, oldest_gap(&self.current))?;
+        let stamped = stamped_in(
+            alloc,
+            &self.device,
+            self.current.layout,
+            oldest_gap(&self.current),
+        )?;
         let Ok(next) = clear_oldest(&mut self.device, &self.current, &stamped) else {
             self.faulted = true;
             return Err(Refusal::Fault);
@@ -318,7 +325,7 @@ impl<P: Crashing> Restarting for WblEngine<P> {
     }
 
     fn restart(&mut self, alloc: Global, role: Role) -> Result<Versions, Refusal> {
-        match reopen_device(alloc, &mut self.device, role) {
+        match reopen_device(alloc, &mut self.device, self.current.layout, role) {
             Ok((current, versions)) => {
                 self.current = current;
                 self.faulted = false;

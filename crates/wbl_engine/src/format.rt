@@ -2,17 +2,16 @@
 ghost use Rattle.std.specs.Prelude.{◌≡◌, ◌+◌, ◌*◌, ◌<◌, ◌≤◌, replicate, OnOk, OnErr};
 ghost use Rattle.pmem.specs.Runs.{LeavesOnly, Runs, Staged, StageFailed, stores, pairs_from, lines_from};
 ghost use Rattle.model.specs.declared.image.TheConstants.{MIN_LINES, MAX_LINES};
-ghost use Rattle.model.specs.Image.{entries_of_lines, first_extent_line};
+ghost use Rattle.model.specs.Image.{first_extent_line};
 ghost use Rattle.wbl_engine.specs.AtRest.{IsAtRest};
 ghost use Rattle.wbl_engine.specs.Formatting.{first_record, new_pairs, IsFormatting};
 
 use arrayvec::ArrayVec;
-use model::{FIRST_EPOCH, LAYOUT, LINE_WORDS, MAGIC, Record, Role, STAMP_WINDOW};
+use model::{
+    DIRECTORY_LINE, FIRST_EPOCH, LAYOUT, LINE_WORDS, Layout, MAGIC, Record, Role, STAMP_WINDOW,
+};
 use pmem::{Fault, Pmem, flush_lines, persist, store_words};
 use wbl_record::words_of;
-
-/// How many words a record slot has.
-const SLOT_WORDS: u64 = LINE_WORDS * LAYOUT.slot_lines;
 
 /// Formats a device: erases the magic, then writes everything else, then writes the magic.
 ///
@@ -45,18 +44,19 @@ fn write_new<P: Pmem>(device: &mut P, first: &Record) -> Result<(), Fault>
     let lines = device.lines();
     let slot_0 = LINE_WORDS * LAYOUT.slot_line(lines, 0);
     let slot_1 = LINE_WORDS * LAYOUT.slot_line(lines, 1);
-    let behind_slots = slot_1 + SLOT_WORDS;
-    let before_directory = LINE_WORDS * LAYOUT.directory_line - behind_slots;
-    let room = LAYOUT.directory_room(lines);
-    store_words(device, 1, &[LAYOUT.version, lines, room, 1, 0, 0, 0]);
-    clear_words(device, slot_0, SLOT_WORDS);
-    store_words(device, slot_1, &words_of(first));
+    let slot_words = LINE_WORDS * LAYOUT.slot_lines();
+    let behind_slots = slot_1 + slot_words;
+    let before_directory = LINE_WORDS * DIRECTORY_LINE - behind_slots;
+    let room = Layout::directory_room(lines);
+    store_words(device, 1, &[LAYOUT.version(), lines, room, 1, 0, 0, 0]);
+    clear_words(device, slot_0, slot_words);
+    store_words(device, slot_1, words_of(first).as_slice());
     clear_words(
         device,
         behind_slots,
         before_directory + LINE_WORDS * LAYOUT.entries_of_lines(lines),
     );
-    flush_lines(device, 0, LAYOUT.first_extent_line(lines));
+    flush_lines(device, 0, Layout::first_extent_line(lines));
     device.fence()
 }
 
@@ -75,6 +75,7 @@ pub fn first_record(role: Role) -> Record
     ensures { result ≡ first_record role }
 {
     Record {
+        layout: LAYOUT,
         number: 1,
         position: 0,
         cp: 0,

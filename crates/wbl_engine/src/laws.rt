@@ -10,8 +10,8 @@ ghost use Rattle.model.specs.declared.group.Part.{Part};
 ghost use Rattle.model.specs.declared.image.TheConstants.{COUNTER_LIMIT, MIN_LINES, MAX_LINES};
 ghost use Rattle.model.specs.declared.record.Role.{Role};
 ghost use Rattle.model.specs.declared.record.Role.TheVariants.{Primary};
-ghost use Rattle.model.specs.Group.{Contents, IsConsistent, IsGroup, after_group, is_ended_version};
-ghost use Rattle.model.specs.Image.{Image, IsMapOf, entries_of_lines};
+ghost use Rattle.model.specs.Group.{Contents, IsConsistent, IsGroup, after_group, entries_of, is_ended_version};
+ghost use Rattle.model.specs.Image.{Image, IsMapOf};
 ghost use Rattle.wbl_engine.specs.Contents.{Keeps, IsNew, Same, Exhausts};
 ghost use Rattle.wbl_engine.specs.Freeing.{Clears, without};
 ghost use Rattle.wbl_engine.specs.Lawful.{AreLawful, IsUndamaged};
@@ -43,8 +43,8 @@ pub fn freed_contents_are_lawful()
         → AreLawful contents → AreLawful (without gone contents) }
     ensures map { (contents : Contents) (gone : ℕ → Bool) (s : Keyspace)
         → ((i : ℕ) → IsTrue (gone i) → IsTrue (is_ended_version (contents.versions i)))
-        → IsMapOf contents.versions (entries_of_lines contents.lines) s
-        → IsMapOf (without gone contents).versions (entries_of_lines contents.lines) s }
+        → IsMapOf contents.versions (entries_of contents) s
+        → IsMapOf (without gone contents).versions (entries_of contents) s }
     ensures consistent { (contents : Contents) (gone : ℕ → Bool) → IsConsistent contents → IsConsistent (without gone contents) }
 {}
 
@@ -84,7 +84,7 @@ pub fn reopening_keeps_contents()
 /// fence fails.
 pub fn lawful_contents_are_reopened()
     ensures { (contents : Contents) (image : Image) (refusal : Refusal) → AreLawful contents → Keeps contents image
-        → RefusesReopening contents.lines image contents.current.role refusal
+        → RefusesReopening contents.current.layout contents.lines image contents.current.role refusal
         → (refusal ≡ Memory) ⊎ ((refusal ≡ Exhausted) × ExhaustsReopening contents.current) }
 {}
 
@@ -99,6 +99,6 @@ pub fn promoted_contents_are_lawful()
 /// is refused, a counter of its record is at its limit, or a fence fails.
 pub fn promoted_contents_are_reopened()
     ensures { (contents : Contents) (image : Image) (refusal : Refusal) → AreLawful contents → ¬ ExhaustsPromotion contents.current
-        → Keeps (promoted contents) image → RefusesReopening contents.lines image Primary refusal
+        → Keeps (promoted contents) image → RefusesReopening contents.current.layout contents.lines image Primary refusal
         → (refusal ≡ Memory) ⊎ ((refusal ≡ Exhausted) × ExhaustsReopening (promoted_record contents.current)) }
 {}

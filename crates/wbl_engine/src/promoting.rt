@@ -22,6 +22,7 @@ pub fn promoted_record(current: &Record) -> Option<Record>
     let epoch = current.epoch + 1;
     if number < COUNTER_LIMIT && epoch < COUNTER_LIMIT {
         Some(Record {
+            layout: current.layout,
             number,
             position: current.position,
             cp: current.cp,

@@ -23,6 +23,7 @@ pub fn relocated_record(current: &Record) -> Option<Record>
     let cd = cp + 1 + STAMP_WINDOW;
     if cd < COUNTER_LIMIT && number < COUNTER_LIMIT {
         Some(Record {
+            layout: current.layout,
             number,
             position: current.position,
             cp,

@@ -6,7 +6,7 @@ ghost use Rattle.pmem.specs.Crash.{image_of};
 ghost use Rattle.pmem.specs.Runs.{LeavesOnly};
 ghost use Rattle.model.specs.declared.image.TheConstants.{COUNTER_LIMIT, MAX_LINES, MIN_LINES, STAMP_WINDOW};
 ghost use Rattle.model.specs.declared.record.Record.{Record as CommitRecord};
-ghost use Rattle.model.specs.declared.record.TheConstants.{MAX_GAPS};
+ghost use Rattle.model.specs.Layout.{max_gaps};
 ghost use Rattle.model.specs.Image.{entries_of_lines, is_in_gap};
 ghost use Rattle.heap_layout.specs.Superblock.{super_refusal};
 ghost use Rattle.heap_layout.specs.Versions.{counted_below, gapped_below};
@@ -16,19 +16,19 @@ ghost use Rattle.wbl_engine.specs.Contents.{IsDurable};
 ghost use Rattle.wbl_engine.specs.Erasing.{oldest_gap};
 ghost use Rattle.wbl_engine.specs.Freeing.{record_after_clearing};
 ghost use Rattle.wbl_engine.specs.Lawful.{IsUndamaged};
-ghost use Rattle.wbl_engine.specs.Reopening.{AreCleared, ExhaustsReopening, IsBesideRecords, IsReadable, IsShown, RefusesReopening, Reopens, StaysReadable, is_cleared, is_left, left_below, reopened, with_open_gap, with_room};
+ghost use Rattle.wbl_engine.specs.Reopening.{AreCleared, ExhaustsReopening, IsBesideRecords, IsReadable, IsShown, RefusesReopening, Reopens, StaysReadable, is_cleared, is_full, is_left, left_below, reopened, with_open_gap, with_room};
 
 use crate::clearing::{oldest_gap, push_if, stamped_in, without_oldest_gap};
 use crate::erasing::erase_stamps;
 use crate::inspecting::read_undamaged;
 use heap_layout::{Versions, read_stamps};
 use kv_types::{EntryNo, Refusal};
-use model::{COUNTER_LIMIT, Gap, LAYOUT, MAX_GAPS, Record, Role, STAMP_WINDOW};
+use model::{COUNTER_LIMIT, Gap, Layout, Record, Role, STAMP_WINDOW};
 use pmem::{Fault, Pmem};
 use std::alloc::{AllocError, Global};
 use wbl_record::write_next;
 
-/// Reopens an image in its role: reads it, and writes the record in which no stamp counts that was perhaps given out after the current one.
+/// Reopens an image of this layout in its role: reads it, and writes the record in which no stamp counts that was perhaps given out after the current one.
 ///
 /// # Errors
 ///
@@ -37,27 +37,29 @@ use wbl_record::write_next;
 pub fn reopen_device<P: Pmem>(
     alloc: Global,
     device: &mut P,
+    layout: Layout,
     role: Role,
 ) -> Result<(Record, Versions), Refusal>
     requires settled { (word : ℕ) → Only ((P.state device.old).words word) (image_of (P.state device.old).words word) }
     ensures reopens { IfOk result (λ o. Reopens (P.state device.old).lines (image_of (P.state device.old).words) role
         (contents_of o.0 (P.state device.new)) o.1.counted.items o.1.gapped.items) }
+    ensures layout { IfOk result (λ o. o.0.layout ≡ layout) }
     ensures shown { IfOk result (λ o. IsShown (contents_of o.0 (P.state device.new)) o.1.counted.items o.1.gapped.items
         (image_of (P.state device.new).words)) }
     ensures rest { IfOk result (λ o. IsAtRest o.0 (P.state device.new)) }
     ensures durable { IfOk result (λ o. IsDurable (P.state device.new) (contents_of o.0 (P.state device.new))) }
     ensures sound { OnOk result ((P.state device.new).failures ≡ (P.state device.old).failures) }
     ensures refused { IfErr result (λ refusal. (refusal ≡ Refusal.Fault)
-        ⊎ (RefusesReopening (P.state device.old).lines (image_of (P.state device.old).words) role refusal × (device.new ≡ device.old))) }
+        ⊎ (RefusesReopening layout (P.state device.old).lines (image_of (P.state device.old).words) role refusal × (device.new ≡ device.old))) }
     ensures fault { IsErrOf result Refusal.Fault → (P.state device.old).failures < (P.state device.new).failures }
-    ensures superblock { (refusal : Cause) → super_refusal (P.state device.old).lines (image_of (P.state device.old).words) ≡ Some refusal
+    ensures superblock { (refusal : Cause) → super_refusal layout (P.state device.old).lines (image_of (P.state device.old).words) ≡ Some refusal
         → result ≡ Err refusal }
     ensures lines { (P.state device.new).lines ≡ (P.state device.old).lines }
     ensures asked_moment { (P.state device.new).kept ≡ (P.state device.old).kept }
     ensures moments { (r : CommitRecord) → IsUndamaged (P.state device.old).lines r (image_of (P.state device.old).words)
         → LeavesOnly (P.state device.old) (P.state device.new) (StaysReadable (P.state device.old).lines r (image_of (P.state device.old).words)) }
 {
-    let (current, versions) = read_to_reopen(alloc, device, role)?;
+    let (current, versions) = read_to_reopen(alloc, device, layout, role)?;
     let next = write_reopened(alloc, device, current)?;
     Ok((next, versions))
 }
@@ -67,22 +69,24 @@ pub fn reopen_device<P: Pmem>(
 fn read_to_reopen<P: Pmem>(
     alloc: Global,
     device: &P,
+    layout: Layout,
     role: Role,
 ) -> Result<(Record, Versions), Refusal>
     ensures undamaged { IfOk result (λ read. IsUndamaged (P.state device.now).lines read.0 (image_of (P.state device.now).words)) }
+    ensures layout { IfOk result (λ read. read.0.layout ≡ layout) }
     ensures role { IfOk result (λ read. read.0.role ≡ role) }
     ensures limits { IfOk result (λ read. ¬ ExhaustsReopening read.0) }
     ensures many { OnOk result (MIN_LINES ≤ (P.state device.now).lines) }
     ensures few { OnOk result ((P.state device.now).lines ≤ MAX_LINES) }
     ensures counted { IfOk result (λ read. read.1.counted.items
-        ≡ counted_below read.0 (image_of (P.state device.now).words) (entries_of_lines (P.state device.now).lines)) }
+        ≡ counted_below read.0 (image_of (P.state device.now).words) (entries_of_lines read.0.layout (P.state device.now).lines)) }
     ensures gapped { IfOk result (λ read. read.1.gapped.items
-        ≡ left_below read.0 (image_of (P.state device.now).words) (entries_of_lines (P.state device.now).lines)) }
-    ensures refused { IfErr result (λ refusal. RefusesReopening (P.state device.now).lines (image_of (P.state device.now).words) role refusal) }
-    ensures superblock { (refusal : Cause) → super_refusal (P.state device.now).lines (image_of (P.state device.now).words) ≡ Some refusal
+        ≡ left_below read.0 (image_of (P.state device.now).words) (entries_of_lines read.0.layout (P.state device.now).lines)) }
+    ensures refused { IfErr result (λ refusal. RefusesReopening layout (P.state device.now).lines (image_of (P.state device.now).words) role refusal) }
+    ensures superblock { (refusal : Cause) → super_refusal layout (P.state device.now).lines (image_of (P.state device.now).words) ≡ Some refusal
         → result ≡ Err refusal }
 {
-    let (current, versions) = read_undamaged(alloc, device)?;
+    let (current, versions) = read_undamaged(alloc, device, layout)?;
     if !has_role(&current, role) {
         return Err(Refusal::WrongRole);
     }
@@ -109,11 +113,12 @@ fn left_by_clearing<P: Pmem>(
     gapped: Vec<EntryNo>,
 ) -> Result<Vec<EntryNo>, AllocError>
     requires image { MIN_LINES ≤ (P.state device.now).lines }
-    requires gapped { gapped.items ≡ gapped_below current.now (image_of (P.state device.now).words) (entries_of_lines (P.state device.now).lines) }
+    requires gapped { gapped.items
+        ≡ gapped_below current.now (image_of (P.state device.now).words) (entries_of_lines current.now.layout (P.state device.now).lines) }
     ensures { IfOk result (λ left.
-        left.items ≡ left_below current.now (image_of (P.state device.now).words) (entries_of_lines (P.state device.now).lines)) }
+        left.items ≡ left_below current.now (image_of (P.state device.now).words) (entries_of_lines current.now.layout (P.state device.now).lines)) }
 {
-    if current.gaps.len() < MAX_GAPS {
+    if !is_full(current) {
         return Ok(gapped);
     }
     list_left(alloc, device, current)
@@ -127,10 +132,10 @@ fn list_left<P: Pmem>(
 ) -> Result<Vec<EntryNo>, AllocError>
     requires { MIN_LINES ≤ (P.state device.now).lines }
     ensures { IfOk result (λ left.
-        left.items ≡ left_below current.now (image_of (P.state device.now).words) (entries_of_lines (P.state device.now).lines)) }
+        left.items ≡ left_below current.now (image_of (P.state device.now).words) (entries_of_lines current.now.layout (P.state device.now).lines)) }
 {
     let mut left = Vec::new(alloc);
-    for i in 0..LAYOUT.entries_of_lines(device.lines()) {
+    for i in 0..current.layout.entries_of_lines(device.lines()) {
         let begin = read_stamps(device, EntryNo(i)).begin;
         push_if(&mut left, EntryNo(i), is_left(current, begin))?;
     }
@@ -144,11 +149,18 @@ fn is_left(current: &Record, begin: u64) -> bool
     begin != 0 && (!current.counts(begin) && !is_cleared(current, begin))
 }
 
+/// Whether the record holds as many gaps as it can.
+fn is_full(current: &Record) -> bool
+    ensures { result ≡ is_full current.now }
+{
+    current.gaps.len() as u64 == current.layout.max_gaps()
+}
+
 /// Whether a stamp is in the gap that the reopening clears.
 fn is_cleared(current: &Record, stamp: u64) -> bool
     ensures { result ≡ is_cleared current.now stamp }
 {
-    current.gaps.len() == MAX_GAPS && oldest_gap(current).holds(stamp)
+    is_full(current) && oldest_gap(current).holds(stamp)
 }
 
 /// Writes the reopened record: with room for one more gap, and then with the gap of all stamps that were perhaps given out. Errors as at
@@ -162,7 +174,7 @@ fn write_reopened<P: Pmem>(
     requires limits { ¬ ExhaustsReopening current }
     ensures next { IfOk result (λ next. next ≡ reopened current) }
     ensures readable { OnOk result (IsReadable (reopened current) (P.state device.new)) }
-    ensures cleared { OnOk result (AreCleared (P.state device.old).lines (is_cleared current)
+    ensures cleared { OnOk result (AreCleared current.layout (P.state device.old).lines (is_cleared current)
         (image_of (P.state device.old).words) (image_of (P.state device.new).words)) }
     ensures lines { (P.state device.new).lines ≡ (P.state device.old).lines }
     ensures sound { OnOk result ((P.state device.new).failures ≡ (P.state device.old).failures) }
@@ -190,7 +202,7 @@ fn make_room<P: Pmem>(alloc: Global, device: &mut P, current: Record) -> Result<
     requires number { current.number + 1 < COUNTER_LIMIT }
     ensures next { IfOk result (λ next. next ≡ with_room current) }
     ensures readable { OnOk result (IsReadable (with_room current) (P.state device.new)) }
-    ensures cleared { OnOk result (AreCleared (P.state device.old).lines (is_cleared current)
+    ensures cleared { OnOk result (AreCleared current.layout (P.state device.old).lines (is_cleared current)
         (image_of (P.state device.old).words) (image_of (P.state device.new).words)) }
     ensures lines { (P.state device.new).lines ≡ (P.state device.old).lines }
     ensures sound { OnOk result ((P.state device.new).failures ≡ (P.state device.old).failures) }
@@ -201,7 +213,7 @@ fn make_room<P: Pmem>(alloc: Global, device: &mut P, current: Record) -> Result<
     ensures moments { LeavesOnly (P.state device.old) (P.state device.new)
         (StaysReadable (P.state device.old).lines current (image_of (P.state device.old).words)) }
 {
-    if current.gaps.len() < MAX_GAPS {
+    if !is_full(&current) {
         return Ok(current);
     }
     clear_oldest(alloc, device, current)
@@ -214,7 +226,7 @@ fn clear_oldest<P: Pmem>(alloc: Global, device: &mut P, current: Record) -> Resu
     requires number { current.number + 1 < COUNTER_LIMIT }
     ensures next { IfOk result (λ next. next ≡ record_after_clearing current) }
     ensures readable { OnOk result (IsReadable (record_after_clearing current) (P.state device.new)) }
-    ensures cleared { OnOk result (AreCleared (P.state device.old).lines (λ stamp. is_in_gap stamp (oldest_gap current))
+    ensures cleared { OnOk result (AreCleared current.layout (P.state device.old).lines (λ stamp. is_in_gap stamp (oldest_gap current))
         (image_of (P.state device.old).words) (image_of (P.state device.new).words)) }
     ensures lines { (P.state device.new).lines ≡ (P.state device.old).lines }
     ensures sound { OnOk result ((P.state device.new).failures ≡ (P.state device.old).failures) }
@@ -238,7 +250,7 @@ fn erase_gap<P: Pmem>(alloc: Global, device: &mut P, current: &Record) -> Result
     requires readable { IsReadable current.now (P.state device.old) }
     requires some { 0 < length current.now.gaps.items }
     ensures readable { OnOk result (IsReadable current.now (P.state device.new)) }
-    ensures cleared { OnOk result (AreCleared (P.state device.old).lines (λ stamp. is_in_gap stamp (oldest_gap current.now))
+    ensures cleared { OnOk result (AreCleared current.now.layout (P.state device.old).lines (λ stamp. is_in_gap stamp (oldest_gap current.now))
         (image_of (P.state device.old).words) (image_of (P.state device.new).words)) }
     ensures lines { (P.state device.new).lines ≡ (P.state device.old).lines }
     ensures sound { OnOk result ((P.state device.new).failures ≡ (P.state device.old).failures) }
@@ -249,7 +261,7 @@ fn erase_gap<P: Pmem>(alloc: Global, device: &mut P, current: &Record) -> Result
     ensures moments { LeavesOnly (P.state device.old) (P.state device.new)
         (StaysReadable (P.state device.old).lines current.now (image_of (P.state device.old).words)) }
 {
-    let stamped = stamped_in(alloc, device, oldest_gap(current))?;
+    let stamped = stamped_in(alloc, device, current.layout, oldest_gap(current))?;
     match erase_stamps(device, stamped.begins.as_slice(), stamped.ends.as_slice()) {
         Ok(()) => Ok(()),
         Err(Fault) => Err(Refusal::Fault),
@@ -259,12 +271,12 @@ fn erase_gap<P: Pmem>(alloc: Global, device: &mut P, current: &Record) -> Result
 /// Writes the record in which the stamps that were perhaps given out after the current one are a gap. On `Err` a fence has failed.
 fn add_open_gap<P: Pmem>(device: &mut P, current: Record) -> Result<Record, Fault>
     requires readable { IsReadable current (P.state device.old) }
-    requires room { length current.gaps.items < MAX_GAPS }
+    requires room { length current.gaps.items < max_gaps current.layout }
     requires limit { current.cd + 1 + STAMP_WINDOW < COUNTER_LIMIT }
     requires number { current.number + 1 < COUNTER_LIMIT }
     ensures next { IfOk result (λ next. next ≡ with_open_gap current) }
     ensures readable { OnOk result (IsReadable (with_open_gap current) (P.state device.new)) }
-    ensures beside { OnOk result ((word : ℕ) → IsBesideRecords (P.state device.old).lines word
+    ensures beside { OnOk result ((word : ℕ) → IsBesideRecords current.layout (P.state device.old).lines word
         → image_of (P.state device.new).words word ≡ image_of (P.state device.old).words word) }
     ensures lines { (P.state device.new).lines ≡ (P.state device.old).lines }
     ensures sound { OnOk result ((P.state device.new).failures ≡ (P.state device.old).failures) }
@@ -280,7 +292,7 @@ fn add_open_gap<P: Pmem>(device: &mut P, current: Record) -> Result<Record, Faul
 
 /// The record after this one, in which the stamps that were perhaps given out are a gap.
 fn with_open_gap(current: Record) -> Record
-    requires room { length current.gaps.items < MAX_GAPS }
+    requires room { length current.gaps.items < max_gaps current.layout }
     requires some { 0 < current.cd }
     requires limit { current.cd + 1 + STAMP_WINDOW < COUNTER_LIMIT }
     requires below { current.cp < current.cd }
@@ -306,6 +318,6 @@ fn exhausts(current: &Record) -> bool
     requires { IsLawful current.now }
     ensures { IsTrue result ↔ ExhaustsReopening current.now }
 {
-    let records = if current.gaps.len() < MAX_GAPS { 1 } else { 2 };
+    let records = if is_full(current) { 2 } else { 1 };
     current.cd + 1 + STAMP_WINDOW >= COUNTER_LIMIT || current.number + records >= COUNTER_LIMIT
 }

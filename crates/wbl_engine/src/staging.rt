@@ -2,20 +2,21 @@
 ghost use Rattle.std.specs.Prelude.{◌+◌, ◌^◌, ◌<◌, length, OnOk, OnErr};
 ghost use Rattle.std.specs.List.{AllByRecursion};
 ghost use Rattle.pmem.specs.Runs.{Runs, Staged, StageFailed, stores, flushes};
+ghost use Rattle.model.specs.Layout.{directory_room};
 ghost use Rattle.model.specs.Group.{IsPlaced, HasItsLines, put_of, puts_of_part};
 ghost use Rattle.heap_layout.specs.Put.{put_lines};
 ghost use Rattle.wbl_engine.specs.Stage.{IsWritable, puts_of_changes, puts_of_parts, puts_pairs, end_pairs, part_pairs, parts_pairs, puts_lines, end_lines, part_lines, parts_lines, AreWithin, AreEndsWithin};
 
 use heap_layout::{entry_word, flush_entry, write_entry};
 use kv_types::EntryNo;
-use model::{LAYOUT, Part, PlacedChange};
+use model::{Layout, Part, PlacedChange};
 use pmem::{Fault, Pmem};
 
 /// Stores the puts and the ends of all parts, flushes their lines, and fences. The first part takes `stamp`, and each later part the next one.
 ///
 /// None of it counts before the record does. On `Err` a fence has failed, and any of the words may be lost, each independently.
 pub fn stage_parts<P: Pmem>(device: &mut P, parts: &[Part], stamp: u64) -> Result<(), Fault>
-    requires placed { AllByRecursion (IsPlaced (P.state device.old).lines) (puts_of_parts parts.now) }
+    requires placed { AllByRecursion (IsPlaced (directory_room (P.state device.old).lines) (P.state device.old).lines) (puts_of_parts parts.now) }
     requires fitting { AllByRecursion HasItsLines (puts_of_parts parts.now) }
     requires ends { AreEndsWithin (P.state device.old).lines parts.now }
     requires room { stamp + length parts.now < 2 ^ 64 }
@@ -30,7 +31,7 @@ pub fn stage_parts<P: Pmem>(device: &mut P, parts: &[Part], stamp: u64) -> Resul
 
 /// Stores the puts and the ends of all parts.
 pub(crate) fn store_parts<P: Pmem>(device: &mut P, parts: &[Part], stamp: u64)
-    requires placed { AllByRecursion (IsPlaced (P.state device.old).lines) (puts_of_parts parts.now) }
+    requires placed { AllByRecursion (IsPlaced (directory_room (P.state device.old).lines) (P.state device.old).lines) (puts_of_parts parts.now) }
     requires fitting { AllByRecursion HasItsLines (puts_of_parts parts.now) }
     requires ends { AreEndsWithin (P.state device.old).lines parts.now }
     requires room { stamp + length parts.now < 2 ^ 64 }
@@ -44,7 +45,7 @@ pub(crate) fn store_parts<P: Pmem>(device: &mut P, parts: &[Part], stamp: u64)
 
 /// Stores the puts and the ends of one part.
 fn store_part<P: Pmem>(device: &mut P, part: &Part, stamp: u64)
-    requires placed { AllByRecursion (IsPlaced (P.state device.old).lines) (puts_of_part part.now) }
+    requires placed { AllByRecursion (IsPlaced (directory_room (P.state device.old).lines) (P.state device.old).lines) (puts_of_part part.now) }
     requires fitting { AllByRecursion HasItsLines (puts_of_part part.now) }
     requires ends { AreWithin (P.state device.old).lines part.now.ended.items }
     ensures stored { Runs (P.state device.old) (P.state device.new) (stores (part_pairs stamp part.now) (P.state device.old).words) }
@@ -56,7 +57,7 @@ fn store_part<P: Pmem>(device: &mut P, part: &Part, stamp: u64)
 
 /// Stores the puts among these changes.
 fn store_puts<P: Pmem>(device: &mut P, changes: &[PlacedChange], stamp: u64, position: u64)
-    requires placed { AllByRecursion (IsPlaced (P.state device.old).lines) (puts_of_changes changes.now) }
+    requires placed { AllByRecursion (IsPlaced (directory_room (P.state device.old).lines) (P.state device.old).lines) (puts_of_changes changes.now) }
     requires fitting { AllByRecursion HasItsLines (puts_of_changes changes.now) }
     ensures stored { Runs (P.state device.old) (P.state device.new) (stores (puts_pairs stamp position (puts_of_changes changes.now)) (P.state device.old).words) }
     ensures writable { AllByRecursion IsWritable (puts_of_changes changes.now) }
@@ -68,7 +69,7 @@ fn store_puts<P: Pmem>(device: &mut P, changes: &[PlacedChange], stamp: u64, pos
 
 /// Stores the put of a change, if it is one.
 fn store_change<P: Pmem>(device: &mut P, change: &PlacedChange, stamp: u64, position: u64)
-    requires placed { AllByRecursion (IsPlaced (P.state device.old).lines) (put_of change.now) }
+    requires placed { AllByRecursion (IsPlaced (directory_room (P.state device.old).lines) (P.state device.old).lines) (put_of change.now) }
     requires fitting { AllByRecursion HasItsLines (put_of change.now) }
     ensures stored { Runs (P.state device.old) (P.state device.new) (stores (puts_pairs stamp position (put_of change.now)) (P.state device.old).words) }
     ensures writable { AllByRecursion IsWritable (put_of change.now) }
@@ -90,7 +91,7 @@ fn store_ends<P: Pmem>(device: &mut P, ended: &[EntryNo], stamp: u64)
 
 /// Flushes all lines that `store_parts` stored to.
 pub(crate) fn flush_parts<P: Pmem>(device: &mut P, parts: &[Part])
-    requires placed { AllByRecursion (IsPlaced (P.state device.old).lines) (puts_of_parts parts.now) }
+    requires placed { AllByRecursion (IsPlaced (directory_room (P.state device.old).lines) (P.state device.old).lines) (puts_of_parts parts.now) }
     requires ends { AreEndsWithin (P.state device.old).lines parts.now }
     ensures { Runs (P.state device.old) (P.state device.new) (flushes (parts_lines parts.now) (P.state device.old).words) }
 {
@@ -101,7 +102,7 @@ pub(crate) fn flush_parts<P: Pmem>(device: &mut P, parts: &[Part])
 
 /// Flushes the puts and the ends of one part.
 fn flush_part<P: Pmem>(device: &mut P, part: &Part)
-    requires placed { AllByRecursion (IsPlaced (P.state device.old).lines) (puts_of_part part.now) }
+    requires placed { AllByRecursion (IsPlaced (directory_room (P.state device.old).lines) (P.state device.old).lines) (puts_of_part part.now) }
     requires ends { AreWithin (P.state device.old).lines part.now.ended.items }
     ensures { Runs (P.state device.old) (P.state device.new) (flushes (part_lines part.now) (P.state device.old).words) }
 {
@@ -111,7 +112,7 @@ fn flush_part<P: Pmem>(device: &mut P, part: &Part)
 
 /// Flushes the puts among these changes.
 fn flush_puts<P: Pmem>(device: &mut P, changes: &[PlacedChange])
-    requires { AllByRecursion (IsPlaced (P.state device.old).lines) (puts_of_changes changes.now) }
+    requires { AllByRecursion (IsPlaced (directory_room (P.state device.old).lines) (P.state device.old).lines) (puts_of_changes changes.now) }
     ensures { Runs (P.state device.old) (P.state device.new) (flushes (puts_lines (puts_of_changes changes.now)) (P.state device.old).words) }
 {
     for change in changes {
@@ -121,7 +122,7 @@ fn flush_puts<P: Pmem>(device: &mut P, changes: &[PlacedChange])
 
 /// Flushes the put of a change, if it is one.
 fn flush_change<P: Pmem>(device: &mut P, change: &PlacedChange)
-    requires { AllByRecursion (IsPlaced (P.state device.old).lines) (put_of change.now) }
+    requires { AllByRecursion (IsPlaced (directory_room (P.state device.old).lines) (P.state device.old).lines) (put_of change.now) }
     ensures { Runs (P.state device.old) (P.state device.new) (flushes (puts_lines (put_of change.now)) (P.state device.old).words) }
 {
     if let PlacedChange::Put(put) = change {
@@ -135,6 +136,6 @@ pub(crate) fn flush_ends<P: Pmem>(device: &mut P, ended: &[EntryNo])
     ensures { Runs (P.state device.old) (P.state device.new) (flushes (end_lines ended.now) (P.state device.old).words) }
 {
     for entry in ended {
-        device.flush(LAYOUT.entry_line(entry.0));
+        device.flush(Layout::entry_line(entry.0));
     }
 }

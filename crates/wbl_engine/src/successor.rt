@@ -28,6 +28,7 @@ pub fn next_record(current: &Record, group: &Group) -> Option<Record>
         && group.epoch < COUNTER_LIMIT
     {
         Some(Record {
+            layout: current.layout,
             number,
             position,
             cp,

@@ -1,36 +1,56 @@
 -- The words of a record, one by one.
-use Rattle.std.proofs.Common.{◌≡◌, ℕ, suc, ◌+◌, ◌<◌, ◌≤◌, List, [], ◌∷◌, ◌++◌, length, get_or, refl, sym, ap, ◌∙◌, arith}
+use Rattle.std.proofs.Common.{◌≡◌, ℕ, zero, suc, ◌+◌, ◌*◌, ◌<◌, ◌≤◌, List, [], ◌∷◌, ◌++◌, length, take, replicate, get_or, refl, sym, ap, ◌∙◌, arith, append_assoc, length-append}
+use Rattle.std.specs.List.{flat_map}
+use Rattle.std.proofs.lemmas.List.{length-replicate, take_more}
 use Rattle.model.specs.declared.record.Gap.{Gap}
 use Rattle.model.specs.declared.record.Record.{Record}
-use Rattle.model.specs.Image.{Image, HasWords, HasRecord, gaps_words, record_word, record_words, role_number, root_word}
+use Rattle.model.specs.Layout.{first_word, record_word, root_word, slot_lines}
+use Rattle.model.specs.Image.{Image, HasWords, HasRecord, gap_words, record_words}
+use Rattle.model.proofs.RecordLemmas.{length-record_words}
 
 -- no gap
 abbrev pub no_gap : Gap
 no_gap = record { first = 0; last = 0 }
 
--- the words of the gaps, written out
-abbrev pub eight_gaps : List Gap → List ℕ
-eight_gaps gaps =
-    (get_or gaps 0 no_gap).first ∷ (get_or gaps 0 no_gap).last ∷ (get_or gaps 1 no_gap).first ∷ (get_or gaps 1 no_gap).last
-    ∷ (get_or gaps 2 no_gap).first ∷ (get_or gaps 2 no_gap).last ∷ (get_or gaps 3 no_gap).first ∷ (get_or gaps 3 no_gap).last
-    ∷ (get_or gaps 4 no_gap).first ∷ (get_or gaps 4 no_gap).last ∷ (get_or gaps 5 no_gap).first ∷ (get_or gaps 5 no_gap).last
-    ∷ (get_or gaps 6 no_gap).first ∷ (get_or gaps 6 no_gap).last ∷ (get_or gaps 7 no_gap).first ∷ (get_or gaps 7 no_gap).last ∷ []
+-- ---- the gaps, pair by pair
 
-pub gaps_words-eight : (gaps : List Gap) → gaps_words gaps ≡ eight_gaps gaps
-gaps_words-eight [] = refl
-gaps_words-eight (a ∷ []) = refl
-gaps_words-eight (a ∷ b ∷ []) = refl
-gaps_words-eight (a ∷ b ∷ c ∷ []) = refl
-gaps_words-eight (a ∷ b ∷ c ∷ d ∷ []) = refl
-gaps_words-eight (a ∷ b ∷ c ∷ d ∷ e ∷ []) = refl
-gaps_words-eight (a ∷ b ∷ c ∷ d ∷ e ∷ f ∷ []) = refl
-gaps_words-eight (a ∷ b ∷ c ∷ d ∷ e ∷ f ∷ g ∷ []) = refl
-gaps_words-eight (a ∷ b ∷ c ∷ d ∷ e ∷ f ∷ g ∷ h ∷ rest) = refl
+-- so many zeros
+abbrev pub zeros : ℕ → List ℕ
+zeros room = replicate room 0
 
-pub length-record_words : (r : Record) → length (record_words r) ≡ 24
-length-record_words r =
-    ap (λ (gaps : List ℕ). length (r.number ∷ r.position ∷ r.cp ∷ r.cd ∷ r.epoch ∷ length r.gaps.items ∷ gaps ++ role_number r.role ∷ 0 ∷ []))
-    (gaps_words-eight r.gaps.items)
+zero_at : (room k : ℕ) → get_or (zeros room) k 0 ≡ 0
+zero_at zero k = refl
+zero_at (suc room) zero = refl
+zero_at (suc room) (suc k) = zero_at room k
+
+-- the pair of words of gap k
+pair_at : (gaps : List Gap) (room k : ℕ)
+    → (get_or (flat_map gap_words gaps ++ zeros room) (2 * k) 0 ≡ (get_or gaps k no_gap).first)
+    × (get_or (flat_map gap_words gaps ++ zeros room) (2 * k + 1) 0 ≡ (get_or gaps k no_gap).last)
+pair_at [] room k = (zero_at room (2 * k), zero_at room (2 * k + 1))
+pair_at (gap ∷ gaps) room zero = (refl, refl)
+pair_at (gap ∷ gaps) room (suc k) =
+    let words = flat_map gap_words gaps ++ zeros room in
+    let all : List ℕ = gap.first ∷ gap.last ∷ words in
+    let rest = pair_at gaps room k in
+    let first : 2 * suc k ≡ suc (suc (2 * k)) = omega arith in
+    let last : 2 * suc k + 1 ≡ suc (suc (2 * k + 1)) = omega arith in
+    (ap (λ n. get_or all n 0) first ∙ rest.0, ap (λ n. get_or all n 0) last ∙ rest.1)
+
+-- one more pair
+pub gaps_words-more : (gaps : List Gap) (room k : ℕ) → 2 * k + 2 ≤ room
+    → take (2 * (k + 1)) (flat_map gap_words gaps ++ zeros room)
+    ≡ take (2 * k) (flat_map gap_words gaps ++ zeros room) ++ (get_or gaps k no_gap).first ∷ (get_or gaps k no_gap).last ∷ []
+gaps_words-more gaps room k le =
+    let all = flat_map gap_words gaps ++ zeros room in
+    let many : length (zeros room) ≡ room = length-replicate room 0 in
+    let enough : 2 * k + 1 < length all = omega (arith, length-append (flat_map gap_words gaps) (zeros room), many) in
+    let pair = pair_at gaps room k in
+    let count : 2 * (k + 1) ≡ 2 * k + 1 + 1 = omega arith in
+    ap (λ n. take n all) count ∙ take_more all (2 * k + 1) 0 enough ∙ ap (λ xs. xs ++ get_or all (2 * k + 1) 0 ∷ []) (take_more all (2 * k) 0 (omega (arith, enough)))
+    ∙ append_assoc (take (2 * k) all) (get_or all (2 * k) 0 ∷ []) (get_or all (2 * k + 1) 0 ∷ [])
+    ∙ ap (λ x. take (2 * k) all ++ x ∷ get_or all (2 * k + 1) 0 ∷ []) pair.0
+    ∙ ap (λ y. take (2 * k) all ++ (get_or gaps k no_gap).first ∷ y ∷ []) pair.1
 
 -- consecutive words, by index
 pub HasWords-at : (image : Image) (first : ℕ) (values : List ℕ)
@@ -53,24 +73,12 @@ HasWords-same base image first (value ∷ values) same has = (
 )
 
 -- the same root and the same slot hold the same record
-pub HasRecord-same : (lines : ℕ) (r : Record) (base image : Image) → image root_word ≡ base root_word
-    → ((word : ℕ) → record_word lines r.number 0 ≤ word → word < record_word lines r.number 24 → image word ≡ base word) → HasRecord lines r base → HasRecord lines r image
+pub HasRecord-same : (lines : ℕ) (r : Record) (base image : Image) → image (root_word r.layout) ≡ base (root_word r.layout)
+    → ((word : ℕ) → record_word r.layout lines r.number 0 ≤ word → word < record_word r.layout lines r.number (first_word (slot_lines r.layout)) → image word ≡ base word)
+    → HasRecord lines r base → HasRecord lines r image
 HasRecord-same lines r base image root slot has =
     record {
       root = root ∙ has.root;
-      words = HasWords-same base image (record_word lines r.number 0) (record_words r)
+      words = HasWords-same base image (record_word r.layout lines r.number 0) (record_words r)
           (λ word low high. slot word low (omega (arith, high, length-record_words r))) has.words;
     }
-
--- the words of a record, from its gaps one by one
-pub record_words-written : (r : Record) (count role : ℕ) (a b c d e f g h : Gap) → count ≡ length r.gaps.items → role ≡ role_number r.role
-    → a ≡ get_or r.gaps.items 0 no_gap → b ≡ get_or r.gaps.items 1 no_gap → c ≡ get_or r.gaps.items 2 no_gap → d ≡ get_or r.gaps.items 3 no_gap
-    → e ≡ get_or r.gaps.items 4 no_gap → f ≡ get_or r.gaps.items 5 no_gap → g ≡ get_or r.gaps.items 6 no_gap → h ≡ get_or r.gaps.items 7 no_gap
-    → r.number ∷ r.position ∷ r.cp ∷ r.cd ∷ r.epoch ∷ count ∷ a.first ∷ a.last ∷ b.first ∷ b.last ∷ c.first ∷ c.last ∷ d.first ∷ d.last
-    ∷ e.first ∷ e.last ∷ f.first ∷ f.last ∷ g.first ∷ g.last ∷ h.first ∷ h.last ∷ role ∷ 0 ∷ [] ≡ record_words r
-record_words-written r count role a b c d e f g h is_count is_role at0 at1 at2 at3 at4 at5 at6 at7 =
-    let written_out : r.number ∷ r.position ∷ r.cp ∷ r.cd ∷ r.epoch ∷ count ∷ a.first ∷ a.last ∷ b.first ∷ b.last ∷ c.first ∷ c.last ∷ d.first ∷ d.last
-    ∷ e.first ∷ e.last ∷ f.first ∷ f.last ∷ g.first ∷ g.last ∷ h.first ∷ h.last ∷ role ∷ 0 ∷ []
-    ≡ r.number ∷ r.position ∷ r.cp ∷ r.cd ∷ r.epoch ∷ length r.gaps.items ∷ eight_gaps r.gaps.items ++ role_number r.role ∷ 0 ∷ [] = cc in
-    written_out ∙ ap (λ (gaps : List ℕ). r.number ∷ r.position ∷ r.cp ∷ r.cd ∷ r.epoch ∷ length r.gaps.items ∷ gaps ++ role_number r.role ∷ 0 ∷ [])
-    (sym (gaps_words-eight r.gaps.items))

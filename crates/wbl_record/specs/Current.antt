@@ -3,7 +3,7 @@ use Rattle.std.specs.Prelude.{◌≡◌, ℕ, ◌+◌, ◌<◌, ◌≤◌, List,
 use Rattle.model.specs.declared.image.TheConstants.{COUNTER_LIMIT, STAMP_WINDOW}
 use Rattle.model.specs.declared.record.Gap.{Gap}
 use Rattle.model.specs.declared.record.Record.{Record}
-use Rattle.model.specs.declared.record.TheConstants.{MAX_GAPS}
+use Rattle.model.specs.Layout.{max_gaps, version}
 use Rattle.model.specs.Image.{Image, HasRecord}
 
 -- The gaps rise, each has at least one stamp, no two have one in common, and all their stamps are above `low` and below `cp`.
@@ -21,10 +21,12 @@ pub record IsLawful (r : Record) : Type 0 where
   pub room : r.cd < COUNTER_LIMIT
   pub some_epoch : 0 < r.epoch
   pub epoch : r.epoch < COUNTER_LIMIT
-  pub few : length r.gaps.items ≤ MAX_GAPS
+  -- at most as many as the layout has room for
+  pub few : length r.gaps.items ≤ max_gaps r.layout
   pub gaps : AreGaps 0 r.gaps.items r.cp
 
--- the image of `lines` lines has this record, which obeys its rules
+-- the image of `lines` lines has the version of this record, and the record, which obeys its rules
 pub record IsCurrent (lines : ℕ) (image : Image) (r : Record) : Type 0 where
+  pub version_is : image 1 ≡ version r.layout
   pub has_record : HasRecord lines r image
   pub lawful : IsLawful r

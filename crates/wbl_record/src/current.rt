@@ -1,26 +1,28 @@
 //! The current record, read from the slot that the root names, and the rules that it obeys.
 ghost use Rattle.std.specs.Prelude.{◌≡◌, ◌≢◌, ◌↔◌, ◌+◌, ◌*◌, ◌<◌, ◌≤◌, IsTrue, MatchOption, length, IfOk, IfErr, OnErr};
+ghost use Rattle.model.specs.declared.image.TheConstants.{MIN_LINES};
+ghost use Rattle.model.specs.Layout.{first_word, max_gaps, slot_lines};
 ghost use Rattle.pmem.specs.Crash.{image_of};
 ghost use Rattle.model.specs.declared.record.Record.{Record as CommitRecord};
 ghost use Rattle.model.specs.declared.record.Role.{Role as NodeRole};
-ghost use Rattle.model.specs.Image.{role_number, slots_end};
+ghost use Rattle.model.specs.Image.{role_number};
 ghost use Rattle.model.specs.ReadImage.{gaps_from, AreZero, IsFilled, IsRecordOf};
 ghost use Rattle.wbl_record.specs.Current.{AreGaps, IsLawful, IsCurrent};
 
 use arrayvec::ArrayVec;
 use kv_types::Refusal;
 use model::{
-    COUNTER_LIMIT, GAPS_WORD, Gap, LAYOUT, LINE_WORDS, MAX_GAPS, Record, Role, STAMP_WINDOW,
+    COUNTER_LIMIT, GAPS_WORD, Gap, LINE_WORDS, Layout, MAX_GAPS, Record, Role, STAMP_WINDOW,
 };
 use pmem::Pmem;
 
-/// Reads the current record. It allocates no memory.
+/// Reads the current record, which has the layout of the image's version. It allocates no memory.
 ///
 /// # Errors
 ///
-/// `Damaged` where the root's slot does not bear the root's number, or a word of the record breaks its rule.
+/// `Damaged` where the image has no version, the root's slot does not bear the root's number, or a word of the record breaks its rule.
 pub fn read_current<P: Pmem>(device: &P) -> Result<Record, Refusal>
-    requires { slots_end (P.state device.now).lines ≤ (P.state device.now).lines }
+    requires { MIN_LINES ≤ (P.state device.now).lines }
     ensures ok { IfOk result (λ r. IsCurrent (P.state device.now).lines (image_of (P.state device.now).words) r) }
     ensures damaged { OnErr result ((r : CommitRecord) → ¬ IsCurrent (P.state device.now).lines (image_of (P.state device.now).words) r) }
     ensures cause { IfErr result (λ refusal. refusal ≡ Refusal.Damaged) }
@@ -35,21 +37,23 @@ pub fn read_current<P: Pmem>(device: &P) -> Result<Record, Refusal>
     }
 }
 
-/// The record that the root names, or `None` where its slot holds none. Whether the record obeys its rules is not looked at.
+/// The record that the root names, or `None` where the image has no version or the slot holds none. Whether the record obeys its rules is not looked at.
 fn read_record<P: Pmem>(device: &P) -> Option<Record>
-    requires { slots_end (P.state device.now).lines ≤ (P.state device.now).lines }
+    requires { MIN_LINES ≤ (P.state device.now).lines }
     ensures { MatchOption result ((r : CommitRecord) → ¬ IsRecordOf (P.state device.now).lines (image_of (P.state device.now).words) r)
         (λ r. IsRecordOf (P.state device.now).lines (image_of (P.state device.now).words) r) }
 {
-    let number = device.load(LAYOUT.root_word);
-    let first = LINE_WORDS * LAYOUT.slot_line(device.lines(), number);
+    let layout = Layout::of_version(device.load(1))?;
+    let number = device.load(layout.root_word());
+    let first = LINE_WORDS * layout.slot_line(device.lines(), number);
     let gap_count = device.load(first + 5);
-    let gaps = read_gaps(device, first + GAPS_WORD, gap_count)?;
-    let role = role_of(device.load(first + LAYOUT.role_word))?;
-    if !is_filled(device, first, number, gap_count) {
+    let gaps = read_gaps(device, layout, first + GAPS_WORD, gap_count)?;
+    let role = role_of(device.load(first + layout.role_word()))?;
+    if !is_filled(device, layout, first, number, gap_count) {
         return None;
     }
     Some(Record {
+        layout,
         number,
         position: device.load(first + 1),
         cp: device.load(first + 2),
@@ -60,14 +64,19 @@ fn read_record<P: Pmem>(device: &P) -> Option<Record>
     })
 }
 
-/// `count` gaps, each a pair of words, from `first` on, or `None` where a record cannot hold that many.
-fn read_gaps<P: Pmem>(device: &P, first: u64, count: u64) -> Option<ArrayVec<Gap, MAX_GAPS>>
-    requires { first + 2 * MAX_GAPS ≤ 8 * (P.state device.now).lines }
-    ensures { MatchOption result (MAX_GAPS < count)
-        (λ gaps. (count ≤ MAX_GAPS) × (gaps.items ≡ gaps_from (image_of (P.state device.now).words) first count)) }
+/// `count` gaps, each a pair of words, from `first` on, or `None` where a record of this layout cannot hold that many.
+fn read_gaps<P: Pmem>(
+    device: &P,
+    layout: Layout,
+    first: u64,
+    count: u64,
+) -> Option<ArrayVec<Gap, MAX_GAPS>>
+    requires { first + 2 * max_gaps layout ≤ 8 * (P.state device.now).lines }
+    ensures { MatchOption result (max_gaps layout < count)
+        (λ gaps. (count ≤ max_gaps layout) × (gaps.items ≡ gaps_from (image_of (P.state device.now).words) first count)) }
 {
     let mut gaps = ArrayVec::new();
-    if count > MAX_GAPS as u64 {
+    if count > layout.max_gaps() {
         return None;
     }
     for k in 0..count {
@@ -80,14 +89,14 @@ fn read_gaps<P: Pmem>(device: &P, first: u64, count: u64) -> Option<ArrayVec<Gap
 }
 
 /// Whether the slot has this number, and zeros in the room after `gaps` gaps and in its last word.
-fn is_filled<P: Pmem>(device: &P, first: u64, number: u64, gaps: u64) -> bool
-    requires slot { first + LINE_WORDS * LAYOUT.slot_lines ≤ 8 * (P.state device.now).lines }
-    requires few { gaps ≤ MAX_GAPS }
-    ensures { IsTrue result ↔ IsFilled (image_of (P.state device.now).words) first number gaps }
+fn is_filled<P: Pmem>(device: &P, layout: Layout, first: u64, number: u64, gaps: u64) -> bool
+    requires slot { first + first_word (slot_lines layout) ≤ 8 * (P.state device.now).lines }
+    requires few { gaps ≤ max_gaps layout }
+    ensures { IsTrue result ↔ IsFilled layout (image_of (P.state device.now).words) first number gaps }
 {
-    let room = 2 * (MAX_GAPS as u64 - gaps);
+    let room = 2 * (layout.max_gaps() - gaps);
     device.load(first) == number
-        && device.load(first + LAYOUT.role_word + 1) == 0
+        && device.load(first + layout.role_word() + 1) == 0
         && are_zero(device, first + GAPS_WORD + 2 * gaps, room)
 }
 
@@ -117,7 +126,7 @@ fn role_of(number: u64) -> Option<Role>
 
 /// Whether a record obeys its rules: its counters are within their limits, and its gaps rise and are below `cp`.
 fn is_lawful(r: &Record) -> bool
-    requires { length r.now.gaps.items ≤ MAX_GAPS }
+    requires { length r.now.gaps.items ≤ max_gaps r.now.layout }
     ensures { IsTrue result ↔ IsLawful r.now }
 {
     0 < r.number

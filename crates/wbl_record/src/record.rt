@@ -1,30 +1,36 @@
 //! The commit record of an image: its body goes into the slot that the last record does not use, and then its number becomes the root.
-ghost use Rattle.std.specs.Prelude.{◌≡◌, ◌+◌, ◌*◌, ◌≤◌, length, slice_index_or, OnOk, OnErr};
+ghost use Rattle.std.specs.Prelude.{◌≡◌, ◌+◌, ◌*◌, ◌≤◌, ◌++◌, length, slice_index_or, OnOk, OnErr};
 ghost use Rattle.pmem.specs.Device.{State};
 ghost use Rattle.pmem.specs.Runs.{LeavesOnly, Staged, StageFailed, pairs_from, lines_from};
 ghost use Rattle.model.specs.declared.record.Record.{Record};
 ghost use Rattle.model.specs.Layout.{first_word};
-ghost use Rattle.model.specs.Image.{record_words, role_number, slots_end};
+ghost use Rattle.model.specs.declared.image.TheConstants.{MIN_LINES};
+ghost use Rattle.model.specs.Image.{gaps_words, record_words, role_number};
 ghost use Rattle.wbl_record.specs.Record.{IsRecorded, IsRecordFault, IsSucceeded, IsEitherRecord};
 
 use arrayvec::ArrayVec;
-use model::{Gap, LAYOUT, LINE_WORDS, MAX_GAPS, Record, Role};
+use model::{GAPS_WORD, Gap, LINE_WORDS, MAX_GAPS, Record, Role};
 use pmem::{Fault, Pmem, flush_lines, persist, store_words};
+
+/// How many words a record has at most: those before its gaps, two for each gap, its role and a zero.
+pub const MAX_RECORD_WORDS: usize = GAPS_WORD as usize + 2 * MAX_GAPS + 2;
 
 /// Writes the next record: its body into the slot that the current one does not use, then its number as the root, each flushed and fenced.
 /// At any moment a crash leaves the current record or the next one. It allocates no memory.
 ///
 /// On `Err` a fence has failed, and a crash may leave either record.
 pub fn write_next<P: Pmem>(device: &mut P, next: &Record) -> Result<(), Fault>
-    requires { slots_end (P.state device.old).lines ≤ (P.state device.old).lines }
+    requires { MIN_LINES ≤ (P.state device.old).lines }
     ensures ok { OnOk result (IsRecorded (P.state device.old) (P.state device.new) next.now) }
     ensures err { OnErr result (IsRecordFault (P.state device.old) (P.state device.new) next.now) }
     ensures moments { (current : Record) → IsSucceeded (P.state device.old) current next.now
         → LeavesOnly (P.state device.old) (P.state device.new) (IsEitherRecord (P.state device.old) current next.now) }
 {
-    let first_line = LAYOUT.slot_line(device.lines(), next.number);
-    persist_words(device, first_line, LAYOUT.slot_lines, &words_of(next))?;
-    persist(device, &[(LAYOUT.root_word, next.number)], &[0])
+    let layout = next.layout;
+    let first_line = layout.slot_line(device.lines(), next.number);
+    let words = words_of(next);
+    persist_words(device, first_line, layout.slot_lines(), words.as_slice())?;
+    persist(device, &[(layout.root_word(), next.number)], &[0])
 }
 
 /// Stores `words` starting at line `line`, flushes `lines` lines from there, and fences.
@@ -39,47 +45,33 @@ fn persist_words<P: Pmem>(device: &mut P, line: u64, lines: u64, words: &[u64]) 
     device.fence()
 }
 
-/// The 24 words of a record.
-pub fn words_of(r: &Record) -> [u64; 24]
-    ensures { result ≡ record_words r.now }
+/// The words of a record: as many as its slot has.
+pub fn words_of(r: &Record) -> ArrayVec<u64, MAX_RECORD_WORDS>
+    ensures { result.items ≡ record_words r.now }
 {
-    let gaps = [
-        gap_at(&r.gaps, 0),
-        gap_at(&r.gaps, 1),
-        gap_at(&r.gaps, 2),
-        gap_at(&r.gaps, 3),
-        gap_at(&r.gaps, 4),
-        gap_at(&r.gaps, 5),
-        gap_at(&r.gaps, 6),
-        gap_at(&r.gaps, 7),
-    ];
-    let [a, b, c, d, e, f, g, h] = gaps;
-    [
-        r.number,
-        r.position,
-        r.cp,
-        r.cd,
-        r.epoch,
-        r.gaps.len() as u64,
-        a.first,
-        a.last,
-        b.first,
-        b.last,
-        c.first,
-        c.last,
-        d.first,
-        d.last,
-        e.first,
-        e.last,
-        f.first,
-        f.last,
-        g.first,
-        g.last,
-        h.first,
-        h.last,
-        number_of(r.role),
-        0,
-    ]
+    let mut words = ArrayVec::new();
+    words.push(r.number);
+    words.push(r.position);
+    words.push(r.cp);
+    words.push(r.cd);
+    words.push(r.epoch);
+    words.push(r.gaps.len() as u64);
+    push_gaps(&mut words, &r.gaps, r.layout.max_gaps());
+    words.push(number_of(r.role));
+    words.push(0);
+    words
+}
+
+/// Adds the words of the gaps, in the room for so many.
+fn push_gaps(words: &mut ArrayVec<u64, MAX_RECORD_WORDS>, gaps: &ArrayVec<Gap, MAX_GAPS>, room: u64)
+    requires { length words.old.items + 2 * room ≤ MAX_RECORD_WORDS }
+    ensures { words.new.items ≡ words.old.items ++ gaps_words (2 * room) gaps.now.items }
+{
+    for k in 0..room {
+        let gap = gap_at(gaps, k as usize);
+        words.push(gap.first);
+        words.push(gap.last);
+    }
 }
 
 /// The gap at index `k`, or zeros if there is none.

@@ -6,8 +6,8 @@ use Rattle.kv_types.specs.Keyspace.{play_all}
 use Rattle.pmem.specs.Device.{State}
 use Rattle.model.specs.declared.call.Call.{Call}
 use Rattle.model.specs.Call.{keyspace_after, cut_at, position_of}
-use Rattle.model.specs.Image.{IsMapOf, entries_of_lines}
-use Rattle.model.specs.Group.{Contents}
+use Rattle.model.specs.Image.{IsMapOf}
+use Rattle.model.specs.Group.{Contents, entries_of}
 use Rattle.model.specs.Standing.{Holder}
 use Rattle.model.proofs.CallsLemmas.{IsPrefix-cut_at, cut_at-all, position_of-cut_at}
 use Rattle.machine.specs.Event.{Span, Frame as Sent, Acknowledgement}
@@ -30,7 +30,7 @@ keyspace_after-cut_at-cut calls n p le =
 
 pub AreContentsAt-cut : (holder : Holder) (calls : List Call) (n p : ℕ) (contents : Contents) → p ≤ n → AreContentsAt holder calls p contents → AreContentsAt holder (cut_at calls n) p contents
 AreContentsAt-cut holder calls n p contents le are =
-    search (rules, subst (IsMapOf contents.versions (entries_of_lines contents.lines)) (sym (keyspace_after-cut_at-cut calls n p le)) are.map, are)
+    search (rules, subst (IsMapOf contents.versions (entries_of contents)) (sym (keyspace_after-cut_at-cut calls n p le)) are.map, are)
 
 pub EngineStands-cut : (holder : Holder) (calls : List Call) (n p : ℕ) (device : State) (contents : Contents) (is_faulted : Bool) → p ≤ n
     → EngineStands holder calls p device contents is_faulted → EngineStands holder (cut_at calls n) p device contents is_faulted

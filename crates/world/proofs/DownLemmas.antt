@@ -15,7 +15,7 @@ use Rattle.model.specs.declared.record.Role.{Role}
 use Rattle.model.specs.Call.{keyspace_after, cut_at, position_of}
 use Rattle.model.specs.Image.{Image, IsMapOf, HasRecord, Holds, entries_of_lines}
 use Rattle.model.proofs.RecordLemmas.{HasRecord-lines}
-use Rattle.model.specs.Group.{Contents}
+use Rattle.model.specs.Group.{Contents, entries_of}
 use Rattle.model.specs.Standing.{Holder}
 use Rattle.model.proofs.MapLemmas.{IsMapOf-same}
 use Rattle.model.proofs.StandingLemmas.{Holds-versions}
@@ -99,7 +99,7 @@ AreContentsAt-through holder calls p old new are through =
       lines_are = through.lines_are ∙ are.lines_are;
       consistent = through.consistent;
       map = subst (λ n. IsMapOf new.versions (entries_of_lines n) s) (sym through.lines_are)
-          (IsMapOf-same old.versions new.versions (entries_of_lines old.lines) s (λ i within. sym (through.versions i within)) are.map);
+          (IsMapOf-same old.versions new.versions (entries_of old) s (λ i within. sym (through.versions i within)) are.map);
     }
 
 -- the engine that was opened again stands where the crash left its image

@@ -6,8 +6,8 @@ use Rattle.pmem.proofs.Leaving.{none_leaves}
 use Rattle.model.specs.declared.call.Call.{Call}
 use Rattle.model.specs.declared.group.Group.{Group}
 use Rattle.model.specs.Call.{keyspace_after, cut_at}
-use Rattle.model.specs.Image.{Image, IsMapOf, Holds, entries_of_lines}
-use Rattle.model.specs.Group.{Contents, IsGroup, after_group, changes_of_group, last_position}
+use Rattle.model.specs.Image.{Image, IsMapOf, Holds}
+use Rattle.model.specs.Group.{Contents, IsGroup, after_group, changes_of_group, last_position, entries_of}
 use Rattle.model.specs.Standing.{Holder}
 use Rattle.model.proofs.GroupsLemmas.{IsMapOf-after_group, IsConsistent-after_group}
 use Rattle.model.proofs.PositionsLemmas.{keyspace_after-cut_at-since}
@@ -77,6 +77,6 @@ AreContentsAt-after_group holder calls contents group span are lawful own is =
       epoch_is = own ∙ are.epoch_is;
       lines_are = are.lines_are;
       consistent = IsConsistent-after_group contents group are.consistent lawful;
-      map = subst (IsMapOf (after_group contents group).versions (entries_of_lines contents.lines)) moves
+      map = subst (IsMapOf (after_group contents group).versions (entries_of contents)) moves
           (IsMapOf-after_group contents group (keyspace_after (cut_at calls span.before)) are.consistent lawful are.map);
     }

@@ -3,7 +3,7 @@ use Rattle.std.proofs.Common.{rules, ◌≡◌, ℕ, ◌<◌, ◌≤◌, ◌⊎�
 use Rattle.std.proofs.lemmas.Bool.{cases_lt}
 use Rattle.model.specs.Image.{entries_of_lines, first_extent_line}
 use Rattle.model.specs.declared.image.TheConstants.{MAX_LINES, MIN_LINES}
-use Rattle.model.specs.Group.{AreEnded, Contents}
+use Rattle.model.specs.Group.{AreEnded, Contents, entries_of}
 use Rattle.model.specs.declared.group.Group.{Group}
 use Rattle.model.specs.declared.work.FreeList.{FreeList}
 use Rattle.model.specs.declared.work.Work.{Work}
@@ -107,7 +107,7 @@ engine-new lines role device contents is_faulted many few new durable sound =
         epoch_is = new.epoch;
         lines_are = new.line_count;
         consistent = new-consistent lines role contents new;
-        map = IsMapOf-none contents.versions (entries_of_lines contents.lines) (λ i within. new.versions i);
+        map = IsMapOf-none contents.versions (entries_of contents) (λ i within. new.versions i);
       };
       lawful = new_lawful lines role contents new many few;
       sound = sound;

@@ -10,7 +10,7 @@ use Rattle.model.specs.declared.call.Call.{Call}
 use Rattle.model.specs.declared.image.TheConstants.{COUNTER_LIMIT}
 use Rattle.model.specs.declared.record.Record.{Record}
 use Rattle.model.specs.Call.{cut_at, keyspace_after}
-use Rattle.model.specs.Group.{AreEnded, Contents, Versions, after_free, without}
+use Rattle.model.specs.Group.{AreEnded, Contents, Versions, after_free, without, entries_of}
 use Rattle.model.specs.Image.{IsMapOf, entries_of_lines}
 use Rattle.model.specs.Standing.{Holder}
 use Rattle.wbl_engine.specs.Contents.{IsDurable, Keeps, Same}
@@ -75,7 +75,7 @@ engine-cleared holder calls p device device' contents contents' is_faulted is_fa
         lines_are = clears.lines_are ∙ are.lines_are;
         consistent = consistent_cleared contents contents' entries clears are.consistent;
         map = subst (λ n. IsMapOf contents'.versions (entries_of_lines n) (keyspace_after (cut_at calls p))) (sym clears.lines_are)
-            (subst (λ (versions : Versions). IsMapOf versions (entries_of_lines contents.lines) (keyspace_after (cut_at calls p))) (fun_ext (λ i. sym (clears.versions i))) are.map);
+            (subst (λ (versions : Versions). IsMapOf versions (entries_of contents) (keyspace_after (cut_at calls p))) (fun_ext (λ i. sym (clears.versions i))) are.map);
       };
       lawful = lawful_cleared contents contents' entries clears room engine.lawful;
       sound = sound;

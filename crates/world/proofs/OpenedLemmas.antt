@@ -10,8 +10,8 @@ use Rattle.model.specs.declared.call.Call.{Call}
 use Rattle.model.specs.declared.record.Record.{Record}
 use Rattle.model.specs.declared.record.Role.{Role}
 use Rattle.model.specs.Call.{cut_at, keyspace_after}
-use Rattle.model.specs.Group.{Contents}
-use Rattle.model.specs.Image.{HasRecord, entries_of_lines}
+use Rattle.model.specs.Group.{Contents, entries_of}
+use Rattle.model.specs.Image.{HasRecord}
 use Rattle.model.specs.Standing.{Holder}
 use Rattle.model.proofs.CallsLemmas.{IsKeyspace-keyspace_after}
 use Rattle.model.proofs.MapLemmas.{IsMapOf-unique}
@@ -83,4 +83,4 @@ opened-limit holder calls p next old new r down stays same has limit =
 pub table-there : (holder : Holder) (calls : List Call) (p : ℕ) (contents : Contents) (table : Table) → AreContentsAt holder calls p contents → IsTable contents.versions table
     → records table ≡ keyspace_after (cut_at calls p)
 table-there holder calls p contents table are is =
-    IsMapOf-unique (map-from_table contents.versions (entries_of_lines contents.lines) table are.consistent.beyond is) are.map is.keyspace (IsKeyspace-keyspace_after (cut_at calls p))
+    IsMapOf-unique (map-from_table contents.versions (entries_of contents) table are.consistent.beyond is) are.map is.keyspace (IsKeyspace-keyspace_after (cut_at calls p))

@@ -15,7 +15,7 @@ use Rattle.model.specs.declared.image.TheConstants.{COUNTER_LIMIT, STAMP_WINDOW}
 use Rattle.model.specs.Call.{keyspace_after, cut_at, position_of}
 use Rattle.model.specs.Image.{Image, IsMapOf, entries_of_lines}
 use Rattle.model.proofs.RecordLemmas.{HasRecord-lines}
-use Rattle.model.specs.Group.{Contents}
+use Rattle.model.specs.Group.{Contents, entries_of}
 use Rattle.model.specs.Standing.{Holder}
 use Rattle.model.proofs.CallsLemmas.{IsKeyspace-keyspace_after, keyspace_after-cut_at-append}
 use Rattle.mv_keyspace.specs.Table.{Table, records}
@@ -265,7 +265,7 @@ module _ {E K D : Type 0} (device : E → State) (contents : E → Contents) (is
           epoch_is = held.whole.epoch ∙ is.epoch_is ∙ stands.epoch_held;
           lines_are = held.whole.line_count ∙ stands.engine.contents_at.lines_are;
           consistent = held.whole.consistent;
-          map = subst (IsMapOf after.versions (entries_of_lines after.lines)) (keyspace_next e) held.whole.map;
+          map = subst (IsMapOf after.versions (entries_of after)) (keyspace_next e) held.whole.map;
         };
         lawful = held.whole.lawful stands.engine.lawful;
         keeps = held.keeps;

@@ -25,7 +25,7 @@ use connections::Connections;
 use extent_heap::ExtentHeap;
 use failover::fence;
 use kv_types::Refusal;
-use model::{FIRST_EPOCH, Group, LAYOUT, Work};
+use model::{FIRST_EPOCH, Group, Layout, LAYOUT, Work};
 use mv_keyspace::Keyspace;
 use pipes::LocalPipe;
 use placing::Rebuilt;
@@ -126,7 +126,7 @@ fn room_of(alloc: Global, lines: u64) -> Result<Rebuilt, Refusal>
 {
     let heap = ExtentHeap::new(
         alloc,
-        LAYOUT.first_extent_line(lines),
+        Layout::first_extent_line(lines),
         lines,
         LAYOUT.entries_of_lines(lines),
     )?;

@@ -9,7 +9,7 @@ pub lie_apart-requires : goal.lie_apart-requires
 lie_apart-requires g c =
     let state = g.P.Pmem.state c.args.device.now in
     rw (c.as_slice-counted.ensures.value, c.in_ok-versions.ensures.counted)
-    (runs_have_lines c.args.current.now (image_of state.words) (state.lines) (entries_of_lines state.lines) c.in_ok-versions.ensures.under)
+    (runs_have_lines c.args.current.now (image_of state.words) (state.lines) (entries_of_lines c.args.current.now.layout state.lines) c.in_ok-versions.ensures.under)
 
 pub returns-then-not-branch-clause-damaged : goal.returns-then-not-branch-clause-damaged
 returns-then-not-branch-clause-damaged g c _ whole =

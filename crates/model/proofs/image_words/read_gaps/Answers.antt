@@ -1,13 +1,14 @@
 use Rattle.std.proofs.Common.{◌≡◌, ◌+◌, ◌*◌, length, ap, ◌∙◌, arith, lit<}
 use Rattle.model.specs.declared.record.Gap.{Gap}
 use Rattle.model.specs.ReadImage.{image_of}
+use Rattle.model.proofs.LayoutLemmas.{gaps_fit}
 use Rattle.model.proofs.ReadRecordLemmas.{pair_at, length-gaps_from, gaps_from-more}
 use Rattle.model.proofs.image_words.read_gaps.Goals as goal
 
 pub push-requires : goal.push-requires
 push-requires c =
     let count = ap length c.loop-k.invariant ∙ length-gaps_from (image_of c.args.words.now) c.args.first c.loop-k.k in
-    (lit< tt, omega arith)
+    (lit< tt, omega (arith, gaps_fit c.args.layout))
 
 pub loop-k-preserved : goal.loop-k-preserved
 loop-k-preserved c =

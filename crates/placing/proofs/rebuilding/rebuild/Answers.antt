@@ -14,27 +14,27 @@ pub claim_places-requires : goal.claim_places-requires
 claim_places-requires g c =
     let contents = c.requires.read.0 in
     let heap = c.in_ok-heap.heap in
-    let fresh = fresh_of contents heap c.args.lines c.first_extent_line.result c.entries_of_lines.result c.requires.read.1 c.first_extent_line.ensures c.entries_of_lines.ensures c.in_ok-heap.ensures.lines c.in_ok-heap.ensures.entries c.in_ok-heap.ensures.room in
-    subst (CanClaimAll heap) (sym c.deref.ensures.value) (can_claim_all contents c.args.counted.items c.args.gapped.now c.requires.read.2 heap fresh)
+    let fresh = fresh_of contents heap c.args.layout c.args.lines c.first_extent_line.result c.entries_of_lines.result c.requires.read.1 c.requires.read.2 c.first_extent_line.ensures c.entries_of_lines.ensures c.in_ok-heap.ensures.lines c.in_ok-heap.ensures.entries c.in_ok-heap.ensures.room in
+    subst (CanClaimAll heap) (sym c.deref.ensures.value) (can_claim_all contents c.args.counted.items c.args.gapped.now c.requires.read.3 heap fresh)
 
 pub claim_entries-requires-clause-free : goal.claim_entries-requires-clause-free
 claim_entries-requires-clause-free g c =
     let contents = c.requires.read.0 in
     let heap = c.in_ok-heap.heap in
-    let fresh = fresh_of contents heap c.args.lines c.first_extent_line.result c.entries_of_lines.result c.requires.read.1 c.first_extent_line.ensures c.entries_of_lines.ensures c.in_ok-heap.ensures.lines c.in_ok-heap.ensures.entries c.in_ok-heap.ensures.room in
-    free_gaps contents c.args.counted.items c.args.gapped.now c.requires.read.2 heap fresh
+    let fresh = fresh_of contents heap c.args.layout c.args.lines c.first_extent_line.result c.entries_of_lines.result c.requires.read.1 c.requires.read.2 c.first_extent_line.ensures c.entries_of_lines.ensures c.in_ok-heap.ensures.lines c.in_ok-heap.ensures.entries c.in_ok-heap.ensures.room in
+    free_gaps contents c.args.counted.items c.args.gapped.now c.requires.read.3 heap fresh
     c.claim_places.new.heap (subst (λ counted. ClaimsAll heap counted c.claim_places.new.heap) c.deref.ensures.value c.in_ok-claim_places.ensures.ok)
 
 pub load-requires-clause-compatible : goal.load-requires-clause-compatible
 load-requires-clause-compatible g c =
-    subst (λ rows. AreCompatible rows) (sym c.in_ok-live_rows.ensures.ok) (rows_compatible c.requires.read.0 c.args.counted.items c.args.gapped.now c.requires.read.2)
+    subst (λ rows. AreCompatible rows) (sym c.in_ok-live_rows.ensures.ok) (rows_compatible c.requires.read.0 c.args.counted.items c.args.gapped.now c.requires.read.3)
 
 pub returns-clause-ok : goal.returns-clause-ok
-returns-clause-ok g c = λ contents is are.
+returns-clause-ok g c = λ contents layout_is is are.
     let counted = c.args.counted.items in
     let gapped = c.args.gapped.now in
     let heap = c.in_ok-heap.heap in
-    let fresh = fresh_of contents heap c.args.lines c.first_extent_line.result c.entries_of_lines.result is c.first_extent_line.ensures c.entries_of_lines.ensures c.in_ok-heap.ensures.lines c.in_ok-heap.ensures.entries c.in_ok-heap.ensures.room in
+    let fresh = fresh_of contents heap c.args.layout c.args.lines c.first_extent_line.result c.entries_of_lines.result layout_is is c.first_extent_line.ensures c.entries_of_lines.ensures c.in_ok-heap.ensures.lines c.in_ok-heap.ensures.entries c.in_ok-heap.ensures.room in
     let table = g.K.Keyspace.table c.load.new.self in
     let has = subst (λ rows. HasRows rows table) c.in_ok-live_rows.ensures.ok c.in_ok-load.ensures.ok in
     let ended = c.in_ok-ended.ensures.ok ∙ ap ended_read c.deref-2.ensures.value in (

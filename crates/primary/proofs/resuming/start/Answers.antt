@@ -4,8 +4,8 @@ use Rattle.std.specs.List.Sorted.{IsStrictlySortedBy}
 use Rattle.kv_types.specs.declared.record_id.RecordId.{RecordId}
 use Rattle.cmd_core.specs.Contents.{keys_of}
 use Rattle.kv_types.specs.Keyspace.{Keyspace, record_cmp, value_at}
-use Rattle.model.specs.Group.{Contents, IsConsistent}
-use Rattle.model.specs.Image.{IsLive, IsMapOf, entries_of_lines}
+use Rattle.model.specs.Group.{Contents, IsConsistent, entries_of}
+use Rattle.model.specs.Image.{IsLive, IsMapOf}
 use Rattle.mv_keyspace.specs.Row.{table_of}
 use Rattle.mv_keyspace.specs.Table.{IsTable, Table, records, since}
 use Rattle.mv_keyspace.proofs.PartTables.{map-from_table}
@@ -49,14 +49,14 @@ is_opening contents table ended opening consistent is are rows gone rising = rec
   rising = rising;
 }
   where
-    map : IsMapOf contents.versions (entries_of_lines contents.lines) (records table)
-    map = map-from_table contents.versions (entries_of_lines contents.lines) table consistent.beyond is
+    map : IsMapOf contents.versions (entries_of contents) (records table)
+    map = map-from_table contents.versions (entries_of contents) table consistent.beyond is
 
     is_none : (id : RecordId) → value_at (records table) id ≡ None → ((i : ℕ) × (value : List ℕ) × IsLive contents.versions i id value) → ⊥
     is_none id none (i, value, live) =
-        ⊎_elim (λ (lt : i < entries_of_lines contents.lines). let found = map.found i id value lt live in absurd (let no = sym none ∙ found in cc))
-        (λ (past : entries_of_lines contents.lines ≤ i). absurd (let no = sym live.begun ∙ consistent.beyond i past in cc))
-        (cases_lt i (entries_of_lines contents.lines))
+        ⊎_elim (λ (lt : i < entries_of contents). let found = map.found i id value lt live in absurd (let no = sym none ∙ found in cc))
+        (λ (past : entries_of contents ≤ i). absurd (let no = sym live.begun ∙ consistent.beyond i past in cc))
+        (cases_lt i (entries_of contents))
 
     has_none : (id : RecordId) → (¬ ((i : ℕ) × (value : List ℕ) × IsLive contents.versions i id value)) → value_at (records table) id ≡ None
     has_none id never = elim (value_at (records table) id) as (λ o. value_at (records table) id ≡ o → o ≡ None) [

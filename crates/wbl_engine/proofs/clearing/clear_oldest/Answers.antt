@@ -1,4 +1,4 @@
-use Rattle.std.proofs.Common.{List, sym, subst, ◌∙◌}
+use Rattle.std.proofs.Common.{List, sym, ap, subst, ◌∙◌}
 use Rattle.kv_types.specs.declared.place.EntryNo.{EntryNo}
 use Rattle.pmem.specs.Runs.{LeavesOnly}
 use Rattle.model.specs.declared.record.Record.{Record}
@@ -38,7 +38,8 @@ returns-in_err-write_next-clause-stays g c =
     let after = g.P.Pmem.state c.write_next.new.device in
     let fault = c.in_err-write_next.ensures.err in
     on_err_from c.from_residual-in_err-write_next.result
-    (keeps_versions begun after (fault.stays.lines ∙ staged.stays.lines) (recorded_erased after c.without_oldest_gap-next.result.number begun staged fault.newest))
+    (keeps_versions begun after (fault.stays.lines ∙ staged.stays.lines)
+    (recorded_erased after c.without_oldest_gap-next.result (ap (λ (q : Record). q.layout) c.without_oldest_gap-next.ensures.next) begun staged fault.newest))
 
 pub returns-in_err-write_next-clause-moments : goal.returns-in_err-write_next-clause-moments
 returns-in_err-write_next-clause-moments g c =
@@ -70,7 +71,8 @@ returns-clause-clears g c =
     let recorded = c.in_ok-write_next.ensures.ok in
     subst (λ (l : List EntryNo). Clears (contents_of r d) l (contents_of next.result after)) c.as_slice.ensures.value
     (subst (λ (q : Record). Clears (contents_of r d) c.as_slice.result.now (contents_of q after)) (sym next.ensures.next)
-    (clears begun after (recorded.stays.lines ∙ staged.stays.lines) (recorded_erased after next.result.number begun staged recorded.newest)))
+    (clears begun after (recorded.stays.lines ∙ staged.stays.lines)
+    (recorded_erased after next.result (ap (λ (q : Record). q.layout) next.ensures.next) begun staged recorded.newest)))
 
 pub returns-clause-moments : goal.returns-clause-moments
 returns-clause-moments g c =

@@ -1,8 +1,18 @@
 use Rattle.std.proofs.lemmas.Result.{on_ok_weaker, on_err_weaker}
+use Rattle.model.specs.Layout.{directory_room, entries_of_lines}
+use Rattle.model.proofs.GroupsLemmas.{placed_in_more}
+use Rattle.model.proofs.LayoutLemmas.{entries_fit}
+use Rattle.wbl_engine.specs.Stage.{puts_of_parts}
 use Rattle.wbl_engine.proofs.Committing.{committing, first_fault, stage_moments, later_fault, done_rest, done_same, done_moments}
 use Rattle.wbl_engine.proofs.EndsWithin.{ends_within}
 use Rattle.wbl_record.proofs.Results.{on_err_from}
 use Rattle.wbl_engine.proofs.commit.commit_parts.Goals as goal
+
+pub stage_parts-requires-clause-placed : goal.stage_parts-requires-clause-placed
+stage_parts-requires-clause-placed g c =
+    let lines = (g.P.Pmem.state c.args.device.now).lines in
+    placed_in_more (entries_of_lines c.args.current.now.layout lines) (directory_room lines) lines (puts_of_parts c.args.parts.now)
+    (entries_fit c.args.current.now.layout lines) c.requires.asked.placed
 
 pub stage_parts-requires-clause-ends : goal.stage_parts-requires-clause-ends
 stage_parts-requires-clause-ends g c =

@@ -2,14 +2,24 @@ use Rattle.std.proofs.lemmas.Result.{on_ok_weaker, on_err_weaker}
 use Rattle.pmem.proofs.Leaving.{LeavesOnly-weaken}
 use Rattle.wbl_record.proofs.Results.{on_err_from}
 use Rattle.std.proofs.Common.{inl}
+use Rattle.model.specs.Layout.{directory_room, entries_of_lines}
+use Rattle.model.proofs.GroupsLemmas.{placed_in_more}
+use Rattle.model.proofs.LayoutLemmas.{entries_fit}
 use Rattle.wbl_engine.specs.AtRest.{contents_of}
 use Rattle.wbl_engine.specs.Committing.{after_parts}
 use Rattle.wbl_engine.specs.Freeing.{KeepsFreedOr, after_free}
+use Rattle.wbl_engine.specs.Stage.{puts_of_parts}
 use Rattle.wbl_engine.proofs.CommitAndFree.{both_moments, both_partly, both_rest, both_same, first_fails, later_fails}
 use Rattle.wbl_engine.proofs.Committing.{committing}
 use Rattle.wbl_engine.proofs.EndsWithin.{ends_within}
 use Rattle.wbl_engine.proofs.FreeingLemmas.{ended_lines}
 use Rattle.wbl_engine.proofs.commit_and_free.commit_parts_and_erase.Goals as goal
+
+pub stage_and_erase-requires-clause-placed : goal.stage_and_erase-requires-clause-placed
+stage_and_erase-requires-clause-placed g c =
+    let lines = (g.P.Pmem.state c.args.device.now).lines in
+    placed_in_more (entries_of_lines c.args.current.now.layout lines) (directory_room lines) lines (puts_of_parts c.args.parts.now)
+    (entries_fit c.args.current.now.layout lines) c.requires.asked.placed
 
 pub stage_and_erase-requires-clause-ends : goal.stage_and_erase-requires-clause-ends
 stage_and_erase-requires-clause-ends g c =

@@ -13,7 +13,7 @@ returns-clause-moved g c =
 
 pub returns-clause-stays : goal.returns-clause-stays
 returns-clause-stays g c =
-    on_err_weaker c.write_next.result (λ fault. promotion_fault c.requires.rest c.args.next.now fault) c.write_next.ensures.err
+    on_err_weaker c.write_next.result (λ fault. promotion_fault c.requires.rest c.args.next.now c.requires.after fault) c.write_next.ensures.err
 
 pub returns-clause-moments : goal.returns-clause-moments
 returns-clause-moments g c =

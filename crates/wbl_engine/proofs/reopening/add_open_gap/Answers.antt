@@ -12,7 +12,7 @@ returns-clause-readable g c =
     (record { room = c.requires.room; limit = c.requires.limit; number = c.requires.number }) c.in_ok-write_next.ensures.ok
 
 pub returns-clause-beside : goal.returns-clause-beside
-returns-clause-beside g c = open_beside c.with_open_gap-next.result c.in_ok-write_next.ensures.ok
+returns-clause-beside g c = open_beside c.with_open_gap-next.result c.with_open_gap-next.ensures c.requires.readable c.in_ok-write_next.ensures.ok
 
 pub returns-clause-moments : goal.returns-clause-moments
 returns-clause-moments g c =

@@ -1,4 +1,4 @@
-use Rattle.std.proofs.Common.{subst, sym}
+use Rattle.std.proofs.Common.{ap, subst, sym, ◌∙◌}
 use Rattle.pmem.specs.Crash.{image_of}
 use Rattle.pmem.specs.Runs.{LeavesOnly}
 use Rattle.model.specs.declared.record.Record.{Record}
@@ -8,6 +8,7 @@ use Rattle.wbl_engine.specs.Reopening.{IsShown, Reopens, StaysReadable}
 use Rattle.wbl_engine.proofs.Readable.{readable_durable, readable_rest, settled_readable, settled_stays}
 use Rattle.wbl_engine.proofs.ReadingLemmas.{undamaged_unique}
 use Rattle.wbl_engine.proofs.ReopenedContents.{over_low, reopened_over, reopens}
+use Rattle.wbl_engine.proofs.RoomLemmas.{room_layout}
 use Rattle.wbl_engine.proofs.ShownLists.{shows}
 use Rattle.wbl_engine.proofs.reopening.reopen_device.Goals as goal
 
@@ -63,3 +64,7 @@ returns-clause-shown g c =
     c.in_ok-current.versions.gapped.items (image_of (g.P.Pmem.state c.write_reopened.new.device).words)) (sym c.in_ok-next.ensures.next)
     (shows c.in_ok-current.versions.counted.items c.in_ok-current.versions.gapped.items over c.in_ok-current.ensures.counted
     c.in_ok-current.ensures.gapped)
+
+pub returns-clause-layout : goal.returns-clause-layout
+returns-clause-layout g c =
+    ap (λ (q : Record). q.layout) c.in_ok-next.ensures.next ∙ room_layout c.in_ok-current.current ∙ c.in_ok-current.ensures.layout

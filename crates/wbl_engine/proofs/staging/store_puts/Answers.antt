@@ -1,6 +1,7 @@
 use Rattle.std.proofs.Common.{ℕ, sym, subst}
 use Rattle.std.specs.List.{AllByRecursion}
 use Rattle.pmem.proofs.Chaining.{Runs-none}
+use Rattle.model.specs.Layout.{directory_room}
 use Rattle.model.specs.Group.{IsPlaced, HasItsLines, put_of}
 use Rattle.wbl_engine.specs.Stage.{IsWritable}
 use Rattle.wbl_engine.proofs.StagingLemmas.{all_of_item, all_more, changes_stored}
@@ -11,8 +12,9 @@ loop-change-init g c = (Runs-none (g.P.Pmem.state c.args.device.now), tt)
 
 pub store_change-requires-clause-placed : goal.store_change-requires-clause-placed
 store_change-requires-clause-placed g c =
-    subst (λ (lines : ℕ). AllByRecursion (IsPlaced lines) (put_of c.change-item.result)) (sym c.loop-change.invariant.0.stays.lines)
-    (all_of_item (IsPlaced (g.P.Pmem.state c.args.device.now).lines) put_of c.args.changes.now c.loop-change.change-index c.change-item.result
+    subst (λ (lines : ℕ). AllByRecursion (IsPlaced (directory_room lines) lines) (put_of c.change-item.result)) (sym c.loop-change.invariant.0.stays.lines)
+    (all_of_item (IsPlaced (directory_room (g.P.Pmem.state c.args.device.now).lines) (g.P.Pmem.state c.args.device.now).lines) put_of
+    c.args.changes.now c.loop-change.change-index c.change-item.result
     c.loop-change-test.true c.change-item.is c.requires.placed)
 
 pub store_change-requires-clause-fitting : goal.store_change-requires-clause-fitting

@@ -11,4 +11,4 @@ returns-then-group-lt-COUNTER_LIMIT-clause-lawful c =
       room = omega (arith, c.if-cd-lt-COUNTER_LIMIT.true);
       epoch = omega (arith, c.if-group-lt-COUNTER_LIMIT.true);
     })
-    refl refl (omega arith) c.requires.epoch (ap (λ gaps. gaps.items) c.copy_gaps.ensures)
+    refl refl (omega arith) c.requires.epoch (ap (λ gaps. gaps.items) c.copy_gaps.ensures) refl

@@ -2,6 +2,7 @@ use Rattle.std.proofs.Common.{◌≡◌, ◌+◌, ◌*◌, length, ap, sym, ◌�
 use Rattle.pmem.specs.Crash.{image_of}
 use Rattle.model.specs.declared.record.Gap.{Gap}
 use Rattle.model.specs.ReadImage.{gaps_from}
+use Rattle.model.proofs.LayoutLemmas.{gaps_fit}
 use Rattle.model.proofs.ReadRecordLemmas.{pair_at, length-gaps_from, gaps_from-more}
 use Rattle.wbl_record.proofs.current.read_gaps.Goals as goal
 
@@ -9,7 +10,7 @@ pub push-requires : goal.push-requires
 push-requires g c =
     let image = image_of (g.P.Pmem.state c.args.device.now).words in
     let count = ap length c.loop-k.invariant ∙ length-gaps_from image c.args.first c.loop-k.k in
-    (lit< tt, omega arith)
+    (lit< tt, omega (arith, gaps_fit c.args.layout))
 
 pub loop-k-preserved : goal.loop-k-preserved
 loop-k-preserved g c =
