@@ -12,7 +12,7 @@ use crate::due::{Due, due_when_ready};
 use crate::queue::set_aside;
 use crate::stage::{Done, Stage};
 use kv_types::Refusal;
-use model::{FreeList, Group, Work};
+use model::{FreeList, Group, Layout, Work};
 use pipes::{LocalPipe, Outlet};
 use pmem::Pmem;
 use std::alloc::Global;
@@ -68,6 +68,13 @@ impl<E: Durable> Committer<E> {
         ensures { result ≡ (E.contents self.now.engine).current.position }
     {
         self.engine.committed()
+    }
+
+    /// The layout of the engine's image.
+    pub fn layout(&self) -> Layout
+        ensures { result ≡ (E.contents self.now.engine).current.layout }
+    {
+        self.engine.record().layout
     }
 
     /// How many lines the engine's image has.

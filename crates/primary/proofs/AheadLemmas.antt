@@ -138,7 +138,7 @@ module _ (s : Sequencing) (contents : Contents) (entries : List EntryNo) (consis
   pub Expects-freed : AreLaid contents → (e : List EntryNo) (x : List Extent) → Expects s contents e x
       → Expects s (after_free entries contents) (e ++ entries) (x ++ extents_of contents.versions entries)
   Expects-freed laid e x expects =
-      let ended_ahead = AreEnded-after_parts contents ahead s.waiting entries refl (λ i listed. refl) none_put ended in
+      let ended_ahead = AreEnded-after_parts contents ahead s.waiting entries refl refl (λ i listed. refl) none_put ended in
       let back = comes-back-freed ahead (lies_in laid) (laid-ahead s contents stands laid).apart s.room e x entries
       (λ i free. (left_ahead.entries i free).2) (λ i version begun. left_ahead.apart i version begun) ended_ahead expects in
       subst (λ (x' : List Extent). Expects s (after_free entries contents) (e ++ entries) (x ++ x')) (extents-after_parts contents.versions s.waiting entries none_put)
@@ -196,7 +196,7 @@ module _ (s : Sequencing) (contents new : Contents) (cleared : List EntryNo) (st
   expects_cleared : (e : List EntryNo) (x : List Extent) → Expects s contents e x → Expects s after (e ++ cleared) x
   expects_cleared e x expects =
       let left = left-after_parts 0 contents s.room s.waiting stands.left stands.taken in
-      comes-back-cleared (contents_ahead contents s.waiting) (contents_ahead after s.waiting) s.room refl (λ i. refl) e cleared x
+      comes-back-cleared (contents_ahead contents s.waiting) (contents_ahead after s.waiting) s.room refl refl (λ i. refl) e cleared x
       (λ i. free_without (contents.is_free i) (is_listed i cleared) (is_put_at i (puts_of_parts s.waiting)) (beside_cleared i))
       (λ i listed. (
         clears.within i listed,

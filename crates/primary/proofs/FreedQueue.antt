@@ -4,6 +4,7 @@ use Rattle.std.proofs.lemmas.Bool.{both_ways, false_from_ne_true, or_left, or_ri
 use Rattle.std.proofs.lemmas.List.Concat.{flat_map-append}
 use Rattle.kv_types.specs.declared.place.EntryNo.{EntryNo}
 use Rattle.kv_types.specs.declared.place.Extent.{Extent}
+use Rattle.model.specs.declared.record.Record.{Record}
 use Rattle.model.specs.declared.work.FreeList.{FreeList}
 use Rattle.model.specs.declared.work.Work.{Work}
 use Rattle.model.specs.declared.work.Work.TheVariants as work
@@ -148,7 +149,7 @@ Leads-cleared contents new s notices freed leads clears none =
           (subst (λ (x : List Extent). Expects s new (entries_told notices ++ freed.entries.items) x) (sym (told_extents_last notices freed [] none ∙ append-nil (extents_told notices)))
           (Expects-cleared s contents new freed.entries.items leads.stands clears (entries_told notices) (extents_told notices) leads.expects));
       aside_ended = tt;
-      listed = AreEnded-moved contents new s.ended clears.lines_are (λ i listed. ap is_ended_version (clears.versions i) ∙ AllEnded-listed contents s.ended leads.listed i listed) leads.listed;
+      listed = AreEnded-moved contents new s.ended (ap (λ (r : Record). r.layout) clears.current) clears.lines_are (λ i listed. ap is_ended_version (clears.versions i) ∙ AllEnded-listed contents s.ended leads.listed i listed) leads.listed;
     }
 
 -- ---- the sequencer is told

@@ -117,6 +117,10 @@ ended-before contents (work.Free list ∷ items) are = λ i listed.
       | inr later ↦ ended-before contents items are.1 i later
     ]
 
+layout-groups : (contents : Contents) (groups : List Group) → (after_groups contents groups).current.layout ≡ contents.current.layout
+layout-groups contents [] = refl
+layout-groups contents (group ∷ groups) = layout-groups (after_group contents group) groups
+
 lines-groups : (contents : Contents) (groups : List Group) → (after_groups contents groups).lines ≡ contents.lines
 lines-groups contents [] = refl
 lines-groups contents (group ∷ groups) = lines-groups (after_group contents group) groups
@@ -135,7 +139,7 @@ lists-after (work.Free list ∷ items) = let after = lists-after items in record
 pub ended-reached : (contents : Contents) (items : List Work) (aside : List FreeList) (s : Sequencing) (notices : List Freed) → Leads contents items aside s notices
     → AreEnded contents (entries_of_lists (aside ++ lists_before items))
 ended-reached contents items aside s notices leads =
-    AreEnded-moved after contents entries (sym (lines-groups contents (groups_of items))) all_ended (AreEnded-first after entries (entries_of_lists later.others ++ s.ended) once)
+    AreEnded-moved after contents entries (sym (layout-groups contents (groups_of items))) (sym (lines-groups contents (groups_of items))) all_ended (AreEnded-first after entries (entries_of_lists later.others ++ s.ended) once)
   where
     after : Contents
     after = after_work contents items

@@ -1,9 +1,9 @@
 //! A primary that is made of its image.
-ghost use Rattle.model.specs.declared.layout.TheConstants.{LAYOUT};
 ghost use Rattle.std.specs.Prelude.{◌≡◌, ◌⊎◌, ◌<◌, ◌≤◌, ℕ, [], false, IfOk, IfErr};
 ghost use Rattle.pmem.specs.Device.{Only};
 ghost use Rattle.pmem.specs.Crash.{image_of};
 ghost use Rattle.model.specs.declared.image.TheConstants.{COUNTER_LIMIT, MAX_LINES};
+ghost use Rattle.model.specs.declared.layout.TheConstants.{LAYOUT};
 ghost use Rattle.model.specs.Image.{Image};
 ghost use Rattle.group_commit.specs.declared.stage.Stage.TheVariants.{Ready};
 ghost use Rattle.wbl_engine.specs.Contents.{IsDurable};
@@ -15,10 +15,10 @@ ghost use Rattle.primary.specs.Recalling.{AreKeyspaces, BackKeeps, DeltaLeads, I
 ghost use Rattle.primary.specs.Resuming.{IsOpened};
 ghost use Rattle.primary.specs.Standing.{Stands};
 
-use model::LAYOUT;
 use crate::primary::Primary;
 use crate::resuming::{Resumed, resume};
 use kv_types::Refusal;
+use model::LAYOUT;
 use mv_keyspace::Keyspace;
 use pmem::Pmem;
 use standby_stream::Opening;
@@ -97,13 +97,13 @@ fn assemble<E: Durable + Drop, K: Keyspace + Drop>(
         × DeltaLeads low opened.position past opened.opening) }
     ensures cause { IfErr result (λ refusal. refusal ≡ Refusal.Memory) }
 {
-    let lines = engine.lines();
+    let (layout, lines) = (engine.record().layout, engine.lines());
     let at = (engine.position(), engine.record().epoch);
     let Resumed {
         sequencer,
         opening,
         keys,
-    } = resume(alloc, lines, versions, at, hash_builder)?;
+    } = resume(alloc, layout, lines, versions, at, hash_builder)?;
     Ok(Opened {
         primary: Primary::new(alloc, sequencer, engine)?,
         opening,

@@ -70,13 +70,13 @@ impl<E: Restarting, K: Keyspace + Drop> Primary<E, K> {
             → LeavesOnly (E.device self.old.back.committer.engine) (E.device self.new.back.committer.engine) (ImageRecalls low past) }
     {
         let versions = self.back.committer.restart(alloc, Role::Primary)?;
-        let lines = self.back.committer.lines();
+        let (layout, lines) = (self.back.committer.layout(), self.back.committer.lines());
         let at = (self.back.position(), self.back.epoch());
         let Resumed {
             sequencer,
             opening,
             keys: _,
-        } = resume(alloc, lines, versions, at, hash_builder)?;
+        } = resume(alloc, layout, lines, versions, at, hash_builder)?;
         drop_all(&mut self.back.work);
         self.front.sequencer = sequencer;
         Ok(opening)

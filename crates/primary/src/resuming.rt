@@ -11,6 +11,7 @@ ghost use Rattle.standby_stream.specs.Delta.{AreIdsEnded, IsOpening};
 ghost use Rattle.primary.specs.Resuming.{IsOver};
 
 use kv_types::{RecordId, Refusal};
+use model::Layout;
 use mv_keyspace::Keyspace;
 use placing::{Rebuilt, rebuild};
 use redis_core::Sequencer;
@@ -30,40 +31,42 @@ pub(crate) struct Resumed<K: Keyspace> {
     pub(crate) keys: u64,
 }
 
-/// What a primary holds beside its engine, made of the versions that were read of its image; `lines` is the engine's, and `at` the position and the epoch of
-/// its record. Only `Memory`.
+/// What a primary holds beside its engine, made of the versions that were read of its image; `layout` and `lines` are the image's, and `at` the position
+/// and the epoch of its record. Only `Memory`.
 pub(crate) fn resume<K: Keyspace + Drop>(
     alloc: Global,
+    layout: Layout,
     lines: u64,
     versions: Versions,
     at: (u64, u64),
     hash_builder: RandomState,
 ) -> Result<Resumed<K>, Refusal>
-    requires read { (contents : Contents) × (contents.lines ≡ lines) × (contents.current.position ≡ at.0)
+    requires read { (contents : Contents) × (contents.current.layout ≡ layout) × (contents.lines ≡ lines) × (contents.current.position ≡ at.0)
         × AreOf contents versions.counted.items versions.gapped.items }
     requires counted { at.0 < COUNTER_LIMIT }
-    ensures sequencer { IfOk result (λ resumed. (contents : Contents) → contents.lines ≡ lines → contents.current.position ≡ at.0 → contents.current.epoch ≡ at.1
-        → AreOf contents versions.counted.items versions.gapped.items → IsOver contents resumed.sequencer) }
-    ensures opening { IfOk result (λ resumed. (resumed.opening.position ≡ at.0) × ((contents : Contents) → contents.lines ≡ lines
+    ensures sequencer { IfOk result (λ resumed. (contents : Contents) → contents.current.layout ≡ layout → contents.lines ≡ lines → contents.current.position ≡ at.0
+        → contents.current.epoch ≡ at.1 → AreOf contents versions.counted.items versions.gapped.items → IsOver contents resumed.sequencer) }
+    ensures opening { IfOk result (λ resumed. (resumed.opening.position ≡ at.0) × ((contents : Contents) → contents.current.layout ≡ layout → contents.lines ≡ lines
         → AreOf contents versions.counted.items versions.gapped.items → IsOpening contents resumed.opening)) }
     ensures keys { IfOk result (λ resumed. resumed.keys ≡ length (keys_of (records (resumed.sequencer).table))) }
     ensures cause { IfErr result (λ refusal. refusal ≡ Refusal.Memory) }
 {
     let (keyspace, room, ended): (K, Rebuilt, Vec<RecordId>) = read_versions(
-        alloc, lines, versions,
+        alloc, layout, lines, versions,
     )?;
     start(alloc, keyspace, room, ended, at, hash_builder)
 }
 
-/// Makes a keyspace, a heap and the records with versions that have ended of the versions that were read of an image. Only `Memory`.
+/// Makes a keyspace, a heap and the records with versions that have ended of the versions that were read of an image of this layout and `lines` lines. Only `Memory`.
 fn read_versions<K: Keyspace + Drop>(
     alloc: Global,
+    layout: Layout,
     lines: u64,
     versions: Versions,
 ) -> Result<(K, Rebuilt, Vec<RecordId>), Refusal>
-    requires read { (contents : Contents) × (contents.lines ≡ lines) × AreOf contents versions.counted.items versions.gapped.items }
-    ensures rebuilt { IfOk result (λ made. (contents : Contents) → contents.lines ≡ lines → AreOf contents versions.counted.items versions.gapped.items
-        → IsRebuilt contents (K.table made.0) made.1.heap × AreEndedOf contents (numbers_of made.1.ended.items)) }
+    requires read { (contents : Contents) × (contents.current.layout ≡ layout) × (contents.lines ≡ lines) × AreOf contents versions.counted.items versions.gapped.items }
+    ensures rebuilt { IfOk result (λ made. (contents : Contents) → contents.current.layout ≡ layout → contents.lines ≡ lines
+        → AreOf contents versions.counted.items versions.gapped.items → IsRebuilt contents (K.table made.0) made.1.heap × AreEndedOf contents (numbers_of made.1.ended.items)) }
     ensures ids { IfOk result (λ made. (contents : Contents) → AreOf contents versions.counted.items versions.gapped.items → AreIdsEnded contents made.2.items) }
     ensures cause { IfErr result (λ refusal. refusal ≡ Refusal.Memory) }
 {
@@ -72,6 +75,7 @@ fn read_versions<K: Keyspace + Drop>(
     let room = rebuild(
         alloc,
         &mut keyspace,
+        layout,
         lines,
         versions.counted,
         &versions.gapped,

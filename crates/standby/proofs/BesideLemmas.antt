@@ -119,7 +119,7 @@ module _ (contents : Contents) (table : Table) (room : Room) (ended : List Entry
 
     comes_back_then : ComesBack after left ended extents
     comes_back_then =
-        comes-back-after left_over after part.position part.changes.items room left ended extents refl (ap (parts_versions left_over.versions) one) puts_are
+        comes-back-after left_over after part.position part.changes.items room left ended extents refl refl (ap (parts_versions left_over.versions) one) puts_are
         (λ i free. (Follows-unfreed.left.entries i free).2) places comes_back
 
     pub CanGiveAll-beside : CanGiveAll left ended extents

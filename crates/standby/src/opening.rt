@@ -1,7 +1,7 @@
 //! A standby that is made of its image.
-ghost use Rattle.model.specs.declared.layout.TheConstants.{LAYOUT};
 ghost use Rattle.std.specs.Prelude.{◌≡◌, ◌⊎◌, ℕ, false, IfOk, IfErr};
 ghost use Rattle.kv_types.specs.declared.refusal.Refusal.TheVariants.{Fault, Memory};
+ghost use Rattle.model.specs.declared.layout.TheConstants.{LAYOUT};
 ghost use Rattle.model.specs.declared.record.Role.TheVariants as role;
 ghost use Rattle.model.specs.Group.{Contents};
 ghost use Rattle.pmem.specs.Device.{Only};
@@ -12,9 +12,9 @@ ghost use Rattle.wbl_engine.specs.Reopening.{RefusesReopening};
 ghost use Rattle.standby.specs.Following.{Follows};
 ghost use Rattle.wbl_engine.specs.Restarting.{IsReopened};
 
-use model::LAYOUT;
 use crate::standby::Standby;
 use kv_types::Refusal;
+use model::{LAYOUT, Layout};
 use mv_keyspace::Keyspace;
 use placing::{Rebuilt, rebuild};
 use pmem::Pmem;
@@ -42,32 +42,35 @@ pub fn open<P: Pmem + Drop, K: Keyspace + Drop>(
 {
     match WblEngine::reopen(alloc, device, LAYOUT, Role::Standby) {
         Ok((engine, versions)) => {
-            let (keyspace, room) = read_back(alloc, engine.lines(), versions)?;
+            let layout = engine.record().layout;
+            let (keyspace, room) = read_back(alloc, layout, engine.lines(), versions)?;
             Ok(Standby::new(engine, keyspace, room))
         }
         Err((refusal, _device)) => Err(refusal),
     }
 }
 
-/// The keyspace of an image of `lines` lines, and its free room, made of the versions that were read of it.
+/// The keyspace of an image of this layout and `lines` lines, and its free room, made of the versions that were read of it.
 ///
 /// # Errors
 ///
 /// Only `Memory`.
 pub(crate) fn read_back<K: Keyspace + Drop>(
     alloc: Global,
+    layout: Layout,
     lines: u64,
     versions: Versions,
 ) -> Result<(K, Rebuilt), Refusal>
-    requires { (contents : Contents) × (contents.lines ≡ lines) × AreOf contents versions.counted.items versions.gapped.items }
-    ensures follows { IfOk result (λ made. (contents : Contents) → contents.lines ≡ lines → AreOf contents versions.counted.items versions.gapped.items
-        → Follows contents (K.table made.0) made.1.heap made.1.ended.items) }
+    requires { (contents : Contents) × (contents.current.layout ≡ layout) × (contents.lines ≡ lines) × AreOf contents versions.counted.items versions.gapped.items }
+    ensures follows { IfOk result (λ made. (contents : Contents) → contents.current.layout ≡ layout → contents.lines ≡ lines
+        → AreOf contents versions.counted.items versions.gapped.items → Follows contents (K.table made.0) made.1.heap made.1.ended.items) }
     ensures cause { IfErr result (λ refusal. refusal ≡ Memory) }
 {
     let mut keyspace = K::empty(alloc);
     let room = rebuild(
         alloc,
         &mut keyspace,
+        layout,
         lines,
         versions.counted,
         &versions.gapped,

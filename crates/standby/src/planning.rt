@@ -11,7 +11,7 @@ use crate::standby::Standby;
 use frames::Frame;
 use heap_layout::lines_for;
 use kv_types::{Change, Extent, Refusal};
-use model::{Layout, LAYOUT};
+use model::Layout;
 use mv_keyspace::{Keyspace, Row};
 use packing::{Move, make_window, push_down, slide_down};
 use std::alloc::{AllocError, Global};
@@ -165,7 +165,7 @@ fn extents_of<E: Durable>(alloc: Global, engine: &E, rows: &[Row]) -> Result<Vec
     requires sound { E.is_faulted engine.now ≡ false }
     ensures cause { IfErr result (λ refusal. refusal ≡ Refusal.Memory) }
 {
-    let entries = LAYOUT.entries_of_lines(engine.lines());
+    let entries = engine.record().layout.entries_of_lines(engine.lines());
     let mut extents = Vec::with_capacity(alloc, rows.len())?;
     for row in rows {
         let extent = if row.entry.0 < entries {

@@ -130,7 +130,8 @@ impl<E: Restarting, K: Keyspace + Drop> Standby<E, K> {
             (StaysReadable (E.device self.old.engine).lines r (image_of (E.device self.old.engine).words)) }
     {
         let versions = self.engine.restart(alloc, Role::Standby)?;
-        let (keyspace, room) = read_back(alloc, self.engine.lines(), versions)?;
+        let layout = self.engine.record().layout;
+        let (keyspace, room) = read_back(alloc, layout, self.engine.lines(), versions)?;
         self.keyspace = keyspace;
         self.heap = room.heap;
         self.ended = room.ended;

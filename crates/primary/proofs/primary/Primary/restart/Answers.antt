@@ -22,7 +22,7 @@ are_of g c =
 
 pub resume-requires-clause-read : goal.resume-requires-clause-read
 resume-requires-clause-read g c =
-    (g.E.Durable.contents c.restart.new.self.engine, sym c.lines-lines.ensures, sym c.position.ensures, are_of g (goal.at.resume-requires-clause-read g c).After-epoch)
+    (g.E.Durable.contents c.restart.new.self.engine, sym c.layout-layout.ensures, sym c.lines-lines.ensures, sym c.position.ensures, are_of g (goal.at.resume-requires-clause-read g c).After-epoch)
 
 pub returns-clause-shows : goal.returns-clause-shows
 returns-clause-shows g c =
@@ -36,21 +36,21 @@ pub returns-clause-stands : goal.returns-clause-stands
 returns-clause-stands g c =
     let contents = g.E.Durable.contents c.restart.new.self.engine in
     let are = are_of g (goal.at.returns-clause-stands g c).After-epoch in
-    let over = c.in_ok-sequencer.ensures.sequencer contents (sym c.lines-lines.ensures) (sym c.position.ensures) (sym c.epoch.ensures) are in
+    let over = c.in_ok-sequencer.ensures.sequencer contents (sym c.layout-layout.ensures) (sym c.lines-lines.ensures) (sym c.position.ensures) (sym c.epoch.ensures) are in
     let opened = c.in_ok-versions.ensures in
     rw (opened.ready.2, c.drop_all.ensures)
     (starts-so (g.E.Durable.device c.restart.new.self.engine) contents _ over (consistent-read contents _ _ are) (laid-read contents _ _ are) opened.durable)
 
 pub returns-clause-sequencer : goal.returns-clause-sequencer
 returns-clause-sequencer g c =
-    c.in_ok-sequencer.ensures.sequencer (g.E.Durable.contents c.restart.new.self.engine) (sym c.lines-lines.ensures) (sym c.position.ensures) (sym c.epoch.ensures)
+    c.in_ok-sequencer.ensures.sequencer (g.E.Durable.contents c.restart.new.self.engine) (sym c.layout-layout.ensures) (sym c.lines-lines.ensures) (sym c.position.ensures) (sym c.epoch.ensures)
     (are_of g (goal.at.returns-clause-sequencer g c).After-epoch)
 
 pub returns-clause-opening : goal.returns-clause-opening
 returns-clause-opening g c =
     let told = c.in_ok-sequencer.ensures.opening in
     let contents = g.E.Durable.contents c.restart.new.self.engine in
-    (told.0 ∙ c.position.ensures, told.1 contents (sym c.lines-lines.ensures) (are_of g (goal.at.returns-clause-opening g c).After-epoch))
+    (told.0 ∙ c.position.ensures, told.1 contents (sym c.layout-layout.ensures) (sym c.lines-lines.ensures) (are_of g (goal.at.returns-clause-opening g c).After-epoch))
 
 pub returns-clause-leads : goal.returns-clause-leads
 returns-clause-leads g c =
@@ -59,14 +59,14 @@ returns-clause-leads g c =
     let lines = sym c.lines-lines.ensures in
     let position = sym c.position.ensures in
     let are = are_of g (goal.at.returns-clause-leads g c).After-epoch in
-    leads_to contents _ _ (consistent-read contents _ _ are) (made.sequencer contents lines position (sym c.epoch.ensures) are) (made.opening.1 contents lines are)
+    leads_to contents _ _ (consistent-read contents _ _ are) (made.sequencer contents (sym c.layout-layout.ensures) lines position (sym c.epoch.ensures) are) (made.opening.1 contents (sym c.layout-layout.ensures) lines are)
 
 pub returns-clause-keeps : goal.returns-clause-keeps
 returns-clause-keeps g c = λ low past keyspaces recalled.
     let device = g.E.Durable.device c.args.self.now.back.committer.engine in
     let contents = g.E.Durable.contents c.restart.new.self.engine in
     let are = are_of g (goal.at.returns-clause-keeps g c).After-epoch in
-    let over = c.in_ok-sequencer.ensures.sequencer contents (sym c.lines-lines.ensures) (sym c.position.ensures) (sym c.epoch.ensures) are in
+    let over = c.in_ok-sequencer.ensures.sequencer contents (sym c.layout-layout.ensures) (sym c.lines-lines.ensures) (sym c.position.ensures) (sym c.epoch.ensures) are in
     let opened = c.in_ok-versions.ensures in
     rw (opened.ready.2, c.drop_all.ensures)
     (keeps-opened low past device.lines (image_of device.words) role.Primary contents recalled (record { counted = c.in_ok-versions.versions.counted.items; gapped = c.in_ok-versions.versions.gapped.items; reopens = opened.reopens }) _ over (consistent-read contents _ _ are) keyspaces)
@@ -78,10 +78,10 @@ returns-clause-delta g c = λ low past keyspaces recalled.
     let are = are_of g (goal.at.returns-clause-delta g c).After-epoch in
     let made = c.in_ok-sequencer.ensures in
     let lines = sym c.lines-lines.ensures in
-    let over = made.sequencer contents lines (sym c.position.ensures) (sym c.epoch.ensures) are in
+    let over = made.sequencer contents (sym c.layout-layout.ensures) lines (sym c.position.ensures) (sym c.epoch.ensures) are in
     let consistent = consistent-read contents _ _ are in
     delta-leads low past device.lines (image_of device.words) role.Primary contents recalled (record { counted = c.in_ok-versions.versions.counted.items; gapped = c.in_ok-versions.versions.gapped.items; reopens = c.in_ok-versions.ensures.reopens }) _ over consistent keyspaces _
-    (made.opening.0 ∙ c.position.ensures) (leads_to contents _ _ consistent over (made.opening.1 contents lines are))
+    (made.opening.0 ∙ c.position.ensures) (leads_to contents _ _ consistent over (made.opening.1 contents (sym c.layout-layout.ensures) lines are))
 
 pub returns-in_err-sequencer-clause-refused : goal.returns-in_err-sequencer-clause-refused
 returns-in_err-sequencer-clause-refused g c =

@@ -1,4 +1,5 @@
-use Rattle.std.proofs.Common.{sym}
+use Rattle.std.proofs.Common.{ap, sym}
+use Rattle.model.specs.declared.record.Record.{Record}
 use Rattle.model.specs.declared.record.Role.TheVariants.{Standby}
 use Rattle.pmem.specs.Crash.{image_of}
 use Rattle.placing.specs.Read.{AreOf}
@@ -16,8 +17,8 @@ are_of g c =
     are_of_restarted (g.E.Durable.device c.restart.new.self) device.lines (image_of device.words) Standby (g.E.Durable.contents c.restart.new.self) versions.counted.items versions.gapped.items opened.reopens opened.shown opened.durable
 
 pub read_back-requires : goal.read_back-requires
-read_back-requires g c = (g.E.Durable.contents c.restart.new.self, sym c.lines.ensures, are_of g (goal.at.read_back-requires g c).After-lines)
+read_back-requires g c = (g.E.Durable.contents c.restart.new.self, sym (ap (λ (r : Record). r.layout) c.record.ensures), sym c.lines.ensures, are_of g (goal.at.read_back-requires g c).After-lines)
 
 pub returns-clause-follows : goal.returns-clause-follows
 returns-clause-follows g c =
-    c.in_ok-keyspace.ensures.follows (g.E.Durable.contents c.restart.new.self) (sym c.lines.ensures) (are_of g (goal.at.returns-clause-follows g c).After-lines)
+    c.in_ok-keyspace.ensures.follows (g.E.Durable.contents c.restart.new.self) (sym (ap (λ (r : Record). r.layout) c.record.ensures)) (sym c.lines.ensures) (are_of g (goal.at.returns-clause-follows g c).After-lines)
