@@ -10,7 +10,7 @@ ghost use Rattle.model.specs.declared.record.Record.{Record as CommitRecord};
 ghost use Rattle.heap_layout.specs.Superblock.{super_refusal};
 ghost use Rattle.wbl_engine.specs.Contents.{IsDurable};
 ghost use Rattle.wbl_engine.specs.Lawful.{IsUndamaged};
-ghost use Rattle.wbl_engine.specs.Reopening.{IsShown, RefusesReopening, Reopens, StaysReadable};
+ghost use Rattle.wbl_engine.specs.Reopening.{IsShown, RefusesReopening, Reopens, StaysReadable, layout_in};
 
 use crate::committer::Committer;
 use crate::stage::Stage;
@@ -108,7 +108,6 @@ impl<E: Restarting> Committer<E> {
         requires settled { (word : ℕ) → Only ((E.device self.old.engine).words word) (image_of (E.device self.old.engine).words word) }
         ensures reopens { IfOk result (λ versions. Reopens (E.device self.old.engine).lines (image_of (E.device self.old.engine).words) role
             (E.contents self.new.engine) versions.counted.items versions.gapped.items) }
-        ensures layout { OnOk result ((E.contents self.new.engine).current.layout ≡ (E.contents self.old.engine).current.layout) }
         ensures shown { IfOk result (λ versions.
             IsShown (E.contents self.new.engine) versions.counted.items versions.gapped.items (image_of (E.device self.new.engine).words)) }
         ensures durable { OnOk result (IsDurable (E.device self.new.engine) (E.contents self.new.engine)) }
@@ -118,9 +117,11 @@ impl<E: Restarting> Committer<E> {
         ensures ready { OnOk result ((self.new.stage ≡ Stage.Ready) × (self.new.local ≡ (E.contents self.new.engine).current.position) × (self.new.aside.items ≡ [])) }
         ensures kept { OnErr result ((self.new.stage ≡ self.old.stage) × (self.new.local ≡ self.old.local) × (self.new.aside ≡ self.old.aside)) }
         ensures refused { IfErr result (λ refusal. (refusal ≡ Refusal.Fault)
-            ⊎ (RefusesReopening (E.contents self.old.engine).current.layout (E.device self.old.engine).lines (image_of (E.device self.old.engine).words) role refusal × (self.new ≡ self.old))) }
+            ⊎ (RefusesReopening (layout_in (image_of (E.device self.old.engine).words)) (E.device self.old.engine).lines (image_of (E.device self.old.engine).words) role
+            refusal × (self.new ≡ self.old))) }
         ensures fault { IsErrOf result Refusal.Fault → (E.device self.old.engine).failures < (E.device self.new.engine).failures }
-        ensures superblock { (refusal : Cause) → super_refusal (E.contents self.old.engine).current.layout (E.device self.old.engine).lines (image_of (E.device self.old.engine).words) ≡ Some refusal
+        ensures superblock { (refusal : Cause)
+            → super_refusal (layout_in (image_of (E.device self.old.engine).words)) (E.device self.old.engine).lines (image_of (E.device self.old.engine).words) ≡ Some refusal
             → result ≡ Err refusal }
         ensures lines { (E.device self.new.engine).lines ≡ (E.device self.old.engine).lines }
         ensures asked_moment { (E.device self.new.engine).kept ≡ (E.device self.old.engine).kept }

@@ -6,6 +6,7 @@ use Rattle.kv_types.specs.declared.record_id.RecordId.TheVariants.{Field, Str}
 use Rattle.kv_types.specs.declared.refusal.Refusal.TheVariants.{WrongSize}
 use Rattle.heap_layout.specs.Superblock.{super_refusal}
 use Rattle.model.specs.declared.image.TheConstants.{MAX_LINES, MIN_LINES}
+use Rattle.model.specs.declared.layout.Layout.{Layout}
 use Rattle.model.specs.declared.record.Record.{Record}
 use Rattle.model.specs.Group.{Contents, bytes_of_id, entries_of}
 use Rattle.model.specs.Image.{Image, Version, bytes_at, counts, entry_bytes, entry_word, field_bytes, id_of, key_bytes, lines_of_bytes, version_in}
@@ -72,8 +73,8 @@ or-second true b is = refl
 or-second false b is = is
 
 -- one whose superblock is not refused for its size is not above the size that an image may have
-pub size-few : (lines : ℕ) (image : Image) → ¬ (super_refusal lines image ≡ Some WrongSize) → lines ≤ MAX_LINES
-size-few lines image taken = elim (cases_lt MAX_LINES lines) [
+pub size-few : (layout : Layout) (lines : ℕ) (image : Image) → ¬ (super_refusal layout lines image ≡ Some WrongSize) → lines ≤ MAX_LINES
+size-few layout lines image taken = elim (cases_lt MAX_LINES lines) [
   | inl large ↦ absurd (taken (cond-true _ _ _ (or-second (nat_lt lines MIN_LINES) (nat_lt MAX_LINES lines) (lt-ltb MAX_LINES lines large))))
   | inr few ↦ few
 ]

@@ -1,6 +1,6 @@
 -- What a crash leaves of the past that a primary keeps, and what it keeps of it once it is opened again.
 use mathlib.Core.Path.{fun_ext}
-use Rattle.std.proofs.Common.{◌≡◌, ℕ, ◌<◌, ◌≤◌, Bool, true, false, List, [], ◌++◌, Result, inl, inr, refl, sym, ap, subst, ◌∙◌, arith, le_refl}
+use Rattle.std.proofs.Common.{◌≡◌, ℕ, ◌<◌, ◌≤◌, Bool, true, false, List, [], ◌++◌, Result, inl, inr, refl, sym, ap, ap₂, subst, ◌∙◌, arith, le_refl}
 use Rattle.std.proofs.lemmas.Bool.{cases_lt, cond-true, le-ltb, lt-ltb, cond-false}
 use Rattle.kv_types.specs.declared.refusal.Refusal.{Refusal}
 use Rattle.kv_types.specs.Keyspace.{Keyspace}
@@ -9,6 +9,7 @@ use Rattle.pmem.specs.Crash.{IsImage}
 use Rattle.pmem.specs.Runs.{LeavesOnly}
 use Rattle.pmem.proofs.Leaving.{LeavesOnly-weaken, none_leaves}
 use Rattle.model.specs.declared.group.Group.{Group}
+use Rattle.model.specs.declared.layout.Layout.{Layout}
 use Rattle.model.specs.declared.record.Record.{Record}
 use Rattle.model.specs.declared.record.Role.{Role}
 use Rattle.model.specs.declared.work.FreeList.{FreeList}
@@ -27,7 +28,7 @@ use Rattle.wbl_engine.specs.Freeing.{KeepsWithoutSome, cleared_contents}
 use Rattle.wbl_engine.specs.Lawful.{IsUndamaged}
 use Rattle.wbl_engine.specs.Reopening.{StaysReadable, reopened}
 use Rattle.wbl_engine.specs.Restarting.{IsReopened}
-use Rattle.wbl_engine.proofs.RoomLemmas.{room_cases}
+use Rattle.wbl_engine.proofs.RoomLemmas.{room_cases, room_layout}
 use Rattle.wbl_engine.proofs.WithoutLemmas.{IsMapOf-contents_without, consistent_without}
 use Rattle.redis_core.specs.Sequencing.{Sequencing}
 use Rattle.group_commit.specs.Due.{due_now, has_group}
@@ -180,12 +181,12 @@ module _ (low : ℕ) (past : Past) (lines' : ℕ) (image : Image) (r : Record) (
 
   same_record : recalled.current ≡ r
   same_record =
-      sym (HasRecord-unique recalled.lines image r recalled.current undamaged.current.lawful.few
+      sym (HasRecord-unique recalled.lines image r recalled.current undamaged.current.lawful.few undamaged.superblock.version recalled.holds.superblock.version
       (subst (λ n. HasRecord n r image) (sym own) undamaged.current.has_record) recalled.holds.has_record)
 
-  own_map : IsMapOf (version_at r image) (entries_of_lines lines') (past r.position)
-  own_map = subst (λ (q : Record). IsMapOf (version_at q image) (entries_of_lines lines') (past q.position)) same_record
-      (subst (λ n. IsMapOf (version_at recalled.current image) (entries_of_lines n) (past recalled.current.position)) own recalled.holds.map)
+  own_map : IsMapOf (version_at r image) (entries_of_lines r.layout lines') (past r.position)
+  own_map = subst (λ (q : Record). IsMapOf (version_at q image) (entries_of_lines q.layout lines') (past q.position)) same_record
+      (subst (λ n. IsMapOf (version_at recalled.current image) (entries_of_lines recalled.current.layout n) (past recalled.current.position)) own recalled.holds.map)
 
   own_recalls : (p : ℕ) → low ≤ p → p < r.position → Recalls (versions_under lines' r image) (λ i. Unit {0}) p (past p)
   own_recalls = subst (λ (q : Record). (p : ℕ) → low ≤ p → p < q.position → Recalls (versions_under lines' q image) (λ i. Unit {0}) p (past p)) same_record
@@ -196,19 +197,25 @@ module _ (low : ℕ) (past : Past) (lines' : ℕ) (image : Image) (r : Record) (
   readable-recalls other stays = record {
     lines = lines';
     current = stays.current;
-    holds = Holds-versions lines' stays.current (version_at r image) (past stays.current.position) other stays.undamaged.superblock stays.undamaged.current.has_record stays.versions
-        (subst (λ n. IsMapOf (version_at r image) (entries_of_lines lines') (past n)) (sym stays.position) own_map);
+    holds = Holds-versions lines' stays.current (version_at r image) (past stays.current.position) other stays.undamaged.superblock stays.undamaged.current.has_record
+        (λ i within. stays.versions i (subst (λ (layout : Layout). i < entries_of_lines layout lines') stays.layout within))
+        (subst (λ (layout : Layout). IsMapOf (version_at r image) (entries_of_lines layout lines') (past stays.current.position)) (sym stays.layout)
+        (subst (λ n. IsMapOf (version_at r image) (entries_of_lines r.layout lines') (past n)) (sym stays.position) own_map));
     recalls = λ p from below.
         subst (λ (versions : Versions). Recalls versions (λ i. Unit {0}) p (past p)) (fun_ext (λ i. sym (same_versions i)))
         (own_recalls p from (omega (arith, below, stays.position)));
   }
     where
       same_versions : (i : ℕ) → versions_under lines' stays.current other i ≡ versions_under lines' r image i
-      same_versions i = elim (cases_lt i (entries_of_lines lines')) [
-        | inl within ↦
-            cond-true _ _ _ (lt-ltb i (entries_of_lines lines') within) ∙ stays.versions i within ∙ sym (cond-true _ _ _ (lt-ltb i (entries_of_lines lines') within))
-        | inr beyond ↦ cond-false _ _ _ (le-ltb i (entries_of_lines lines') beyond) ∙ sym (cond-false _ _ _ (le-ltb i (entries_of_lines lines') beyond))
-      ]
+      same_versions i =
+          rw stays.layout (
+            elim (cases_lt i (entries_of_lines r.layout lines')) [
+              | inl within ↦
+                  cond-true _ _ _ (lt-ltb i (entries_of_lines r.layout lines') within) ∙ stays.versions i within
+                  ∙ sym (cond-true _ _ _ (lt-ltb i (entries_of_lines r.layout lines') within))
+              | inr beyond ↦ cond-false _ _ _ (le-ltb i (entries_of_lines r.layout lines') beyond) ∙ sym (cond-false _ _ _ (le-ltb i (entries_of_lines r.layout lines') beyond))
+            ]
+          )
 
 -- at any moment of a reopening
 pub reopening-leaves : (low : ℕ) (past : Past) (old new : State) (image : Image) (r : Record) → ImageRecalls low past image → IsUndamaged old.lines r image
@@ -229,10 +236,11 @@ module _ (low : ℕ) (past : Past) (lines' : ℕ) (image : Image) (role : Role) 
 
   map_is : IsMapOf contents.versions (entries_of contents) (past contents.current.position)
   map_is =
-      subst (λ n. IsMapOf contents.versions (entries_of_lines n) (past contents.current.position)) (sym opened.reopens.lines_are)
-      (subst (λ n. IsMapOf contents.versions (entries_of_lines lines') (past n)) (sym at)
-      (IsMapOf-same (version_at before image) contents.versions (entries_of_lines lines') (past before.position)
-      (λ i within. sym (opened.reopens.versions i ∙ cond-true _ _ _ (lt-ltb i (entries_of_lines lines') within)))
+      let layout = ap (λ (r : Record). r.layout) opened.reopens.current ∙ room_layout before in
+      subst (λ n. IsMapOf contents.versions n (past contents.current.position)) (sym (ap₂ entries_of_lines layout opened.reopens.lines_are))
+      (subst (λ n. IsMapOf contents.versions (entries_of_lines before.layout lines') (past n)) (sym at)
+      (IsMapOf-same (version_at before image) contents.versions (entries_of_lines before.layout lines') (past before.position)
+      (λ i within. sym (opened.reopens.versions i ∙ cond-true _ _ _ (lt-ltb i (entries_of_lines before.layout lines') within)))
       (own_map low past lines' image before recalled opened.reopens.undamaged)))
 
   -- it recalls it still

@@ -92,7 +92,7 @@ RecallsEach low position past contents = (p : ℕ) → low ≤ p → p < positio
 
 -- the versions of an image of `lines` lines under this record
 abbrev pub versions_under : ℕ → Record → Image → Versions
-versions_under lines r image = λ i. if nat_lt i (entries_of_lines lines) then version_at r image i else None
+versions_under lines r image = λ i. if nat_lt i (entries_of_lines r.layout lines) then version_at r image i else None
 
 -- The image holds the keyspace at the position of its record, and its versions recall each from `low` on up to there.
 pub record ImageRecalls (low : ℕ) (past : Past) (image : Image) : Type 0 where

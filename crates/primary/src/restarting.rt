@@ -8,7 +8,7 @@ ghost use Rattle.placing.specs.Read.{Shows};
 ghost use Rattle.group_commit.specs.declared.stage.Stage.TheVariants.{Ready};
 ghost use Rattle.wbl_engine.specs.Contents.{IsDurable};
 ghost use Rattle.wbl_engine.specs.Lawful.{IsUndamaged};
-ghost use Rattle.wbl_engine.specs.Reopening.{RefusesReopening, StaysReadable};
+ghost use Rattle.wbl_engine.specs.Reopening.{RefusesReopening, StaysReadable, layout_in};
 ghost use Rattle.wbl_engine.specs.Restarting.{IsReopened};
 ghost use Rattle.mv_keyspace.specs.Table.{records};
 ghost use Rattle.standby_stream.specs.Delta.{IsOpening, LeadsTo};
@@ -56,7 +56,8 @@ impl<E: Restarting, K: Keyspace + Drop> Primary<E, K> {
             → DeltaLeads low (E.contents self.new.back.committer.engine).current.position past opening) }
         ensures failures { ¬ IsErrOf result Refusal.Fault → (E.device self.new.back.committer.engine).failures ≡ (E.device self.old.back.committer.engine).failures }
         ensures refused { IfErr result (λ refusal. (refusal ≡ Refusal.Fault) ⊎ ((refusal ≡ Refusal.Memory)
-            ⊎ (RefusesReopening (E.contents self.old.back.committer.engine).current.layout (E.device self.old.back.committer.engine).lines (image_of (E.device self.old.back.committer.engine).words) Role.Primary refusal
+            ⊎ (RefusesReopening (layout_in (image_of (E.device self.old.back.committer.engine).words)) (E.device self.old.back.committer.engine).lines
+            (image_of (E.device self.old.back.committer.engine).words) Role.Primary refusal
             × (E.device self.new.back.committer.engine ≡ E.device self.old.back.committer.engine)))) }
         ensures fault { IsErrOf result Refusal.Fault → (E.device self.old.back.committer.engine).failures < (E.device self.new.back.committer.engine).failures }
         ensures lines { (E.device self.new.back.committer.engine).lines ≡ (E.device self.old.back.committer.engine).lines }

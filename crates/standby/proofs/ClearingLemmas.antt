@@ -12,7 +12,8 @@ use Rattle.extent_heap.specs.Room.{IsOutEntry, Room, is_free_entry, is_free_line
 use Rattle.model.specs.declared.image.TheConstants.{COUNTER_LIMIT}
 use Rattle.model.specs.declared.record.Record.{Record}
 use Rattle.model.specs.Group.{Contents, Versions, is_ended_version, is_listed}
-use Rattle.model.specs.Image.{Image, entries_of_lines}
+use Rattle.model.specs.Image.{Image}
+use Rattle.model.proofs.DirectoryLemmas.{entries_same}
 use Rattle.mv_keyspace.specs.Table.{IsTable, Table, records}
 use Rattle.placing.specs.Back.{CanGiveAll, GivesAll}
 use Rattle.placing.proofs.MemberLemmas.{distinct_none}
@@ -68,12 +69,12 @@ module _ (old new : Contents) (table : Table) (room : Room) (follows : Follows o
           entries = λ i free. elim (or_cases (is_free_entry room i) (is_listed i entries) (sym (given.entries_given i) ∙ free)) [
             | inl was ↦
                 let before = follows.left.entries i was in (
-                  subst (λ n. i < entries_of_lines n) (sym clears.lines_are) before.0,
+                  subst (λ n. i < n) (sym (entries_same old new (ap (λ (r : Record). r.layout) clears.current) clears.lines_are)) before.0,
                   clears.is_free i ∙ or_left (old.is_free i) (is_listed i entries) before.1,
                   clears.versions i ∙ before.2,
                 )
             | inr listed ↦ (
-              subst (λ n. i < entries_of_lines n) (sym clears.lines_are) (clears.within i listed),
+              subst (λ n. i < n) (sym (entries_same old new (ap (λ (r : Record). r.layout) clears.current) clears.lines_are)) (clears.within i listed),
               clears.is_free i ∙ or_right (old.is_free i) (is_listed i entries) listed,
               clears.versions i ∙ clears.held_none i listed,
             )
@@ -89,7 +90,7 @@ module _ (old new : Contents) (table : Table) (room : Room) (follows : Follows o
         apart = λ i j v w differ is_v is_w. follows.apart i j v w differ (sym (clears.versions i) ∙ is_v) (sym (clears.versions j) ∙ is_w);
         out = record {
           end_line = given.end_line ∙ follows.out.end_line ∙ sym clears.lines_are;
-          end_entry = given.end_entry ∙ follows.out.end_entry ∙ ap entries_of_lines (sym clears.lines_are);
+          end_entry = given.end_entry ∙ follows.out.end_entry ∙ sym (entries_same old new (ap (λ (r : Record). r.layout) clears.current) clears.lines_are);
           held =
               let was = follows.out.held in
               let held = given.held in
@@ -178,7 +179,7 @@ module _ {E K D : Type 0} (device : E → State) (contents : E → Contents) (is
     below = grind (arith, far)
 
     cleared : IsRearranged (contents old.engine) (cleared_contents (contents old.engine))
-    cleared = IsRearranged-recorded (contents old.engine) (cleared_contents (contents old.engine)) refl refl refl refl (λ i. refl)
+    cleared = IsRearranged-recorded (contents old.engine) (cleared_contents (contents old.engine)) refl refl refl refl refl (λ i. refl)
         (λ are. lawful_next (contents old.engine) below are)
 
     run : (device' : State) → LeavesOnly (device old.engine) device' (λ image. Keeps (contents old.engine) image ⊎ Keeps (cleared_contents (contents old.engine)) image)
@@ -213,7 +214,7 @@ module _ {E K D : Type 0} (device : E → State) (contents : E → Contents) (is
           cleared = λ _. (some, rw engine_is current);
           gapless = λ is. cc;
           rearranged = rw engine_is (IsRearranged-recorded (contents old.engine) (contents engine) (ap (λ (r : Record). r.position) current) (ap (λ (r : Record). r.epoch) current)
-              (ap (λ (r : Record). r.role) current) clears.lines_are clears.versions (λ are. lawful_cleared (contents old.engine) (contents engine) entries clears below are));
+              (ap (λ (r : Record). r.role) current) (ap (λ (r : Record). r.layout) current) clears.lines_are clears.versions (λ are. lawful_cleared (contents old.engine) (contents engine) entries clears below are));
           still = λ _. rw (engine_is, keyspace_is, heap_is, none) now;
           sound = λ _. rw engine_is sound;
           durable = λ _. rw engine_is durable;
@@ -250,7 +251,7 @@ module _ {E K D : Type 0} (device : E → State) (contents : E → Contents) (is
                 cleared = λ is. cc;
                 gapless = λ is. cc;
                 rearranged = rw engine_is (IsRearranged-recorded (contents old.engine) (contents engine) (ap (λ (r : Record). r.position) kept.current) (ap (λ (r : Record). r.epoch) kept.current)
-                    (ap (λ (r : Record). r.role) kept.current) kept.lines_are kept.versions
+                    (ap (λ (r : Record). r.role) kept.current) (ap (λ (r : Record). r.layout) kept.current) kept.lines_are kept.versions
                     (λ are. lawful_from (contents old.engine) (contents engine) (rw kept.current are.current) kept.lines_are kept.versions are));
                 still = λ sound. absurd (sound (ap Err is_fault));
                 sound = λ sound. absurd (sound (ap Err is_fault));

@@ -35,7 +35,8 @@ gapless-later r s gaps cp number (inr (inr last)) = inr (inr (omega (arith, numb
 
 same_rearranged : (a b : Contents) → Same a b → IsRearranged a b
 same_rearranged a b same =
-    IsRearranged-recorded a b (ap (λ (r : Record). r.position) same.current) (ap (λ (r : Record). r.epoch) same.current) (ap (λ (r : Record). r.role) same.current) same.lines same.versions (same_lawful a b same)
+    IsRearranged-recorded a b (ap (λ (r : Record). r.position) same.current) (ap (λ (r : Record). r.epoch) same.current) (ap (λ (r : Record). r.role) same.current) (ap (λ (r : Record). r.layout) same.current)
+    same.lines same.versions (same_lawful a b same)
 
 module _ {E K D : Type 0} (device : E → State) (contents : E → Contents) (is_faulted : E → Bool) (table : K → Table) (frame : Frame) (old : Standby E K D)
     (ready : IsReady device contents is_faulted table frame old) where

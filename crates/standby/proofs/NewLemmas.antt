@@ -1,8 +1,9 @@
 -- New images, and the tables and heaps that follow them.
-use Rattle.std.proofs.Common.{◌≡◌, ℕ, ◌<◌, ◌≤◌, ◌↔◌, [], IsTrue, None, ap, sym, subst, ◌∙◌, arith}
+use Rattle.std.proofs.Common.{◌≡◌, ℕ, ◌<◌, ◌≤◌, ◌↔◌, [], IsTrue, None, ap, ap₂, sym, subst, ◌∙◌, arith}
 use Rattle.std.proofs.lemmas.Bool.{true≢false}
 use Rattle.std.proofs.lemmas.Option.{none-some}
-use Rattle.model.specs.Image.{entries_of_lines, first_extent_line}
+use Rattle.model.specs.declared.layout.TheConstants.{LAYOUT}
+use Rattle.model.specs.Layout.{entries_of_lines, first_extent_line}
 use Rattle.model.specs.Group.{Contents, IsConsistent, is_ended_version, entries_of}
 use Rattle.model.specs.declared.record.Role.{Role}
 use Rattle.extent_heap.specs.Room.{Room, is_free_entry, is_free_line}
@@ -17,9 +18,9 @@ use Rattle.standby.specs.Following.{Follows}
 -- the heap has all lines and entries of a new image
 pub record HasAll (lines : ℕ) (room : Room) : Type 0 where
   pub lines_free : (line : ℕ) → IsTrue (is_free_line room line) ↔ ((first_extent_line lines ≤ line) × (line < lines))
-  pub entries_free : (i : ℕ) → IsTrue (is_free_entry room i) ↔ (i < entries_of_lines lines)
+  pub entries_free : (i : ℕ) → IsTrue (is_free_entry room i) ↔ (i < entries_of_lines LAYOUT lines)
   pub end_line : room.end_line ≡ lines
-  pub end_entry : room.end_entry ≡ entries_of_lines lines
+  pub end_entry : room.end_entry ≡ entries_of_lines LAYOUT lines
 
 pub new-table : (lines : ℕ) (role : Role) (contents : Contents) (table : Table) → IsNew lines role contents → table ≡ [] → IsTable contents.versions table
 new-table lines role contents table new empty = subst (IsTable contents.versions) (sym empty) (table-none contents.versions new.versions)
@@ -28,7 +29,7 @@ entries-left : (lines : ℕ) (role : Role) (contents : Contents) (room : Room) �
     → (i : ℕ) → IsTrue (is_free_entry room i) → (i < entries_of contents) × IsTrue (contents.is_free i) × (contents.versions i ≡ None)
 entries-left lines role contents room new all i free =
     let within = (all.entries_free i).0 free in
-    (subst (λ n. i < entries_of_lines n) (sym new.line_count) within, new.is_free i within, new.versions i)
+    (subst (λ n. i < n) (sym (ap₂ entries_of_lines new.layout new.line_count)) within, new.is_free i within, new.versions i)
 
 lines-left : (lines : ℕ) (role : Role) (contents : Contents) (room : Room) → IsNew lines role contents → HasAll lines room
     → (line : ℕ) → IsTrue (is_free_line room line) → (first_extent_line contents.lines ≤ line) × (line < contents.lines)
@@ -51,7 +52,7 @@ out-new lines role contents room new all =
     let none = none_counted contents.versions (entries_of contents) (λ i lt. ap has_version (new.versions i)) in
     record {
       end_line = all.end_line ∙ sym new.line_count;
-      end_entry = all.end_entry ∙ ap entries_of_lines (sym new.line_count);
+      end_entry = all.end_entry ∙ sym (ap₂ entries_of_lines new.layout new.line_count);
       held = omega (arith, none);
     }
 

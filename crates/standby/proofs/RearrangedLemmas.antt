@@ -7,7 +7,8 @@ use Rattle.pmem.specs.Runs.{LeavesOnly}
 use Rattle.pmem.proofs.Leaving.{LeavesOnly-weaken}
 use Rattle.model.specs.declared.record.Record.{Record}
 use Rattle.model.specs.Group.{AreEnded, Contents, IsConsistent, Versions, is_ended_version, is_listed, entries_of}
-use Rattle.model.specs.Image.{Image, IsMapOf, Version, entries_of_lines}
+use Rattle.model.specs.Image.{Image, IsMapOf, Version}
+use Rattle.model.proofs.DirectoryLemmas.{entries_same}
 use Rattle.model.proofs.MapLemmas.{IsMapOf-same}
 use Rattle.mv_keyspace.specs.Table.{Table, records}
 use Rattle.wbl_engine.specs.Contents.{Keeps, Same}
@@ -65,22 +66,23 @@ IsRearranged-then a b c first second = record {
 }
 
 -- the same versions, under a record of the same position, epoch and role
-pub IsRearranged-recorded : (a b : Contents) → b.current.position ≡ a.current.position → b.current.epoch ≡ a.current.epoch → b.current.role ≡ a.current.role → b.lines ≡ a.lines
+pub IsRearranged-recorded : (a b : Contents) → b.current.position ≡ a.current.position → b.current.epoch ≡ a.current.epoch → b.current.role ≡ a.current.role
+    → b.current.layout ≡ a.current.layout → b.lines ≡ a.lines
     → ((i : ℕ) → b.versions i ≡ a.versions i) → (AreLawful a → AreLawful b) → IsRearranged a b
-IsRearranged-recorded a b position epoch role lines versions lawful = record {
+IsRearranged-recorded a b position epoch role layout lines versions lawful = record {
   position = position;
   epoch = epoch;
   role = role;
   line_count = lines;
   map = λ s _ map.
-      subst (λ (n : ℕ). IsMapOf b.versions (entries_of_lines n) s) (sym lines)
+      subst (λ (n : ℕ). IsMapOf b.versions n s) (sym (entries_same a b layout lines))
       (IsMapOf-same a.versions b.versions (entries_of a) s (λ i within. sym (versions i)) map);
   lawful = lawful;
   stood = λ i version is. Stood-self a.versions i version (sym (versions i) ∙ is);
 }
 
 pub IsRearranged-refl : (a : Contents) → IsRearranged a a
-IsRearranged-refl a = IsRearranged-recorded a a refl refl refl refl (λ i. refl) (λ lawful. lawful)
+IsRearranged-refl a = IsRearranged-recorded a a refl refl refl refl refl (λ i. refl) (λ lawful. lawful)
 
 -- without some of what had ended
 pub IsRearranged-without : (a : Contents) (gone : ℕ → Bool) → ((i : ℕ) → IsTrue (gone i) → IsTrue (is_ended_version (a.versions i))) → IsRearranged a (without gone a)

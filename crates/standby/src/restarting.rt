@@ -10,7 +10,7 @@ ghost use Rattle.model.specs.declared.record.Record.{Record as CommitRecord};
 ghost use Rattle.heap_layout.specs.Superblock.{super_refusal};
 ghost use Rattle.wbl_engine.specs.Contents.{IsDurable};
 ghost use Rattle.wbl_engine.specs.Lawful.{IsUndamaged};
-ghost use Rattle.wbl_engine.specs.Reopening.{RefusesReopening, StaysReadable};
+ghost use Rattle.wbl_engine.specs.Reopening.{RefusesReopening, StaysReadable, layout_in};
 ghost use Rattle.standby.specs.Following.{Follows};
 ghost use Rattle.wbl_engine.specs.Restarting.{IsReopened};
 
@@ -119,9 +119,11 @@ impl<E: Restarting, K: Keyspace + Drop> Standby<E, K> {
         ensures stopped { IsErrOf result Refusal.Fault → E.is_faulted self.new.engine ≡ true }
         ensures failures { ¬ IsErrOf result Refusal.Fault → (E.device self.new.engine).failures ≡ (E.device self.old.engine).failures }
         ensures refused { IfErr result (λ refusal. (refusal ≡ Refusal.Fault) ⊎ ((refusal ≡ Refusal.Memory)
-            ⊎ (RefusesReopening (E.contents self.old.engine).current.layout (E.device self.old.engine).lines (image_of (E.device self.old.engine).words) Role.Standby refusal × (self.new ≡ self.old)))) }
+            ⊎ (RefusesReopening (layout_in (image_of (E.device self.old.engine).words)) (E.device self.old.engine).lines (image_of (E.device self.old.engine).words)
+            Role.Standby refusal × (self.new ≡ self.old)))) }
         ensures fault { IsErrOf result Refusal.Fault → (E.device self.old.engine).failures < (E.device self.new.engine).failures }
-        ensures superblock { (refusal : Cause) → super_refusal (E.contents self.old.engine).current.layout (E.device self.old.engine).lines (image_of (E.device self.old.engine).words) ≡ Some refusal
+        ensures superblock { (refusal : Cause)
+            → super_refusal (layout_in (image_of (E.device self.old.engine).words)) (E.device self.old.engine).lines (image_of (E.device self.old.engine).words) ≡ Some refusal
             → result ≡ Err refusal }
         ensures lines { (E.device self.new.engine).lines ≡ (E.device self.old.engine).lines }
         ensures asked_moment { (E.device self.new.engine).kept ≡ (E.device self.old.engine).kept }

@@ -13,7 +13,7 @@ use crate::freeing::{Freed, extent_of, freed_by, named_extents};
 use crate::inspecting::read_record;
 use crate::promoting::{promoted_record, write_promoted};
 use crate::relocating::{commit_relocation, relocated_record};
-use crate::reopening::reopen_device;
+use crate::reopening::{layout_in, reopen_device};
 use crate::restarting::Restarting;
 use crate::successor::next_record;
 use heap_layout::Versions;
@@ -325,7 +325,11 @@ impl<P: Crashing> Restarting for WblEngine<P> {
     }
 
     fn restart(&mut self, alloc: Global, role: Role) -> Result<Versions, Refusal> {
-        match reopen_device(alloc, &mut self.device, self.current.layout, role) {
+        if self.device.lines() < MIN_LINES {
+            return Err(Refusal::WrongSize);
+        }
+        let layout = layout_in(&self.device);
+        match reopen_device(alloc, &mut self.device, layout, role) {
             Ok((current, versions)) => {
                 self.current = current;
                 self.faulted = false;

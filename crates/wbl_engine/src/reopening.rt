@@ -16,7 +16,7 @@ ghost use Rattle.wbl_engine.specs.Contents.{IsDurable};
 ghost use Rattle.wbl_engine.specs.Erasing.{oldest_gap};
 ghost use Rattle.wbl_engine.specs.Freeing.{record_after_clearing};
 ghost use Rattle.wbl_engine.specs.Lawful.{IsUndamaged};
-ghost use Rattle.wbl_engine.specs.Reopening.{AreCleared, ExhaustsReopening, IsBesideRecords, IsReadable, IsShown, RefusesReopening, Reopens, StaysReadable, is_cleared, is_full, is_left, left_below, reopened, with_open_gap, with_room};
+ghost use Rattle.wbl_engine.specs.Reopening.{AreCleared, ExhaustsReopening, IsBesideRecords, IsReadable, IsShown, RefusesReopening, Reopens, StaysReadable, is_cleared, is_full, is_left, layout_in as the_layout_in, left_below, reopened, with_open_gap, with_room};
 
 use crate::clearing::{oldest_gap, push_if, stamped_in, without_oldest_gap};
 use crate::erasing::erase_stamps;
@@ -27,6 +27,18 @@ use model::{COUNTER_LIMIT, Gap, Layout, Record, Role, STAMP_WINDOW};
 use pmem::{Fault, Pmem};
 use std::alloc::{AllocError, Global};
 use wbl_record::write_next;
+
+/// The layout by which the image is opened again, as its version tells.
+pub(crate) fn layout_in<P: Pmem>(device: &P) -> Layout
+    requires { MIN_LINES ≤ (P.state device.now).lines }
+    ensures { result ≡ the_layout_in (image_of (P.state device.now).words) }
+{
+    if device.load(1) == Layout::Version2.version() {
+        Layout::Version2
+    } else {
+        Layout::Version1
+    }
+}
 
 /// Reopens an image of this layout in its role: reads it, and writes the record in which no stamp counts that was perhaps given out after the current one.
 ///

@@ -10,7 +10,7 @@ ghost use Rattle.model.specs.declared.record.Record.{Record as CommitRecord};
 ghost use Rattle.heap_layout.specs.Superblock.{super_refusal};
 ghost use Rattle.wbl_engine.specs.Contents.{IsDurable};
 ghost use Rattle.wbl_engine.specs.Lawful.{IsUndamaged};
-ghost use Rattle.wbl_engine.specs.Reopening.{IsShown, RefusesReopening, Reopens, StaysReadable};
+ghost use Rattle.wbl_engine.specs.Reopening.{IsShown, RefusesReopening, Reopens, StaysReadable, layout_in};
 
 use crate::durable::Durable;
 use heap_layout::Versions;
@@ -70,7 +70,7 @@ pub trait Restarting: Durable {
         ensures faulted { Self.is_faulted self.new ≡ true }
         ensures moments { LeavesOnly (Self.device self.old) (Self.device self.new) (IsImage (Self.device self.old).words) };
 
-    /// Opens the image of the device again, in the layout that it had and in its role, as `WblEngine::reopen` does, and returns all versions of the image.
+    /// Opens the image of the device again, in the layout of its version and in its role, as `WblEngine::reopen` does, and returns all versions of the image.
     ///
     /// # Errors
     ///
@@ -79,18 +79,17 @@ pub trait Restarting: Durable {
         requires settled { (word : ℕ) → Only ((Self.device self.old).words word) (image_of (Self.device self.old).words word) }
         ensures reopens { IfOk result (λ versions. Reopens (Self.device self.old).lines (image_of (Self.device self.old).words) role
             (Self.contents self.new) versions.counted.items versions.gapped.items) }
-        ensures layout { OnOk result ((Self.contents self.new).current.layout ≡ (Self.contents self.old).current.layout) }
         ensures shown { IfOk result (λ versions.
             IsShown (Self.contents self.new) versions.counted.items versions.gapped.items (image_of (Self.device self.new).words)) }
         ensures durable { OnOk result (IsDurable (Self.device self.new) (Self.contents self.new)) }
         ensures sound { OnOk result ((Self.is_faulted self.new ≡ false) × ((Self.device self.new).failures ≡ (Self.device self.old).failures)) }
         ensures stopped { IsErrOf result Refusal.Fault → Self.is_faulted self.new ≡ true }
         ensures refused { IfErr result (λ refusal. (refusal ≡ Refusal.Fault)
-            ⊎ (RefusesReopening (Self.contents self.old).current.layout (Self.device self.old).lines (image_of (Self.device self.old).words) role refusal
-            × (self.new ≡ self.old))) }
+            ⊎ (RefusesReopening (layout_in (image_of (Self.device self.old).words)) (Self.device self.old).lines (image_of (Self.device self.old).words) role
+            refusal × (self.new ≡ self.old))) }
         ensures fault { IsErrOf result Refusal.Fault → (Self.device self.old).failures < (Self.device self.new).failures }
         ensures superblock { (refusal : Cause)
-            → super_refusal (Self.contents self.old).current.layout (Self.device self.old).lines (image_of (Self.device self.old).words) ≡ Some refusal
+            → super_refusal (layout_in (image_of (Self.device self.old).words)) (Self.device self.old).lines (image_of (Self.device self.old).words) ≡ Some refusal
             → result ≡ Err refusal }
         ensures lines { (Self.device self.new).lines ≡ (Self.device self.old).lines }
         ensures asked_moment { (Self.device self.new).kept ≡ (Self.device self.old).kept }

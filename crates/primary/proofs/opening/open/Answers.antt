@@ -2,6 +2,7 @@ use Rattle.std.proofs.Common.{sym, subst, ◌∙◌, ◌≤◌}
 use Rattle.std.proofs.lemmas.Result.{IfOk-weaker}
 use Rattle.kv_types.specs.declared.refusal.Refusal.TheVariants.{WrongSize}
 use Rattle.model.specs.declared.image.TheConstants.{MAX_LINES}
+use Rattle.model.specs.declared.layout.TheConstants.{LAYOUT}
 use Rattle.pmem.specs.Crash.{image_of}
 use Rattle.primary.proofs.FittingLemmas.{have_their_lines, size-few}
 use Rattle.primary.proofs.Restarted.{are_of_restarted, shows_restarted}
@@ -22,7 +23,7 @@ pub assemble-requires-clause-size : goal.assemble-requires-clause-size
 assemble-requires-clause-size g c =
     let device = g.P.Pmem.state c.args.device in
     subst (λ lines. lines ≤ MAX_LINES) (sym c.in-Ok.ensures.reopens.lines_are)
-    (size-few device.lines (image_of device.words) (λ wrong. let both = sym c.in-Ok.is ∙ c.reopen.ensures.superblock WrongSize wrong in cc))
+    (size-few LAYOUT device.lines (image_of device.words) (λ wrong. let both = sym c.in-Ok.is ∙ c.reopen.ensures.superblock WrongSize wrong in cc))
 
 pub returns-in-Ok-clause-keeps : goal.returns-in-Ok-clause-keeps
 returns-in-Ok-clause-keeps g c =
