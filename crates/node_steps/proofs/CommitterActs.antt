@@ -11,8 +11,8 @@ use Rattle.model.specs.declared.work.Work.{Work}
 use Rattle.model.specs.declared.work.Work.TheVariants as work
 use Rattle.model.specs.declared.call.Call.{Call}
 use Rattle.model.specs.Call.{cut_at, keyspace_after}
-use Rattle.model.specs.Group.{AreEnded, Contents, after_free, after_group, is_listed, last_position}
-use Rattle.model.specs.Image.{IsMapOf, entries_of_lines}
+use Rattle.model.specs.Group.{AreEnded, Contents, after_free, after_group, entries_of, is_listed, last_position}
+use Rattle.model.specs.Image.{IsMapOf}
 use Rattle.model.specs.Standing.{Holder}
 use Rattle.model.proofs.CallsLemmas.{keyspace_after-cut_at-position}
 use Rattle.wbl_engine.specs.declared.freeing.Freed.{Freed as Places}
@@ -79,7 +79,7 @@ module _ {E : Type 0} (device : E → State) (contents : E → Contents) (is_fau
   keeps =
       let at = stands.engine.contents_at.at in
       record {
-        now = subst (λ p. IsMapOf (contents old.engine).versions (entries_of_lines (contents old.engine).lines) (keyspace_after (cut_at calls p))) (sym at) stands.engine.contents_at.map;
+        now = subst (λ p. IsMapOf (contents old.engine).versions (entries_of (contents old.engine)) (keyspace_after (cut_at calls p))) (sym at) stands.engine.contents_at.map;
         follows = record {
           served = stands.sequencer.table ∙ sym (keyspace_after-cut_at-position calls) ∙ ap (λ p. keyspace_after (cut_at calls p)) (sym stands.sequencer.position);
           waiting = waits-along calls w.primary.committer.closed s stands.sequencer;
@@ -129,7 +129,7 @@ module _ {E : Type 0} (device : E → State) (contents : E → Contents) (is_fau
               epoch_is = is.engine.epoch ∙ before_it.epoch_is;
               lines_are = is.engine.lines ∙ before_it.lines_are;
               consistent = over'.consistent;
-              map = subst (λ p. IsMapOf (contents new.engine).versions (entries_of_lines (contents new.engine).lines) (keyspace_after (cut_at calls p))) is.at keeps'.now;
+              map = subst (λ p. IsMapOf (contents new.engine).versions (entries_of (contents new.engine)) (keyspace_after (cut_at calls p))) is.at keeps'.now;
             };
             lawful = is.engine.lawful;
             sound = is.engine.sound;

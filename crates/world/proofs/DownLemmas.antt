@@ -10,21 +10,24 @@ use Rattle.pmem.specs.Runs.{LeavesOnly}
 use Rattle.pmem.proofs.Leaving.{LeavesOnly-weaken}
 use Rattle.pmem.proofs.Staging.{IsImage-settled}
 use Rattle.model.specs.declared.call.Call.{Call}
+use Rattle.model.specs.declared.layout.Layout.{Layout}
 use Rattle.model.specs.declared.record.Record.{Record}
 use Rattle.model.specs.declared.record.Role.{Role}
 use Rattle.model.specs.Call.{keyspace_after, cut_at, position_of}
-use Rattle.model.specs.Image.{Image, IsMapOf, HasRecord, Holds, entries_of_lines}
+use Rattle.model.specs.Image.{Image, IsMapOf, HasRecord, Holds}
 use Rattle.model.proofs.RecordLemmas.{HasRecord-lines}
 use Rattle.model.specs.Group.{Contents, entries_of}
 use Rattle.model.specs.Standing.{Holder}
+use Rattle.model.proofs.DirectoryLemmas.{entries_same}
 use Rattle.model.proofs.MapLemmas.{IsMapOf-same}
 use Rattle.model.proofs.StandingLemmas.{Holds-versions}
 use Rattle.wbl_engine.specs.Contents.{Keeps, IsDurable}
 use Rattle.wbl_engine.specs.Lawful.{IsUndamaged}
-use Rattle.wbl_engine.specs.Reopening.{ExhaustsReopening, KeepsThrough, RefusesReopening, Reopens, StaysReadable, open_gap, reopened, with_room}
+use Rattle.wbl_engine.specs.Reopening.{ExhaustsReopening, KeepsThrough, RefusesReopening, Reopens, StaysReadable, layout_in, open_gap, reopened, with_room}
 use Rattle.wbl_engine.proofs.LawfulLemmas.{lawful_undamaged}
 use Rattle.wbl_engine.proofs.ReopeningLaws.{keeps_through, lawful_refusal, reopening_lawful}
-use Rattle.wbl_engine.proofs.RoomLemmas.{room_cases}
+use Rattle.wbl_engine.proofs.ReadingLemmas.{layout_in_is}
+use Rattle.wbl_engine.proofs.RoomLemmas.{room_cases, room_layout}
 use Rattle.world.specs.Committing.{AreContentsAt, EngineStands, IsDown, Moves, Opens, OpensAt, OpensAtEither}
 use Rattle.node_steps.proofs.EngineLemmas.{AreContentsAt-grows}
 use Rattle.world.proofs.EngineLemmas.{Opens-engine, keeps-opens}
@@ -98,7 +101,7 @@ AreContentsAt-through holder calls p old new are through =
       epoch_is = ap (λ (r : Record). r.epoch) through.current ∙ keeps.epoch ∙ are.epoch_is;
       lines_are = through.lines_are ∙ are.lines_are;
       consistent = through.consistent;
-      map = subst (λ n. IsMapOf new.versions (entries_of_lines n) s) (sym through.lines_are)
+      map = subst (λ n. IsMapOf new.versions n s) (sym (entries_same old new (ap (λ (r : Record). r.layout) through.current ∙ room_layout old.current) through.lines_are))
           (IsMapOf-same old.versions new.versions (entries_of old) s (λ i within. sym (through.versions i within)) are.map);
     }
 
@@ -162,14 +165,16 @@ restart-moments holder calls p device device' down moments =
 
 -- the image is reopened in its role, unless memory is refused or a counter of its record is at its limit
 pub restart-refused : (holder : Holder) (calls : List Call) (p : ℕ) (device : State) (refusal : Refusal) → IsDown holder calls p device
-    → RefusesReopening device.lines (image_of device.words) holder.role refusal
+    → RefusesReopening (layout_in (image_of device.words)) device.lines (image_of device.words) holder.role refusal
     → (refusal ≡ Memory) ⊎ ((refusal ≡ Exhausted) × ((r : Record) × HasRecord holder.lines r (image_of device.words) × ExhaustsReopening r))
 restart-refused holder calls p device refusal down refuses =
     let image = image_of device.words in
     let contents = down.contents in
-    let own : RefusesReopening contents.lines image contents.current.role refusal =
-    subst (λ (role : Role). RefusesReopening contents.lines image role refusal) (sym down.contents_at.role_is)
-    (subst (λ n. RefusesReopening n image holder.role refusal) (sym down.sized) refuses) in
+    let layout = layout_in_is contents.current.layout image down.keeps.superblock.version in
+    let own : RefusesReopening contents.current.layout contents.lines image contents.current.role refusal =
+    subst (λ (role : Role). RefusesReopening contents.current.layout contents.lines image role refusal) (sym down.contents_at.role_is)
+    (subst (λ (is : Layout). RefusesReopening is contents.lines image holder.role refusal) layout
+    (subst (λ n. RefusesReopening (layout_in image) n image holder.role refusal) (sym down.sized) refuses)) in
     elim (lawful_refusal contents image refusal down.lawful down.keeps own) [
       | inl memory ↦ inl memory
       | inr exhausted ↦ inr (exhausted.0, (contents.current, HasRecord-lines down.contents_at.lines_are down.keeps.has_record, exhausted.1))

@@ -1,7 +1,8 @@
 -- New images, the tables and heaps with which they begin, and a primary that nothing waits for.
 use Rattle.std.proofs.Common.{rules, ◌≡◌, ℕ, ◌<◌, ◌≤◌, ◌⊎◌, ◌↔◌, Bool, false, true≢false, IsTrue, ◌∙◌, List, ◌∷◌, length, Ok, Err, refl, sym, ap, subst, arith, inl, inr, Vec, Global, []}
 use Rattle.std.proofs.lemmas.Bool.{cases_lt}
-use Rattle.model.specs.Image.{entries_of_lines, first_extent_line}
+use Rattle.model.specs.declared.layout.TheConstants.{LAYOUT}
+use Rattle.model.specs.Layout.{entries_of_lines, first_extent_line}
 use Rattle.model.specs.declared.image.TheConstants.{MAX_LINES, MIN_LINES}
 use Rattle.model.specs.Group.{AreEnded, Contents, entries_of}
 use Rattle.model.specs.declared.group.Group.{Group}
@@ -73,15 +74,15 @@ committing-nothing calls position code none_waits none_aside ready mark =
 -- ---- new contents
 
 -- a new heap has all
-pub all-fresh : (lines : ℕ) (room : Room) → room ≡ fresh_room (first_extent_line lines) lines (entries_of_lines lines)
+pub all-fresh : (lines : ℕ) (room : Room) → room ≡ fresh_room (first_extent_line lines) lines (entries_of_lines LAYOUT lines)
     → ((line : ℕ) → IsTrue (is_free_line room line) ↔ ((first_extent_line lines ≤ line) × (line < lines)))
-    → ((i : ℕ) → IsTrue (is_free_entry room i) ↔ (i < entries_of_lines lines)) → HasAll lines room
+    → ((i : ℕ) → IsTrue (is_free_entry room i) ↔ (i < entries_of_lines LAYOUT lines)) → HasAll lines room
 all-fresh lines room fresh lines_free entries_free =
     record { lines_free = lines_free; entries_free = entries_free; end_line = ap (λ (r : Room). r.end_line) fresh; end_entry = ap (λ (r : Room). r.end_entry) fresh }
 
 -- nothing is out of it
-pub out-fresh : (lines : ℕ) (role : Role) (contents : Contents) (room : Room) → IsNew lines role contents → room ≡ fresh_room (first_extent_line lines) lines (entries_of_lines lines) → HasOut contents room 0
-out-fresh lines role contents room new fresh = subst (λ (r : Room). HasOut contents r 0) (sym fresh) (fresh-has_out contents lines new.line_count new.versions)
+pub out-fresh : (lines : ℕ) (role : Role) (contents : Contents) (room : Room) → IsNew lines role contents → room ≡ fresh_room (first_extent_line lines) lines (entries_of_lines LAYOUT lines) → HasOut contents room 0
+out-fresh lines role contents room new fresh = subst (λ (r : Room). HasOut contents r 0) (sym fresh) (fresh-has_out contents LAYOUT lines new.layout new.line_count new.versions)
 
 pub underlies-new : (lines : ℕ) (role : Role) (contents : Contents) (table : Table) (room : Room) → IsNew lines role contents → HasAll lines room → table ≡ [] → Underlies contents table room 0 FIRST_EPOCH
 underlies-new lines role contents table room new all empty =

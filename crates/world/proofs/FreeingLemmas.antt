@@ -11,7 +11,8 @@ use Rattle.model.specs.declared.image.TheConstants.{COUNTER_LIMIT}
 use Rattle.model.specs.declared.record.Record.{Record}
 use Rattle.model.specs.Call.{cut_at, keyspace_after}
 use Rattle.model.specs.Group.{AreEnded, Contents, Versions, after_free, without, entries_of}
-use Rattle.model.specs.Image.{IsMapOf, entries_of_lines}
+use Rattle.model.specs.Image.{IsMapOf}
+use Rattle.model.proofs.DirectoryLemmas.{entries_same}
 use Rattle.model.specs.Standing.{Holder}
 use Rattle.wbl_engine.specs.Contents.{IsDurable, Keeps, Same}
 use Rattle.wbl_engine.specs.Freeing.{Clears, KeepsWithoutSome, cleared_contents}
@@ -74,7 +75,7 @@ engine-cleared holder calls p device device' contents contents' is_faulted is_fa
         epoch_is = ap (λ (r : Record). r.epoch) clears.current ∙ are.epoch_is;
         lines_are = clears.lines_are ∙ are.lines_are;
         consistent = consistent_cleared contents contents' entries clears are.consistent;
-        map = subst (λ n. IsMapOf contents'.versions (entries_of_lines n) (keyspace_after (cut_at calls p))) (sym clears.lines_are)
+        map = subst (λ n. IsMapOf contents'.versions n (keyspace_after (cut_at calls p))) (sym (entries_same contents contents' (ap (λ (r : Record). r.layout) clears.current) clears.lines_are))
             (subst (λ (versions : Versions). IsMapOf versions (entries_of contents) (keyspace_after (cut_at calls p))) (fun_ext (λ i. sym (clears.versions i))) are.map);
       };
       lawful = lawful_cleared contents contents' entries clears room engine.lawful;

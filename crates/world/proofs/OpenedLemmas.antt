@@ -20,7 +20,7 @@ use Rattle.mv_keyspace.proofs.PartTables.{map-from_table}
 use Rattle.wbl_engine.specs.Restarting.{IsReopened}
 use Rattle.wbl_engine.specs.Contents.{IsDurable}
 use Rattle.wbl_engine.specs.Lawful.{IsUndamaged}
-use Rattle.wbl_engine.specs.Reopening.{ExhaustsReopening, RefusesReopening, StaysReadable}
+use Rattle.wbl_engine.specs.Reopening.{ExhaustsReopening, RefusesReopening, StaysReadable, layout_in}
 use Rattle.world.specs.Cause.{Breaks, RestsBeforeReopening}
 use Rattle.world.specs.Committing.{AreContentsAt, EngineStands, IsDown, Moves, Rests, OpensAtEither}
 use Rattle.world.proofs.DownLemmas.{down-gaps, down-reopened, restart-moments, settled-image}
@@ -41,7 +41,7 @@ pub record IsOpened (role' : Role) (old new : State) (contents : Contents) (is_f
 
 -- it was refused
 pub record IsNotOpened (role' : Role) (old new : State) (refusal : Refusal) : Type 0 where
-  pub refused : (refusal ≡ Fault) ⊎ ((refusal ≡ Memory) ⊎ (RefusesReopening old.lines (image_of old.words) role' refusal × (new ≡ old)))
+  pub refused : (refusal ≡ Fault) ⊎ ((refusal ≡ Memory) ⊎ (RefusesReopening (layout_in (image_of old.words)) old.lines (image_of old.words) role' refusal × (new ≡ old)))
   pub fault : refusal ≡ Fault → old.failures < new.failures
   pub failures : refusal ≢ Fault → new.failures ≡ old.failures
   pub moments : StaysSo old new

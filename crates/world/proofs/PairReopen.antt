@@ -7,9 +7,10 @@ use Rattle.pmem.specs.Crash.{image_of}
 use Rattle.model.specs.declared.group.Group.{Group}
 use Rattle.model.specs.declared.record.Role.TheVariants as role
 use Rattle.model.specs.Call.{cut_at, keyspace_after}
-use Rattle.model.specs.Group.{AreEnded}
-use Rattle.model.specs.Image.{Image, IsMapOf, entries_of_lines}
+use Rattle.model.specs.Group.{AreEnded, entries_of}
+use Rattle.model.specs.Image.{Image, IsMapOf}
 use Rattle.model.specs.Standing.{Holder}
+use Rattle.model.proofs.LayoutLemmas.{gaps_fit}
 use Rattle.model.proofs.CallsLemmas.{IsKeyspace-keyspace_after, keyspace_after-cut_at-position}
 use Rattle.mv_keyspace.specs.Table.{records}
 use Rattle.group_commit.specs.declared.stage.Stage.TheVariants.{Ready}
@@ -21,7 +22,7 @@ use Rattle.standby_stream.specs.Delta.{IsOpening}
 use Rattle.standby_stream.specs.Stream.{Stream, new_stream}
 use Rattle.standby_stream.proofs.FitLemmas.{deltas_fit}
 use Rattle.wbl_engine.specs.declared.freeing.Freed.{Freed}
-use Rattle.wbl_engine.specs.Reopening.{RefusesReopening}
+use Rattle.wbl_engine.specs.Reopening.{RefusesReopening, layout_in}
 use Rattle.machine.specs.declared.event.Event.{Event}
 use Rattle.machine.specs.declared.event.Event.TheVariants as events
 use Rattle.machine.specs.declared.event.Node.TheVariants as node
@@ -146,7 +147,7 @@ standby-reopening-cut old node' result refusal is fallen refused =
           | inl fault ↦ opened-ends event refusal (Led first second old new w) fault (here, λ whole. inl (opened-breaks second calls p next device node'.device down refused.moments (refused.fault fault)))
           | inr (inl is) ↦ memory is (refused.failures (λ fault. memory_no_fault (sym is ∙ fault)))
           | inr (inr why) ↦
-              let mine = subst (λ r. RefusesReopening device.lines (image_of device.words) r refusal) (sym stands.lives.second_role) why.0 in
+              let mine = subst (λ r. RefusesReopening (layout_in (image_of device.words)) device.lines (image_of device.words) r refusal) (sym stands.lives.second_role) why.0 in
               elim (restart-refused second calls p device refusal down mine) [
                 | inl is ↦ memory is (ap (λ (d : State). d.failures) why.1)
                 | inr full ↦ subst (λ (r : Refusal). EndsBy r event (Led first second old new w)) (sym full.0)
@@ -236,7 +237,7 @@ primary-reopens old serving link opening fallen opened begins = record { steps =
         let here = lost.image.contents_at in
         let recalled =
         recalls-of low past lost.image.contents (image_of old.primary.device.words) here.consistent
-        (subst (λ n. IsMapOf lost.image.contents.versions (entries_of_lines lost.image.contents.lines) (past n)) (sym here.at) here.map)
+        (subst (λ n. IsMapOf lost.image.contents.versions (entries_of lost.image.contents) (past n)) (sym here.at) here.map)
         (subst (λ n. RecallsEach low n past lost.image.contents) (sym here.at) lost.recalls) lost.image.keeps in
         let keyspaces : AreKeyspaces past = λ q. IsKeyspace-keyspace_after (cut_at calls q) in
         let lines = old.primary.device.lines in
@@ -255,7 +256,7 @@ primary-reopens old serving link opening fallen opened begins = record { steps =
         let gaps = length serving.contents.current.gaps.items in
         let w' = with_primary (reopened_primary ended gaps w.primary) w in
         let step : Step w event true w' =
-        record { done = sym (primary-opens lives ∙ fallen); happens = λ did. inl (record { ended = ended; gaps = gaps; some = opened-gaps first calls p old.primary.device serving.device serving.contents serving.is_faulted lost.image mine; few = engine.lawful.current.few; now = refl }); stands = λ did. absurd (true≢false did) } in
+        record { done = sym (primary-opens lives ∙ fallen); happens = λ did. inl (record { ended = ended; gaps = gaps; some = opened-gaps first calls p old.primary.device serving.device serving.contents serving.is_faulted lost.image mine; few = omega (arith, engine.lawful.current.few, gaps_fit serving.contents.current.layout); now = refl }); stands = λ did. absurd (true≢false did) } in
         let parts : PartsRefine first second new w' =
         record {
           sessions = lost.sessions;
@@ -321,7 +322,7 @@ primary-reopening-cut old serving result refusal is fallen refused =
           | inl fault ↦ opened-ends event refusal (Led first second old new w) fault (inl (opened-breaks first calls p next device serving.device down refused.moments (refused.fault fault)), there)
           | inr (inl is) ↦ memory is (refused.failures (λ fault. memory_no_fault (sym is ∙ fault)))
           | inr (inr why) ↦
-              let mine = subst (λ r. RefusesReopening device.lines (image_of device.words) r refusal) (sym stands.lives.first_role) why.0 in
+              let mine = subst (λ r. RefusesReopening (layout_in (image_of device.words)) device.lines (image_of device.words) r refusal) (sym stands.lives.first_role) why.0 in
               elim (restart-refused first calls p device refusal down mine) [
                 | inl is ↦ memory is (ap (λ (d : State). d.failures) why.1)
                 | inr full ↦ subst (λ (r : Refusal). EndsBy r event (Led first second old new w)) (sym full.0)

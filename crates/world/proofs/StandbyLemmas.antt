@@ -13,7 +13,7 @@ use Rattle.pmem.proofs.Leaving.{LeavesOnly-weaken, none_leaves}
 use Rattle.model.specs.declared.call.Call.{Call}
 use Rattle.model.specs.declared.image.TheConstants.{COUNTER_LIMIT, STAMP_WINDOW}
 use Rattle.model.specs.Call.{keyspace_after, cut_at, position_of}
-use Rattle.model.specs.Image.{Image, IsMapOf, entries_of_lines}
+use Rattle.model.specs.Image.{Image, IsMapOf}
 use Rattle.model.proofs.RecordLemmas.{HasRecord-lines}
 use Rattle.model.specs.Group.{Contents, entries_of}
 use Rattle.model.specs.Standing.{Holder}
@@ -197,8 +197,8 @@ module _ {E K D : Type 0} (device : E → State) (contents : E → Contents) (is
         epoch_is = epoch_same ∙ stands.engine.contents_at.epoch_is;
         lines_are = lines ∙ stands.engine.contents_at.lines_are;
         consistent = follows.consistent;
-        map = subst (IsMapOf new.contents.versions (entries_of_lines new.contents.lines)) now
-            (map-from_table new.contents.versions (entries_of_lines new.contents.lines) new.table follows.consistent.beyond follows.table_is);
+        map = subst (IsMapOf new.contents.versions (entries_of new.contents)) now
+            (map-from_table new.contents.versions (entries_of new.contents) new.table follows.consistent.beyond follows.table_is);
       } in
       search (rules, contents_at, follows, now, sound, durable, lawful, epoch_stays ∙ stands.epoch_is, stands.epoch_held)
 

@@ -14,7 +14,8 @@ ghost use Rattle.world.specs.Headline.{start};
 ghost use Rattle.world.specs.Pair.{NodesRefine, first_device, second_device};
 ghost use Rattle.connections.specs.Session.{SessionsRefine, SequencerRefines};
 ghost use Rattle.extent_heap.specs.Room.{fresh_room, is_free_line, is_free_entry};
-ghost use Rattle.model.specs.Image.{entries_of_lines, first_extent_line};
+ghost use Rattle.model.specs.declared.layout.TheConstants.{LAYOUT};
+ghost use Rattle.model.specs.Layout.{entries_of_lines, first_extent_line};
 
 use crate::arrivals::Arrivals;
 use crate::condition::{AskedFences, Condition};
@@ -25,7 +26,7 @@ use connections::Connections;
 use extent_heap::ExtentHeap;
 use failover::fence;
 use kv_types::Refusal;
-use model::{FIRST_EPOCH, Group, Layout, LAYOUT, Work};
+use model::{FIRST_EPOCH, Group, LAYOUT, Layout, Work};
 use mv_keyspace::Keyspace;
 use pipes::LocalPipe;
 use placing::Rebuilt;
@@ -75,8 +76,8 @@ fn make_between<K: Keyspace + Drop>(
     ensures handed { IfOk result (λ between. between.handed.items ≡ []) }
     ensures arrivals { IfOk result (λ between. (epoch : ℕ) → ArrivalsRefine epoch [] (arrived_with between.arrivals between.history.acknowledgements) [] []) }
     ensures free_lines { IfOk result (λ between. (line : ℕ) → IsTrue (is_free_line between.room.heap line) ↔ ((first_extent_line lines.1 ≤ line) × (line < lines.1))) }
-    ensures free_entries { IfOk result (λ between. (i : ℕ) → IsTrue (is_free_entry between.room.heap i) ↔ (i < entries_of_lines lines.1)) }
-    ensures fresh { IfOk result (λ between. between.room.heap ≡ fresh_room (first_extent_line lines.1) lines.1 (entries_of_lines lines.1)) }
+    ensures free_entries { IfOk result (λ between. (i : ℕ) → IsTrue (is_free_entry between.room.heap i) ↔ (i < entries_of_lines LAYOUT lines.1)) }
+    ensures fresh { IfOk result (λ between. between.room.heap ≡ fresh_room (first_extent_line lines.1) lines.1 (entries_of_lines LAYOUT lines.1)) }
     ensures none_ended { IfOk result (λ between. between.room.ended.items ≡ []) }
     ensures cause { IfErr result (λ refusal. refusal ≡ Refusal.Memory) }
 {
@@ -118,9 +119,9 @@ fn new_sequencer<K: Keyspace + Drop>(
 
 /// The room of a new image of `lines` lines: all entries and extents are free, and no version has ended.
 fn room_of(alloc: Global, lines: u64) -> Result<Rebuilt, Refusal>
-    ensures room { IfOk result (λ room. room.heap ≡ fresh_room (first_extent_line lines) lines (entries_of_lines lines)) }
+    ensures room { IfOk result (λ room. room.heap ≡ fresh_room (first_extent_line lines) lines (entries_of_lines LAYOUT lines)) }
     ensures lines { IfOk result (λ room. (line : ℕ) → IsTrue (is_free_line room.heap line) ↔ ((first_extent_line lines ≤ line) × (line < lines))) }
-    ensures entries { IfOk result (λ room. (i : ℕ) → IsTrue (is_free_entry room.heap i) ↔ (i < entries_of_lines lines)) }
+    ensures entries { IfOk result (λ room. (i : ℕ) → IsTrue (is_free_entry room.heap i) ↔ (i < entries_of_lines LAYOUT lines)) }
     ensures ended { IfOk result (λ room. room.ended.items ≡ []) }
     ensures cause { IfErr result (λ refusal. refusal ≡ Refusal.Memory) }
 {
