@@ -1,8 +1,15 @@
 use Rattle.std.proofs.Common.{◌≡◌, Bool, false, ◌||◌, inl, inr, sym, ap, subst, ◌∙◌}
 use Rattle.std.proofs.lemmas.Bool.{cases_Bool}
 use Rattle.std.proofs.Math.Bool.{or-false}
+use Rattle.model.specs.declared.layout.Layout.{Layout}
+use Rattle.pmem.specs.Crash.{image_of}
 use Rattle.wbl_engine.specs.AtRest.{IsAtRest, at_rest_prop}
+use Rattle.wbl_engine.specs.Reopening.{RefusesReopening}
+use Rattle.wbl_engine.proofs.Readable.{settled_stays}
 use Rattle.wbl_engine.proofs.engine.WblEngineRestarting.restart.Goals as goal
+
+pub returns-then-lines-lt-MIN_LINES-clause-moments : goal.returns-then-lines-lt-MIN_LINES-clause-moments
+returns-then-lines-lt-MIN_LINES-clause-moments g c r whole = settled_stays r (g.P.Pmem.state c.args.self.now.device) c.requires.settled whole
 
 pub returns-in-Err-clause-refused : goal.returns-in-Err-clause-refused
 returns-in-Err-clause-refused g c =
@@ -15,7 +22,7 @@ returns-in-Err-clause-refused g c =
             | inl is ↦ inl (c.is_fault.ensures.0 is)
             | inr other ↦
                 inr (
-                  kept.0,
+                  subst (λ (layout : Layout). RefusesReopening layout d.lines (image_of d.words) c.args.role c.in-Err.refusal) c.layout_in-layout.ensures kept.0,
                   subst (λ (faulted : Bool). (at_rest : faulted ≡ false → IsAtRest self.current (g.P.Pmem.state c.reopen_device.new.device))
                       → record self { device = c.reopen_device.new.device; faulted = faulted; at_rest = at_rest } ≡ self)
                       (sym (ap (λ (b : Bool). self.faulted || b) other ∙ or-false self.faulted))
