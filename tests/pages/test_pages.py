@@ -42,7 +42,6 @@ LIMITS = [
     ("model", "MAX_LINES", "README image replication crates/pmem_file"),
     ("model", "COUNTER_LIMIT", "README commands promises replication"),
     ("model", "MAGIC", "image"),
-    ("model", "LAYOUT.version", "image"),
     ("model", "MAX_GAPS", "image"),
     ("model", "STAMP_WINDOW", "image"),
     ("multi_watch", "MAX_QUEUED_REQUESTS", "README protocol commands"),

@@ -209,12 +209,12 @@ module _ (low : ℕ) (past : Past) (lines' : ℕ) (image : Image) (r : Record) (
       same_versions : (i : ℕ) → versions_under lines' stays.current other i ≡ versions_under lines' r image i
       same_versions i =
           rw stays.layout (
-            elim (cases_lt i (entries_of_lines r.layout lines')) [
-              | inl within ↦
-                  cond-true _ _ _ (lt-ltb i (entries_of_lines r.layout lines') within) ∙ stays.versions i within
-                  ∙ sym (cond-true _ _ _ (lt-ltb i (entries_of_lines r.layout lines') within))
-              | inr beyond ↦ cond-false _ _ _ (le-ltb i (entries_of_lines r.layout lines') beyond) ∙ sym (cond-false _ _ _ (le-ltb i (entries_of_lines r.layout lines') beyond))
-            ]
+          elim (cases_lt i (entries_of_lines r.layout lines')) [
+            | inl within ↦
+                cond-true _ _ _ (lt-ltb i (entries_of_lines r.layout lines') within) ∙ stays.versions i within
+                ∙ sym (cond-true _ _ _ (lt-ltb i (entries_of_lines r.layout lines') within))
+            | inr beyond ↦ cond-false _ _ _ (le-ltb i (entries_of_lines r.layout lines') beyond) ∙ sym (cond-false _ _ _ (le-ltb i (entries_of_lines r.layout lines') beyond))
+          ]
           )
 
 -- at any moment of a reopening
