@@ -94,7 +94,7 @@ module _ (old new : Contents) (table : Table) (room : Room) (follows : Follows o
           held =
               let was = follows.out.held in
               let held = given.held in
-              rw (same, clears.lines_are) (omega (arith, was, held));
+              rw (same, entries_same old new (ap (λ (r : Record). r.layout) clears.current) clears.lines_are) (omega (arith, was, held));
         };
         listed = tt;
         all = λ i is. follows.all i (sym (ap is_ended_version (clears.versions i)) ∙ is);
@@ -252,7 +252,8 @@ module _ {E K D : Type 0} (device : E → State) (contents : E → Contents) (is
                 gapless = λ is. cc;
                 rearranged = rw engine_is (IsRearranged-recorded (contents old.engine) (contents engine) (ap (λ (r : Record). r.position) kept.current) (ap (λ (r : Record). r.epoch) kept.current)
                     (ap (λ (r : Record). r.role) kept.current) (ap (λ (r : Record). r.layout) kept.current) kept.lines_are kept.versions
-                    (λ are. lawful_from (contents old.engine) (contents engine) (rw kept.current are.current) kept.lines_are kept.versions are));
+                    (λ are.
+                    lawful_from (contents old.engine) (contents engine) (rw kept.current are.current) (ap (λ (r : Record). r.layout) kept.current) kept.lines_are kept.versions are));
                 still = λ sound. absurd (sound (ap Err is_fault));
                 sound = λ sound. absurd (sound (ap Err is_fault));
                 durable = λ sound. absurd (sound (ap Err is_fault));

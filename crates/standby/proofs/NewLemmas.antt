@@ -28,8 +28,8 @@ new-table lines role contents table new empty = subst (IsTable contents.versions
 entries-left : (lines : ℕ) (role : Role) (contents : Contents) (room : Room) → IsNew lines role contents → HasAll lines room
     → (i : ℕ) → IsTrue (is_free_entry room i) → (i < entries_of contents) × IsTrue (contents.is_free i) × (contents.versions i ≡ None)
 entries-left lines role contents room new all i free =
-    let within = (all.entries_free i).0 free in
-    (subst (λ n. i < n) (sym (ap₂ entries_of_lines new.layout new.line_count)) within, new.is_free i within, new.versions i)
+    let within : i < entries_of contents = subst (λ n. i < n) (sym (ap₂ entries_of_lines new.layout new.line_count)) ((all.entries_free i).0 free) in
+    (within, new.is_free i within, new.versions i)
 
 lines-left : (lines : ℕ) (role : Role) (contents : Contents) (room : Room) → IsNew lines role contents → HasAll lines room
     → (line : ℕ) → IsTrue (is_free_line room line) → (first_extent_line contents.lines ≤ line) × (line < contents.lines)
