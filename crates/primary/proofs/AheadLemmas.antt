@@ -11,7 +11,7 @@ use Rattle.model.specs.declared.group.Group.{Group}
 use Rattle.model.specs.declared.group.Part.{Part}
 use Rattle.model.specs.declared.group.Put.{Put}
 use Rattle.model.specs.Image.{Version}
-use Rattle.model.specs.Group.{AreAllApart, AreEnded, Contents, IsConsistent, IsGroup, IsPlaced, IsUnused, Versions, after_free, after_group, extents_of, is_listed, is_put_at, parts_versions, puts_of_group}
+use Rattle.model.specs.Group.{AreAllApart, AreEnded, Contents, IsConsistent, IsGroup, IsPlaced, IsUnused, Versions, after_free, after_group, entries_of, extents_of, is_listed, is_put_at, parts_versions, puts_of_group}
 use Rattle.model.proofs.GroupsLemmas.{IsConsistent-after_group, parts_versions-none}
 use Rattle.mv_keyspace.specs.Table.{IsTable}
 use Rattle.placing.specs.Back.{ComesBack}
@@ -34,11 +34,11 @@ use Rattle.group_commit.proofs.FreedLemmas.{free_without, unused_without, AllEnd
 
 -- ---- versions in the lines of the extents
 
-laid_inside : (lines : ℕ) (versions : Versions) (parts : List Part) → AllGood (LiesInside lines) versions → AllByRecursion (IsPlaced lines) (puts_of_parts parts)
+laid_inside : (entries lines : ℕ) (versions : Versions) (parts : List Part) → AllGood (LiesInside lines) versions → AllByRecursion (IsPlaced entries lines) (puts_of_parts parts)
     → AllGood (LiesInside lines) (parts_versions versions parts)
-laid_inside lines versions parts inside placed =
+laid_inside entries lines versions parts inside placed =
     good_parts (LiesInside lines) versions parts inside
-    (All-map (IsPlaced lines) (HasGood (LiesInside lines)) (λ put is. record { above = is.above; within = is.within }) (puts_of_parts parts) placed)
+    (All-map (IsPlaced entries lines) (HasGood (LiesInside lines)) (λ put is. record { above = is.above; within = is.within }) (puts_of_parts parts) placed)
 
 laid_apart : (versions : Versions) (is_free : ℕ → Bool) (parts : List Part) → AreVersionsApart versions → AllByRecursion (IsUnused versions is_free) (puts_of_parts parts)
     → AreAllApart (puts_of_parts parts) → AreVersionsApart (parts_versions versions parts)
@@ -47,7 +47,7 @@ laid_apart versions is_free parts apart unused puts_are =
 
 pub laid-group : (contents : Contents) (group : Group) → AreLaid contents → IsGroup contents group → AreLaid (after_group contents group)
 laid-group contents group laid is = record {
-  inside = laid_inside contents.lines contents.versions group.parts.items laid.inside is.placed;
+  inside = laid_inside (entries_of contents) contents.lines contents.versions group.parts.items laid.inside is.placed;
   apart = laid_apart contents.versions contents.is_free group.parts.items laid.apart is.unused is.apart;
 }
 
@@ -57,7 +57,7 @@ laid-groups contents (group ∷ groups) laid are = laid-groups (after_group cont
 
 laid-ahead : (s : Sequencing) (contents : Contents) → IsAheadOf s contents → AreLaid contents → AreLaid (contents_ahead contents s.waiting)
 laid-ahead s contents stands laid = record {
-  inside = laid_inside contents.lines contents.versions s.waiting laid.inside stands.placed;
+  inside = laid_inside (entries_of contents) contents.lines contents.versions s.waiting laid.inside stands.placed;
   apart = laid_apart contents.versions contents.is_free s.waiting laid.apart stands.unused stands.apart;
 }
 

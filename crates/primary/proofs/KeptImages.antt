@@ -140,7 +140,7 @@ module _ {E : Type 0} (device : E → State) (contents : E → Contents) (is_fau
           | inl was ↦ old-recalls image was
           | inr is ↦
               image-recalls low past (cleared_contents c) before.items old.aside.items s image (record { free = over.consistent.free; beyond = over.consistent.beyond })
-              (keeps-same low past c (cleared_contents c) before.items old.aside.items s refl refl (λ i. refl) keeps) is
+              (keeps-same low past c (cleared_contents c) before.items old.aside.items s refl refl refl (λ i. refl) keeps) is
         ]) (clears.moments sound)
     leaves-by due.Raise is (same, queue, raises) = still (ap (λ (one : Committer E). one.engine) raises.now)
     leaves-by due.Hand is (queue, hands) = elim hands.came [

@@ -9,6 +9,7 @@ use Rattle.model.specs.declared.work.FreeList.{FreeList}
 use Rattle.model.specs.declared.work.Work.{Work}
 use Rattle.model.specs.Group.{AreEnded, Contents, after_free, after_group, is_listed, last_position, entries_of}
 use Rattle.model.specs.Image.{IsMapOf}
+use Rattle.model.proofs.DirectoryLemmas.{entries_same}
 use Rattle.model.proofs.MapLemmas.{IsMapOf-same}
 use Rattle.wbl_engine.specs.declared.freeing.Freed.{Freed as Places}
 use Rattle.wbl_engine.proofs.WithoutLemmas.{IsMapOf-contents_without}
@@ -38,12 +39,13 @@ remembers-reached true low position past contents items aside s none remembers =
 remembers-reached false low position past contents items aside s none remembers = remembers
 
 -- contents of the same position, with the same versions
-pub keeps-same : (low : ℕ) (past : Past) (contents new : Contents) (items : List Work) (aside : List FreeList) (s : Sequencing) → new.current.position ≡ contents.current.position → new.lines ≡ contents.lines
+pub keeps-same : (low : ℕ) (past : Past) (contents new : Contents) (items : List Work) (aside : List FreeList) (s : Sequencing) → new.current.position ≡ contents.current.position
+    → new.current.layout ≡ contents.current.layout → new.lines ≡ contents.lines
     → ((i : ℕ) → new.versions i ≡ contents.versions i) → KeepsPast low past contents items aside s → KeepsPast low past new items aside s
-keeps-same low past contents new items aside s at lines versions keeps =
+keeps-same low past contents new items aside s at layout lines versions keeps =
     let same = remembers-same low contents.current.position past contents new items aside s versions keeps.remembers in
     record {
-      now = rw (at, lines) (IsMapOf-same contents.versions new.versions (entries_of contents) (past contents.current.position) (λ i within. sym (versions i)) keeps.now);
+      now = rw (at, entries_same contents new layout lines) (IsMapOf-same contents.versions new.versions (entries_of contents) (past contents.current.position) (λ i within. sym (versions i)) keeps.now);
       follows = keeps.follows;
       remembers = subst (λ p. Remembers low p past new items aside s) (sym at) same;
     }
@@ -127,7 +129,8 @@ module _ {E : Type 0} (device : E → State) (contents : E → Contents) (is_fau
   cleared-keeps old new before after came alone queue clears keeps =
       let cleared = clears.answer.3 in
       let at = ap (λ (r : Record). r.position) cleared.current in
-      let same = keeps-same low past (contents old.engine) (contents new.engine) before.items old.aside.items s at cleared.lines_are cleared.versions keeps in
+      let same = keeps-same low past (contents old.engine) (contents new.engine) before.items old.aside.items s at (ap (λ (r : Record). r.layout) cleared.current)
+      cleared.lines_are cleared.versions keeps in
       rw (queue, clears.aside ∙ sym alone) same
 
   -- ---- any turn
