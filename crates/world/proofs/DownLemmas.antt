@@ -1,5 +1,5 @@
 -- The images of nodes that crashed: what a crash leaves of an engine over the list of calls, and what a reopening makes of it.
-use Rattle.std.proofs.Common.{◌≡◌, ◌⊎◌, inl, inr, ℕ, ◌≤◌, Bool, false, List, ◌∷◌, ◌++◌, length, refl, sym, ap, subst, ◌∙◌, arith, [], rules}
+use Rattle.std.proofs.Common.{◌≡◌, ◌⊎◌, inl, inr, ℕ, ◌<◌, ◌≤◌, Bool, false, List, ◌∷◌, ◌++◌, length, refl, sym, ap, subst, ◌∙◌, arith, [], rules}
 use Rattle.std.proofs.lemmas.List.{length-append}
 use Rattle.kv_types.specs.declared.place.EntryNo.{EntryNo}
 use Rattle.kv_types.specs.declared.refusal.Refusal.{Refusal}
@@ -14,7 +14,7 @@ use Rattle.model.specs.declared.layout.Layout.{Layout}
 use Rattle.model.specs.declared.record.Record.{Record}
 use Rattle.model.specs.declared.record.Role.{Role}
 use Rattle.model.specs.Call.{keyspace_after, cut_at, position_of}
-use Rattle.model.specs.Image.{Image, IsMapOf, HasRecord, Holds}
+use Rattle.model.specs.Image.{Image, IsMapOf, HasRecord, Holds, entries_of_lines}
 use Rattle.model.proofs.RecordLemmas.{HasRecord-lines}
 use Rattle.model.specs.Group.{Contents, entries_of}
 use Rattle.model.specs.Standing.{Holder}
@@ -139,6 +139,7 @@ readable-opens : (holder : Holder) (calls : List Call) (p : ℕ) (contents : Con
     → StaysReadable contents.lines contents.current image image' → OpensAt holder calls p image'
 readable-opens holder calls p contents image image' are keeps stays =
     let s = keyspace_after (cut_at calls p) in
+    let count : entries_of_lines stays.current.layout contents.lines ≡ entries_of contents = ap (λ (layout : Layout). entries_of_lines layout contents.lines) stays.layout in
     record {
       stands = record {
         current = stays.current;
@@ -147,7 +148,8 @@ readable-opens holder calls p contents image image' are keeps stays =
         epoch = stays.epoch ∙ are.epoch_is;
         holds = subst (λ n. Holds n stays.current s image') are.lines_are
             (Holds-versions contents.lines stays.current contents.versions s image' stays.undamaged.superblock stays.undamaged.current.has_record
-            (λ i within. stays.versions i within ∙ keeps.versions i within) are.map);
+            (λ i within. let own = subst (λ n. i < n) count within in stays.versions i own ∙ keeps.versions i own)
+            (subst (λ n. IsMapOf contents.versions n s) (sym count) are.map));
       };
       undamaged = subst (λ n. IsUndamaged n stays.current image') are.lines_are stays.undamaged;
     }

@@ -1,13 +1,15 @@
 -- A device that was asked to keep a moment, went through a call, and crashed as of that moment, or of the call's end: what is left of it, and of its node.
-use Rattle.std.proofs.Common.{◌≡◌, ◌⊎◌, inl, inr, ℕ, ◌+◌, ◌≤◌, Bool, false, List, [], ◌∷◌, ◌++◌, Some, length, refl, sym, ap, ap₂, subst, ◌∙◌, arith}
+use Rattle.std.proofs.Common.{◌≡◌, ◌⊎◌, inl, inr, ℕ, ◌+◌, ◌<◌, ◌≤◌, Bool, false, List, [], ◌∷◌, ◌++◌, Some, length, refl, sym, ap, ap₂, subst, ◌∙◌, arith}
 use Rattle.pmem.specs.Device.{State, Word, moment, newest_at}
 use Rattle.pmem.specs.Crash.{HadImage, IsImage, IsSettled, MayLeave, image_of, picked, words_to_crash}
 use Rattle.pmem.specs.Crash as crash
 use Rattle.pmem.specs.Runs.{LeavesOnly}
 use Rattle.pmem.proofs.Leaving.{LeavesOnly-then, LeavesOnly-weaken}
 use Rattle.model.specs.declared.call.Call.{Call}
+use Rattle.model.specs.Call.{cut_at, keyspace_after}
 use Rattle.model.specs.Group.{Contents}
-use Rattle.model.specs.Image.{Image}
+use Rattle.model.specs.Image.{Image, IsMapOf}
+use Rattle.model.proofs.DirectoryLemmas.{entries_same}
 use Rattle.model.specs.Standing.{Holder}
 use Rattle.wbl_engine.specs.Contents.{Keeps}
 use Rattle.wbl_engine.specs.Lawful.{AreLawful}
@@ -141,6 +143,7 @@ pub readable-keeps : (holder : Holder) (calls : List Call) (p : ℕ) (contents :
     → StaysReadable contents.lines contents.current image image' → KeepsAt holder calls p image'
 readable-keeps holder calls p contents image image' are lawful keeps stays =
     let after : Contents = record { current = stays.current; lines = contents.lines; versions = contents.versions; is_free = contents.is_free } in
+    let count = entries_same contents after stays.layout refl in
     record {
       contents = after;
       contents_at = record {
@@ -148,14 +151,14 @@ readable-keeps holder calls p contents image image' are lawful keeps stays =
         role_is = stays.role ∙ are.role_is;
         epoch_is = stays.epoch ∙ are.epoch_is;
         lines_are = are.lines_are;
-        consistent = record { free = are.consistent.free; beyond = are.consistent.beyond };
-        map = are.map;
+        consistent = record { free = are.consistent.free; beyond = λ i past. are.consistent.beyond i (subst (λ n. n ≤ i) count past) };
+        map = subst (λ n. IsMapOf contents.versions n (keyspace_after (cut_at calls p))) (sym count) are.map;
       };
-      lawful = lawful_from contents after stays.undamaged.current.lawful refl (λ i. refl) lawful;
+      lawful = lawful_from contents after stays.undamaged.current.lawful stays.layout refl (λ i. refl) lawful;
       keeps = record {
         superblock = stays.undamaged.superblock;
         has_record = stays.undamaged.current.has_record;
-        versions = λ i within. stays.versions i within ∙ keeps.versions i within;
+        versions = λ i within. let own = subst (λ n. i < n) count within in stays.versions i own ∙ keeps.versions i own;
         entries = stays.undamaged.versions.entries;
       };
     }

@@ -8,7 +8,9 @@ use Rattle.pmem.proofs.Leaving.{LeavesOnly-weaken}
 use Rattle.model.specs.declared.call.Call.{Call}
 use Rattle.model.specs.declared.image.TheConstants.{MAX_LINES, MIN_LINES}
 use Rattle.model.specs.declared.record.Record.{Record}
-use Rattle.model.specs.Call.{cut_at}
+use Rattle.model.specs.Call.{cut_at, keyspace_after}
+use Rattle.model.specs.Image.{IsMapOf}
+use Rattle.model.proofs.DirectoryLemmas.{entries_same}
 use Rattle.model.proofs.CallsLemmas.{position_of-cut_at}
 use Rattle.model.specs.Group.{Contents}
 use Rattle.model.specs.Standing.{Holder}
@@ -198,23 +200,24 @@ opening-left holder w device device' sound down recalls stays =
     (λ image other.
     let it : StaysReadable c.lines c.current (image_of device.words) image = subst (λ n. StaysReadable n c.current (image_of device.words) image) (sym down.sized) other in
     let now : Contents = record { current = it.current; lines = c.lines; versions = c.versions; is_free = c.is_free } in
+    let count = entries_same c now it.layout refl in
     let there : AreContentsAt holder calls p now =
     record {
       at = it.position ∙ are.at;
       role_is = it.role ∙ are.role_is;
       epoch_is = it.epoch ∙ are.epoch_is;
       lines_are = are.lines_are;
-      consistent = record { free = are.consistent.free; beyond = are.consistent.beyond };
-      map = are.map;
+      consistent = record { free = are.consistent.free; beyond = λ i past. are.consistent.beyond i (subst (λ n. n ≤ i) count past) };
+      map = subst (λ n. IsMapOf c.versions n (keyspace_after (cut_at calls p))) (sym count) are.map;
     } in
     let keeps : Keeps now image =
     record {
       superblock = it.undamaged.superblock;
       has_record = it.undamaged.current.has_record;
-      versions = λ i within. it.versions i within ∙ down.keeps.versions i within;
+      versions = λ i within. let own = subst (λ n. i < n) count within in it.versions i own ∙ down.keeps.versions i own;
       entries = it.undamaged.versions.entries;
     } in
-    left-there holder w cut.Reopen now image sound there (lawful_from c now it.undamaged.current.lawful refl (λ i. refl) down.lawful) recalls keeps)
+    left-there holder w cut.Reopen now image sound there (lawful_from c now it.undamaged.current.lawful it.layout refl (λ i. refl) down.lawful) recalls keeps)
     (stays c.current (subst (λ n. IsUndamaged n c.current (image_of device.words)) down.sized (lawful_undamaged c (image_of device.words) down.lawful down.keeps)))
 
 opens-cut : {first second : Holder} {lives : Lives} {w : World} → AreLives first second lives w → may_cut w node.Primary cut.Reopen ≡ has_crashed lives.primary
