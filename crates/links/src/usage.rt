@@ -1,10 +1,9 @@
 //! How much of an image's room is taken.
 ghost use Rattle.std.specs.Prelude.{◌≡◌, ◌-◌};
 ghost use Rattle.model.specs.Layout as layouts;
-ghost use Rattle.model.specs.declared.layout.TheConstants.{LAYOUT};
 ghost use Rattle.links.specs.Usage.{percent_taken, usage_of};
 
-use model::{Layout, LAYOUT};
+use model::Layout;
 use placing::Fill;
 use std::fmt;
 
@@ -31,13 +30,13 @@ pub struct Usage {
 }
 
 impl Capacity {
-    /// That of an image of so many lines.
-    pub fn of_image(lines: u64) -> Capacity
-        ensures versions { result.versions ≡ layouts.entries_of_lines LAYOUT lines }
+    /// That of an image of this layout and so many lines.
+    pub fn of_image(layout: Layout, lines: u64) -> Capacity
+        ensures versions { result.versions ≡ layouts.entries_of_lines layout lines }
         ensures lines { result.lines ≡ lines - layouts.first_extent_line lines }
     {
         Capacity {
-            versions: LAYOUT.entries_of_lines(lines),
+            versions: layout.entries_of_lines(lines),
             lines: lines.saturating_sub(Layout::first_extent_line(lines)),
         }
     }
