@@ -1,14 +1,19 @@
 -- What an entry and a word hold of an image that was stored to in part.
-use Rattle.std.proofs.Common.{◌≡◌, ℕ, ◌/◌, ◌<◌, Bool, true, false, cond, IsTrue, List, [], ◌∷◌, inl, inr, ◌⊎◌, None, Some, refl, sym, ap, ◌∙◌, arith}
+use Rattle.std.proofs.Common.{◌≡◌, ℕ, ◌/◌, ◌<◌, ◌≤◌, Bool, true, false, cond, IsTrue, List, [], ◌∷◌, inl, inr, ◌⊎◌, None, Some, refl, sym, ap, ◌∙◌, arith}
 use Rattle.std.specs.Prelude.{◌==◌, ◌≢◌}
 use Rattle.std.proofs.lemmas.Bool.{cases_Bool, cond-false, cond-true, eq-eqb}
 use Rattle.pmem.specs.Device.{State, Word}
 use Rattle.pmem.specs.Crash.{IsImage, image_of}
 use Rattle.pmem.specs.Runs.{IsPartlyStored, IsStored, Staged}
 use Rattle.pmem.proofs.Staging.{same_or_other}
+use Rattle.model.specs.declared.layout.Layout.{Layout}
+use Rattle.model.specs.declared.layout.Layout.TheVariants.{Version1, Version2}
+use Rattle.model.specs.declared.layout.TheConstants.{DIRECTORY_LINE}
 use Rattle.model.specs.declared.record.Record.{Record}
-use Rattle.model.specs.Group.{Contents}
-use Rattle.model.specs.Image.{HasRecord, HasSuperblock, Image, Version, counts, entries_of_lines, entry_word, root_word, version_at, version_in}
+use Rattle.model.specs.Layout.{first_word}
+use Rattle.model.specs.Group.{Contents, entries_of}
+use Rattle.model.specs.Image.{HasRecord, HasSuperblock, Image, Version, counts, directory_end, entries_of_lines, entry_word, first_extent_line, root_word, slots_end, version_at, version_in}
+use Rattle.model.proofs.LayoutLemmas.{root_in, slot_at}
 use Rattle.heap_layout.specs.Version.{IsUnder}
 use Rattle.wbl_record.proofs.Mixing.{IsMixed, mixed}
 use Rattle.wbl_record.proofs.RecordWords.{HasRecord-same}
@@ -64,18 +69,18 @@ uncounted_is true held e = absurd (cc)
 uncounted_is false held e = refl
 
 module _ {contents : Contents} {image : Image} (keeps : Keeps contents image) where
-  pub held_begun : (i : ℕ) (version : Version) → i < entries_of_lines contents.lines → contents.versions i ≡ Some version
+  pub held_begun : (i : ℕ) (version : Version) → i < entries_of contents → contents.versions i ≡ Some version
       → IsTrue (counts contents.current (image (entry_word i 0))) × (version_in contents.current image i ≡ version)
   held_begun i version within held =
       begun_is (counts contents.current (image (entry_word i 0))) (version_in contents.current image i) version (keeps.versions i within ∙ held)
 
-  pub empty_uncounted : (i : ℕ) → i < entries_of_lines contents.lines → contents.versions i ≡ None
+  pub empty_uncounted : (i : ℕ) → i < entries_of contents → contents.versions i ≡ None
       → counts contents.current (image (entry_word i 0)) ≡ false
   empty_uncounted i within empty =
       uncounted_is (counts contents.current (image (entry_word i 0))) (version_in contents.current image i) (keeps.versions i within ∙ empty)
 
   -- what a begun entry holds
-  pub begun_version : (i : ℕ) → i < entries_of_lines contents.lines → IsTrue (counts contents.current (image (entry_word i 0)))
+  pub begun_version : (i : ℕ) → i < entries_of contents → IsTrue (counts contents.current (image (entry_word i 0)))
       → contents.versions i ≡ Some (version_in contents.current image i)
   begun_version i within counted =
       sym (keeps.versions i within)
@@ -83,17 +88,40 @@ module _ {contents : Contents} {image : Image} (keeps : Keeps contents image) wh
 
 -- ---- the record
 
--- the words before the directory are as in an image that keeps the contents
+-- the word lies before the extents, and in no entry
+pub record IsHead (layout : Layout) (lines word : ℕ) : Type 0 where
+  pub before : word < first_word (first_extent_line lines)
+  pub beside : (word < first_word DIRECTORY_LINE) ⊎ (first_word (directory_end layout lines) ≤ word)
+
+-- an image that has an entry has its slots before the extents
+slots_before : (layout : Layout) (lines : ℕ) → 0 < entries_of_lines layout lines → slots_end layout lines ≤ first_extent_line lines
+slots_before Version1 lines some = omega arith
+slots_before Version2 lines some = omega (arith, some)
+
+-- these words are as in an image that keeps the contents
 pub record HasHead (contents : Contents) (image : Image) : Type 0 where
-  pub superblock : HasSuperblock contents.lines image
+  pub superblock : HasSuperblock contents.current.layout contents.lines image
   pub recorded : HasRecord contents.lines contents.current image
 
-pub head_same : {contents : Contents} {base image : Image} → Keeps contents base → ((word : ℕ) → word < 64 → image word ≡ base word) → HasHead contents image
-head_same {contents} {base} {image} keeps same =
+pub head_same : {contents : Contents} {base image : Image} → Keeps contents base → 0 < entries_of contents
+    → ((word : ℕ) → IsHead contents.current.layout contents.lines word → image word ≡ base word) → HasHead contents image
+head_same {contents} {base} {image} keeps some same =
+    let layout = contents.current.layout in
+    let lines = contents.lines in
+    let slot = slot_at layout lines contents.current.number in
+    let ends : slots_end layout lines ≤ first_extent_line lines = slots_before layout lines some in
     record {
-      superblock = HasSuperblock-same contents.lines base image (λ word low. same word (omega (arith, low))) keeps.superblock;
-      recorded = HasRecord-same contents.lines contents.current base image (same root_word (omega arith))
-          (λ word low high. same word (omega (arith, high))) keeps.has_record;
+      superblock = HasSuperblock-same layout lines base image
+          (λ word low. same word (record { before = omega (arith, low); beside = inl (omega (arith, low)) })) keeps.superblock;
+      recorded = HasRecord-same lines contents.current base image
+          (let root = (root_in layout).within in same (root_word layout) (record { before = omega (arith, root); beside = inl (omega (arith, root)) }))
+          (λ word low high.
+          same word
+          (record {
+            before = omega (arith, high, slot.within, ends);
+            beside = elim slot.apart [ inl above ↦ inl (omega (arith, high, above)) | inr behind ↦ inr (omega (arith, low, behind)) ];
+          }))
+          keeps.has_record;
     }
 
 -- ---- one word
@@ -134,13 +162,14 @@ all_same {words} {at} {x} {image} one same word =
 pub keeps_same : {contents : Contents} {base image : Image} → Keeps contents base → ((word : ℕ) → image word ≡ base word) → Keeps contents image
 keeps_same {contents} {base} {image} keeps same =
     record {
-      superblock = (head_same keeps (λ word low. same word)).superblock;
-      has_record = (head_same keeps (λ word low. same word)).recorded;
+      superblock = HasSuperblock-same contents.current.layout contents.lines base image (λ word low. same word) keeps.superblock;
+      has_record = HasRecord-same contents.lines contents.current base image (same (root_word contents.current.layout)) (λ word low high. same word)
+          keeps.has_record;
       versions = λ i within. (left i within).version ∙ keeps.versions i within;
       entries = λ i within. (left i within).under;
     }
   where
-    left : (i : ℕ) → i < entries_of_lines contents.lines → IsLeft contents.current contents.lines base image i
+    left : (i : ℕ) → i < entries_of contents → IsLeft contents.current contents.lines base image i
     left i within =
         entry_left (keeps.entries i within) (same (entry_word i 0)) (omega (arith, same (entry_word i 1), (keeps.entries i within).end))
         (λ counted. (

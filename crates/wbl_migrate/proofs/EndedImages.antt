@@ -6,8 +6,9 @@ use Rattle.pmem.specs.Device.{State}
 use Rattle.pmem.specs.Crash.{IsImage, image_of}
 use Rattle.pmem.specs.Runs.{IsPartlyStored, IsStored, Staged}
 use Rattle.pmem.proofs.Staging.{same_or_other, unequal}
-use Rattle.model.specs.Group.{Contents}
-use Rattle.model.specs.Image.{Image, Version, counts, entries_of_lines, entry_line, entry_word, version_at, version_in}
+use Rattle.model.specs.Group.{Contents, entries_of}
+use Rattle.model.specs.Image.{Image, Version, counts, directory_room, entry_line, entry_word, version_at, version_in}
+use Rattle.model.proofs.LayoutLemmas.{entries_fit}
 use Rattle.heap_layout.specs.Entry.{IsEntry}
 use Rattle.heap_layout.specs.Version.{IsUnder}
 use Rattle.wbl_record.proofs.Mixing.{IsMixed, image_of-is, mixed}
@@ -16,7 +17,7 @@ use Rattle.wbl_engine.specs.Contents.{IsDurable, Keeps}
 use Rattle.wbl_engine.proofs.VersionLemmas.{same_entry}
 use Rattle.wbl_migrate.specs.Ended.{IsCopyable, IsMovable, after_move, at_line, copy_lines, copy_pairs, with_copy, words_after_begin}
 use Rattle.wbl_migrate.proofs.EndedCopies.{IsCopied, copied_entry, copied_version, copy_where, staged_copied}
-use Rattle.wbl_migrate.proofs.EndedEntries.{HasHead, IsLeft, IsOneStored, all_same, begun_version, empty_uncounted, entry_left, head_same, held_begun, keeps_same, now_partly, one_stored, stored_one}
+use Rattle.wbl_migrate.proofs.EndedEntries.{HasHead, IsHead, IsLeft, IsOneStored, all_same, begun_version, empty_uncounted, entry_left, head_same, held_begun, keeps_same, now_partly, one_stored, stored_one}
 
 -- ---- the move
 
@@ -27,6 +28,17 @@ module _ {contents : Contents} {from to to_line : ℕ} {version : Version} (may 
   abbrev pub moved : Contents
   moved = after_move from to to_line contents
 
+  some_entry : 0 < entries_of contents
+  some_entry = let within = may.from_within in omega (arith, within)
+
+  -- each entry has its line in the room of the directory
+  fits : (i : ℕ) → i < entries_of contents → i < directory_room contents.lines
+  fits i within = omega (arith, within, entries_fit contents.current.layout contents.lines)
+
+  not_head : (i word : ℕ) → i < entries_of contents → IsHead contents.current.layout contents.lines word → entry_word i 0 ≤ word → word < entry_word i 8 → ⊥
+  not_head i word within is low high =
+      elim is.beside [ inl before ↦ omega (arith, before, low) | inr behind ↦ omega (arith, behind, high, within) ]
+
   pub copyable : (base : Image) → Keeps contents base → IsCopyable contents.lines base from to to_line
   copyable base keeps =
       let begun = held_begun keeps from version may.from_within may.held in
@@ -34,8 +46,8 @@ module _ {contents : Contents} {from to to_line : ℕ} {version : Version} (may 
       let count : base (entry_word from 4) ≡ version.lines = ap (λ (v : Version). v.lines) begun.1 in
       let first : base (entry_word from 3) ≡ version.first_line = ap (λ (v : Version). v.first_line) begun.1 in
       record {
-        from_within = may.from_within;
-        to_within = may.placed.entry;
+        from_within = fits from may.from_within;
+        to_within = fits to may.placed.entry;
         extent = omega (arith, entry.in_format.extent, entry.lines_are);
         above = may.placed.above;
         within = omega (arith, may.placed.within, count);
@@ -83,34 +95,34 @@ module _ {contents : Contents} {from to to_line : ℕ} {version : Version} (may 
         keeps : Keeps contents mix.base
         keeps = durable mix.base mix.is
 
-        same_before : (word : ℕ) → word < 64 → image word ≡ mix.base word
-        same_before word low =
+        same_head : (word : ℕ) → IsHead contents.current.layout contents.lines word → image word ≡ mix.base word
+        same_head word is =
             elim (mix.same word) [
               | inl same ↦ same
               | inr stored ↦
                   elim (stored_at word (image word) stored) [
-                    | inl lines ↦ absurd (omega (arith, low, lines.0, may.placed.above))
-                    | inr entry ↦ absurd (omega (arith, low, entry.0))
+                    | inl lines ↦ absurd (omega (arith, is.before, lines.0, may.placed.above))
+                    | inr entry ↦ absurd (not_head to word may.placed.entry is (omega (arith, entry.0)) (omega (arith, entry.1)))
                   ]
             ]
 
         head : HasHead contents image
-        head = head_same keeps same_before
+        head = head_same keeps some_entry same_head
 
-        same_word : (i k : ℕ) → i < entries_of_lines contents.lines → k < 8 → ((i ≡ to) → k ≡ 0) → image (entry_word i k) ≡ mix.base (entry_word i k)
+        same_word : (i k : ℕ) → i < entries_of contents → k < 8 → ((i ≡ to) → k ≡ 0) → image (entry_word i k) ≡ mix.base (entry_word i k)
         same_word i k within low begin =
             elim (mix.same (entry_word i k)) [
               | inl same ↦ same
               | inr stored ↦
                   elim (stored_at (entry_word i k) (image (entry_word i k)) stored) [
-                    | inl lines ↦ absurd (omega (arith, low, within, lines.0, may.placed.above))
+                    | inl lines ↦ absurd (omega (arith, low, fits i within, lines.0, may.placed.above))
                     | inr entry ↦
                         let here : i ≡ to = omega (arith, low, entry.0, entry.1) in
                         absurd (omega (arith, entry.0, here, begin here))
                   ]
             ]
 
-        same_extent : (i : ℕ) → i < entries_of_lines contents.lines → IsTrue (counts contents.current (mix.base (entry_word i 0))) → (word : ℕ)
+        same_extent : (i : ℕ) → i < entries_of contents → IsTrue (counts contents.current (mix.base (entry_word i 0))) → (word : ℕ)
             → IsInExtent mix.base i word → image word ≡ mix.base word
         same_extent i within counted word at =
             let entry = (keeps.entries i within).whole counted in
@@ -123,17 +135,17 @@ module _ {contents : Contents} {from to to_line : ℕ} {version : Version} (may 
                           | inl before ↦ absurd (omega (arith, lines.1, at.low, before))
                           | inr behind ↦ absurd (omega (arith, lines.0, at.high, behind))
                         ]
-                    | inr of_entry ↦ absurd (omega (arith, of_entry.1, at.low, entry.above, may.placed.entry))
+                    | inr of_entry ↦ absurd (omega (arith, of_entry.1, at.low, entry.above, fits to may.placed.entry))
                   ]
             ]
 
-        end_below : (i : ℕ) → i < entries_of_lines contents.lines → image (entry_word i 1) < contents.current.cd
+        end_below : (i : ℕ) → i < entries_of contents → image (entry_word i 1) < contents.current.cd
         end_below i within =
             elim (mix.same (entry_word i 1)) [
               | inl same ↦ omega (arith, same, (keeps.entries i within).end)
               | inr stored ↦
                   elim (copy_where (image_of d.words) from to to_line (entry_word i 1) (image (entry_word i 1)) stored) [
-                    | inl lines ↦ absurd (omega (arith, within, lines.low, may.placed.above))
+                    | inl lines ↦ absurd (omega (arith, fits i within, lines.low, may.placed.above))
                     | inr entry ↦
                         let first : entry_word i 1 - entry_word to 1 ≡ 0 = omega (arith, entry.0.low, entry.0.high) in
                         let is : image_of d.words (entry_word from 1) ≡ image (entry_word i 1) =
@@ -142,7 +154,7 @@ module _ {contents : Contents} {from to to_line : ℕ} {version : Version} (may 
                   ]
             ]
 
-        left : (i : ℕ) → i < entries_of_lines contents.lines → IsLeft contents.current contents.lines mix.base image i
+        left : (i : ℕ) → i < entries_of contents → IsLeft contents.current contents.lines mix.base image i
         left i within =
             entry_left (keeps.entries i within) (same_word i 0 within (omega arith) (λ here. refl)) (end_below i within)
             (λ counted.
@@ -164,7 +176,7 @@ module _ {contents : Contents} {from to to_line : ℕ} {version : Version} (may 
 
     pub copy_is : {b : State} → Staged d b (copy_pairs (image_of d.words) from to to_line) (copy_lines (image_of d.words) from to to_line)
         → (image : Image) → IsImage b.words image → IsCopied (image_of d.words) image from to to_line
-    copy_is staged = staged_copied from to to_line (omega (arith, may.placed.entry, may.placed.above)) staged
+    copy_is staged = staged_copied from to to_line (omega (arith, fits to may.placed.entry, may.placed.above)) staged
 
     -- ---- the begin of the copy
 
@@ -181,14 +193,15 @@ module _ {contents : Contents} {from to to_line : ℕ} {version : Version} (may 
         }
       where
         head : HasHead contents image
-        head = head_same keeps (λ word low. others word (λ same. omega (arith, low, same)))
+        head = head_same keeps some_entry
+            (λ word is. others word (λ same. not_head to word may.placed.entry is (omega (arith, same)) (omega (arith, same))))
 
         word_kept : (i k : ℕ) → k < 8 → (i ≡ to → 1 ≤ k) → image (entry_word i k) ≡ base (entry_word i k)
         word_kept i k low later =
             others (entry_word i k)
             (λ same. let here : i ≡ to = omega (arith, low, same) in omega (arith, here, same, later here))
 
-        left : (i : ℕ) → i < entries_of_lines contents.lines → i ≢ to → IsLeft contents.current contents.lines base image i
+        left : (i : ℕ) → i < entries_of contents → i ≢ to → IsLeft contents.current contents.lines base image i
         left i within other =
             entry_left (keeps.entries i within) (word_kept i 0 (omega arith) (λ here. absurd (other here)))
             (omega (arith, word_kept i 1 (omega arith) (λ here. omega arith), (keeps.entries i within).end))
@@ -196,7 +209,7 @@ module _ {contents : Contents} {from to to_line : ℕ} {version : Version} (may 
             let entry = (keeps.entries i within).whole counted in (
               word_kept i 1 (omega arith) (λ here. omega arith),
               same_entry entry (λ k low high. word_kept i k high (λ here. omega (arith, low)))
-                  (λ word at. others word (λ same. omega (arith, same, at.low, entry.above, may.placed.entry))),
+                  (λ word at. others word (λ same. omega (arith, same, at.low, entry.above, fits to may.placed.entry))),
             ))
 
         was : IsTrue (counts contents.current (image_of d.words (entry_word from 0))) × (version_in contents.current (image_of d.words) from ≡ version)
@@ -216,7 +229,7 @@ module _ {contents : Contents} {from to to_line : ℕ} {version : Version} (may 
               lengths = word_kept to 6 (omega arith) (λ here. omega arith) ∙ copied.lengths;
               value_length = word_kept to 7 (omega arith) (λ here. omega arith) ∙ copied.value_length;
               extent = λ j below.
-                  others (8 * to_line + j) (λ same. omega (arith, same, may.placed.entry, may.placed.above)) ∙ copied.extent j below;
+                  others (8 * to_line + j) (λ same. omega (arith, same, fits to may.placed.entry, may.placed.above)) ∙ copied.extent j below;
             }
 
         counted_to : counts contents.current (image (entry_word to 0)) ≡ true
@@ -228,7 +241,7 @@ module _ {contents : Contents} {from to to_line : ℕ} {version : Version} (may 
             ∙ ap (λ (v : Version). Some v)
             (copied_version entry_was copied_now contents.current ∙ ap (λ (v : Version). record v { first_line = to_line }) was.1)
 
-        versions : (i : ℕ) → i < entries_of_lines contents.lines → version_at contents.current image i ≡ both.versions i
+        versions : (i : ℕ) → i < entries_of contents → version_at contents.current image i ≡ both.versions i
         versions i within =
             elim (same_or_other i to) [
               | inl here ↦
@@ -248,7 +261,7 @@ module _ {contents : Contents} {from to to_line : ℕ} {version : Version} (may 
               position = λ counted. omega (arith, copied_now.position, (keeps_now.entries from may.from_within).position was.0);
             }
 
-        entries : (i : ℕ) → i < entries_of_lines contents.lines → IsUnder contents.current contents.lines image i
+        entries : (i : ℕ) → i < entries_of contents → IsUnder contents.current contents.lines image i
         entries i within =
             elim (same_or_other i to) [
               | inl here ↦ subst (IsUnder contents.current contents.lines image) (sym here) new_under
@@ -293,14 +306,15 @@ module _ {contents : Contents} {from to to_line : ℕ} {version : Version} (may 
       }
     where
       head : HasHead both image
-      head = head_same keeps (λ word low. others word (λ same. omega (arith, low, same)))
+      head = head_same keeps some_entry
+          (λ word is. others word (λ same. not_head from word may.from_within is (omega (arith, same)) (omega (arith, same))))
 
       word_kept : (i k : ℕ) → k < 8 → (i ≡ from → 1 ≤ k) → image (entry_word i k) ≡ base (entry_word i k)
       word_kept i k low later =
           others (entry_word i k)
           (λ same. let here : i ≡ from = omega (arith, low, same) in omega (arith, here, same, later here))
 
-      left : (i : ℕ) → i < entries_of_lines contents.lines → i ≢ from → IsLeft contents.current contents.lines base image i
+      left : (i : ℕ) → i < entries_of contents → i ≢ from → IsLeft contents.current contents.lines base image i
       left i within other =
           entry_left (keeps.entries i within) (word_kept i 0 (omega arith) (λ here. absurd (other here)))
           (omega (arith, word_kept i 1 (omega arith) (λ here. omega arith), (keeps.entries i within).end))
@@ -308,13 +322,13 @@ module _ {contents : Contents} {from to to_line : ℕ} {version : Version} (may 
           let entry = (keeps.entries i within).whole counted in (
             word_kept i 1 (omega arith) (λ here. omega arith),
             same_entry entry (λ k low high. word_kept i k high (λ here. omega (arith, low)))
-                (λ word at. others word (λ same. omega (arith, same, at.low, entry.above, may.from_within))),
+                (λ word at. others word (λ same. omega (arith, same, at.low, entry.above, fits from may.from_within))),
           ))
 
       uncounted : counts contents.current (image (entry_word from 0)) ≡ false
       uncounted = ap (counts contents.current) zeroed
 
-      versions : (i : ℕ) → i < entries_of_lines contents.lines → version_at contents.current image i ≡ moved.versions i
+      versions : (i : ℕ) → i < entries_of contents → version_at contents.current image i ≡ moved.versions i
       versions i within =
           elim (same_or_other i from) [
             | inl here ↦
@@ -335,7 +349,7 @@ module _ {contents : Contents} {from to to_line : ℕ} {version : Version} (may 
             position = λ counted. absurd (both_ways (counts contents.current (image (entry_word from 0))) uncounted counted);
           }
 
-      entries : (i : ℕ) → i < entries_of_lines contents.lines → IsUnder contents.current contents.lines image i
+      entries : (i : ℕ) → i < entries_of contents → IsUnder contents.current contents.lines image i
       entries i within =
           elim (same_or_other i from) [
             | inl here ↦ subst (IsUnder contents.current contents.lines image) (sym here) old_under

@@ -5,8 +5,8 @@ use Rattle.std.proofs.lemmas.Bool.{both_ways, cond-false, cond-true, eq-eqb}
 use Rattle.kv_types.specs.declared.record_id.RecordId.{RecordId}
 use Rattle.kv_types.specs.Keyspace.{Keyspace}
 use Rattle.pmem.proofs.Staging.{same_or_other, unequal}
-use Rattle.model.specs.Group.{Contents, Versions}
-use Rattle.model.specs.Image.{IsLive, IsMapOf, Version, entries_of_lines}
+use Rattle.model.specs.Group.{Contents, Versions, entries_of}
+use Rattle.model.specs.Image.{IsLive, IsMapOf, Version}
 use Rattle.wbl_migrate.specs.Ended.{HaveOneMap, IsMovable, after_move, at_line, with_copy}
 
 -- ---- versions that are live in the same entries
@@ -91,11 +91,11 @@ module _ {contents : Contents} {from to to_line : ℕ} {version : Version} (may 
 
   pub copied_map : HaveOneMap contents (with_copy from to to_line contents)
   copied_map =
-      one_map contents.versions (with_copy from to to_line contents).versions (entries_of_lines contents.lines) (alive _ _ copied_alike) (alive _ _ (other_way _ _ copied_alike))
+      one_map contents.versions (with_copy from to to_line contents).versions (entries_of contents) (alive _ _ copied_alike) (alive _ _ (other_way _ _ copied_alike))
 
   moved_on : HaveOneMap (with_copy from to to_line contents) (after_move from to to_line contents)
   moved_on =
-      one_map (with_copy from to to_line contents).versions (after_move from to to_line contents).versions (entries_of_lines contents.lines) (alive _ _ moved_alike) (alive _ _ (other_way _ _ moved_alike))
+      one_map (with_copy from to to_line contents).versions (after_move from to to_line contents).versions (entries_of contents) (alive _ _ moved_alike) (alive _ _ (other_way _ _ moved_alike))
 
   pub moved_map : HaveOneMap contents (after_move from to to_line contents)
   moved_map s = (λ map. (moved_on s).0 ((copied_map s).0 map), λ map. (copied_map s).1 ((moved_on s).1 map))

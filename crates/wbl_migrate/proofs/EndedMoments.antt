@@ -9,8 +9,8 @@ use Rattle.pmem.specs.Runs.{IsOutside, IsPartlyStored, LeavesOnly, Staged}
 use Rattle.pmem.proofs.Leaving.{LeavesOnly-then, LeavesOnly-weaken}
 use Rattle.pmem.proofs.Staging.{written-outside}
 use Rattle.model.specs.declared.record.Record.{Record}
-use Rattle.model.specs.Group.{Contents}
-use Rattle.model.specs.Image.{Holds, Image, IsMapOf, Version, entries_of_lines, entry_line, entry_word, version_at}
+use Rattle.model.specs.Group.{Contents, entries_of}
+use Rattle.model.specs.Image.{Holds, Image, IsMapOf, Version, entry_line, entry_word, version_at}
 use Rattle.model.proofs.MapLemmas.{IsMapOf-same}
 use Rattle.wbl_record.proofs.Mixing.{image_of-is}
 use Rattle.wbl_engine.specs.Contents.{IsDurable, Keeps}
@@ -45,17 +45,17 @@ module _ {contents : Contents} {from to to_line : ℕ} {version : Version} (may 
         elim (erase_keeps may c (begun_durable may a durable staged begun) image partly) [ inl copied ↦ inr (inl copied) | inr moved ↦ inr (inr moved) ]) moments)
 
 -- The record and the map are the same in each.
-keeps_holds : {contents : Contents} {image : Image} (s : Keyspace) → Keeps contents image → IsMapOf contents.versions (entries_of_lines contents.lines) s
+keeps_holds : {contents : Contents} {image : Image} (s : Keyspace) → Keeps contents image → IsMapOf contents.versions (entries_of contents) s
     → Holds contents.lines contents.current s image
 keeps_holds {contents} {image} s keeps map =
     record {
       superblock = keeps.superblock;
       has_record = keeps.has_record;
-      map = IsMapOf-same contents.versions (version_at contents.current image) (entries_of_lines contents.lines) s (λ i within. sym (keeps.versions i within)) map;
+      map = IsMapOf-same contents.versions (version_at contents.current image) (entries_of contents) s (λ i within. sym (keeps.versions i within)) map;
     }
 
 pub moving_holds : {a e : State} {contents : Contents} {from to to_line : ℕ} {version : Version} {r : Record} → contents.current ≡ r
-    → IsMovable contents from to to_line version → (s : Keyspace) → IsMapOf contents.versions (entries_of_lines contents.lines) s
+    → IsMovable contents from to to_line version → (s : Keyspace) → IsMapOf contents.versions (entries_of contents) s
     → LeavesOnly a e (KeepsMoving from to to_line contents) → LeavesOnly a e (Holds contents.lines r s)
 moving_holds {a} {e} {contents} {from} {to} {to_line} {version} {r} is may s map moments =
     subst (λ (q : Record). LeavesOnly a e (Holds contents.lines q s)) is

@@ -9,8 +9,9 @@ use Rattle.pmem.specs.Runs.{LeavesOnly}
 use Rattle.pmem.proofs.Leaving.{LeavesOnly-weaken}
 use Rattle.model.specs.declared.image.TheConstants.{COUNTER_LIMIT}
 use Rattle.model.specs.declared.record.Record.{Record}
-use Rattle.model.specs.Group.{Contents}
-use Rattle.model.specs.Image.{Image, IsMapOf, entries_of_lines}
+use Rattle.model.specs.Group.{Contents, entries_of}
+use Rattle.model.specs.Image.{Image, IsMapOf}
+use Rattle.model.proofs.DirectoryLemmas.{entries_same}
 use Rattle.model.proofs.MapLemmas.{IsMapOf-same}
 use Rattle.wbl_engine.specs.Contents.{IsDurable, Keeps}
 use Rattle.wbl_engine.specs.Freeing.{Clears, KeepsMap, KeepsVersions, cleared_contents}
@@ -23,51 +24,53 @@ use Rattle.wbl_migrate.proofs.StepLemmas.{no_step}
 
 -- ---- versions that stay
 
-same_map : (a b : Contents) → b.lines ≡ a.lines → ((i : ℕ) → b.versions i ≡ a.versions i) → KeepsMap a b
-same_map a b lines versions s map =
-    subst (λ (n : ℕ). IsMapOf b.versions (entries_of_lines n) s) (sym lines)
-    (IsMapOf-same a.versions b.versions (entries_of_lines a.lines) s (λ i within. sym (versions i)) map)
+same_map : (a b : Contents) → b.current.layout ≡ a.current.layout → b.lines ≡ a.lines → ((i : ℕ) → b.versions i ≡ a.versions i) → KeepsMap a b
+same_map a b layout lines versions s map =
+    subst (λ (n : ℕ). IsMapOf b.versions n s) (sym (entries_same a b layout lines))
+    (IsMapOf-same a.versions b.versions (entries_of a) s (λ i within. sym (versions i)) map)
 
--- under a record that has the same position, epoch and role
-pub keeps_recorded : (a b : Contents) → b.current.position ≡ a.current.position → b.current.epoch ≡ a.current.epoch → b.current.role ≡ a.current.role
-    → b.lines ≡ a.lines → ((i : ℕ) → b.versions i ≡ a.versions i) → (AreLawful a → AreLawful b) → KeepsAllVersions a b
-keeps_recorded a b position epoch role lines versions lawful =
+-- under a record that has the same layout, position, epoch and role
+pub keeps_recorded : (a b : Contents) → b.current.layout ≡ a.current.layout → b.current.position ≡ a.current.position → b.current.epoch ≡ a.current.epoch
+    → b.current.role ≡ a.current.role → b.lines ≡ a.lines → ((i : ℕ) → b.versions i ≡ a.versions i) → (AreLawful a → AreLawful b) → KeepsAllVersions a b
+keeps_recorded a b layout position epoch role lines versions lawful =
     record {
+      layout = layout;
       position = position;
       epoch = epoch;
       role = role;
       line_count = lines;
       versions = versions;
-      map = same_map a b lines versions;
+      map = same_map a b layout lines versions;
       lawful = lawful;
     }
 
 pub keeps_same : (a : Contents) → KeepsAllVersions a a
-keeps_same a = keeps_recorded a a refl refl refl refl (λ i. refl) (λ lawful. lawful)
+keeps_same a = keeps_recorded a a refl refl refl refl refl (λ i. refl) (λ lawful. lawful)
 
 pub keeps_then : (a b c : Contents) → KeepsAllVersions a b → KeepsAllVersions b c → KeepsAllVersions a c
 keeps_then a b c first second =
-    keeps_recorded a c (second.position ∙ first.position) (second.epoch ∙ first.epoch) (second.role ∙ first.role) (second.line_count ∙ first.line_count)
-    (λ i. second.versions i ∙ first.versions i) (λ lawful. second.lawful (first.lawful lawful))
+    keeps_recorded a c (second.layout ∙ first.layout) (second.position ∙ first.position) (second.epoch ∙ first.epoch) (second.role ∙ first.role)
+    (second.line_count ∙ first.line_count) (λ i. second.versions i ∙ first.versions i) (λ lawful. second.lawful (first.lawful lawful))
 
 -- ---- the oldest gap
 
 pub next_keeps : (a : Contents) → a.current.number + 1 < COUNTER_LIMIT → KeepsAllVersions a (cleared_contents a)
 next_keeps a room =
-    keeps_recorded a (cleared_contents a) refl refl refl refl (λ i. refl)
-    (λ are. lawful_from a (cleared_contents a) (lawful_but_one a.current are.current room) refl (λ i. refl) are)
+    keeps_recorded a (cleared_contents a) refl refl refl refl refl (λ i. refl)
+    (λ are. lawful_from a (cleared_contents a) (lawful_but_one a.current are.current room) refl refl (λ i. refl) are)
 
 pub clears_keeps : (a b : Contents) (cleared : List EntryNo) → Clears a cleared b → a.current.number + 1 < COUNTER_LIMIT → KeepsAllVersions a b
 clears_keeps a b cleared clears room =
     let current = clears.current in
-    keeps_recorded a b (ap (λ (r : Record). r.position) current) (ap (λ (r : Record). r.epoch) current) (ap (λ (r : Record). r.role) current) clears.lines_are
-    clears.versions (λ are. lawful_cleared a b cleared clears room are)
+    keeps_recorded a b (ap (λ (r : Record). r.layout) current) (ap (λ (r : Record). r.position) current) (ap (λ (r : Record). r.epoch) current)
+    (ap (λ (r : Record). r.role) current) clears.lines_are clears.versions (λ are. lawful_cleared a b cleared clears room are)
 
 faulted_keeps : (a b : Contents) → KeepsVersions a b → KeepsAllVersions a b
 faulted_keeps a b kept =
     let current = kept.current in
-    keeps_recorded a b (ap (λ (r : Record). r.position) current) (ap (λ (r : Record). r.epoch) current) (ap (λ (r : Record). r.role) current) kept.lines_are
-    kept.versions (λ are. lawful_from a b (rw current are.current) kept.lines_are kept.versions are)
+    keeps_recorded a b (ap (λ (r : Record). r.layout) current) (ap (λ (r : Record). r.position) current) (ap (λ (r : Record). r.epoch) current)
+    (ap (λ (r : Record). r.role) current) kept.lines_are kept.versions
+    (λ are. lawful_from a b (rw current are.current) (ap (λ (r : Record). r.layout) current) kept.lines_are kept.versions are)
 
 abbrev pub IsClearedOrNot : Contents → Image → Type 0
 IsClearedOrNot a image = Keeps a image ⊎ Keeps (cleared_contents a) image

@@ -10,17 +10,20 @@ use Rattle.kv_types.specs.declared.refusal.Refusal.TheVariants.{WrongSize}
 use Rattle.heap_layout.specs.declared.entry.Entry.{Entry}
 use Rattle.heap_layout.specs.Superblock.{is_wrong_size, super_refusal}
 use Rattle.heap_layout.specs.Versions.{counted_at, counted_below, counted_entry, is_counted, is_live}
+use Rattle.model.specs.declared.layout.Layout.{Layout}
 use Rattle.model.specs.declared.record.Record.{Record}
 use Rattle.model.specs.declared.record.Role.{Role}
 use Rattle.model.specs.declared.image.TheConstants.{MIN_LINES, MAX_LINES}
-use Rattle.model.specs.Group.{AreApart, Contents, IsConsistent}
+use Rattle.model.specs.Group.{AreApart, Contents, IsConsistent, entries_of}
 use Rattle.model.specs.Image.{Image, Version, counts, entries_of_lines, entry_word, map_below, version_in}
 use Rattle.model.specs.ReadImage.{is_clash}
+use Rattle.model.proofs.DirectoryLemmas.{entries_same}
 use Rattle.wbl_engine.specs.Contents.{Keeps}
 use Rattle.wbl_engine.specs.Freeing.{is_listed}
 use Rattle.wbl_engine.specs.Lawful.{AreLawful}
 use Rattle.wbl_engine.specs.Reopening.{IsShown, Reopens}
 use Rattle.wbl_engine.proofs.ClashLemmas.{AreDistinct, distinct_keyspace, distinct_map}
+use Rattle.wbl_engine.proofs.ReopeningLaws.{new_entries}
 use Rattle.wbl_engine.proofs.ShownContents.{shown_consistent}
 use Rattle.wbl_migrate.specs.Moving.{AreFreeBut, AreKnown, IsReadOnce, KeepsAllVersions, version_read}
 use Rattle.wbl_migrate.proofs.Picks.{none_some, pick_left, pick_right, pick_split, picked}
@@ -111,7 +114,7 @@ module _ (lines' : ℕ) (image opened : Image) (role : Role) (contents : Content
   consistent = shown_consistent lines' image opened role contents counted gapped reopens shown keeps
 
   abbrev count : ℕ
-  count = entries_of_lines contents.lines
+  count = entries_of contents
 
   held : (k : ℕ) (read : EntryNo × Entry) → slice_get counted k ≡ Some read → contents.versions read.0.0 ≡ Some (version_read read.1)
   held k read at =
@@ -140,7 +143,8 @@ module _ (lines' : ℕ) (image opened : Image) (role : Role) (contents : Content
         | inr taken ↦
             absurd (both_ways (is_listed i gapped) not_listed
             (reopens.gapped i
-            ∙ ap₂ (λ (a b : Bool). a && b) (lt-ltb i (entries_of_lines lines') (subst (λ (n : ℕ). i < entries_of_lines n) reopens.lines_are lt))
+            ∙ ap₂ (λ (a b : Bool). a && b)
+            (lt-ltb i (entries_of_lines reopens.before.layout lines') (subst (λ (n : ℕ). i < n) (new_entries reopens) lt))
             (ap₂ (λ (a : Bool) (o : Option Version). not a && is_none o) taken none)))
       ]
 
@@ -189,8 +193,9 @@ module _ (lines' : ℕ) (image opened : Image) (role : Role) (contents : Content
       }
 
 -- a device whose superblock earns no refusal has the size of an image
-pub image_size : (lines : ℕ) (image : Image) → ((refusal : Refusal) → super_refusal lines image ≡ Some refusal → ⊥) → (MIN_LINES ≤ lines) × (lines ≤ MAX_LINES)
-image_size lines image none =
+pub image_size : (layout : Layout) (lines : ℕ) (image : Image) → ((refusal : Refusal) → super_refusal layout lines image ≡ Some refusal → ⊥)
+    → (MIN_LINES ≤ lines) × (lines ≤ MAX_LINES)
+image_size layout lines image none =
     elim (cases_Bool (is_wrong_size lines)) [
       | inl wrong ↦ absurd (none WrongSize (cond-true (is_wrong_size lines) (Some WrongSize) _ wrong))
       | inr right ↦ (
@@ -221,5 +226,5 @@ cleared_known old new counted gapped cleared known keeps is_free =
     free i lt none (inl not_listed) =
         is_free i
         ∙ or_left (old.is_free i) (is_listed i cleared)
-        (known.free i (subst (λ (n : ℕ). i < entries_of_lines n) keeps.line_count lt) (sym (keeps.versions i) ∙ none) (inl not_listed))
+        (known.free i (subst (λ (n : ℕ). i < n) (entries_same old new keeps.layout keeps.line_count) lt) (sym (keeps.versions i) ∙ none) (inl not_listed))
     free i lt none (inr listed) = is_free i ∙ or_right (old.is_free i) (is_listed i cleared) listed

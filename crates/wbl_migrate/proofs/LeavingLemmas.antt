@@ -164,7 +164,7 @@ module _ {current' : Record} {d : State} {a : Contents} {counted : List (EntryNo
         held = begun;
         ended = ap not (ne_eqb read.1.end 0 may.ended);
         placed = record {
-          entry = kept_within a.lines place.entry.0 may.opens.entry;
+          entry = kept_within a.current.layout a.lines place.entry.0 may.opens.entry;
           above = may.opens.above;
           within = omega (arith, may.opens.within, may.size);
         };
@@ -223,6 +223,7 @@ module _ {current' : Record} {d : State} {a : Contents} {counted : List (EntryNo
         others_free = λ i other far.
             ap (λ (b : Bool). both.is_free i || b) (ne_eqb i read.0.0 other) ∙ or-false (both.is_free i)
             ∙ ap (λ (b : Bool). a.is_free i && not b) (ne_eqb i place.entry.0 far) ∙ and-true (a.is_free i);
+        layout = refl;
         line_count = refl;
       }
 

@@ -1,30 +1,32 @@
 -- Why a migration says that a counter is at its limit.
-use Rattle.std.proofs.Common.{◌≡◌, ◌⊎◌, ◌+◌, ◌≤◌, IfErr, None, ℕ, Result, Ok, Err, arith, inl, inr, sym, subst, ◌∙◌}
+use Rattle.std.proofs.Common.{◌≡◌, ◌⊎◌, ◌+◌, ◌≤◌, IfErr, None, ℕ, Result, Ok, Err, arith, inl, inr, sym, ap, subst, ◌∙◌}
 use Rattle.kv_types.specs.declared.refusal.Refusal.{Refusal}
-use Rattle.kv_types.specs.declared.refusal.Refusal.TheVariants.{Exhausted}
+use Rattle.kv_types.specs.declared.refusal.Refusal.TheVariants.{Damaged, Exhausted}
 use Rattle.kv_types.specs.Keyspace.{Keyspace}
 use Rattle.pmem.specs.Device.{State}
 use Rattle.pmem.specs.Crash.{image_of}
 use Rattle.model.specs.declared.image.TheConstants.{COUNTER_LIMIT}
+use Rattle.model.specs.declared.layout.Layout.TheVariants.{Version1}
 use Rattle.model.specs.declared.record.Record.{Record}
+use Rattle.model.specs.Layout.{version}
 use Rattle.model.specs.Image.{Image}
 use Rattle.heap_layout.specs.Superblock.{super_refusal}
-use Rattle.wbl_record.specs.Current.{IsCurrent}
 use Rattle.wbl_engine.specs.Relocating.{ExhaustsRelocation}
 use Rattle.wbl_engine.specs.Reopening.{ExhaustsReopening, RefusesReopening}
 use Rattle.wbl_migrate.specs.declared.stage.Stage.TheVariants.{Old, Halfway}
 use Rattle.wbl_migrate.specs.Limits.{IsAtLimit}
-use Rattle.wbl_migrate.specs.Migrating.{GoesOnFrom, IsHalfwayImage, IsMigratable, IsOldImage}
+use Rattle.wbl_migrate.specs.Migrating.{GoesOnFrom, IsHalfwayImage, IsHalfwayRecord, IsMigratable, IsOldImage}
 use Rattle.wbl_migrate.specs.Stage.{HasSuperblockAt, IsMovable}
 use Rattle.wbl_migrate.specs.Steps.{Leaves}
 use Rattle.wbl_migrate.specs.Vacating.{StaysOldWith}
 use Rattle.wbl_migrate.proofs.Migratable.{IsTold, halfway_record, none_some}
 
-pub told_exhausted : {cause told : Refusal} → IsTold cause told → told ≡ Exhausted → cause ≡ Exhausted
-told_exhausted is exhausted = elim is.other [ inl wrong ↦ let damaged = is.wrong wrong in absurd (cc) | inr told ↦ sym told ∙ exhausted ]
+-- what is told of a cause, but for damage, is the cause
+pub told_cause : {cause told : Refusal} (x : Refusal) → ¬ (Damaged ≡ x) → IsTold cause told → told ≡ x → cause ≡ x
+told_cause x other is same = elim is.other [ inl wrong ↦ absurd (other (sym (is.wrong wrong) ∙ same)) | inr told ↦ sym told ∙ same ]
 
-reopening_exhausts : (lines : ℕ) (image : Image) (q r : Record) (s : Keyspace) → super_refusal lines image ≡ None → IsOldImage lines r s image
-    → RefusesReopening lines image q.role Exhausted → ExhaustsReopening r
+reopening_exhausts : (lines : ℕ) (image : Image) (q r : Record) (s : Keyspace) → super_refusal Version1 lines image ≡ None → IsOldImage lines r s image
+    → RefusesReopening Version1 lines image q.role Exhausted → ExhaustsReopening r
 reopening_exhausts lines image q r s whole old refuses =
     elim refuses [
       | inl (inl super) ↦ absurd (none_some Exhausted (sym whole ∙ super))
@@ -35,8 +37,8 @@ reopening_exhausts lines image q r s whole old refuses =
     ]
 
 -- while the entries were emptied
-pub vacating_exhausts : (lines : ℕ) (image : Image) (q r : Record) (s : Keyspace) (d : State) → super_refusal lines image ≡ None → IsOldImage lines r s image
-    → RefusesReopening lines image q.role Exhausted ⊎ Leaves d (StaysOldWith (λ current _. ExhaustsRelocation current) lines r s) → IsAtLimit lines r s d
+pub vacating_exhausts : (lines : ℕ) (image : Image) (q r : Record) (s : Keyspace) (d : State) → super_refusal Version1 lines image ≡ None → IsOldImage lines r s image
+    → RefusesReopening Version1 lines image q.role Exhausted ⊎ Leaves d (StaysOldWith (λ current _. ExhaustsRelocation current) lines r s) → IsAtLimit lines r s d
 vacating_exhausts lines image q r s d whole old told =
     elim told [ inl refuses ↦ inl (inl (reopening_exhausts lines image q r s whole old refuses)) | inr left ↦ inr (inl left) ]
 
@@ -47,7 +49,7 @@ switching_exhausts lines r q s d e goes movable told =
     inr (inr (record { current = q; goes_on = goes; last = told.0; movable = subst (λ (x : State). Leaves x (IsMovable Old lines q s)) (sym told.1) movable }))
 
 -- halfway
-pub finishing_exhausts : (d e : State) (r q : Record) (s : Keyspace) → IsCurrent d.lines (image_of d.words) q → IsHalfwayImage d.lines r s (image_of d.words)
+pub finishing_exhausts : (d e : State) (r q : Record) (s : Keyspace) → IsHalfwayRecord d.lines (image_of d.words) q → IsHalfwayImage d.lines r s (image_of d.words)
     → COUNTER_LIMIT ≤ q.number + 1 → IsAtLimit d.lines r s e
 finishing_exhausts d e r q s current halfway last =
     inl (inr (subst (λ (x : Record). COUNTER_LIMIT ≤ x.number + 1) (halfway_record d.lines r q s (image_of d.words) halfway current) last))
@@ -69,6 +71,6 @@ only_old lines r s image has (inr (inr new)) = let a = has.version in let b = ne
 
 pub only_halfway : (lines : ℕ) (r : Record) (s : Keyspace) (image : Image) → HasSuperblockAt Halfway lines image → IsMigratable lines r s image
     → IsHalfwayImage lines r s image
-only_halfway lines r s image has (inl old) = let a = has.version in let b = old.undamaged.superblock.version in absurd (omega (arith, a, b))
+only_halfway lines r s image has (inl old) = let a = has.version in let b = old.undamaged.superblock.version ∙ ap version old.layout in absurd (omega (arith, a, b))
 only_halfway lines r s image has (inr (inl halfway)) = halfway
 only_halfway lines r s image has (inr (inr new)) = let a = has.version in let b = new.superblock.version in absurd (omega (arith, a, b))

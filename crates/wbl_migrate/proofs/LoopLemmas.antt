@@ -60,7 +60,7 @@ module _ {a : Contents} {counted : List (EntryNo × Entry)} {gapped cleared : Li
       → place.extent.lines ≡ lines_of_bytes (bytes_of_id entry.id + length entry.value) → IsRoomFor a entry place
   open_room entry place opens wanted =
       record {
-        placed = record { entry = kept_within a.lines place.entry.0 opens.entry; above = opens.above; within = opens.within };
+        placed = record { entry = kept_within a.current.layout a.lines place.entry.0 opens.entry; above = opens.above; within = opens.within };
         fitting = wanted;
         unused = record { entry = open_free has_places opens; lines = open_apart has_places opens };
       }
@@ -105,9 +105,9 @@ module _ {a : Contents} {counted : List (EntryNo × Entry)} {gapped cleared : Li
   -- ---- one that was moved
 
   pub went : (read : EntryNo × Entry) (place : Place) (new : Contents) → slice_get counted index ≡ Some read → read.1.end ≡ 0
-      → IsOpen a.lines places gapped cleared place → HasMoved a read.0 read.1 place new → new.lines ≡ a.lines
+      → IsOpen a.lines places gapped cleared place → HasMoved a read.0 read.1 place new → new.current.layout ≡ a.current.layout → new.lines ≡ a.lines
       → AreMoved new counted gapped cleared (set places index place) (index + 1)
-  went read place new at live opens move lines =
+  went read place new at live opens move layout lines =
       record {
         lie = gone_lie goes;
         rest = λ k other low there.
@@ -145,6 +145,7 @@ module _ {a : Contents} {counted : List (EntryNo × Entry)} {gapped cleared : Li
         there = refl;
         others = move.others;
         others_free = move.others_free;
+        layout = layout;
         line_count = lines;
       }
 

@@ -7,16 +7,19 @@ use Rattle.pmem.specs.Device.{State, Only}
 use Rattle.pmem.specs.Crash.{IsImage, image_of}
 use Rattle.pmem.specs.Runs.{LeavesOnly}
 use Rattle.pmem.proofs.Leaving.{LeavesOnly-then, LeavesOnly-weaken, none_leaves}
+use Rattle.model.specs.declared.layout.Layout.TheVariants.{Version1}
 use Rattle.model.specs.declared.record.Record.{Record}
+use Rattle.model.specs.Layout.{version}
 use Rattle.model.specs.Image.{Image}
 use Rattle.model.proofs.RecordLemmas.{HasRecord-unique}
 use Rattle.heap_layout.specs.Superblock.{super_refusal}
 use Rattle.wbl_record.specs.Current.{IsCurrent, IsLawful}
 use Rattle.wbl_engine.specs.Reopening.{RefusesReopening}
 use Rattle.wbl_migrate.specs.declared.stage.Stage.TheVariants.{Old, Halfway, New}
-use Rattle.wbl_migrate.specs.Migrating.{GoesOnFrom, IsHalfwayImage, IsMigratable, IsMigrated, IsOldImage, StaysMigratable, StaysOld}
+use Rattle.wbl_migrate.specs.Migrating.{GoesOnFrom, IsHalfwayImage, IsHalfwayRecord, IsMigratable, IsMigrated, IsOldImage, StaysMigratable, StaysOld}
 use Rattle.wbl_migrate.specs.Stage.{HasSuperblockAt, IsMovable}
 use Rattle.wbl_migrate.specs.Steps.{Leaves, IsHalfwayOrNew, renewed}
+use Rattle.wbl_migrate.proofs.HalfwayLemmas.{halfway_unique}
 
 -- ---- the record
 
@@ -30,17 +33,16 @@ goes_renewed r q goes = record { position = goes.position; epoch = goes.epoch; r
 -- an image has one record
 pub old_record : (lines : ℕ) (r q : Record) (s : Keyspace) (image : Image) → IsOldImage lines r s image → IsCurrent lines image q → q ≡ r
 old_record lines r q s image old is =
-    HasRecord-unique lines image q r is.lawful.few is.has_record old.undamaged.current.has_record
+    let was = old.undamaged.current in
+    HasRecord-unique lines image q r is.lawful.few is.version_is was.version_is is.has_record was.has_record
 
-halfway_current : (lines : ℕ) (r : Record) (s : Keyspace) (image : Image) → IsHalfwayImage lines r s image → IsCurrent lines image r
-halfway_current lines r s image halfway =
-    let has = halfway.movable.holds.has_record in
-    record { has_record = record { root = has.root; words = has.words }; lawful = halfway.lawful }
+pub halfway_is : (lines : ℕ) (r : Record) (s : Keyspace) (image : Image) → IsHalfwayImage lines r s image → IsHalfwayRecord lines image r
+halfway_is lines r s image halfway =
+    let holds = halfway.movable.holds in
+    record { layout = holds.layout; gapless = halfway.movable.gapless; has_record = holds.has_record; lawful = halfway.lawful }
 
-pub halfway_record : (lines : ℕ) (r q : Record) (s : Keyspace) (image : Image) → IsHalfwayImage lines r s image → IsCurrent lines image q → q ≡ r
-halfway_record lines r q s image halfway is =
-    let current : IsCurrent lines image r = halfway_current lines r s image halfway in
-    HasRecord-unique lines image q r is.lawful.few is.has_record current.has_record
+pub halfway_record : (lines : ℕ) (r q : Record) (s : Keyspace) (image : Image) → IsHalfwayImage lines r s image → IsHalfwayRecord lines image q → q ≡ r
+halfway_record lines r q s image halfway is = halfway_unique lines image q r is (halfway_is lines r s image halfway)
 
 -- ---- a device that has crashed leaves what it holds
 
@@ -75,25 +77,25 @@ new_migrated d lines r q s goes all image is =
     record { current = renewed q; goes_on = goes_renewed r q goes; holds = new.holds }
 
 -- an image that was halfway, whose record was read
-halfway_movable : (d : State) (r q : Record) (s : Keyspace) → IsCertain d → IsCurrent d.lines (image_of d.words) q
+halfway_movable : (d : State) (r q : Record) (s : Keyspace) → IsCertain d → IsHalfwayRecord d.lines (image_of d.words) q
     → IsHalfwayImage d.lines r s (image_of d.words) → Leaves d (IsMovable Halfway d.lines q s)
 halfway_movable d r q s certain current halfway =
     let same : q ≡ r = halfway_record d.lines r q s (image_of d.words) halfway current in
     subst (λ (x : Record). Leaves d (IsMovable Halfway d.lines x s)) (sym same)
     (certain_image d (IsMovable Halfway d.lines r s) certain halfway.movable)
 
-halfway_goes : (d : State) (r q : Record) (s : Keyspace) → IsCurrent d.lines (image_of d.words) q → IsHalfwayImage d.lines r s (image_of d.words)
+halfway_goes : (d : State) (r q : Record) (s : Keyspace) → IsHalfwayRecord d.lines (image_of d.words) q → IsHalfwayImage d.lines r s (image_of d.words)
     → GoesOnFrom r q
 halfway_goes d r q s current halfway =
     subst (GoesOnFrom r) (sym (halfway_record d.lines r q s (image_of d.words) halfway current)) (goes_nowhere r)
 
-pub finished : (d e : State) (r q : Record) (s : Keyspace) → IsCertain d → IsCurrent d.lines (image_of d.words) q
+pub finished : (d e : State) (r q : Record) (s : Keyspace) → IsCertain d → IsHalfwayRecord d.lines (image_of d.words) q
     → (Leaves d (IsMovable Halfway d.lines q s) → Leaves e (IsMovable New d.lines (renewed q) s))
     → IsHalfwayImage d.lines r s (image_of d.words) → Leaves e (IsMigrated d.lines r s)
 finished d e r q s certain current done halfway =
     new_migrated e d.lines r q s (halfway_goes d r q s current halfway) (done (halfway_movable d r q s certain current halfway))
 
-pub finishing : (d e : State) (r q : Record) (s : Keyspace) → IsCertain d → IsCurrent d.lines (image_of d.words) q
+pub finishing : (d e : State) (r q : Record) (s : Keyspace) → IsCertain d → IsHalfwayRecord d.lines (image_of d.words) q
     → (Leaves d (IsMovable Halfway d.lines q s) → LeavesOnly d e (IsHalfwayOrNew d.lines q s))
     → IsHalfwayImage d.lines r s (image_of d.words) → LeavesOnly d e (StaysMigratable d.lines r s)
 finishing d e r q s certain current moments halfway =
@@ -147,8 +149,8 @@ pub none_some : (refusal : Refusal) → None ≡ Some refusal → ⊥
 none_some refusal is = cc
 
 module _ {lines : ℕ} {image : Image} {q : Record} {cause told : Refusal} {X : Type 0} {left device : X}
-    (whole : super_refusal lines image ≡ None) (current : IsCurrent lines image q) (is : IsTold cause told)
-    (refuses : (RefusesReopening lines image q.role cause × (left ≡ device))
+    (whole : super_refusal Version1 lines image ≡ None) (current : IsCurrent lines image q) (is : IsTold cause told)
+    (refuses : (RefusesReopening Version1 lines image q.role cause × (left ≡ device))
     ⊎ ((cause ≡ Full) ⊎ ((cause ≡ Fault) ⊎ ((cause ≡ Exhausted) ⊎ (cause ≡ Memory))))) where
   -- another cause is not told as damage
   not_damaged : {A : Type 0} (x : Refusal) → ¬ (x ≡ WrongRole) → ¬ (x ≡ Damaged) → cause ≡ x → told ≡ Damaged → A
@@ -177,7 +179,7 @@ module _ {lines : ℕ} {image : Image} {q : Record} {cause told : Refusal} {X : 
 -- an image that can be migrated on, and whose version is 2
 pub only_new : (lines : ℕ) (r : Record) (s : Keyspace) (image : Image) → HasSuperblockAt New lines image → IsMigratable lines r s image
     → IsMigrated lines r s image
-only_new lines r s image has (inl old) = let a = has.version in let b = old.undamaged.superblock.version in absurd (omega (arith, a, b))
+only_new lines r s image has (inl old) = let a = has.version in let b = old.undamaged.superblock.version ∙ ap version old.layout in absurd (omega (arith, a, b))
 only_new lines r s image has (inr (inl halfway)) =
     let a = has.version in let b = halfway.movable.holds.superblock.version in absurd (omega (arith, a, b))
 only_new lines r s image has (inr (inr new)) = record { current = r; goes_on = goes_nowhere r; holds = new }

@@ -27,6 +27,7 @@ use Rattle.wbl_migrate.proofs.StepLemmas.{no_step, ok_no_error}
 pub moves_same : (a : Contents) → MovesLive a a
 moves_same a =
     record {
+      layout = refl;
       position = refl;
       epoch = refl;
       role = refl;
@@ -40,6 +41,7 @@ moves_same a =
 pub moves_then : (a b c : Contents) → MovesLive a b → MovesLive b c → MovesLive a c
 moves_then a b c first second =
     record {
+      layout = second.layout ∙ first.layout;
       position = second.position ∙ first.position;
       epoch = second.epoch ∙ first.epoch;
       role = second.role ∙ first.role;
@@ -103,6 +105,7 @@ module _ {a : Contents} {from : EntryNo} {entry : Entry} {place : Place} {part :
     pub moves_again : MovesLive a again
     moves_again =
         record {
+          layout = refl;
           position = refl;
           epoch = refl;
           role = refl;
@@ -116,6 +119,7 @@ module _ {a : Contents} {from : EntryNo} {entry : Entry} {place : Place} {part :
     pub moves_freed : (gone : ℕ → Bool) → ((i : ℕ) → IsTrue (gone i) → IsTrue (is_listed i (from ∷ []))) → MovesLive a (without gone again)
     moves_freed gone listed =
         record {
+          layout = refl;
           position = refl;
           epoch = refl;
           role = refl;

@@ -15,8 +15,8 @@ use Rattle.model.specs.declared.group.Part.{Part}
 use Rattle.model.specs.declared.group.Put.{Put}
 use Rattle.model.specs.declared.group.PlacedChange.{PlacedChange}
 use Rattle.model.specs.declared.group.PlacedChange.TheVariants as placed
-use Rattle.model.specs.Group.{AreAllApart, Contents, HasItsLines, IsConsistent, IsPlaced, IsUnused, NamesEnded, Versions, changes_versions, ended_where_begun, ends_record, is_ended_version, is_live_version, is_put_at, part_versions, put_of, puts_of_part, version_of_put}
-use Rattle.model.specs.Image.{Image, Version, counts, entries_of_lines, entry_word, version_in}
+use Rattle.model.specs.Group.{AreAllApart, Contents, HasItsLines, IsConsistent, IsPlaced, IsUnused, NamesEnded, Versions, changes_versions, ended_where_begun, ends_record, entries_of, is_ended_version, is_live_version, is_put_at, part_versions, put_of, puts_of_part, version_of_put}
+use Rattle.model.specs.Image.{Image, Version, counts, entry_word, version_in}
 use Rattle.model.specs.ReadImage.{is_clash}
 use Rattle.model.proofs.DirectoryLemmas.{in-directory}
 use Rattle.model.proofs.VersionsLemmas.{ends_record-own}
@@ -111,7 +111,7 @@ module _ {a : Contents} {from : EntryNo} {entry : Entry} {place : Place} {part :
   pub differ : from.0 ≢ place.entry.0
   differ same = none_some (sym none_there ∙ ap a.versions (sym same) ∙ move.held)
 
-  pub from_within : from.0 < entries_of_lines a.lines
+  pub from_within : from.0 < entries_of a
   from_within = in-directory a move.consistent from.0 (λ none. none_some (sym none ∙ move.held))
 
   -- each other version stays as it is
@@ -119,7 +119,7 @@ module _ {a : Contents} {from : EntryNo} {entry : Entry} {place : Place} {part :
   spared i other None is = refl
   spared i other (Some w) is = ap Some (ended_not (ends_record by w.id) w (or_same w.is_ended (ends_record by w.id) apart))
     where
-      within : i < entries_of_lines a.lines
+      within : i < entries_of a
       within = in-directory a move.consistent i (λ none. none_some (sym none ∙ is))
 
       apart : w.is_ended ≡ false → ends_record by w.id ≡ false
@@ -211,7 +211,7 @@ module _ {a : Contents} {from : EntryNo} {entry : Entry} {place : Place} {part :
           position_is = sym move.position;
         };
         names = named;
-        placed = subst (λ (puts : List Put). AllByRecursion (IsPlaced a.lines) puts) (sym puts_are) (move.room.placed, tt);
+        placed = subst (λ (puts : List Put). AllByRecursion (IsPlaced (entries_of a) a.lines) puts) (sym puts_are) (move.room.placed, tt);
         fitting = subst (λ (puts : List Put). AllByRecursion HasItsLines puts) (sym puts_are) (move.room.fitting, tt);
         unused = subst (λ (puts : List Put). AllByRecursion (IsUnused a.versions a.is_free) puts) (sym puts_are) (move.room.unused, tt);
         apart = subst (λ (puts : List Put). AreAllApart puts) (sym puts_are) (tt, tt);

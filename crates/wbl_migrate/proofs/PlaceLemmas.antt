@@ -7,8 +7,11 @@ use Rattle.std.proofs.lemmas.Option.{slice_get_within}
 use Rattle.kv_types.specs.declared.place.EntryNo.{EntryNo}
 use Rattle.kv_types.specs.declared.place.Extent.{Extent}
 use Rattle.heap_layout.specs.declared.entry.Entry.{Entry}
+use Rattle.model.specs.declared.layout.Layout.{Layout}
+use Rattle.model.specs.declared.layout.Layout.TheVariants.{Version1, Version2}
 use Rattle.model.specs.Group.{AreApart, Contents}
 use Rattle.model.specs.Image.{Version, entries_of_lines}
+use Rattle.model.proofs.DirectoryLemmas.{entries_same}
 use Rattle.wbl_migrate.specs.declared.moving.Place.{Place}
 use Rattle.wbl_migrate.specs.Moving.{AreFreeBut, IsOpen, IsReadOnce, are_apart, are_two, entries_kept, is_clear, place_at, place_read, version_read}
 use Rattle.wbl_migrate.proofs.Picks.{none_some, pick-set_other, pick-set_same, picked}
@@ -36,8 +39,10 @@ open_as lines lines' places places' gapped gapped' cleared place lines_is places
     (subst (λ (ps : List Place). IsOpen lines ps gapped' cleared place) places_is
     (subst (λ (es : List EntryNo). IsOpen lines places es cleared place) gapped_is opens))
 
-pub kept_within : (lines n : ℕ) → n < entries_kept lines → n < entries_of_lines lines
-kept_within lines n lt = omega (arith, lt)
+-- an entry that version 2 keeps is in the directory
+pub kept_within : (layout : Layout) (lines n : ℕ) → n < entries_kept lines → n < entries_of_lines layout lines
+kept_within Version1 lines n lt = omega (arith, lt)
+kept_within Version2 lines n lt = lt
 
 -- Each version lies in one of the places, and an entry without one is free.
 pub record HasPlaces (contents : Contents) (gapped cleared : List EntryNo) (places : List Place) : Type 0 where
@@ -62,7 +67,7 @@ module _ {a : Contents} {gapped cleared : List EntryNo} {places : List Place} {p
 
   -- it is free
   pub open_free : a.is_free place.entry.0 ≡ true
-  open_free = has.free place.entry.0 (kept_within a.lines place.entry.0 opens.entry) open_none opens.begun
+  open_free = has.free place.entry.0 (kept_within a.current.layout a.lines place.entry.0 opens.entry) open_none opens.begun
 
   -- and no version has one of its lines
   pub open_apart : (i : ℕ) (version : Version) → a.versions i ≡ Some version
@@ -88,6 +93,7 @@ pub record HasGone (old : Contents) (counted : List (EntryNo × Entry)) (gapped 
   pub there : place_at place.entry.0 version ≡ place
   pub others : (i : ℕ) → i ≢ read.0.0 → i ≢ place.entry.0 → new.versions i ≡ old.versions i
   pub others_free : (i : ℕ) → i ≢ read.0.0 → i ≢ place.entry.0 → new.is_free i ≡ old.is_free i
+  pub layout : new.current.layout ≡ old.current.layout
   pub line_count : new.lines ≡ old.lines
 
 module _ {a new : Contents} {counted : List (EntryNo × Entry)} {gapped cleared : List EntryNo} {places : List Place} {index : ℕ} {read : EntryNo × Entry}
@@ -139,6 +145,6 @@ module _ {a new : Contents} {counted : List (EntryNo × Entry)} {gapped cleared 
           | inl there ↦ absurd (none_some (sym none ∙ ap new.versions there ∙ goes.made))
           | inr far ↦
               goes.others_free i elsewhere far
-              ∙ goes.has.free i (subst (λ (n : ℕ). i < entries_of_lines n) goes.line_count lt) (sym (goes.others i elsewhere far) ∙ none) begun
+              ∙ goes.has.free i (subst (λ (n : ℕ). i < n) (entries_same a new goes.layout goes.line_count) lt) (sym (goes.others i elsewhere far) ∙ none) begun
         ]
       ]

@@ -5,10 +5,9 @@ use Rattle.pmem.specs.Device.{State}
 use Rattle.pmem.specs.Crash.{IsImage}
 use Rattle.pmem.specs.Runs.{LeavesOnly}
 use Rattle.pmem.proofs.Leaving.{LeavesOnly-then, LeavesOnly-weaken}
-use Rattle.model.specs.declared.layout.TheConstants.{VERSION_2}
 use Rattle.model.specs.declared.record.Record.{Record}
-use Rattle.model.specs.Image.{Image}
-use Rattle.wbl_migrate.specs.Stage.{HasRecordUnder, IsMovable, KeepsMap}
+use Rattle.model.specs.Image.{HasRecord, Image}
+use Rattle.wbl_migrate.specs.Stage.{IsMovable, KeepsMap}
 use Rattle.wbl_migrate.specs.declared.stage.Stage.TheVariants.{Old, Halfway, New}
 use Rattle.wbl_migrate.specs.Steps.{Leaves, IsAtSomeStage, IsHalfwayOrNew, IsRenewed, renewed}
 
@@ -38,7 +37,7 @@ record_moments a b lines r s moments = LeavesOnly-weaken (IsHalfwayOrNew lines r
 
 -- it was written
 pub renewed_images : (a b : State) (lines : ℕ) (r : Record) (s : Keyspace) → b.lines ≡ lines → LeavesOnly a b (IsMovable Halfway lines r s)
-    → Leaves b (HasRecordUnder VERSION_2 lines (renewed r)) → Leaves b (IsRenewed b.lines r s)
+    → Leaves b (HasRecord lines (renewed r)) → Leaves b (IsRenewed b.lines r s)
 renewed_images a b lines r s counted moments has =
     subst (λ (n : ℕ). Leaves b (IsRenewed n r s)) (sym counted)
     (λ image is. record { movable = moments.each image (inl is); next = has image is })

@@ -12,11 +12,13 @@ use Rattle.model.specs.declared.group.Part.{Part}
 use Rattle.model.specs.declared.group.PlacedChange.{PlacedChange}
 use Rattle.model.specs.declared.group.PlacedChange.TheVariants as placed
 use Rattle.model.specs.declared.group.Put.{Put}
+use Rattle.model.specs.declared.layout.Layout.{Layout}
+use Rattle.model.specs.declared.layout.Layout.TheVariants.{Version1}
 use Rattle.model.specs.declared.record.Record.{Record}
 use Rattle.model.specs.declared.record.Role.TheVariants.{Primary}
-use Rattle.model.specs.Group.{AreAllApart, AreApart, AreParts, Contents, HasItsLines, IsGroup, IsPlaced, IsUnused, Versions, after_group, change_of, changes_versions, ended_by, ended_where_begun, is_ended_version, is_live_version, is_put_at, NamesEnded, part_versions, parts_versions, put_of, puts_of_group, puts_of_part, version_of_put}
-use Rattle.model.specs.Image.{HasRecord, Version}
-use Rattle.model.proofs.RecordLemmas.{HasRecord-unique}
+use Rattle.model.specs.Group.{AreAllApart, AreApart, AreParts, Contents, HasItsLines, IsGroup, IsPlaced, IsUnused, Versions, after_group, change_of, changes_versions, ended_by, ended_where_begun, entries_of, is_ended_version, is_live_version, is_put_at, NamesEnded, part_versions, parts_versions, put_of, puts_of_group, puts_of_part, version_of_put}
+use Rattle.model.specs.Image.{Version, entries_of_lines}
+use Rattle.model.proofs.RecordLemmas.{HasRecord-lines, HasRecord-unique}
 use Rattle.wbl_record.specs.Current.{IsCurrent}
 use Rattle.wbl_record.proofs.Mixing.{image_of-is}
 use Rattle.wbl_engine.specs.Contents.{IsDurable, IsNew, Same}
@@ -158,10 +160,13 @@ module _ {a b : ℕ} {old : Contents} {group : Group} (new : IsNew 4096 Primary 
         ),
       )
 
+  old_entries : entries_of old ≡ 512
+  old_entries = ap (λ (layout : Layout). entries_of_lines layout old.lines) new.layout ∙ ap (entries_of_lines Version1) new.line_count
+
   unused : (put : Put) → put.entry.0 < 512 → IsUnused old.versions old.is_free put
   unused put low =
       record {
-        entry = new.is_free put.entry.0 (omega (arith, low));
+        entry = new.is_free put.entry.0 (omega (arith, low, old_entries));
         lines = λ i version is. let clash : None ≡ Some version = sym (new.versions i) ∙ is in absurd (cc);
       }
 
@@ -173,9 +178,9 @@ module _ {a b : ℕ} {old : Contents} {group : Group} (new : IsNew 4096 Primary 
         some = omega (arith, ap length two.parts);
         few = omega (arith, ap length two.parts);
         parts = parts_are differ;
-        placed = subst (AllByRecursion (IsPlaced old.lines)) (sym puts_are) (
-          record { entry = omega (arith, new.line_count, first_low); above = omega (arith, new.line_count); within = omega (arith, new.line_count) },
-          (record { entry = omega (arith, new.line_count, second_low); above = omega (arith, new.line_count); within = omega (arith, new.line_count) }, tt),
+        placed = subst (AllByRecursion (IsPlaced (entries_of old) old.lines)) (sym puts_are) (
+          record { entry = omega (arith, old_entries, first_low); above = omega (arith, new.line_count); within = omega (arith, new.line_count) },
+          (record { entry = omega (arith, old_entries, second_low); above = omega (arith, new.line_count); within = omega (arith, new.line_count) }, tt),
         );
         fitting = subst (AllByRecursion HasItsLines) (sym puts_are) (refl, (refl, tt));
         unused = subst (AllByRecursion (IsUnused old.versions old.is_free)) (sym puts_are)
@@ -196,6 +201,11 @@ module _ {old : Contents} {group : Group} (new : IsNew 4096 Primary old) (two : 
 
   lines_are : held.lines ≡ 4096
   lines_are = same.lines ∙ new.line_count
+
+  held_entries : entries_of held ≡ 512
+  held_entries =
+      ap (λ (layout : Layout). entries_of_lines layout held.lines) (ap (λ (q : Record). q.layout) same.current ∙ new.layout)
+      ∙ ap (entries_of_lines Version1) lines_are
 
   lines_apart : (i : ℕ) (version : Version) → held.versions i ≡ Some version → AreApart 600 1 version.first_line version.lines
   lines_apart i version is =
@@ -218,18 +228,19 @@ module _ {old : Contents} {group : Group} (new : IsNew 4096 Primary old) (two : 
   pub two_sets_moving : IsMoving r d held 0 5 600 ended_version
   two_sets_moving =
       record {
-        current_is = sym (HasRecord-unique d.lines (image_of d.words) r held.current current.lawful.few current.has_record
-            (subst (λ (n : ℕ). HasRecord n held.current (image_of d.words)) filled (durable (image_of d.words) (image_of-is d.words)).has_record));
+        current_is = let keeps = durable (image_of d.words) (image_of-is d.words) in
+            sym (HasRecord-unique d.lines (image_of d.words) r held.current current.lawful.few current.version_is keeps.superblock.version current.has_record
+            (HasRecord-lines filled keeps.has_record));
         lines_are = filled;
         durable = durable;
         movable = record {
-          from_within = omega (arith, lines_are);
+          from_within = omega (arith, held_entries);
           held = held_at 0 ∙ second_ended zero_one new.versions 0 refl;
           ended = refl;
-          placed = record { entry = omega (arith, lines_are); above = omega (arith, lines_are); within = omega (arith, lines_are) };
+          placed = record { entry = omega (arith, held_entries); above = omega (arith, lines_are); within = omega (arith, lines_are) };
           unused = record {
             entry = same.is_free 5 ∙ ap (λ (puts : List Put). old.is_free 5 && not (is_put_at 5 puts)) (puts_are new two)
-                ∙ ap (λ (b : Bool). b && true) (new.is_free 5 (omega arith));
+                ∙ ap (λ (b : Bool). b && true) (new.is_free 5 (omega (arith, old_entries new two)));
             lines = lines_apart;
           };
           empty = held_at 5 ∙ second_else zero_one new.versions 5 (λ e. omega (arith, e)) (λ e. omega (arith, e));

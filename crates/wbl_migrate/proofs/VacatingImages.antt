@@ -13,10 +13,12 @@ use Rattle.pmem.proofs.Leaving.{LeavesOnly-then, LeavesOnly-weaken}
 use Rattle.heap_layout.specs.declared.entry.Entry.{Entry}
 use Rattle.heap_layout.specs.Superblock.{is_wrong_size, super_refusal}
 use Rattle.model.specs.declared.image.TheConstants.{MIN_LINES, MAX_LINES}
-use Rattle.model.specs.declared.layout.TheConstants.{LAYOUT}
+use Rattle.model.specs.declared.layout.Layout.{Layout}
+use Rattle.model.specs.declared.layout.Layout.TheVariants.{Version1, Version2}
+use Rattle.model.specs.Layout as layouts
 use Rattle.model.specs.declared.record.Record.{Record}
 use Rattle.model.specs.declared.record.Role.{Role}
-use Rattle.model.specs.Group.{Contents, IsConsistent}
+use Rattle.model.specs.Group.{Contents, IsConsistent, entries_of}
 use Rattle.model.specs.Image.{Image, IsMapOf, Version, counts, directory_room, entries_of_lines, entry_word, magic_number, version_at, version_in}
 use Rattle.model.proofs.MapLemmas.{IsMapOf-same, value_at-maps}
 use Rattle.wbl_engine.specs.Contents.{IsDurable, Keeps}
@@ -25,12 +27,14 @@ use Rattle.wbl_engine.specs.Lawful.{AreLawful}
 use Rattle.wbl_engine.specs.Reopening.{IsShown, RefusesReopening, Reopens, StaysReadable, is_full, reopened, with_open_gap}
 use Rattle.wbl_engine.proofs.LawfulLemmas.{lawful_undamaged}
 use Rattle.wbl_engine.proofs.ReadingLemmas.{undamaged_unique}
+use Rattle.wbl_engine.proofs.ReopeningLaws.{new_entries}
+use Rattle.wbl_engine.proofs.RoomLemmas.{room_layout}
 use Rattle.wbl_engine.proofs.ShownContents.{shown_consistent}
-use Rattle.wbl_migrate.specs.declared.stage.Stage.TheVariants.{Old, New}
+use Rattle.wbl_migrate.specs.declared.stage.Stage.TheVariants.{Old}
 use Rattle.wbl_migrate.specs.Leaving.{IsEmptied}
 use Rattle.wbl_migrate.specs.Migrating.{GoesOnFrom, IsOldImage, StaysOld}
 use Rattle.wbl_migrate.specs.Moving.{AreKnown, HoldsBy}
-use Rattle.wbl_migrate.specs.Stage.{IsMovable, entries_at}
+use Rattle.wbl_migrate.specs.Stage.{IsMovable}
 use Rattle.wbl_migrate.specs.Steps.{Leaves}
 use Rattle.wbl_migrate.specs.Vacating.{HasLastEntry, IsVacated, StaysOldWith, StopsAt, Vacates}
 use Rattle.wbl_migrate.proofs.KnownLemmas.{image_size, reopened_known, reopened_lawful}
@@ -38,24 +42,25 @@ use Rattle.wbl_migrate.proofs.Maps.{version_at-none}
 use Rattle.wbl_migrate.proofs.Picks.{none_some}
 use Rattle.wbl_migrate.proofs.StepLemmas.{ok_no_error}
 
--- The contents have `lines'` lines and this keyspace as their map, under a record that goes on from this one.
+-- The contents are of version 1, have `lines'` lines and this keyspace as their map, under a record that goes on from this one.
 pub record StandFor (lines' : ℕ) (r : Record) (s : Keyspace) (contents : Contents) : Type 0 where
+  pub layout : contents.current.layout ≡ Version1
   pub line_count : contents.lines ≡ lines'
   pub goes_on : GoesOnFrom r contents.current
   pub lawful : AreLawful contents
-  pub map : IsMapOf contents.versions (entries_of_lines contents.lines) s
+  pub map : IsMapOf contents.versions (entries_of contents) s
 
 -- ---- what a reopening gives
 
 -- Its contents are what the steps ask for. `d` is the device of the engine that was opened.
 pub opened_contents : {lines : ℕ} {before : Image} {role : Role} {contents : Contents} {counted : List (EntryNo × Entry)} {gapped : List EntryNo}
     {X Y : Type 0} {opened : X} {device : Y} (d : State)
-    → ((refusal : Refusal) → super_refusal lines before ≡ Some refusal → ◌≡◌ {A = Result X (Refusal × Y)} (Ok opened) (Err (refusal, device)))
+    → ((refusal : Refusal) → super_refusal Version1 lines before ≡ Some refusal → ◌≡◌ {A = Result X (Refusal × Y)} (Ok opened) (Err (refusal, device)))
     → Reopens lines before role contents counted gapped → IsShown contents counted gapped (image_of d.words) → IsDurable d contents
     → IsConsistent contents × AreLawful contents × AreKnown contents counted gapped []
 opened_contents {lines} {before} {role} {contents} {counted} {gapped} {X} {Y} {opened} {device} d superblock reopens shown durable =
     let keeps : Keeps contents (image_of d.words) = durable (image_of d.words) (λ word. inl refl) in
-    let size = image_size lines before (λ refusal is. ok_no_error opened (refusal, device) (superblock refusal is)) in
+    let size = image_size Version1 lines before (λ refusal is. ok_no_error opened (refusal, device) (superblock refusal is)) in
     let same = sym reopens.lines_are in (
       shown_consistent lines before (image_of d.words) role contents counted gapped reopens shown keeps,
       reopened_lawful lines before (image_of d.words) role contents counted gapped reopens shown keeps (subst (λ (n : ℕ). MIN_LINES ≤ n) same size.0)
@@ -72,19 +77,25 @@ module _ {lines : ℕ} {before : Image} {role : Role} {contents : Contents} {cou
   same_record : reopens.before ≡ r
   same_record = undamaged_unique r reopens.before old.undamaged.current reopens.undamaged
 
-  same_versions : (i : ℕ) → i < entries_of_lines lines → version_at r before i ≡ contents.versions i
+  before_layout : reopens.before.layout ≡ Version1
+  before_layout = ap (λ (q : Record). q.layout) same_record ∙ old.layout
+
+  same_versions : (i : ℕ) → i < entries_of_lines Version1 lines → version_at r before i ≡ contents.versions i
   same_versions i below =
-      sym (reopens.versions i ∙ cond-true (nat_lt i (entries_of_lines lines)) _ _ (lt-ltb i (entries_of_lines lines) below)
-      ∙ ap (λ (q : Record). version_at q before i) same_record)
+      let entries : ℕ = entries_of_lines reopens.before.layout lines in
+      let within : i < entries = subst (λ (layout : Layout). i < entries_of_lines layout lines) (sym before_layout) below in
+      sym (reopens.versions i ∙ cond-true (nat_lt i entries) _ _ (lt-ltb i entries within) ∙ ap (λ (q : Record). version_at q before i) same_record)
 
   pub opened_stand : AreLawful contents → StandFor lines r s contents
   opened_stand lawful =
       record {
+        layout = ap (λ (q : Record). q.layout) reopens.current ∙ room_layout reopens.before ∙ before_layout;
         line_count = reopens.lines_are;
         goes_on = subst (GoesOnFrom r) (sym (reopens.current ∙ ap reopened same_record)) (goes_on_opened r (is_full r));
         lawful = lawful;
-        map = subst (λ (n : ℕ). IsMapOf contents.versions (entries_of_lines n) s) (sym reopens.lines_are)
-            (IsMapOf-same (version_at r before) contents.versions (entries_of_lines lines) s same_versions old.map);
+        map = subst (λ (n : ℕ). IsMapOf contents.versions n s)
+            (sym (new_entries reopens ∙ ap (λ (layout : Layout). entries_of_lines layout lines) before_layout))
+            (IsMapOf-same (version_at r before) contents.versions (entries_of_lines Version1 lines) s same_versions old.map);
       }
 
 -- while it is reopened
@@ -95,8 +106,10 @@ readable_stays lines r s before image old stays =
       current = stays.current;
       goes_on = record { position = stays.position; epoch = stays.epoch; role = stays.role };
       is = record {
+        layout = stays.layout ∙ old.layout;
         undamaged = stays.undamaged;
-        map = IsMapOf-same (version_at r before) (version_at stays.current image) (entries_of_lines lines) s (λ i below. sym (stays.versions i below)) old.map;
+        map = IsMapOf-same (version_at r before) (version_at stays.current image) (entries_of_lines Version1 lines) s
+            (λ i below. sym (stays.versions i (subst (λ (layout : Layout). i < entries_of_lines layout lines) (sym old.layout) below))) old.map;
       };
     }
 
@@ -122,6 +135,7 @@ module _ (lines : ℕ) (r : Record) (s : Keyspace) where
       let before = stand.goes_on in
       let are = stand.lawful in
       record {
+        layout = vacates.layout ∙ stand.layout;
         line_count = vacates.line_count ∙ stand.line_count;
         goes_on = record {
           position = vacates.position ∙ before.position;
@@ -129,16 +143,18 @@ module _ (lines : ℕ) (r : Record) (s : Keyspace) where
           role = vacates.role ∙ before.role;
         };
         lawful = vacates.lawful are;
-        map = alike_map b.versions (entries_of_lines b.lines) are.keyspace s (value_at-maps are.map stand.map) (vacates.map are.keyspace are.lawful are.map);
+        map = alike_map b.versions (entries_of b) are.keyspace s (value_at-maps are.map stand.map) (vacates.map are.keyspace are.lawful are.map);
       }
+
+  image_map : (a : Contents) (image : Image) → StandFor lines r s a → Keeps a image → IsMapOf (version_at a.current image) (entries_of_lines Version1 a.lines) s
+  image_map a image stand keeps =
+      subst (λ (layout : Layout). IsMapOf (version_at a.current image) (entries_of_lines layout a.lines) s) stand.layout
+      (IsMapOf-same a.versions (version_at a.current image) (entries_of a) s (λ i below. sym (keeps.versions i below)) stand.map)
 
   old_image : (a : Contents) (image : Image) → StandFor lines r s a → Keeps a image → IsOldImage lines a.current s image
   old_image a image stand keeps =
       subst (λ (n : ℕ). IsOldImage n a.current s image) stand.line_count
-      (record {
-        undamaged = lawful_undamaged a image stand.lawful keeps;
-        map = IsMapOf-same a.versions (version_at a.current image) (entries_of_lines a.lines) s (λ i below. sym (keeps.versions i below)) stand.map;
-      })
+      (record { layout = stand.layout; undamaged = lawful_undamaged a image stand.lawful keeps; map = image_map a image stand keeps })
 
   stays_old : (a : Contents) (image : Image) → StandFor lines r s a → Keeps a image → StaysOld lines r s image
   stays_old a image stand keeps = record { current = a.current; goes_on = stand.goes_on; is = old_image a image stand keeps }
@@ -149,7 +165,10 @@ module _ (lines : ℕ) (r : Record) (s : Keyspace) where
   -- ---- where the last entries are empty
 
   module _ (a : Contents) (image : Image) (stand : StandFor lines r s a) (keeps : Keeps a image) where
-    uncounted : IsEmptied a → (i : ℕ) → entries_at New a.lines ≤ i → i < entries_at Old a.lines → (b : Bool) → counts a.current (image (entry_word i 0)) ≡ b
+    old_within : (i : ℕ) → i < entries_of_lines Version1 a.lines → i < entries_of a
+    old_within i below = subst (λ (layout : Layout). i < entries_of_lines layout a.lines) (sym stand.layout) below
+
+    uncounted : IsEmptied a → (i : ℕ) → entries_of_lines Version2 a.lines ≤ i → i < entries_of a → (b : Bool) → counts a.current (image (entry_word i 0)) ≡ b
         → counts a.current (image (entry_word i 0)) ≡ false
     uncounted emptied i low high false is = is
     uncounted emptied i low high true is =
@@ -162,16 +181,17 @@ module _ (lines : ℕ) (r : Record) (s : Keyspace) where
           holds = record {
             superblock = record {
               magic = keeps.superblock.magic;
-              version = keeps.superblock.version;
+              version = keeps.superblock.version ∙ ap layouts.version stand.layout;
               line_count = keeps.superblock.line_count;
               room = keeps.superblock.room;
             };
-            has_record = record { root = keeps.has_record.root; words = keeps.has_record.words };
-            map = IsMapOf-same a.versions (version_at a.current image) (entries_of_lines a.lines) s (λ i below. sym (keeps.versions i below)) stand.map;
+            layout = stand.layout;
+            has_record = keeps.has_record;
+            map = image_map a image stand keeps;
           };
           gapless = gapless;
-          behind = λ i below counted. ((keeps.entries i below).whole counted).above;
-          last = λ i low high. uncounted emptied i low high (counts a.current (image (entry_word i 0))) refl;
+          behind = λ i below counted. ((keeps.entries i (old_within i below)).whole counted).above;
+          last = λ i low high. uncounted emptied i low (old_within i high) (counts a.current (image (entry_word i 0))) refl;
         }
 
     emptied_movable : a.current.gaps.items ≡ [] → IsEmptied a → IsMovable Old lines a.current s image
@@ -196,7 +216,7 @@ module _ (lines : ℕ) (r : Record) (s : Keyspace) where
   -- ---- where it stops
 
   pub stopped_old : (AreSuch : Contents → Type 0) (IsSuch : Record → Image → Type 0)
-      → ((b : Contents) (image : Image) → b.lines ≡ lines → IsConsistent b → Keeps b image → AreSuch b → IsSuch b.current image)
+      → ((b : Contents) (image : Image) → b.current.layout ≡ Version1 → b.lines ≡ lines → IsConsistent b → Keeps b image → AreSuch b → IsSuch b.current image)
       → (a : Contents) (d : State) → StandFor lines r s a → StopsAt AreSuch d a → Leaves d (StaysOldWith IsSuch lines r s)
   stopped_old AreSuch IsSuch so a d stand stops image is =
       let keeps = stops.durable image is in
@@ -205,7 +225,7 @@ module _ (lines : ℕ) (r : Record) (s : Keyspace) where
         current = stops.new.current;
         goes_on = end.goes_on;
         is = old_image stops.new image end keeps;
-        such = so stops.new image end.line_count stops.consistent keeps stops.such;
+        such = so stops.new image end.layout end.line_count stops.consistent keeps stops.such;
       }
 
   -- ---- at each moment
@@ -217,13 +237,14 @@ module _ (lines : ℕ) (r : Record) (s : Keyspace) where
       (LeavesOnly-weaken (StaysOld lines r s) (λ image holds. holds_old contents image stand holds) second)
 
 -- a version that is left counts in the image
-pub left_counts : (lines : ℕ) (b : Contents) (image : Image) → b.lines ≡ lines → IsConsistent b → Keeps b image → ¬ IsEmptied b
+pub left_counts : (lines : ℕ) (b : Contents) (image : Image) → b.current.layout ≡ Version1 → b.lines ≡ lines → IsConsistent b → Keeps b image → ¬ IsEmptied b
     → HasLastEntry lines b.current image
-left_counts lines b image same consistent keeps left none =
+left_counts lines b image layout same consistent keeps left none =
     left (λ i version low is.
-    elim (cases_lt i (entries_at Old b.lines)) [
-      | inl high ↦ absurd (none_some (sym (version_at-none b.current image i (none i (subst (λ (n : ℕ). entries_at New n ≤ i) same low)
-          (subst (λ (n : ℕ). i < entries_at Old n) same high))) ∙ keeps.versions i high ∙ is))
+    elim (cases_lt i (entries_of b)) [
+      | inl high ↦
+          absurd (none_some (sym (version_at-none b.current image i (none i (subst (λ (n : ℕ). entries_of_lines Version2 n ≤ i) same low)
+          (subst (λ (n : ℕ). i < n) (ap (λ (l : Layout). entries_of_lines l b.lines) layout ∙ ap (entries_of_lines Version1) same) high))) ∙ keeps.versions i high ∙ is))
       | inr past ↦ absurd (none_some (sym (consistent.beyond i past) ∙ is))
     ])
 
@@ -240,9 +261,9 @@ super_full false true true false entries is = cc
 super_full false true true true false is = cc
 super_full false true true true true is = cc
 
-pub never_full : (lines : ℕ) (image : Image) (role : Role) → RefusesReopening lines image role Full → ⊥
+pub never_full : (lines : ℕ) (image : Image) (role : Role) → RefusesReopening Version1 lines image role Full → ⊥
 never_full lines image role (inl (inl super)) =
-    super_full (is_wrong_size lines) (image 0 == magic_number) (image 1 == LAYOUT.version) (image 2 == lines) (image 3 == directory_room lines) super
+    super_full (is_wrong_size lines) (image 0 == magic_number) (image 1 == layouts.version Version1) (image 2 == lines) (image 3 == directory_room lines) super
 never_full lines image role (inl (inr (inl damaged))) = let is = damaged.0 in cc
 never_full lines image role (inl (inr (inr memory))) = cc
 never_full lines image role (inr (inl wrong)) = let is = wrong.0 in cc

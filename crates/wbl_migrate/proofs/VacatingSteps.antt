@@ -15,11 +15,12 @@ use Rattle.wbl_migrate.specs.Vacating.{IsVacated, StopsAt, Vacates}
 
 pub vacates_same : (a : Contents) → Vacates a a
 vacates_same a =
-    record { position = refl; epoch = refl; role = refl; line_count = refl; map = λ s lawful map. map; lawful = λ lawful. lawful }
+    record { layout = refl; position = refl; epoch = refl; role = refl; line_count = refl; map = λ s lawful map. map; lawful = λ lawful. lawful }
 
 pub vacates_then : (a b c : Contents) → Vacates a b → Vacates b c → Vacates a c
 vacates_then a b c first second =
     record {
+      layout = second.layout ∙ first.layout;
       position = second.position ∙ first.position;
       epoch = second.epoch ∙ first.epoch;
       role = second.role ∙ first.role;
@@ -33,6 +34,7 @@ vacates_then a b c first second =
 pub clearing_vacates : (a b : Contents) → KeepsAllVersions a b → Vacates a b
 clearing_vacates a b keeps =
     record {
+      layout = keeps.layout;
       position = keeps.position;
       epoch = keeps.epoch;
       role = keeps.role;
@@ -44,6 +46,7 @@ clearing_vacates a b keeps =
 pub moving_vacates : (a b : Contents) → MovesLive a b → Vacates a b
 moving_vacates a b moves =
     record {
+      layout = moves.layout;
       position = moves.position;
       epoch = moves.epoch;
       role = moves.role;
@@ -55,6 +58,7 @@ moving_vacates a b moves =
 pub leaving_vacates : (a b : Contents) → MovesEnded a b → Vacates a b
 leaving_vacates a b moves =
     record {
+      layout = ap (λ (r : Record). r.layout) moves.current;
       position = ap (λ (r : Record). r.position) moves.current;
       epoch = ap (λ (r : Record). r.epoch) moves.current;
       role = ap (λ (r : Record). r.role) moves.current;

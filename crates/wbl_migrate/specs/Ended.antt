@@ -6,8 +6,8 @@ use Rattle.pmem.specs.Runs.{pairs_from, lines_from}
 use Rattle.model.specs.declared.group.Put.{Put}
 use Rattle.model.specs.declared.record.Record.{Record}
 use Rattle.model.specs.Layout.{first_word}
-use Rattle.model.specs.Group.{AreApart, Contents, IsPlaced, IsUnused, without}
-use Rattle.model.specs.Image.{Image, IsMapOf, Version, entries_of_lines, entry_line, entry_word, first_extent_line, words_from}
+use Rattle.model.specs.Group.{AreApart, Contents, IsPlaced, IsUnused, entries_of, without}
+use Rattle.model.specs.Image.{Image, IsMapOf, Version, directory_room, entry_line, entry_word, first_extent_line, words_from}
 use Rattle.wbl_engine.specs.Contents.{IsDurable, Keeps}
 
 -- ---- what is stored
@@ -41,11 +41,11 @@ copy_pairs image from to to_line =
 abbrev pub copy_lines : Image → ℕ → ℕ → ℕ → List ℕ
 copy_lines image from to to_line = lines_from to_line (image (entry_word from 4)) ++ entry_line to ∷ []
 
--- Both entries are in the directory, and the lines that entry `from` names may be copied to `to_line`: those are behind the directory, and apart from
+-- Both entries are in the room of the directory, and the lines that entry `from` names may be copied to `to_line`: those are behind the directory, and apart from
 -- them.
 pub record IsCopyable (lines : ℕ) (image : Image) (from to to_line : ℕ) : Type 0 where
-  pub from_within : from < entries_of_lines lines
-  pub to_within : to < entries_of_lines lines
+  pub from_within : from < directory_room lines
+  pub to_within : to < directory_room lines
   pub extent : image (entry_word from 3) + image (entry_word from 4) ≤ lines
   pub above : first_extent_line lines ≤ to_line
   pub within : to_line + image (entry_word from 4) ≤ lines
@@ -60,10 +60,10 @@ new_place to to_line version =
 
 -- entry `from` holds this version, which has ended, and the new place is free
 pub record IsMovable (contents : Contents) (from to to_line : ℕ) (version : Version) : Type 0 where
-  pub from_within : from < entries_of_lines contents.lines
+  pub from_within : from < entries_of contents
   pub held : contents.versions from ≡ Some version
   pub ended : version.is_ended ≡ true
-  pub placed : IsPlaced contents.lines (new_place to to_line version)
+  pub placed : IsPlaced (entries_of contents) contents.lines (new_place to to_line version)
   pub unused : IsUnused contents.versions contents.is_free (new_place to to_line version)
   pub empty : contents.versions to ≡ None
 
@@ -92,7 +92,7 @@ KeepsMoving from to to_line contents image =
 -- the same keyspaces are their map
 abbrev pub HaveOneMap : Contents → Contents → Type 0
 HaveOneMap old new =
-    (s : Keyspace) → IsMapOf old.versions (entries_of_lines old.lines) s ↔ IsMapOf new.versions (entries_of_lines new.lines) s
+    (s : Keyspace) → IsMapOf old.versions (entries_of old) s ↔ IsMapOf new.versions (entries_of new) s
 
 -- Each crash now leaves these contents, under this record, and one of their versions may be moved.
 pub record IsMoving (current' : Record) (d : State) (contents : Contents) (from to to_line : ℕ) (version : Version) : Type 0 where

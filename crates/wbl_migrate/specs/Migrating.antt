@@ -1,8 +1,9 @@
 -- The migration as a whole: from which images it starts, and what a crash leaves of them.
-use Rattle.std.specs.Prelude.{◌≡◌, ◌⊎◌, ℕ}
+use Rattle.std.specs.Prelude.{◌≡◌, ◌⊎◌, ℕ, []}
 use Rattle.kv_types.specs.Keyspace.{Keyspace}
+use Rattle.model.specs.declared.layout.Layout.TheVariants.{Version1}
 use Rattle.model.specs.declared.record.Record.{Record}
-use Rattle.model.specs.Image.{Image, IsMapOf, entries_of_lines, version_at}
+use Rattle.model.specs.Image.{Image, HasRecord, IsMapOf, entries_of_lines, version_at}
 use Rattle.wbl_engine.specs.Lawful.{IsUndamaged}
 use Rattle.wbl_record.specs.Current.{IsLawful}
 use Rattle.wbl_migrate.specs.declared.stage.Stage.TheVariants.{Halfway, New}
@@ -10,8 +11,16 @@ use Rattle.wbl_migrate.specs.Stage.{HoldsAt, IsMovable}
 
 -- The image is of version 1, with this record, and breaks no rule of the format. Its map is this keyspace.
 pub record IsOldImage (lines : ℕ) (r : Record) (s : Keyspace) (image : Image) : Type 0 where
+  pub layout : r.layout ≡ Version1
   pub undamaged : IsUndamaged lines r image
-  pub map : IsMapOf (version_at r image) (entries_of_lines lines) s
+  pub map : IsMapOf (version_at r image) (entries_of_lines Version1 lines) s
+
+-- The image has this record as one has that is halfway: of version 1, and without a gap. It obeys its rules.
+pub record IsHalfwayRecord (lines : ℕ) (image : Image) (r : Record) : Type 0 where
+  pub layout : r.layout ≡ Version1
+  pub gapless : r.gaps.items ≡ []
+  pub has_record : HasRecord lines r image
+  pub lawful : IsLawful r
 
 -- The image is halfway, with this record, and can be migrated on. Its map is this keyspace.
 pub record IsHalfwayImage (lines : ℕ) (r : Record) (s : Keyspace) (image : Image) : Type 0 where

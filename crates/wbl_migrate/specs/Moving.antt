@@ -10,10 +10,9 @@ use Rattle.pmem.specs.Device.{State}
 use Rattle.pmem.specs.Runs.{LeavesOnly}
 use Rattle.heap_layout.specs.declared.entry.Entry.{Entry}
 use Rattle.model.specs.declared.group.Put.{Put}
-use Rattle.model.specs.declared.layout.TheConstants.{VERSION_2}
-use Rattle.model.specs.Group.{Contents, HasItsLines, IsConsistent, IsPlaced, IsUnused, is_listed, version_of_put}
+use Rattle.model.specs.declared.layout.Layout.TheVariants.{Version2}
+use Rattle.model.specs.Group.{Contents, HasItsLines, IsConsistent, IsPlaced, IsUnused, entries_of, is_listed, version_of_put}
 use Rattle.model.specs.Image.{Image, Version, entries_of_lines, first_extent_line}
-use Rattle.model.specs.Layout as layouts
 use Rattle.wbl_engine.specs.Contents.{IsDurable, Keeps}
 use Rattle.wbl_engine.specs.Freeing.{KeepsMap}
 use Rattle.wbl_engine.specs.Lawful.{AreLawful}
@@ -22,8 +21,9 @@ use Rattle.wbl_migrate.specs.declared.moving.Place.{Place}
 
 -- ---- what stays
 
--- The same versions stand, under a record of the same position, epoch and role. So they make up the map that they made up before.
+-- The same versions stand, under a record of the same layout, position, epoch and role. So they make up the map that they made up before.
 pub record KeepsAllVersions (old new : Contents) : Type 0 where
+  pub layout : new.current.layout ≡ old.current.layout
   pub position : new.current.position ≡ old.current.position
   pub epoch : new.current.epoch ≡ old.current.epoch
   pub role : new.current.role ≡ old.current.role
@@ -32,8 +32,10 @@ pub record KeepsAllVersions (old new : Contents) : Type 0 where
   pub map : KeepsMap old new
   pub lawful : AreLawful old → AreLawful new
 
--- The same map stands, under a record of the same position, epoch, role and gaps. Live versions may lie elsewhere; each version that had ended is where it was.
+-- The same map stands, under a record of the same layout, position, epoch, role and gaps. Live versions may lie elsewhere; each version that had ended is where
+-- it was.
 pub record MovesLive (old new : Contents) : Type 0 where
+  pub layout : new.current.layout ≡ old.current.layout
   pub position : new.current.position ≡ old.current.position
   pub epoch : new.current.epoch ≡ old.current.epoch
   pub role : new.current.role ≡ old.current.role
@@ -90,7 +92,7 @@ put_again entry place = record { id = entry.id; value = entry.value; entry = pla
 
 -- The place can take the version: its entry is free, and its lines, which are as many as the version takes, are in no other.
 pub record IsRoomFor (contents : Contents) (entry : Entry) (place : Place) : Type 0 where
-  pub placed : IsPlaced contents.lines (put_again entry place)
+  pub placed : IsPlaced (entries_of contents) contents.lines (put_again entry place)
   pub fitting : HasItsLines (put_again entry place)
   pub unused : IsUnused contents.versions contents.is_free (put_again entry place)
 
@@ -107,7 +109,7 @@ pub record HasMoved (old : Contents) (from : EntryNo) (entry : Entry) (place : P
 
 -- how many entries the directory of an image of `lines` lines has in version 2, behind which its record slots stand
 abbrev pub entries_kept : ℕ → ℕ
-entries_kept lines = layouts.entries_of_lines VERSION_2 lines
+entries_kept lines = entries_of_lines Version2 lines
 
 -- no line is in both
 abbrev pub are_apart : Extent → Extent → Bool
@@ -148,7 +150,7 @@ IsReadOnce counted =
 -- an entry without a version is free where it was not begun in a gap, and where it was and the gap is cleared
 abbrev pub AreFreeBut : Contents → List EntryNo → List EntryNo → Type 0
 AreFreeBut contents gapped cleared =
-    (i : ℕ) → i < entries_of_lines contents.lines → contents.versions i ≡ None → (is_listed i gapped ≡ false) ⊎ IsTrue (is_listed i cleared)
+    (i : ℕ) → i < entries_of contents → contents.versions i ≡ None → (is_listed i gapped ≡ false) ⊎ IsTrue (is_listed i cleared)
     → contents.is_free i ≡ true
 
 -- The first list has each version of the contents with its entry, once; and the second has each entry that was begun in a gap, of which those in the third

@@ -1,15 +1,15 @@
 -- What the last steps of the migration do to a device.
-use Rattle.std.specs.Prelude.{◌≡◌, ◌⊎◌, ℕ, ◌+◌, ◌<◌, ◌≤◌, []}
+use Rattle.std.specs.Prelude.{◌≡◌, ◌⊎◌, ℕ, ◌+◌, []}
 use Rattle.kv_types.specs.Keyspace.{Keyspace}
 use Rattle.pmem.specs.Device.{State, MayBe}
 use Rattle.pmem.specs.Crash.{IsImage, image_of}
 use Rattle.pmem.specs.Runs.{Stays}
-use Rattle.model.specs.declared.layout.TheConstants.{VERSION_2}
-use Rattle.model.specs.Layout.{first_word}
+use Rattle.model.specs.declared.layout.Layout.TheVariants.{Version2}
 use Rattle.model.specs.declared.record.Record.{Record}
-use Rattle.model.specs.Image.{Image}
+use Rattle.model.specs.Image.{Image, HasRecord}
+use Rattle.wbl_record.specs.Record.{IsRecordWord}
 use Rattle.wbl_migrate.specs.declared.marking.TheConstants.{VERSION_WORD}
-use Rattle.wbl_migrate.specs.Stage.{HasRecordUnder, IsMovable, record_word_under}
+use Rattle.wbl_migrate.specs.Stage.{IsMovable}
 use Rattle.wbl_migrate.specs.declared.stage.Stage.TheVariants.{Old, Halfway, New}
 
 -- each image that a crash may leave now satisfies P
@@ -26,24 +26,18 @@ pub record KeepsOthers (old new : State) (IsWritten : ℕ → Type 0) : Type 0 w
 
 -- the record of version 2 that follows: the next number, no gap, and all else as it was
 abbrev pub renewed : Record → Record
-renewed r = record r { number = r.number + 1; gaps = record { items = [] } }
-
--- the word is the root of version 2, or belongs to the slot of its record n
-abbrev pub IsNewRecordWord : ℕ → ℕ → ℕ → Type 0
-IsNewRecordWord lines n word =
-    (word ≡ VERSION_2.root_word)
-    ⊎ ((record_word_under VERSION_2 lines n 0 ≤ word) × (word < record_word_under VERSION_2 lines n (first_word VERSION_2.slot_lines)))
+renewed r = record r { layout = Version2; number = r.number + 1; gaps = record { items = [] } }
 
 -- halfway, with the record of version 2 written, which nothing reads yet
 pub record IsRenewed (lines : ℕ) (r : Record) (s : Keyspace) (image : Image) : Type 0 where
   pub movable : IsMovable Halfway lines r s image
-  pub next : HasRecordUnder VERSION_2 lines (renewed r) image
+  pub next : HasRecord lines (renewed r) image
 
 -- ---- all steps
 
 -- the word is the version, or one of the record of version 2 that follows r
 abbrev pub IsSwitchWord : ℕ → Record → ℕ → Type 0
-IsSwitchWord lines r word = (word ≡ VERSION_WORD) ⊎ IsNewRecordWord lines (r.number + 1) word
+IsSwitchWord lines r word = (word ≡ VERSION_WORD) ⊎ IsRecordWord Version2 lines (r.number + 1) word
 
 -- the keyspace under the record halfway, or under the next record in an image of version 2
 abbrev pub IsHalfwayOrNew : ℕ → Record → Keyspace → Image → Type 0

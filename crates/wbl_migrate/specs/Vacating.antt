@@ -3,18 +3,18 @@ use Rattle.std.specs.Prelude.{◌≡◌, ℕ, ◌<◌, ◌≤◌, false, []}
 use Rattle.kv_types.specs.Keyspace.{Keyspace}
 use Rattle.pmem.specs.Device.{State}
 use Rattle.model.specs.declared.record.Record.{Record}
+use Rattle.model.specs.declared.layout.Layout.TheVariants.{Version1, Version2}
 use Rattle.model.specs.Group.{Contents, IsConsistent}
-use Rattle.model.specs.Image.{Image, counts, entry_word}
+use Rattle.model.specs.Image.{Image, counts, entries_of_lines, entry_word}
 use Rattle.wbl_engine.specs.Contents.{IsDurable}
 use Rattle.wbl_engine.specs.Lawful.{AreLawful}
 use Rattle.wbl_engine.specs.Relocating.{KeepsKeyspace}
-use Rattle.wbl_migrate.specs.declared.stage.Stage.TheVariants.{Old, New}
 use Rattle.wbl_migrate.specs.Leaving.{IsEmptied, IsHeld}
 use Rattle.wbl_migrate.specs.Migrating.{GoesOnFrom, IsOldImage}
-use Rattle.wbl_migrate.specs.Stage.{entries_at}
 
--- The same map stands, under a record of the same position, epoch and role.
+-- The same map stands, under a record of the same layout, position, epoch and role.
 pub record Vacates (old new : Contents) : Type 0 where
+  pub layout : new.current.layout ≡ old.current.layout
   pub position : new.current.position ≡ old.current.position
   pub epoch : new.current.epoch ≡ old.current.epoch
   pub role : new.current.role ≡ old.current.role
@@ -49,4 +49,5 @@ pub record StaysOldWith (IsSuch : Record → Image → Type 0) (lines' : ℕ) (r
 
 -- one of the entries counts that version 2 does not keep
 abbrev pub HasLastEntry : ℕ → Record → Image → Type 0
-HasLastEntry lines r image = ¬ ((i : ℕ) → entries_at New lines ≤ i → i < entries_at Old lines → counts r (image (entry_word i 0)) ≡ false)
+HasLastEntry lines r image =
+    ¬ ((i : ℕ) → entries_of_lines Version2 lines ≤ i → i < entries_of_lines Version1 lines → counts r (image (entry_word i 0)) ≡ false)

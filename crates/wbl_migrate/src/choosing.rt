@@ -7,14 +7,14 @@ ghost use Rattle.wbl_migrate.specs.Moving.{IsOpen, are_apart, are_two, entries_k
 use crate::moving::Place;
 use heap_layout::Entry;
 use kv_types::{EntryNo, Extent};
-use model::{LAYOUT, VERSION_2};
+use model::Layout;
 use std::alloc::{AllocError, Global};
 
 /// How many entries the directory of an image of `lines` lines has in version 2.
 pub(crate) fn entries_kept(lines: u64) -> u64
     ensures { result ≡ entries_kept lines }
 {
-    VERSION_2.entries_of_lines(lines)
+    Layout::Version2.entries_of_lines(lines)
 }
 
 /// Where the versions lie that were read, in order.
@@ -53,7 +53,7 @@ pub(crate) fn choose(
     let Some(entry) = lowest_entry(alloc, entries_kept(lines), places, gapped, cleared)? else {
         return Ok(None);
     };
-    let first_line = lowest_line(alloc, places, LAYOUT.first_extent_line(lines), wanted)?;
+    let first_line = lowest_line(alloc, places, Layout::first_extent_line(lines), wanted)?;
     let extent = Extent {
         first_line,
         lines: wanted,
@@ -79,7 +79,7 @@ fn is_open(
 {
     place.entry.0 < entries_kept(lines)
         && (!lists(gapped, place.entry) || lists(cleared, place.entry))
-        && LAYOUT.first_extent_line(lines) <= place.extent.first_line
+        && Layout::first_extent_line(lines) <= place.extent.first_line
         && ends_by(place.extent, lines)
         && is_clear(place, places)
 }

@@ -4,15 +4,15 @@ ghost use Rattle.std.specs.Prelude.{◌≡◌, ℕ, ◌+◌, ◌<◌, ◌≤◌,
 ghost use Rattle.kv_types.specs.Keyspace.{Keyspace};
 ghost use Rattle.pmem.specs.Crash.{IsImage, image_of};
 ghost use Rattle.pmem.specs.Runs.{LeavesOnly, Runs, Staged, StageFailed, stores};
-ghost use Rattle.model.specs.Group.{AreApart, Contents, IsConsistent};
-ghost use Rattle.model.specs.Image.{Holds, Image, IsMapOf, Version, entries_of_lines, entry_line, entry_word};
+ghost use Rattle.model.specs.Group.{AreApart, Contents, IsConsistent, entries_of};
+ghost use Rattle.model.specs.Image.{Holds, Image, IsMapOf, Version, entry_line, entry_word};
 ghost use Rattle.wbl_engine.specs.Contents.{IsDurable};
 ghost use Rattle.wbl_engine.specs.Lawful.{AreLawful};
 ghost use Rattle.wbl_migrate.specs.Ended.{HaveOneMap, IsCopyable, IsMovable, IsMoving, KeepsMoving, after_move, copy_lines, copy_pairs, entry_copy, extent_copy, with_copy};
 
 use heap_layout::entry_word;
 use kv_types::EntryNo;
-use model::{LAYOUT, LINE_WORDS, Record};
+use model::{LINE_WORDS, Layout, Record};
 use pmem::{Fault, Pmem, flush_lines, persist, store_words};
 
 /// Moves a version that has ended from its entry to a free one, and its extent to the free lines from `to_line` on. Its record, value, position and stamps
@@ -52,7 +52,7 @@ pub fn move_ended<P: Pmem>(
     // and the same record and map
     ensures map { (contents : Contents) (version : Version) (s : Keyspace)
         → IsMoving current.now (P.state device.old) contents from.0 to.0 to_line version
-        → IsMapOf contents.versions (entries_of_lines contents.lines) s
+        → IsMapOf contents.versions (entries_of contents) s
         → LeavesOnly (P.state device.old) (P.state device.new) (Holds contents.lines current.now s) }
 {
     copy_version(device, from, to, to_line)?;
@@ -98,7 +98,7 @@ fn copy_version<P: Pmem>(
     copy_extent(device, first_line, to_line, lines);
     copy_entry(device, from, to, to_line);
     flush_lines(device, to_line, lines);
-    device.flush(LAYOUT.entry_line(to.0));
+    device.flush(Layout::entry_line(to.0));
     device.fence()
 }
 
@@ -148,7 +148,7 @@ fn begin_copy<P: Pmem>(device: &mut P, from: EntryNo, to: EntryNo) -> Result<(),
     persist(
         device,
         &[(entry_word(to, 0), begin)],
-        &[LAYOUT.entry_line(to.0)],
+        &[Layout::entry_line(to.0)],
     )
 }
 
@@ -161,6 +161,6 @@ fn erase_begin<P: Pmem>(device: &mut P, entry: EntryNo) -> Result<(), Fault>
     persist(
         device,
         &[(entry_word(entry, 0), 0)],
-        &[LAYOUT.entry_line(entry.0)],
+        &[Layout::entry_line(entry.0)],
     )
 }

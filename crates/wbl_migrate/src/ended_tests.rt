@@ -10,7 +10,7 @@ ghost use Rattle.wbl_migrate.specs.TwoSets.{IsTwoSets, set_at};
 use crate::move_ended;
 use heap_layout::Entry;
 use kv_types::{EntryNo, Extent, Key, RecordId, Refusal, Value};
-use model::{FIRST_EPOCH, Group, MIN_LINES, Part, PlacedChange, Put, Record, Role};
+use model::{FIRST_EPOCH, Group, Layout, MIN_LINES, Part, PlacedChange, Put, Record, Role};
 use pmem::{Crashing, Fault, SimPmem};
 use std::alloc::{AllocError, Global};
 use wbl_engine::{Durable, Versions, WblEngine};
@@ -107,7 +107,7 @@ fn image_of_both(alloc: Global) -> Result<(SimPmem, Record), Refusal>
 fn reopened(alloc: Global, device: SimPmem) -> Result<Versions, Refusal> {
     let mut device = device;
     device.crash(&[]);
-    match WblEngine::reopen(alloc, device, Role::Primary) {
+    match WblEngine::reopen(alloc, device, Layout::Version1, Role::Primary) {
         Ok((_, versions)) => Ok(versions),
         Err((refusal, _)) => Err(refusal),
     }

@@ -4,27 +4,29 @@ ghost use Rattle.kv_types.specs.Keyspace.{Keyspace};
 ghost use Rattle.pmem.specs.Device.{State};
 ghost use Rattle.pmem.specs.Crash.{IsSettled, image_of};
 ghost use Rattle.model.specs.declared.image.TheConstants.{COUNTER_LIMIT, MIN_LINES};
-ghost use Rattle.model.specs.declared.layout.TheConstants.{VERSION_1, VERSION_2};
+ghost use Rattle.model.specs.declared.layout.Layout.TheVariants.{Version1, Version2};
 ghost use Rattle.model.specs.declared.record.Record.{Record};
-ghost use Rattle.model.specs.Layout.{directory_end, entry_line, first_extent_line, slot_line, slots_end};
-ghost use Rattle.model.specs.Image.{Image, Holds, counts, entries_of_lines, entry_word};
+ghost use Rattle.model.specs.Image.{Image, Holds, counts, directory_end, entries_of_lines, entry_line, entry_word, first_extent_line, slot_line, slots_end};
 ghost use Rattle.heap_layout.specs.Version.{IsUnder};
 ghost use Rattle.wbl_record.specs.Current.{IsLawful};
 ghost use Rattle.wbl_migrate.specs.declared.stage.Stage.{Stage};
-ghost use Rattle.wbl_migrate.specs.Stage.{HoldsAt, IsMovable, entries_at};
-ghost use Rattle.wbl_migrate.specs.declared.stage.Stage.TheVariants.{Old, Halfway};
+ghost use Rattle.wbl_migrate.specs.Stage.{HoldsAt, IsMovable};
+ghost use Rattle.wbl_migrate.specs.declared.stage.Stage.TheVariants.{Old, New};
 ghost use Rattle.wbl_migrate.specs.Steps.{Leaves, renewed};
 
-/// What an old image holds is what an image of version 1 holds.
-pub fn old_images_are_of_version_1()
-    ensures { (lines : ℕ) (r : Record) (s : Keyspace) (image : Image) → HoldsAt Old lines r s image ↔ Holds lines r s image }
+/// An old image is one of version 1 as `model` defines it, and a new one is one of version 2.
+pub fn old_and_new_images_are_of_their_versions()
+    ensures old { (lines : ℕ) (r : Record) (s : Keyspace) (image : Image)
+        → HoldsAt Old lines r s image ↔ ((r.layout ≡ Version1) × Holds lines r s image) }
+    ensures new { (lines : ℕ) (r : Record) (s : Keyspace) (image : Image)
+        → HoldsAt New lines r s image ↔ ((r.layout ≡ Version2) × Holds lines r s image) }
 {}
 
-/// An old image can be migrated on where its entries break no rule, its record has no gap, and none of its last entries counts.
+/// An image of version 1 can be migrated on where its entries break no rule, its record has no gap, and none of its last entries counts.
 pub fn undamaged_images_are_movable()
-    ensures { (lines : ℕ) (r : Record) (s : Keyspace) (image : Image) → Holds lines r s image → r.gaps.items ≡ []
-        → ((i : ℕ) → i < entries_of_lines lines → IsUnder r lines image i)
-        → ((i : ℕ) → entries_at Halfway lines ≤ i → i < entries_of_lines lines → counts r (image (entry_word i 0)) ≡ false)
+    ensures { (lines : ℕ) (r : Record) (s : Keyspace) (image : Image) → r.layout ≡ Version1 → Holds lines r s image → r.gaps.items ≡ []
+        → ((i : ℕ) → i < entries_of_lines Version1 lines → IsUnder r lines image i)
+        → ((i : ℕ) → entries_of_lines Version2 lines ≤ i → i < entries_of_lines Version1 lines → counts r (image (entry_word i 0)) ≡ false)
         → IsMovable Old lines r s image }
 {}
 
@@ -42,11 +44,10 @@ pub fn crashed_devices_go_on()
 /// In an image of a size that it may have, the slots of version 2 are the lines of the last entries of version 1, which are not read halfway: they begin
 /// where these begin, and end where these end and the extents begin. There are 18.
 pub fn new_slots_are_the_last_entries()
-    ensures first { (lines : ℕ) → slot_line VERSION_2 lines 0 ≡ entry_line VERSION_1 (entries_at Halfway lines) }
-    ensures last { (lines : ℕ) → MIN_LINES ≤ lines → slots_end VERSION_2 lines ≡ directory_end VERSION_1 lines }
-    ensures extents { (lines : ℕ) → MIN_LINES ≤ lines → (slots_end VERSION_2 lines ≡ first_extent_line VERSION_1 lines)
-        × (slots_end VERSION_2 lines ≡ first_extent_line VERSION_2 lines) }
-    ensures count { (lines : ℕ) → MIN_LINES ≤ lines → entries_at Old lines ≡ entries_at Halfway lines + 18 }
+    ensures first { (lines : ℕ) → slot_line Version2 lines 0 ≡ entry_line (entries_of_lines Version2 lines) }
+    ensures last { (lines : ℕ) → MIN_LINES ≤ lines → slots_end Version2 lines ≡ directory_end Version1 lines }
+    ensures extents { (lines : ℕ) → MIN_LINES ≤ lines → slots_end Version2 lines ≡ first_extent_line lines }
+    ensures count { (lines : ℕ) → MIN_LINES ≤ lines → entries_of_lines Version1 lines ≡ entries_of_lines Version2 lines + 18 }
 {}
 
 /// The record of version 2 obeys the rules that the one of version 1 does.

@@ -16,6 +16,7 @@ mod migrating_tests;
 mod moving;
 #[cfg(test)]
 mod moving_tests;
+mod reading;
 mod record;
 mod stage;
 mod switching;
@@ -30,7 +31,8 @@ pub use ended::{
 pub use known::read_versions_are_known;
 pub use laws::{
     crashed_devices_go_on, images_are_at_one_stage, new_slots_are_the_last_entries,
-    old_images_are_of_version_1, renewed_records_are_lawful, undamaged_images_are_movable,
+    old_and_new_images_are_of_their_versions, renewed_records_are_lawful,
+    undamaged_images_are_movable,
 };
 pub use leaving::move_all_ended;
 pub use marking::{HALFWAY_VERSION, VERSION_WORD, mark_halfway, mark_new};

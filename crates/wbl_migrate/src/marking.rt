@@ -8,7 +8,7 @@ ghost use Rattle.wbl_migrate.specs.Stage.{IsMovable};
 ghost use Rattle.wbl_migrate.specs.declared.stage.Stage.TheVariants.{Old, Halfway, New};
 ghost use Rattle.wbl_migrate.specs.Steps.{Leaves, KeepsOthers, IsRenewed, renewed};
 
-use model::VERSION_2;
+use model::Layout;
 use pmem::{Fault, Pmem, persist};
 
 /// The word of an image that says its version.
@@ -57,5 +57,5 @@ pub fn mark_new<P: Pmem>(device: &mut P) -> Result<(), Fault>
         → LeavesOnly (P.state device.old) (P.state device.new) (λ image.
         IsRenewed (P.state device.old).lines r s image ⊎ IsMovable New (P.state device.old).lines (renewed r) s image) }
 {
-    persist(device, &[(VERSION_WORD, VERSION_2.version)], &[0])
+    persist(device, &[(VERSION_WORD, Layout::Version2.version())], &[0])
 }

@@ -6,6 +6,7 @@ ghost use Rattle.pmem.specs.Device.{Only};
 ghost use Rattle.pmem.specs.Crash.{image_of};
 ghost use Rattle.pmem.specs.Runs.{LeavesOnly};
 ghost use Rattle.model.specs.declared.image.TheConstants.{MIN_LINES};
+ghost use Rattle.model.specs.declared.layout.Layout.TheVariants.{Version1};
 ghost use Rattle.model.specs.declared.record.Record.{Record as CommitRecord};
 ghost use Rattle.model.specs.Image.{Image};
 ghost use Rattle.heap_layout.specs.Superblock.{super_refusal};
@@ -16,6 +17,7 @@ ghost use Rattle.wbl_migrate.specs.Stage.{HasSuperblockAt, KeepsMap, stage_refus
 ghost use Rattle.wbl_migrate.specs.Steps.{Leaves};
 ghost use Rattle.wbl_migrate.specs.Vacating.{HasLastEntry, StaysOldWith};
 
+use crate::reading::read_halfway;
 use crate::stage::{Stage, stage_of};
 use crate::switching::{go_on, switch};
 use crate::vacating::vacate;
@@ -82,7 +84,7 @@ pub fn migratable_images_keep_their_map()
 fn upgrade<P: Pmem>(alloc: Global, device: P) -> Result<P, (Refusal, P)>
     requires settled { (word : ℕ) → Only ((P.state device).words word) (image_of (P.state device).words word) }
     requires many { MIN_LINES ≤ (P.state device).lines }
-    requires whole { super_refusal (P.state device).lines (image_of (P.state device).words) ≡ None }
+    requires whole { super_refusal Version1 (P.state device).lines (image_of (P.state device).words) ≡ None }
     ensures ok { IfOk result (λ after. (r : CommitRecord) (s : Keyspace) → IsOldImage (P.state device).lines r s (image_of (P.state device).words)
         → Leaves (P.state after) (IsMigrated (P.state device).lines r s)) }
     ensures line_count { IfOk result (λ after. (P.state after).lines ≡ (P.state device).lines) }
@@ -133,7 +135,7 @@ fn of_its_role(refusal: Refusal) -> Refusal
     }
 }
 
-/// Makes an image that is halfway one of version 2. `Damaged` where its record has a gap, which no migration leaves.
+/// Makes an image that is halfway one of version 2. Errors as at `migrate`, but for those of the superblock and `Full` and `Memory`.
 fn finish<P: Pmem>(device: P) -> Result<P, (Refusal, P)>
     requires settled { (word : ℕ) → Only ((P.state device).words word) (image_of (P.state device).words word) }
     requires many { MIN_LINES ≤ (P.state device).lines }
@@ -155,13 +157,10 @@ fn finish<P: Pmem>(device: P) -> Result<P, (Refusal, P)>
         (λ after. LeavesOnly (P.state device) (P.state after) (StaysMigratable (P.state device).lines r s))
         (λ refused. LeavesOnly (P.state device) (P.state refused.1) (StaysMigratable (P.state device).lines r s)) }
 {
-    let current = match read_current(&device) {
+    let current = match read_halfway(&device) {
         Ok(current) => current,
         Err(refusal) => return Err((refusal, device)),
     };
-    if !current.gaps.is_empty() {
-        return Err((Refusal::Damaged, device));
-    }
     let mut device = device;
     match go_on(&mut device, &current) {
         Ok(()) => Ok(device),

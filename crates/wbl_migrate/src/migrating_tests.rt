@@ -7,7 +7,7 @@ ghost use Rattle.pmem.specs.Sim.{state_of};
 use crate::ended_tests::two_sets;
 use crate::{Stage, migrate, stage_of};
 use kv_types::Refusal;
-use model::{LINE_WORDS, MIN_LINES, Role};
+use model::{LINE_WORDS, Layout, MIN_LINES, Role};
 use pmem::{Crashing, Pmem, SimPmem};
 use std::alloc::Global;
 use wbl_engine::{Durable, WblEngine};
@@ -28,7 +28,7 @@ fn old_image(alloc: Global) -> Result<SimPmem, Refusal> {
     engine.commit(&group)?;
     let mut device = engine.into_device();
     device.crash(&[]);
-    match WblEngine::reopen(alloc, device, Role::Primary) {
+    match WblEngine::reopen(alloc, device, Layout::Version1, Role::Primary) {
         Ok((engine, _)) => Ok(engine.into_device()),
         Err((refusal, _)) => Err(refusal),
     }

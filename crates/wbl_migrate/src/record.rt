@@ -4,19 +4,20 @@ ghost use Rattle.std.specs.Prelude.{◌≡◌, ◌⊎◌, ◌+◌, ◌<◌, ◌�
 ghost use Rattle.kv_types.specs.Keyspace.{Keyspace};
 ghost use Rattle.pmem.specs.Runs.{LeavesOnly, Staged, StageFailed, pairs_from, lines_from};
 ghost use Rattle.model.specs.declared.image.TheConstants.{MIN_LINES};
+ghost use Rattle.model.specs.declared.layout.Layout.TheVariants.{Version2};
 ghost use Rattle.model.specs.declared.record.Record.{Record as CommitRecord};
 ghost use Rattle.model.specs.Layout.{first_word};
-ghost use Rattle.model.specs.Image.{role_number};
-ghost use Rattle.wbl_migrate.specs.Stage.{HasRecordUnder, IsMovable, record_words_under};
+ghost use Rattle.model.specs.Image.{HasRecord};
+ghost use Rattle.wbl_record.specs.Record.{IsRecordWord};
+ghost use Rattle.wbl_migrate.specs.Stage.{IsMovable};
 ghost use Rattle.wbl_migrate.specs.declared.stage.Stage.TheVariants.{Halfway};
-ghost use Rattle.wbl_migrate.specs.Steps.{Leaves, KeepsOthers, IsNewRecordWord, renewed};
+ghost use Rattle.wbl_migrate.specs.Steps.{Leaves, KeepsOthers, renewed};
 
+use arrayvec::ArrayVec;
 use kv_types::Refusal;
-use model::{COUNTER_LIMIT, LINE_WORDS, Record, Role, VERSION_2};
+use model::{COUNTER_LIMIT, LINE_WORDS, Layout, Record};
 use pmem::{Fault, Pmem, flush_lines, persist, store_words};
-
-/// How many words a record of version 2 has.
-const RECORD_WORDS: usize = 72;
+use wbl_record::words_of;
 
 /// Writes the record of version 2 that follows the current one: the next number, no gap, and all else as it was. First its body, then its number as the root of
 /// version 2, each flushed and fenced. What stood in these words before does not matter. It allocates no memory.
@@ -28,13 +29,13 @@ const RECORD_WORDS: usize = 72;
 /// `Exhausted` where the number would reach 2^62, with nothing changed; `Fault` where a fence failed.
 pub fn write_new_record<P: Pmem>(device: &mut P, current: &Record) -> Result<(), Refusal>
     requires { MIN_LINES ≤ (P.state device.old).lines }
-    ensures ok { OnOk result (Leaves (P.state device.new) (HasRecordUnder VERSION_2 (P.state device.old).lines (renewed current.now))) }
+    ensures ok { OnOk result (Leaves (P.state device.new) (HasRecord (P.state device.old).lines (renewed current.now))) }
     ensures sound { OnOk result ((P.state device.new).failures ≡ (P.state device.old).failures) }
     ensures causes { IfErr result (λ refusal. (refusal ≡ Refusal.Fault) ⊎ (refusal ≡ Refusal.Exhausted)) }
     ensures err { IsErrOf result Refusal.Fault → (P.state device.old).failures < (P.state device.new).failures }
     ensures exhausted { IsErrOf result Refusal.Exhausted → (COUNTER_LIMIT ≤ current.now.number + 1) × (P.state device.new ≡ P.state device.old) }
     ensures exhausts { COUNTER_LIMIT ≤ current.now.number + 1 → result ≡ Err Refusal.Exhausted }
-    ensures elsewhere { KeepsOthers (P.state device.old) (P.state device.new) (IsNewRecordWord (P.state device.old).lines (current.now.number + 1)) }
+    ensures elsewhere { KeepsOthers (P.state device.old) (P.state device.new) (IsRecordWord Version2 (P.state device.old).lines (current.now.number + 1)) }
     ensures moments { (r : CommitRecord) (s : Keyspace)
         → Leaves (P.state device.old) (IsMovable Halfway (P.state device.old).lines r s)
         → LeavesOnly (P.state device.old) (P.state device.new) (IsMovable Halfway (P.state device.old).lines r s) }
@@ -42,7 +43,7 @@ pub fn write_new_record<P: Pmem>(device: &mut P, current: &Record) -> Result<(),
     if is_last(current) {
         return Err(Refusal::Exhausted);
     }
-    match write_record(device, current) {
+    match write_record(device, &renewed(current)) {
         Ok(()) => Ok(()),
         Err(Fault) => Err(Refusal::Fault),
     }
@@ -55,27 +56,23 @@ pub(crate) fn is_last(current: &Record) -> bool
     COUNTER_LIMIT - 1 <= current.number
 }
 
-/// Writes the record that follows the current one.
-fn write_record<P: Pmem>(device: &mut P, current: &Record) -> Result<(), Fault>
+/// Writes this record of version 2.
+fn write_record<P: Pmem>(device: &mut P, next: &Record) -> Result<(), Fault>
     requires size { MIN_LINES ≤ (P.state device.old).lines }
-    requires number { current.now.number + 1 < COUNTER_LIMIT }
-    ensures ok { OnOk result (Leaves (P.state device.new) (HasRecordUnder VERSION_2 (P.state device.old).lines (renewed current.now))) }
+    requires layout { next.now.layout ≡ Version2 }
+    ensures ok { OnOk result (Leaves (P.state device.new) (HasRecord (P.state device.old).lines next.now)) }
     ensures sound { OnOk result ((P.state device.new).failures ≡ (P.state device.old).failures) }
     ensures err { OnErr result ((P.state device.old).failures < (P.state device.new).failures) }
-    ensures elsewhere { KeepsOthers (P.state device.old) (P.state device.new) (IsNewRecordWord (P.state device.old).lines (current.now.number + 1)) }
+    ensures elsewhere { KeepsOthers (P.state device.old) (P.state device.new) (IsRecordWord Version2 (P.state device.old).lines next.now.number) }
     ensures moments { (r : CommitRecord) (s : Keyspace)
         → Leaves (P.state device.old) (IsMovable Halfway (P.state device.old).lines r s)
         → LeavesOnly (P.state device.old) (P.state device.new) (IsMovable Halfway (P.state device.old).lines r s) }
 {
-    let number = current.number + 1;
-    let first_line = VERSION_2.slot_line(device.lines(), number);
-    persist_words(
-        device,
-        first_line,
-        VERSION_2.slot_lines,
-        &words_after(current),
-    )?;
-    persist(device, &[(VERSION_2.root_word, number)], &[0])
+    let layout = next.layout;
+    let first_line = layout.slot_line(device.lines(), next.number);
+    let words = words_of(next);
+    persist_words(device, first_line, layout.slot_lines(), words.as_slice())?;
+    persist(device, &[(layout.root_word(), next.number)], &[0])
 }
 
 /// Stores `words` starting at line `line`, flushes `lines` lines from there, and fences.
@@ -90,27 +87,19 @@ fn persist_words<P: Pmem>(device: &mut P, line: u64, lines: u64, words: &[u64]) 
     device.fence()
 }
 
-/// The words of the record of version 2 that follows this one.
-fn words_after(current: &Record) -> [u64; RECORD_WORDS]
+/// The record of version 2 that follows this one.
+fn renewed(current: &Record) -> Record
     requires { current.now.number + 1 < COUNTER_LIMIT }
-    ensures { result ≡ record_words_under VERSION_2 (renewed current.now) }
+    ensures { result ≡ renewed current.now }
 {
-    let mut words = [0; RECORD_WORDS];
-    words[0] = current.number + 1;
-    words[1] = current.position;
-    words[2] = current.cp;
-    words[3] = current.cd;
-    words[4] = current.epoch;
-    words[70] = number_of(current.role);
-    words
-}
-
-/// The number by which an image stores a role.
-fn number_of(role: Role) -> u64
-    ensures { result ≡ role_number role }
-{
-    match role {
-        Role::Primary => 1,
-        Role::Standby => 2,
+    Record {
+        layout: Layout::Version2,
+        number: current.number + 1,
+        position: current.position,
+        cp: current.cp,
+        cd: current.cd,
+        epoch: current.epoch,
+        role: current.role,
+        gaps: ArrayVec::new(),
     }
 }

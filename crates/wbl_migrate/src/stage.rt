@@ -6,7 +6,7 @@ ghost use Rattle.wbl_migrate.specs.Stage.{HasSuperblockAt, is_stage_number, stag
 
 use crate::marking::{HALFWAY_VERSION, VERSION_WORD};
 use kv_types::Refusal;
-use model::{MAGIC, MAX_LINES, MIN_LINES, VERSION_1, VERSION_2};
+use model::{Layout, MAGIC, MAX_LINES, MIN_LINES};
 use pmem::Pmem;
 
 /// How far an image has come from version 1 to version 2.
@@ -42,7 +42,7 @@ pub fn stage_of<P: Pmem>(device: &P) -> Result<Stage, Refusal>
     if device.load(2) != lines {
         return Err(Refusal::WrongSize);
     }
-    if device.load(3) != VERSION_2.directory_room(lines) {
+    if device.load(3) != Layout::directory_room(lines) {
         return Err(Refusal::Damaged);
     }
     Ok(stage)
@@ -53,11 +53,11 @@ fn stage_numbered(version: u64) -> Option<Stage>
     ensures none { result ≡ None → is_stage_number version ≡ false }
     ensures some { IfSome result (λ stage. version_number stage ≡ version) }
 {
-    if version == VERSION_1.version {
+    if version == Layout::Version1.version() {
         Some(Stage::Old)
     } else if version == HALFWAY_VERSION {
         Some(Stage::Halfway)
-    } else if version == VERSION_2.version {
+    } else if version == Layout::Version2.version() {
         Some(Stage::New)
     } else {
         None

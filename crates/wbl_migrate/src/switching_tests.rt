@@ -6,13 +6,14 @@ ghost use Rattle.pmem.specs.Sim.{state_of};
 use crate::{HALFWAY_VERSION, VERSION_WORD, go_on, switch};
 use arrayvec::ArrayVec;
 use kv_types::Refusal;
-use model::{LINE_WORDS, MAGIC, MIN_LINES, Record, Role, STAMP_WINDOW};
+use model::{LINE_WORDS, Layout, MAGIC, MIN_LINES, Record, Role, STAMP_WINDOW};
 use pmem::{Crashing, Pmem, SimPmem, flush_lines, store_words};
 use std::alloc::Global;
 use wbl_record::words_of;
 
 fn current() -> Record {
     Record {
+        layout: Layout::Version1,
         number: 3,
         position: 7,
         cp: 9,
@@ -29,7 +30,7 @@ fn old_image(alloc: Global) -> Result<SimPmem, Refusal>
 {
     let mut device = SimPmem::new(alloc, MIN_LINES)?;
     store_words(&mut device, 0, &[MAGIC, 1, MIN_LINES, 512, 3, 0, 0, 0]);
-    store_words(&mut device, LINE_WORDS * 4, &words_of(&current()));
+    store_words(&mut device, LINE_WORDS * 4, words_of(&current()).as_slice());
     store_words(&mut device, LINE_WORDS * 8, &[9, 0, 7, 520, 1, 1, 1, 1]);
     store_words(&mut device, LINE_WORDS * 520, &[12641]);
     flush_lines(&mut device, 0, 9);

@@ -4,6 +4,7 @@ ghost use Rattle.kv_types.specs.Keyspace.{Keyspace};
 ghost use Rattle.pmem.specs.Device.{Only};
 ghost use Rattle.pmem.specs.Crash.{image_of};
 ghost use Rattle.pmem.specs.Runs.{LeavesOnly};
+ghost use Rattle.model.specs.declared.layout.Layout.TheVariants.{Version1};
 ghost use Rattle.model.specs.declared.record.Record.{Record as CommitRecord};
 ghost use Rattle.wbl_record.specs.Current.{IsLawful};
 ghost use Rattle.wbl_engine.specs.Relocating.{ExhaustsRelocation};
@@ -21,7 +22,7 @@ use crate::leaving::move_all_ended;
 use crate::moving::{Place, move_live};
 use arrayvec::ArrayVec;
 use kv_types::{EntryNo, Refusal};
-use model::{Record, Role};
+use model::{Layout, Record, Role};
 use pmem::Pmem;
 use std::alloc::Global;
 use wbl_engine::{Durable, Versions, WblEngine};
@@ -44,7 +45,7 @@ pub fn vacate<P: Pmem>(alloc: Global, device: P, role: Role) -> Result<(P, Recor
     ensures lawful { IfOk result (λ o. IsLawful o.1) }
     ensures line_count { IfOk result (λ o. (P.state o.0).lines ≡ (P.state device).lines) }
     ensures sound { IfOk result (λ o. (P.state o.0).failures ≡ (P.state device).failures) }
-    ensures causes { IfErr result (λ refused. (RefusesReopening (P.state device).lines (image_of (P.state device).words) role refused.0 × (refused.1 ≡ device))
+    ensures causes { IfErr result (λ refused. (RefusesReopening Version1 (P.state device).lines (image_of (P.state device).words) role refused.0 × (refused.1 ≡ device))
         ⊎ ((refused.0 ≡ Refusal.Full) ⊎ ((refused.0 ≡ Refusal.Fault) ⊎ ((refused.0 ≡ Refusal.Exhausted) ⊎ (refused.0 ≡ Refusal.Memory))))) }
     // a version is left in one of the last entries
     ensures full { IfErr result (λ refused. refused.0 ≡ Refusal.Full → (r : CommitRecord) (s : Keyspace)
@@ -53,7 +54,7 @@ pub fn vacate<P: Pmem>(alloc: Global, device: P, role: Role) -> Result<(P, Recor
     // a counter of the image's record would reach the limit, or one of the record that it had come to have
     ensures exhausted { IfErr result (λ refused. refused.0 ≡ Refusal.Exhausted → (r : CommitRecord) (s : Keyspace)
         → IsOldImage (P.state device).lines r s (image_of (P.state device).words)
-        → RefusesReopening (P.state device).lines (image_of (P.state device).words) role Refusal.Exhausted
+        → RefusesReopening Version1 (P.state device).lines (image_of (P.state device).words) role Refusal.Exhausted
         ⊎ Leaves (P.state refused.1) (StaysOldWith (λ current _. ExhaustsRelocation current) (P.state device).lines r s)) }
     ensures fault { IfErr result (λ refused. refused.0 ≡ Refusal.Fault → (P.state device).failures < (P.state refused.1).failures) }
     ensures no_fault { IfErr result (λ refused. (refused.0 ≡ Refusal.Fault → ⊥) → (P.state refused.1).failures ≡ (P.state device).failures) }
@@ -62,7 +63,7 @@ pub fn vacate<P: Pmem>(alloc: Global, device: P, role: Role) -> Result<(P, Recor
         (λ o. LeavesOnly (P.state device) (P.state o.0) (StaysOld (P.state device).lines r s))
         (λ refused. LeavesOnly (P.state device) (P.state refused.1) (StaysOld (P.state device).lines r s)) }
 {
-    match WblEngine::reopen(alloc, device, role) {
+    match WblEngine::reopen(alloc, device, Layout::Version1, role) {
         Ok((engine, versions)) => vacate_engine(alloc, engine, &versions),
         Err(refused) => Err(refused),
     }
@@ -131,6 +132,7 @@ fn copy_of(current: &Record) -> Record
     ensures { result ≡ current.now }
 {
     Record {
+        layout: current.layout,
         number: current.number,
         position: current.position,
         cp: current.cp,

@@ -1,24 +1,23 @@
-use Rattle.std.proofs.Common.{◌≡◌, ◌∷◌, []}
+use Rattle.std.proofs.Common.{◌≡◌}
 use Rattle.std.proofs.lemmas.Result.{on_ok_weaker}
 use Rattle.wbl_migrate.specs.declared.marking.TheConstants.{VERSION_WORD}
-use Rattle.wbl_migrate.proofs.Touching.{either_step, one_stored, step_keeps}
-use Rattle.wbl_migrate.proofs.Marks.{new_ok, new_moments}
+use Rattle.wbl_migrate.proofs.Touching.{one_stored, step_keeps}
+use Rattle.wbl_migrate.proofs.Marks.{mark_stored, new_ok, new_moments}
 use Rattle.wbl_migrate.proofs.marking.mark_new.Goals as goal
 
 pub returns-clause-ok : goal.returns-clause-ok
 returns-clause-ok g c =
     let old = g.P.Pmem.state c.args.device.now in
-    on_ok_weaker c.persist.result (λ staged r s all. new_ok old (g.P.Pmem.state c.persist.new.device) old.lines r s staged all) c.persist.ensures.ok
+    on_ok_weaker c.persist.result
+    (λ staged r s all. new_ok old (g.P.Pmem.state c.persist.new.device) c.version.result old.lines r s c.version.ensures staged all) c.persist.ensures.ok
 
 pub returns-clause-elsewhere : goal.returns-clause-elsewhere
 returns-clause-elsewhere g c =
     step_keeps (λ word. word ≡ VERSION_WORD) (λ word x stored. one_stored VERSION_WORD 2 word x stored)
-    (either_step (g.P.Pmem.state c.args.device.now) (g.P.Pmem.state c.persist.new.device) ((VERSION_WORD, 2) ∷ []) (0 ∷ []) c.persist.result
-    c.persist.ensures.ok c.persist.ensures.err)
+    (mark_stored c.persist.result c.version.result c.version.ensures c.persist.ensures.ok c.persist.ensures.err)
 
 pub returns-clause-moments : goal.returns-clause-moments
 returns-clause-moments g c r s all =
     let old = g.P.Pmem.state c.args.device.now in
     let new = g.P.Pmem.state c.persist.new.device in
-    new_moments old new old.lines r s
-    (either_step old new ((VERSION_WORD, 2) ∷ []) (0 ∷ []) c.persist.result c.persist.ensures.ok c.persist.ensures.err) all
+    new_moments old new old.lines r s (mark_stored c.persist.result c.version.result c.version.ensures c.persist.ensures.ok c.persist.ensures.err) all

@@ -1,6 +1,7 @@
 use Rattle.std.proofs.Common.{Err, ap}
+use Rattle.kv_types.specs.declared.refusal.Refusal.TheVariants.{Exhausted, Full}
 use Rattle.pmem.specs.Crash.{image_of}
-use Rattle.wbl_migrate.proofs.Limits.{switching_exhausts, told_exhausted, vacating_exhausts}
+use Rattle.wbl_migrate.proofs.Limits.{switching_exhausts, told_cause, vacating_exhausts}
 use Rattle.wbl_migrate.proofs.Migratable.{told_damaged, upgraded, upgrading, vacating}
 use Rattle.wbl_migrate.proofs.migrating.upgrade.Goals as goal
 
@@ -32,10 +33,15 @@ returns-in-Err-vacate-clause-moments g c r s old =
     let a = g.P.Pmem.state c.args.device in
     vacating a (g.P.Pmem.state c.in-Err-vacate.device) a.lines r s (c.in-Err-vacate.ensures.moments r s old)
 
+pub returns-in-Err-vacate-clause-full : goal.returns-in-Err-vacate-clause-full
+returns-in-Err-vacate-clause-full g c is =
+    c.in-Err-vacate.ensures.full
+    (told_cause Full (λ e. cc) (record { wrong = c.of_its_role.ensures.wrong; other = c.of_its_role.ensures.other }) is)
+
 pub returns-in-Err-vacate-clause-exhausted : goal.returns-in-Err-vacate-clause-exhausted
 returns-in-Err-vacate-clause-exhausted g c is r s old =
     let a = g.P.Pmem.state c.args.device in
-    let cause = told_exhausted (record { wrong = c.of_its_role.ensures.wrong; other = c.of_its_role.ensures.other }) is in
+    let cause = told_cause Exhausted (λ e. cc) (record { wrong = c.of_its_role.ensures.wrong; other = c.of_its_role.ensures.other }) is in
     vacating_exhausts a.lines (image_of a.words) c.in-Ok.current r s (g.P.Pmem.state c.in-Err-vacate.device) c.requires.whole old
     (c.in-Err-vacate.ensures.exhausted cause r s old)
 

@@ -85,4 +85,4 @@ returns-clause-moved g c =
     let live = c.if-version-ne0.false in
     went c.requires.so_far c.index-read.result.now c.in-Some.place (g.E.Durable.contents c.move_version.new.engine) (at g prefix.After-entries_kept)
     (grind (arith, live)) (opens g prefix.After-choose c.in_ok-place.field-0 c.in-Some.place c.in_ok-place.was c.in-Some.is) c.in_ok-move_version.ensures.moved
-    c.in_ok-move_version.ensures.step.stands.line_count
+    c.in_ok-move_version.ensures.step.stands.layout c.in_ok-move_version.ensures.step.stands.line_count

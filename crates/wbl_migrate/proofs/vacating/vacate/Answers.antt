@@ -2,6 +2,7 @@ use Rattle.std.proofs.Common.{◌≡◌, inl, inr, sym, subst, ◌∙◌}
 use Rattle.std.proofs.lemmas.Result.{IfErr-weaker, IfOk-weaker, MatchResult-weaker}
 use Rattle.kv_types.specs.declared.refusal.Refusal.TheVariants.{Exhausted, Fault, Full}
 use Rattle.pmem.specs.Crash.{image_of}
+use Rattle.model.specs.declared.layout.Layout.TheVariants.{Version1}
 use Rattle.model.specs.declared.record.Record.{Record}
 use Rattle.model.specs.Image.{Image}
 use Rattle.wbl_engine.specs.Relocating.{ExhaustsRelocation}
@@ -76,7 +77,7 @@ returns-in-Ok-clause-exhausted g c =
     let opened = opened_contents (g.P.Pmem.state c.in-Ok.engine.device) told.superblock told.reopens told.shown told.durable in
     IfErr-weaker c.vacate_engine.result _ _
     (λ refused stops exhausted r s old.
-    inr (stopped_old _ r s _ (λ (current : Record) (_ : Image). ExhaustsRelocation current) (λ b image _ _ _ is. is) _
+    inr (stopped_old _ r s _ (λ (current : Record) (_ : Image). ExhaustsRelocation current) (λ b image _ _ _ _ is. is) _
     (g.P.Pmem.state refused.1) (opened_stand told.reopens r s old opened.1) (stops exhausted)))
     c.vacate_engine.ensures.exhausted
 
@@ -86,7 +87,7 @@ returns-in-Err-clause-full g c full r s old =
     elim c.in-Err.ensures.refused [
       | inl fault ↦ absurd (let both : Fault ≡ Full = sym fault ∙ full in cc)
       | inr refuses ↦
-          absurd (never_full a.lines (image_of a.words) c.args.role (subst (RefusesReopening a.lines (image_of a.words) c.args.role) full refuses.0))
+          absurd (never_full a.lines (image_of a.words) c.args.role (subst (RefusesReopening Version1 a.lines (image_of a.words) c.args.role) full refuses.0))
     ]
 
 pub returns-in-Err-clause-exhausted : goal.returns-in-Err-clause-exhausted
@@ -94,5 +95,5 @@ returns-in-Err-clause-exhausted g c exhausted r s old =
     let a = g.P.Pmem.state c.args.device in
     elim c.in-Err.ensures.refused [
       | inl fault ↦ absurd (let both : Fault ≡ Exhausted = sym fault ∙ exhausted in cc)
-      | inr refuses ↦ inl (subst (RefusesReopening a.lines (image_of a.words) c.args.role) exhausted refuses.0)
+      | inr refuses ↦ inl (subst (RefusesReopening Version1 a.lines (image_of a.words) c.args.role) exhausted refuses.0)
     ]
