@@ -1,32 +1,28 @@
 -- What a reopening reads, where it leaves no entry without a version, are the lists that a keyspace and a heap are made from.
-use Rattle.std.proofs.Common.{◌≡◌, ℕ, ◌<◌, ◌≤◌, Bool, true, false, not, cond, ◌&&◌, ◌||◌, ◌==◌, inl, inr, IsTrue, List, [], length, Contains, nat_eq, Option, Some, None, refl, sym, ap, ap₂, subst, ◌∙◌, arith, eqb-true}
+use Rattle.std.proofs.Common.{◌≡◌, ℕ, ◌<◌, ◌≤◌, Bool, true, false, not, cond, ◌&&◌, ◌||◌, ◌==◌, inl, inr, IsTrue, List, [], nat_eq, Option, Some, None, refl, sym, ap, ap₂, subst, ◌∙◌, eqb-true}
 use Rattle.std.specs.Prelude.{nat_lt, is_none}
-use Rattle.std.specs.List.{IsDistinct}
-use Rattle.std.proofs.lemmas.Bool.{and_parts, cases_Bool, cases_lt, cond-true, cond-false, le-ltb, lt-ltb, true≢false}
+use Rattle.std.proofs.lemmas.Bool.{cases_Bool, cases_lt, cond-true, cond-false, le-ltb, lt-ltb, true≢false}
 use Rattle.std.proofs.lemmas.Option.{none-some}
 use Rattle.kv_types.specs.declared.place.EntryNo.{EntryNo}
-use Rattle.kv_types.specs.declared.record_id.RecordId.{RecordId}
 use Rattle.heap_layout.specs.declared.entry.Entry.{Entry}
 use Rattle.heap_layout.specs.Versions.{counted_below, gapped_below}
+use Rattle.model.specs.declared.layout.Layout.{Layout}
 use Rattle.model.specs.declared.record.Record.{Record}
 use Rattle.model.specs.declared.record.Role.{Role}
-use Rattle.model.specs.declared.record.TheConstants.{MAX_GAPS}
-use Rattle.model.specs.Group.{Contents, IsConsistent}
-use Rattle.model.specs.Image.{Image, Version, counts, entries_of_lines, entry_word, is_in_gap, version_at, version_in}
-use Rattle.mv_keyspace.specs.Row.{numbers_of}
+use Rattle.model.specs.Group.{Contents}
+use Rattle.model.specs.Image.{Image, Version, counts, entries_of_lines, entry_word, version_at, version_in}
 use Rattle.placing.specs.Read.{AreInOrder, AreOf, Shows}
 use Rattle.placing.proofs.MemberLemmas.{distinct_none, no_member}
 use Rattle.placing.proofs.ReadLemmas.{read_is_of}
-use Rattle.wbl_engine.specs.Erasing.{oldest_gap}
-use Rattle.wbl_engine.specs.Reopening.{Reopens, is_cleared, is_full}
-use Rattle.wbl_engine.proofs.GapLemmas.{in_oldest, oldest}
+use Rattle.wbl_engine.specs.Reopening.{Reopens, is_cleared}
+use Rattle.wbl_engine.proofs.RoomLemmas.{cleared_uncounted, room_layout}
 
 module _ (lines : ℕ) (image : Image) (role : Role) (contents : Contents) (read : List (EntryNo × Entry)) (over : Reopens lines image role contents read []) where
   abbrev r : Record
   r = over.before
 
   abbrev count : ℕ
-  count = entries_of_lines lines
+  count = entries_of_lines r.layout lines
 
   -- the contents before the reopening
   abbrev shown : Contents
@@ -59,13 +55,6 @@ module _ (lines : ℕ) (image : Image) (role : Role) (contents : Contents) (read
   are : AreOf shown (counted_below r image count) (gapped_below r image count)
   are = read_is_of shown image shows
 
-  -- a stamp that the reopening clears does not count
-  cleared_uncounted : (stamp : ℕ) → IsTrue (is_cleared r stamp) → counts r stamp ≡ false
-  cleared_uncounted stamp cleared =
-      let parts = and_parts (is_full r) (is_in_gap stamp (oldest_gap r)) cleared in
-      let full = eqb-true (length r.gaps.items) MAX_GAPS parts.0 in
-      in_oldest r (oldest_gap r) stamp (oldest r over.undamaged.current.lawful (omega (arith, full))) parts.1
-
   neither : (a b c : Bool) → b ≡ false → c ≡ false → (a && (b || c)) ≡ false
   neither true b c eb ec = ap₂ (λ (x y : Bool). x || y) eb ec
   neither false b c eb ec = refl
@@ -75,7 +64,7 @@ module _ (lines : ℕ) (image : Image) (role : Role) (contents : Contents) (read
       let was = are.lawful.begun i v is in (
         was.0,
         elim (cases_Bool (is_cleared r (image (entry_word i 0)))) [
-          | inl cleared ↦ absurd (none-some v (sym (uncounted i (cleared_uncounted (image (entry_word i 0)) cleared)) ∙ is))
+          | inl cleared ↦ absurd (none-some v (sym (uncounted i (cleared_uncounted r over.undamaged.current.lawful (image (entry_word i 0)) cleared)) ∙ is))
           | inr kept ↦ over.is_free i ∙ neither (nat_lt i count) (image (entry_word i 0) == 0) (is_cleared r (image (entry_word i 0))) was.1 kept
         ],
       )
@@ -110,12 +99,17 @@ module _ (lines : ℕ) (image : Image) (role : Role) (contents : Contents) (read
     gapped_are = λ i. (λ m. absurd (no_member i m), λ told. absurd (none_left i told.0 told.1 told.2));
   }
 
-  read_again : (known : Contents) × (known.lines ≡ lines) × AreOf known read []
-  read_again = (reread, refl, subst (λ (reads : List (EntryNo × Entry)). AreOf reread reads []) (sym over.counted) of_read)
+  -- the layout is that of the contents
+  layout_is : reread.current.layout ≡ contents.current.layout
+  layout_is = sym (ap (λ (q : Record). q.layout) over.current ∙ room_layout r)
+
+  read_again : (known : Contents) × (known.current.layout ≡ contents.current.layout) × (known.lines ≡ lines) × AreOf known read []
+  read_again = (reread, layout_is, refl, subst (λ (reads : List (EntryNo × Entry)). AreOf reread reads []) (sym over.counted) of_read)
 
 -- the lists of a reopening are those of some contents, as `rebuild` asks
-pub reopened_read : (lines : ℕ) (image : Image) (role : Role) (contents : Contents) (read : List (EntryNo × Entry)) (gapped : List EntryNo) → gapped ≡ []
-    → Reopens lines image role contents read gapped → (known : Contents) × (known.lines ≡ lines) × AreOf known read gapped
-reopened_read lines image role contents read gapped none over =
+pub reopened_read : (layout : Layout) (lines : ℕ) (image : Image) (role : Role) (contents : Contents) (read : List (EntryNo × Entry)) (gapped : List EntryNo)
+    → gapped ≡ [] → contents.current.layout ≡ layout → Reopens lines image role contents read gapped
+    → (known : Contents) × (known.current.layout ≡ layout) × (known.lines ≡ lines) × AreOf known read gapped
+reopened_read layout lines image role contents read gapped none of_layout over =
     let found = read_again lines image role contents read (subst (Reopens lines image role contents read) none over) in
-    (found.0, found.1, subst (AreOf found.0 read) (sym none) found.2)
+    (found.0, found.1 ∙ of_layout, found.2, subst (AreOf found.0 read) (sym none) found.3)

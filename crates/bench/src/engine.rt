@@ -1,6 +1,7 @@
 //! The calls that a commit makes on its device.
 ghost use Rattle.std.specs.Prelude.{◌≡◌, ◌<◌, ◌≤◌, ◌↔◌, ℕ, false, [], IsTrue, IfOk};
 ghost use Rattle.extent_heap.specs.Room.{fresh_room, is_free_line, is_free_entry};
+ghost use Rattle.model.specs.declared.layout.TheConstants.{LAYOUT};
 ghost use Rattle.model.specs.Image.{entries_of_lines, first_extent_line};
 ghost use Rattle.standby.specs.Following.{Follows};
 ghost use Rattle.wbl_engine.specs.Contents.{IsDurable, IsNew};
@@ -10,7 +11,7 @@ use crate::refused::print_refusal;
 use crate::sets::frame_of;
 use extent_heap::ExtentHeap;
 use kv_types::Refusal;
-use model::{Layout, LAYOUT, MIN_LINES};
+use model::{LAYOUT, Layout, MIN_LINES};
 use mv_keyspace::{Keyspace, MvKeyspace};
 use placing::Rebuilt;
 use pmem::SimPmem;
@@ -27,9 +28,9 @@ type Node = Standby<WblEngine<CountingPmem<SimPmem>>, MvKeyspace>;
 
 /// A room in which all entries and all lines of extents are free, and no version has ended.
 fn free_room(alloc: Global) -> Result<Rebuilt, Refusal>
-    ensures fresh { IfOk result (λ room. room.heap ≡ fresh_room (first_extent_line MIN_LINES) MIN_LINES (entries_of_lines MIN_LINES)) }
+    ensures fresh { IfOk result (λ room. room.heap ≡ fresh_room (first_extent_line MIN_LINES) MIN_LINES (entries_of_lines LAYOUT MIN_LINES)) }
     ensures lines { IfOk result (λ room. (line : ℕ) → IsTrue (is_free_line room.heap line) ↔ ((first_extent_line MIN_LINES ≤ line) × (line < MIN_LINES))) }
-    ensures entries { IfOk result (λ room. (i : ℕ) → IsTrue (is_free_entry room.heap i) ↔ (i < entries_of_lines MIN_LINES)) }
+    ensures entries { IfOk result (λ room. (i : ℕ) → IsTrue (is_free_entry room.heap i) ↔ (i < entries_of_lines LAYOUT MIN_LINES)) }
     ensures none { IfOk result (λ room. room.ended.items ≡ []) }
 {
     let heap = ExtentHeap::new(

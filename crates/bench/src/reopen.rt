@@ -3,9 +3,10 @@ ghost use Rattle.std.specs.Prelude.{◌≡◌, ◌≤◌, ℕ, IfOk, OnOk};
 ghost use Rattle.pmem.specs.Crash.{image_of};
 ghost use Rattle.pmem.specs.Device.{Only};
 ghost use Rattle.model.specs.declared.image.TheConstants.{MIN_LINES, MAX_LINES};
+ghost use Rattle.model.specs.declared.layout.TheConstants.{LAYOUT};
 ghost use Rattle.model.specs.declared.record.Role.{Role as NodeRole};
 ghost use Rattle.model.specs.Group.{Contents, HasItsLines, IsPlaced};
-ghost use Rattle.model.specs.Image.{Image};
+ghost use Rattle.model.specs.Image.{Image, entries_of_lines};
 ghost use Rattle.wbl_engine.specs.Reopening.{Reopens};
 
 use crate::refused::print_refusal;
@@ -14,7 +15,7 @@ use cmd_core::Lookup;
 use extent_heap::ExtentHeap;
 use heap_layout::{lines_for, write_entry};
 use kv_types::{EntryNo, Extent, RecordId, Refusal};
-use model::{Layout, LAYOUT, LINE_WORDS, MAX_LINES, MIN_LINES, Put, STAMP_WINDOW};
+use model::{LAYOUT, LINE_WORDS, Layout, MAX_LINES, MIN_LINES, Put, STAMP_WINDOW};
 use mv_keyspace::MvKeyspace;
 use placing::{Rebuilt, rebuild};
 use pmem::{Crashing, Pmem, SimPmem, flush_lines, store_words};
@@ -46,7 +47,7 @@ pub const LARGE: Load = Load {
 /// The put of this number, in the entry of this number. `Full` where the image has no room for it.
 fn put_of(alloc: Global, lines: u64, number: u64) -> Result<Put, Refusal>
     requires { lines ≤ MAX_LINES }
-    ensures placed { IfOk result (IsPlaced lines) }
+    ensures placed { IfOk result (IsPlaced (entries_of_lines LAYOUT lines) lines) }
     ensures fitting { IfOk result HasItsLines }
 {
     let id = RecordId::Str(key_of(alloc, number)?);
@@ -124,10 +125,11 @@ fn new_image(alloc: Global, load: Load) -> Result<SimPmem, Refusal>
     }
 }
 
-/// An image that was reopened, its position, and the versions that were read of it.
+/// An image that was reopened, its layout and its position, and the versions that were read of it.
 #[derive(Drop)]
 struct Reopened {
     device: SimPmem,
+    layout: Layout,
     position: u64,
     versions: Versions,
 }
@@ -137,10 +139,12 @@ fn reopen(alloc: Global, device: SimPmem) -> Result<Reopened, Refusal>
     requires settled { (word : ℕ)
         → Only ((⟦<SimPmem as Pmem>⟧.state device).words word) (image_of (⟦<SimPmem as Pmem>⟧.state device).words word) }
     ensures { IfOk result (λ o. (lines : ℕ) × (image : Image) × (role : NodeRole) × (contents : Contents)
-        × Reopens lines image role contents o.versions.counted.items o.versions.gapped.items × (lines ≡ (⟦<SimPmem as Pmem>⟧.state o.device).lines)) }
+        × Reopens lines image role contents o.versions.counted.items o.versions.gapped.items × (contents.current.layout ≡ o.layout)
+        × (lines ≡ (⟦<SimPmem as Pmem>⟧.state o.device).lines)) }
 {
     match WblEngine::reopen(alloc, device, LAYOUT, Role::Primary) {
         Ok((engine, versions)) => Ok(Reopened {
+            layout: engine.record().layout,
             position: engine.position(),
             device: engine.into_device(),
             versions,
@@ -149,29 +153,31 @@ fn reopen(alloc: Global, device: SimPmem) -> Result<Reopened, Refusal>
     }
 }
 
-/// The keyspace and the heap of an image of so many lines, made from what its reopening read. `Damaged` where a commit began an entry and did not
-/// come to its end, as in no image that is written here.
+/// The keyspace and the heap of an image of this layout and so many lines, made from what its reopening read. `Damaged` where a commit began an entry
+/// and did not come to its end, as in no image that is written here.
 fn rebuild_from(
     alloc: Global,
+    layout: Layout,
     lines: u64,
     versions: Versions,
 ) -> Result<(MvKeyspace, Rebuilt), Refusal>
     requires { (image : Image) × (role : NodeRole) × (contents : Contents)
-        × Reopens lines image role contents versions.counted.items versions.gapped.items }
+        × Reopens lines image role contents versions.counted.items versions.gapped.items × (contents.current.layout ≡ layout) }
 {
     let Versions { counted, gapped } = versions;
     if !gapped.is_empty() {
         return Err(Refusal::Damaged);
     }
     let mut keyspace = MvKeyspace::new(alloc);
-    let rebuilt = rebuild(alloc, &mut keyspace, lines, counted, &gapped)?;
+    let rebuilt = rebuild(alloc, &mut keyspace, layout, lines, counted, &gapped)?;
     Ok((keyspace, rebuilt))
 }
 
-/// An image that was reopened from `start` on: how many lines it has, and its position.
+/// An image that was reopened from `start` on: its layout, how many lines it has, and its position.
 #[derive(Clone, Copy)]
 struct Opened {
     start: Instant,
+    layout: Layout,
     lines: u64,
     position: u64,
 }
@@ -237,10 +243,10 @@ fn time_rebuilding(
     versions: Versions,
 ) -> io::Result<Option<Times>>
     requires { (image : Image) × (role : NodeRole) × (contents : Contents)
-        × Reopens opened.lines image role contents versions.counted.items versions.gapped.items }
+        × Reopens opened.lines image role contents versions.counted.items versions.gapped.items × (contents.current.layout ≡ opened.layout) }
 {
     let reopening = opened.start.elapsed(rt)?;
-    match rebuild_from(alloc, opened.lines, versions) {
+    match rebuild_from(alloc, opened.layout, opened.lines, versions) {
         Ok((keyspace, rebuilt)) => times_of(rt, opened, reopening, &keyspace, &rebuilt.heap),
         Err(refusal) => no_times(rt, refusal),
     }
@@ -254,16 +260,18 @@ fn time_reopened(
     reopened: Reopened,
 ) -> io::Result<Option<Times>>
     requires { (lines : ℕ) × (image : Image) × (role : NodeRole) × (contents : Contents)
-        × Reopens lines image role contents reopened.versions.counted.items reopened.versions.gapped.items
+        × Reopens lines image role contents reopened.versions.counted.items reopened.versions.gapped.items × (contents.current.layout ≡ reopened.layout)
         × (lines ≡ (⟦<SimPmem as Pmem>⟧.state reopened.device).lines) }
 {
     let Reopened {
         device,
+        layout,
         position,
         versions,
     } = reopened;
     let opened = Opened {
         start,
+        layout,
         lines: device.lines(),
         position,
     };

@@ -10,6 +10,6 @@ pub rebuild-requires-clause-read : goal.rebuild-requires-clause-read
 rebuild-requires-clause-read c =
     let none = nil_from_length c.deref.result.now
     (c.deref.ensures.len ∙ eqb-true (vec_len c.args.versions.gapped) 0 (sym c.is_empty.ensures ∙ c.if-not-is_empty.false)) in
-    reopened_read c.args.lines c.requires.0 c.requires.1 c.requires.2 c.args.versions.counted.items c.deref.result.now none
+    reopened_read c.args.layout c.args.lines c.requires.0 c.requires.1 c.requires.2 c.args.versions.counted.items c.deref.result.now none c.requires.4
     (subst (λ (gapped : List EntryNo). Reopens c.args.lines c.requires.0 c.requires.1 c.requires.2 c.args.versions.counted.items gapped)
     (sym c.deref.ensures.value) c.requires.3)
