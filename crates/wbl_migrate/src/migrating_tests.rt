@@ -99,7 +99,17 @@ fn is_new(device: &SimPmem) -> bool {
         && count(device, 0, ENTRIES, 1, b'1', false) == 0
 }
 
-/// Whether a crash after so many calls of a migration, with these picks, leaves an image at this stage, which then comes to version 2.
+/// Whether the image is reopened after a crash as one of version 2, at position 2 and with both versions.
+fn reopens(alloc: Global, device: SimPmem) -> Result<bool, Refusal> {
+    let mut device = device;
+    device.crash(&[]);
+    match WblEngine::reopen(alloc, device, Layout::Version2, Role::Primary) {
+        Ok((engine, versions)) => Ok(engine.position() == 2 && versions.counted.len() >= 2),
+        Err((refusal, _)) => Err(refusal),
+    }
+}
+
+/// Whether a crash after so many calls of a migration, with these picks, leaves an image at this stage, which then comes to version 2, and is reopened so.
 fn goes_on_from(alloc: Global, calls: u64, picks: &[u64], left: Stage) -> Result<bool, Refusal> {
     let old = old_image(alloc)?;
     if !is_old(&old) {
@@ -108,7 +118,7 @@ fn goes_on_from(alloc: Global, calls: u64, picks: &[u64], left: Stage) -> Result
     let device = cut_off(alloc, old, calls, picks);
     let is_left = stage_of(&device) == Ok(left);
     match migrate(alloc, device) {
-        Ok(device) => Ok(is_left && is_new(&device)),
+        Ok(device) => Ok(is_left && is_new(&device) && reopens(alloc, device)?),
         Err((refusal, _)) => Err(refusal),
     }
 }
