@@ -37,8 +37,10 @@ reopening_exhausts lines image q r s whole old refuses =
     ]
 
 -- while the entries were emptied
-pub vacating_exhausts : (lines : ℕ) (image : Image) (q r : Record) (s : Keyspace) (d : State) → super_refusal Version1 lines image ≡ None → IsOldImage lines r s image
-    → RefusesReopening Version1 lines image q.role Exhausted ⊎ Leaves d (StaysOldWith (λ current _. ExhaustsRelocation current) lines r s) → IsAtLimit lines r s d
+pub vacating_exhausts : (lines : ℕ) (image : Image) (q r : Record) (s : Keyspace) (d : State) → super_refusal Version1 lines image ≡ None
+    → IsOldImage lines r s image
+    → RefusesReopening Version1 lines image q.role Exhausted ⊎ Leaves d (StaysOldWith (λ current _. ExhaustsRelocation current) lines r s)
+    → IsAtLimit lines r s d
 vacating_exhausts lines image q r s d whole old told =
     elim told [ inl refuses ↦ inl (inl (reopening_exhausts lines image q r s whole old refuses)) | inr left ↦ inr (inl left) ]
 
@@ -49,8 +51,8 @@ switching_exhausts lines r q s d e goes movable told =
     inr (inr (record { current = q; goes_on = goes; last = told.0; movable = subst (λ (x : State). Leaves x (IsMovable Old lines q s)) (sym told.1) movable }))
 
 -- halfway
-pub finishing_exhausts : (d e : State) (r q : Record) (s : Keyspace) → IsHalfwayRecord d.lines (image_of d.words) q → IsHalfwayImage d.lines r s (image_of d.words)
-    → COUNTER_LIMIT ≤ q.number + 1 → IsAtLimit d.lines r s e
+pub finishing_exhausts : (d e : State) (r q : Record) (s : Keyspace) → IsHalfwayRecord d.lines (image_of d.words) q
+    → IsHalfwayImage d.lines r s (image_of d.words) → COUNTER_LIMIT ≤ q.number + 1 → IsAtLimit d.lines r s e
 finishing_exhausts d e r q s current halfway last =
     inl (inr (subst (λ (x : Record). COUNTER_LIMIT ≤ x.number + 1) (halfway_record d.lines r q s (image_of d.words) halfway current) last))
 
@@ -71,6 +73,7 @@ only_old lines r s image has (inr (inr new)) = let a = has.version in let b = ne
 
 pub only_halfway : (lines : ℕ) (r : Record) (s : Keyspace) (image : Image) → HasSuperblockAt Halfway lines image → IsMigratable lines r s image
     → IsHalfwayImage lines r s image
-only_halfway lines r s image has (inl old) = let a = has.version in let b = old.undamaged.superblock.version ∙ ap version old.layout in absurd (omega (arith, a, b))
+only_halfway lines r s image has (inl old) =
+    let a = has.version in let b = old.undamaged.superblock.version ∙ ap version old.layout in absurd (omega (arith, a, b))
 only_halfway lines r s image has (inr (inl halfway)) = halfway
 only_halfway lines r s image has (inr (inr new)) = let a = has.version in let b = new.superblock.version in absurd (omega (arith, a, b))

@@ -51,8 +51,8 @@ new_image d lines r s image all partly version =
     (record_stays lines (renewed r) mark.base image mark.same is.next) (agrees_but_version lines mark.base image mark.same) is.movable
 
 -- what stores the version, by the number that it is
-pub mark_stored : {T E : Type 0} {a b : State} (result : Result T E) (number : ℕ) → number ≡ 2 → OnOk result (Staged a b ((VERSION_WORD, number) ∷ []) (0 ∷ []))
-    → OnErr result (StageFailed a b ((VERSION_WORD, number) ∷ [])) → IsStep a b ((VERSION_WORD, 2) ∷ [])
+pub mark_stored : {T E : Type 0} {a b : State} (result : Result T E) (number : ℕ) → number ≡ 2
+    → OnOk result (Staged a b ((VERSION_WORD, number) ∷ []) (0 ∷ [])) → OnErr result (StageFailed a b ((VERSION_WORD, number) ∷ [])) → IsStep a b ((VERSION_WORD, 2) ∷ [])
 mark_stored {a = a} {b = b} result number is ok err =
     subst (λ (n : ℕ). IsStep a b ((VERSION_WORD, n) ∷ [])) is (either_step a b ((VERSION_WORD, number) ∷ []) (0 ∷ []) result ok err)
 

@@ -179,7 +179,8 @@ module _ {lines : ℕ} {image : Image} {q : Record} {cause told : Refusal} {X : 
 -- an image that can be migrated on, and whose version is 2
 pub only_new : (lines : ℕ) (r : Record) (s : Keyspace) (image : Image) → HasSuperblockAt New lines image → IsMigratable lines r s image
     → IsMigrated lines r s image
-only_new lines r s image has (inl old) = let a = has.version in let b = old.undamaged.superblock.version ∙ ap version old.layout in absurd (omega (arith, a, b))
+only_new lines r s image has (inl old) =
+    let a = has.version in let b = old.undamaged.superblock.version ∙ ap version old.layout in absurd (omega (arith, a, b))
 only_new lines r s image has (inr (inl halfway)) =
     let a = has.version in let b = halfway.movable.holds.superblock.version in absurd (omega (arith, a, b))
 only_new lines r s image has (inr (inr new)) = record { current = r; goes_on = goes_nowhere r; holds = new }

@@ -78,8 +78,8 @@ pub record_stays : (lines : ℕ) (r : Record) (base image : Image) → ((word : 
 record_stays lines r base image same has =
     let root = (root_in r.layout).behind in
     let behind = (slot_at r.layout lines r.number).behind in
-    HasRecord-same lines r base image (same (root_word r.layout) (λ e. omega (arith, e, root))) (λ word low high. same word (λ e. omega (arith, e, low, behind)))
-    has
+    HasRecord-same lines r base image (same (root_word r.layout) (λ e. omega (arith, e, root)))
+    (λ word low high. same word (λ e. omega (arith, e, low, behind))) has
 
 -- An image that agrees with one that can be migrated on, with the version of a stage at which no more entries are read than in version 2, and with a record
 -- there under which the same stamps count, can be migrated on from that stage.

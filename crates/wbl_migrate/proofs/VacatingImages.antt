@@ -243,8 +243,10 @@ left_counts lines b image layout same consistent keeps left none =
     left (λ i version low is.
     elim (cases_lt i (entries_of b)) [
       | inl high ↦
+          let entries : entries_of b ≡ entries_of_lines Version1 lines =
+          ap (λ (l : Layout). entries_of_lines l b.lines) layout ∙ ap (entries_of_lines Version1) same in
           absurd (none_some (sym (version_at-none b.current image i (none i (subst (λ (n : ℕ). entries_of_lines Version2 n ≤ i) same low)
-          (subst (λ (n : ℕ). i < n) (ap (λ (l : Layout). entries_of_lines l b.lines) layout ∙ ap (entries_of_lines Version1) same) high))) ∙ keeps.versions i high ∙ is))
+          (subst (λ (n : ℕ). i < n) entries high))) ∙ keeps.versions i high ∙ is))
       | inr past ↦ absurd (none_some (sym (consistent.beyond i past) ∙ is))
     ])
 

@@ -41,8 +41,8 @@ copy_pairs image from to to_line =
 abbrev pub copy_lines : Image → ℕ → ℕ → ℕ → List ℕ
 copy_lines image from to to_line = lines_from to_line (image (entry_word from 4)) ++ entry_line to ∷ []
 
--- Both entries are in the room of the directory, and the lines that entry `from` names may be copied to `to_line`: those are behind the directory, and apart from
--- them.
+-- Both entries are in the room of the directory, and the lines that entry `from` names may be copied to `to_line`: those are behind the directory, and apart
+-- from them.
 pub record IsCopyable (lines : ℕ) (image : Image) (from to to_line : ℕ) : Type 0 where
   pub from_within : from < directory_room lines
   pub to_within : to < directory_room lines

@@ -45,7 +45,8 @@ pub fn vacate<P: Pmem>(alloc: Global, device: P, role: Role) -> Result<(P, Recor
     ensures lawful { IfOk result (λ o. IsLawful o.1) }
     ensures line_count { IfOk result (λ o. (P.state o.0).lines ≡ (P.state device).lines) }
     ensures sound { IfOk result (λ o. (P.state o.0).failures ≡ (P.state device).failures) }
-    ensures causes { IfErr result (λ refused. (RefusesReopening Version1 (P.state device).lines (image_of (P.state device).words) role refused.0 × (refused.1 ≡ device))
+    ensures causes { IfErr result (λ refused.
+        (RefusesReopening Version1 (P.state device).lines (image_of (P.state device).words) role refused.0 × (refused.1 ≡ device))
         ⊎ ((refused.0 ≡ Refusal.Full) ⊎ ((refused.0 ≡ Refusal.Fault) ⊎ ((refused.0 ≡ Refusal.Exhausted) ⊎ (refused.0 ≡ Refusal.Memory))))) }
     // a version is left in one of the last entries
     ensures full { IfErr result (λ refused. refused.0 ≡ Refusal.Full → (r : CommitRecord) (s : Keyspace)

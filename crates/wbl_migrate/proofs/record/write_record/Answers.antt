@@ -8,7 +8,8 @@ use Rattle.wbl_migrate.proofs.Renewing.{body_keeps, body_moments, next_durable, 
 use Rattle.wbl_migrate.proofs.record.write_record.Goals as goal
 
 -- the first line of the slot, where the lines are counted
-slot : {counted lines line : ℕ} (next : Record) → counted ≡ lines → line ≡ slot_line next.layout counted next.number → line ≡ slot_line next.layout lines next.number
+slot : {counted lines line : ℕ} (next : Record) → counted ≡ lines → line ≡ slot_line next.layout counted next.number
+    → line ≡ slot_line next.layout lines next.number
 slot next same at = at ∙ ap (λ (lines : ℕ). slot_line next.layout lines next.number) same
 
 pub returns-in_err-persist_words-clause-elsewhere : goal.returns-in_err-persist_words-clause-elsewhere
@@ -54,5 +55,5 @@ returns-clause-moments g c r s all =
     staged_body next c.slot_line-first_line.result c.slot_lines.result c.as_slice.result.now
     (slot next c.lines.ensures.count c.slot_line-first_line.ensures) c.slot_lines.ensures
     (c.as_slice.ensures.value ∙ c.words_of-words.ensures) c.in_ok-persist_words.ensures.ok in
-    root_moments next c.requires.layout (g.P.Pmem.state c.args.device.now) (g.P.Pmem.state c.persist_words.new.device) (g.P.Pmem.state c.persist.new.device) r s
-    (let size = c.requires.size in omega arith) body (root_step c.persist.result next c.root_word.ensures c.persist.ensures.ok c.persist.ensures.err) all
+    root_moments next c.requires.layout (g.P.Pmem.state c.args.device.now) (g.P.Pmem.state c.persist_words.new.device) (g.P.Pmem.state c.persist.new.device)
+    r s (let size = c.requires.size in omega arith) body (root_step c.persist.result next c.root_word.ensures c.persist.ensures.ok c.persist.ensures.err) all
