@@ -12,7 +12,7 @@ use Rattle.server.specs.declared.status.Reading.{Reading}
 pub status-whole : (reading : Reading) (taken room versions ended cut entries gaps : ℕ) (a b c d e f g h i j k : Option (List ℕ))
     → versions ≡ length reading.versions.counted.items
     → ended ≡ length reading.versions.counted.items - length (live_in reading.versions.counted.items)
-    → cut ≡ length reading.versions.gapped.items → entries ≡ entries_of_lines reading.lines → gaps ≡ length reading.current.gaps.items
+    → cut ≡ length reading.versions.gapped.items → entries ≡ entries_of_lines reading.current.layout reading.lines → gaps ≡ length reading.current.gaps.items
     → Appends a b (role_line reading.current.role) → Appends b c (number_line (codes "epoch") reading.current.epoch)
     → Appends c d (number_line (codes "position") reading.current.position) → Appends d e (number_line (codes "versions") versions)
     → Appends e f (number_line (codes "ended") ended) → Appends f g (number_line (codes "cut") cut)

@@ -1,9 +1,9 @@
 -- What is lost, and what a person says to it.
-use Rattle.model.specs.declared.layout.TheConstants.{LAYOUT}
 use Rattle.std.specs.Prelude.{◌≡◌, ◌⊎◌, ℕ, ◌<◌, ◌≤◌, Some, List, ◌++◌, codes}
 use Rattle.kv_types.specs.declared.refusal.Refusal.{Refusal}
 use Rattle.kv_types.specs.declared.refusal.Refusal.TheVariants.{Damaged as BreaksRule}
 use Rattle.heap_layout.specs.Superblock.{super_refusal}
+use Rattle.model.specs.declared.layout.TheConstants.{LAYOUT}
 use Rattle.model.specs.declared.record.Record.{Record}
 use Rattle.model.specs.Image.{Image}
 use Rattle.wbl_engine.specs.Lawful.{IsUndamaged}

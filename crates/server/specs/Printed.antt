@@ -4,6 +4,7 @@ use Rattle.std.specs.List.{concat, flat_map}
 use Rattle.std.specs.Fmt.{decimal}
 use Rattle.std.specs.Io.KnownBytes.{Appends}
 use Rattle.pmem.specs.Device.{State}
+use Rattle.model.specs.declared.layout.TheConstants.{LAYOUT}
 use Rattle.model.specs.declared.record.Gap.{Gap}
 use Rattle.model.specs.declared.record.Role.{Role}
 use Rattle.model.specs.declared.record.Role.TheVariants.{Primary, Standby}
@@ -19,7 +20,7 @@ use Rattle.server.specs.Told.{newline}
 
 -- after an image of so many lines was formatted
 abbrev pub formatted_text : ℕ → List ℕ
-formatted_text lines = codes "formatted " ++ decimal lines ++ codes " lines, " ++ decimal (entries_of_lines lines) ++ codes " entries" ++ newline
+formatted_text lines = codes "formatted " ++ decimal lines ++ codes " lines, " ++ decimal (entries_of_lines LAYOUT lines) ++ codes " entries" ++ newline
 
 -- after an image was promoted
 abbrev pub promoted_text : ℕ → List ℕ
@@ -59,7 +60,7 @@ image_text r live =
 pub record TellsImage (lines : ℕ) (image : Image) (before after : Option (List ℕ)) : Type 0 where
   pub current : Record
   pub undamaged : IsUndamaged lines current image
-  pub told : Appends before after (image_text current (live_below current image (entries_of_lines lines)))
+  pub told : Appends before after (image_text current (live_below current image (entries_of_lines current.layout lines)))
 
 -- An undamaged image of so many lines was a standby's. It was opened again, and what it held then each crash leaves now under a primary's record of the
 -- next epoch, which is told.

@@ -10,8 +10,8 @@ use Rattle.server.specs.declared.status.Reading.{Reading}
 -- An undamaged image of so many lines was read: its record, and its versions under that.
 pub record IsReading (lines' : ℕ) (image : Image) (reading : Reading) : Type 0 where
   pub undamaged : IsUndamaged lines' reading.current image
-  pub counted : reading.versions.counted.items ≡ counted_below reading.current image (entries_of_lines lines')
-  pub gapped : reading.versions.gapped.items ≡ gapped_below reading.current image (entries_of_lines lines')
+  pub counted : reading.versions.counted.items ≡ counted_below reading.current image (entries_of_lines reading.current.layout lines')
+  pub gapped : reading.versions.gapped.items ≡ gapped_below reading.current image (entries_of_lines reading.current.layout lines')
   pub lines : reading.lines ≡ lines'
 
 -- The record; how many versions count and how many of these have ended; how many entries a commit that did not come to its end left, of how many; how
@@ -25,7 +25,7 @@ status_text reading taken room =
     ∷ number_line (codes "versions") (length reading.versions.counted.items)
     ∷ number_line (codes "ended") (length reading.versions.counted.items - length (live_in reading.versions.counted.items))
     ∷ number_line (codes "cut") (length reading.versions.gapped.items)
-    ∷ number_line (codes "entries") (entries_of_lines reading.lines)
+    ∷ number_line (codes "entries") (entries_of_lines reading.current.layout reading.lines)
     ∷ number_line (codes "lines") taken
     ∷ number_line (codes "room") room
     ∷ number_line (codes "gaps") (length reading.current.gaps.items)

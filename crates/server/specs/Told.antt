@@ -1,9 +1,9 @@
 -- What the program tells where it did not do what it was asked.
-use Rattle.model.specs.declared.layout.TheConstants.{LAYOUT}
 use Rattle.std.specs.Prelude.{ℕ, List, [], ◌∷◌, ◌++◌, Option, Some, None, codes, ⊤}
 use Rattle.std.specs.Fmt.{decimal}
 use Rattle.std.specs.Io.KnownBytes.{Keeps}
 use Rattle.kv_types.specs.Refusal.{refusal_number, refusal_text}
+use Rattle.model.specs.declared.layout.TheConstants.{LAYOUT}
 use Rattle.model.specs.Image.{Image}
 use Rattle.wbl_engine.specs.Reopening.{RefusesReading}
 use Rattle.server.specs.declared.serve.ServeError.{ServeError}

@@ -10,6 +10,7 @@ use crate::listening::{self, bind};
 use crate::options::PROGRAM;
 use crate::serve::ServeError;
 use links::{Capacity, Log, News};
+use model::LAYOUT;
 use mv_keyspace::MvKeyspace;
 use pmem::Pmem;
 use primary::{Opened, open};
@@ -79,7 +80,7 @@ pub fn serve_clients<
         watch: Some(Watch {
             log: Log::new(alloc, errors),
             report_seconds: report,
-            capacity: Capacity::of_image(lines),
+            capacity: Capacity::of_image(LAYOUT, lines),
         }),
         idle: idle.map(Duration::from_secs),
     };

@@ -95,7 +95,9 @@ fn new_watcher<E: Durable, K: Keyspace>(
 ) -> Result<(Arc<Progress>, FillSetter, StandbyWatcher), Refusal> {
     let progress = Arc::new(alloc, Progress::new(node.position()))?;
     let (shown, fill) = new_fill(alloc, &node.fill())?;
-    let filling = Filling::new(fill, Capacity::of_image(node.engine.lines()));
+    let layout = node.engine.record().layout;
+    let capacity = Capacity::of_image(layout, node.engine.lines());
+    let filling = Filling::new(fill, capacity);
     let watcher = StandbyWatcher::new(Arc::try_clone(&progress)?, filling);
     Ok((progress, shown, watcher))
 }

@@ -13,7 +13,7 @@ use crate::inspecting::{print_number, print_role};
 use crate::serve::ServeError;
 use heap_layout::{Versions, read_versions};
 use kv_types::Refusal;
-use model::{Layout, LAYOUT, Record};
+use model::{LAYOUT, Layout, Record};
 use pmem::Pmem;
 use std::alloc::Global;
 use std::io::{self, Write};
@@ -131,7 +131,11 @@ fn print_numbers<W: Write>(
     print_number("versions", count, writer)?;
     print_number("ended", count.saturating_sub(live), writer)?;
     print_number("cut", reading.versions.gapped.len() as u64, writer)?;
-    print_number("entries", LAYOUT.entries_of_lines(reading.lines), writer)?;
+    print_number(
+        "entries",
+        reading.current.layout.entries_of_lines(reading.lines),
+        writer,
+    )?;
     print_number("lines", taken, writer)?;
     print_number("room", room, writer)?;
     print_number("gaps", reading.current.gaps.len() as u64, writer)?;
