@@ -61,7 +61,7 @@ def other_length(draw, group):
     length = draw.choice([0, 1, 2, 511, 512, 513, 65_535])
     if isinstance(change, Put) and draw.random() < 0.5:
         at = BODY + len(change_text(change)) - len(change.value) - 4
-        return written(data, at, draw.choice([length, 65_536, 65_537, 2**32 - 1]), 4)
+        return written(data, at, draw.choice([length, 1_048_576, 1_048_577, 2**32 - 1]), 4)
     return written(data, BODY + 1, length, 2)
 
 

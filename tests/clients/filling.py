@@ -13,7 +13,7 @@ import time
 import typing
 
 from pair import PATIENCE, Client, Ended, Pair, TakesTooLong, wait_until
-from plain_image import MORE_LINES, extents_begin, lines_of
+from plain_image import LAYOUT, MORE_LINES, MOST_VALUE_BYTES, extents_begin, lines_of
 from plain_replies import NO_ROOM, OK, error, integer
 from spelling import spell
 
@@ -38,6 +38,7 @@ KINDS = {
     "pages": lambda draws: draws.choice(PAGES),
     "blobs": lambda draws: LONGEST if draws.randrange(10) == 0 else draws.randrange(400),
     "any": lambda draws: int(2 ** draws.uniform(0, 16)),
+    "mebibytes": lambda draws: MOST_VALUE_BYTES if draws.randrange(4) == 0 else draws.randrange(400_000),
 }
 
 
@@ -95,7 +96,7 @@ class Store:
     def __init__(self, pair, fill, most_wait):
         self.pair, self.most_wait, self.clock = pair, most_wait, RunningClock()
         self.most_lines = (pair.lines - extents_begin(pair.lines)) * fill // 100
-        self.most_keys = pair.lines // 8 * fill // 100
+        self.most_keys = LAYOUT.entries(pair.lines) * fill // 100
         self.lock = threading.Lock()
         self.lines = self.keys = 0
         self.is_ending = threading.Event()

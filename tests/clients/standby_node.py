@@ -9,7 +9,7 @@ import time
 
 import plain_image
 from common import SECONDS, program, without_news
-from plain_image import PRIMARY, STANDBY, WORDS_OF_LINE, Words
+from plain_image import LAYOUT, PRIMARY, STANDBY, Words
 from plain_keyspace import Clear, Drop, DropKey, Put
 from plain_wire import Group
 from test_images import FAILED, LINES, ROLES, Images, image_bytes, words_of
@@ -54,14 +54,13 @@ def take(writer, frame):
 
 def with_record(words, record):
     """These words with a record and its root."""
-    slot = plain_image.RECORD_LINES[record.number % 2] * WORDS_OF_LINE
-    return words | {4: record.number} | dict(enumerate(plain_image.record_words(record), slot))
+    return words | plain_image.record_in_place(LINES, record)
 
 
 def without_records(words):
     """These words but for the records and the root."""
-    first, end = (line * WORDS_OF_LINE for line in (1, 7))
-    return {at: word for at, word in words.items() if at != 4 and not first <= at < end}
+    first, end = LAYOUT.slot_word(LINES, 0), LAYOUT.slot_word(LINES, 1) + LAYOUT.record_words
+    return {at: word for at, word in words.items() if at != LAYOUT.root_word and not first <= at < end}
 
 
 def cut_short(writer, changes):
@@ -75,7 +74,7 @@ def crashed(writer, group, draws):
     """The words that a crash in the commit of a group leaves before its root is stored: some of those that it stores."""
     later = copy.deepcopy(writer)
     later.commit([group])
-    changed = [at for at in sorted(later.words.keys() | writer.words.keys()) if later.words.get(at) != writer.words.get(at) and at != 4]
+    changed = [at for at in sorted(later.words.keys() | writer.words.keys()) if later.words.get(at) != writer.words.get(at) and at != LAYOUT.root_word]
     share = draws.choice([0.2, 0.5, 0.9, 1])
     return writer.words | {at: later.words.get(at, 0) for at in changed if draws.random() < share}
 

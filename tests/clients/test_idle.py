@@ -75,7 +75,7 @@ class Idle(ServingCases):
 
     def test_one_whose_request_waits_for_room(self):
         """The image is full of versions that have ended, and the standby, which has to pass them first, is frozen."""
-        pair = self.pair(lines=4_096, standby_lines=5_288)
+        pair = self.pair(lines=4_096, standby_lines=22_840)
         pair.primary.words += ["--idle", f"{SECONDS}"]
         pair.restart(pair.primary)
         pair.wait()

@@ -5,8 +5,9 @@ import struct
 
 from common import run_program
 from pair import LINES, PairCases, wait_until
+from plain_image import LAYOUT
 from plain_replies import OK, QUEUED, array, bulk, integer, simple
-from spelling import MOST_BYTES, MOST_WORDS, spell
+from spelling import MOST_WORDS, spell
 
 PROGRAMS = ["server", "client"]
 IS_SLOW = True
@@ -20,8 +21,9 @@ RECORDS, FEW_LINES = 2_000, 8 * 4_096
 def position_in(image):
     """The position in the current record of an image whose node runs (docs/image.md)."""
     with open(image, "rb") as file:
-        words = struct.unpack("<64Q", file.read(8 * 64))
-    return words[8 * (1 + 3 * (words[4] % 2)) + 1]
+        words = struct.unpack("<8Q", file.read(64))
+        file.seek(8 * LAYOUT.slot_word(words[2], words[LAYOUT.root_word]))
+        return struct.unpack("<2Q", file.read(16))[1]
 
 
 class Large(PairCases):
@@ -198,7 +200,7 @@ class Printed(Large):
 
     def test_hgetall_of_40_values_of_65536_bytes(self):
         self.start()
-        values = {f"f{at:02}": bytes([0x61 + at % 26]) * MOST_BYTES for at in range(40)}
+        values = {f"f{at:02}": bytes([0x61 + at % 26]) * 65_536 for at in range(40)}
         for field, value in values.items():
             self.assertEqual(self.client.ask("HSET", "h", field, value), integer(1))
         finished = run_program("client", ["--connect", self.nodes.door.address(), "HGETALL", "h"])

@@ -63,7 +63,7 @@ class Procedures(Operated):
 
     def test_a_lost_primary(self):
         printed = self.check(["kill -9 $primary; wait $primary; rm a.img"], "A lost primary", port=SECOND)
-        self.assertRegex(printed, r"\Ab\.img: standby, epoch 1, .*\npromoted to epoch 2\nformatted 67920 lines, ")
+        self.assertRegex(printed, r"\Ab\.img: standby, epoch 1, .*\npromoted to epoch 2\nformatted 103024 lines, ")
 
     def test_a_standby_at_position_0_is_not_promoted(self):
         self.shell.run("kill -9 $primary; wait $primary; kill -9 $standby; wait $standby; rm b.img", blocks_below(PAGE, "A pair")[0][1])
@@ -113,7 +113,7 @@ class Procedures(Operated):
 
     def test_a_larger_image(self):
         self.check([], "A larger image")
-        self.assertRegex(self.shell.run("bin/wbl-status large.img second.img"), r"(?s)\Alarge\.img: primary, epoch 2, .* of 16384 .*second\.img: standby, epoch 2, .* of 16533 ")
+        self.assertRegex(self.shell.run("bin/wbl-status large.img second.img"), r"(?s)\Alarge\.img: primary, epoch 2, .* of 16366 .*second\.img: standby, epoch 2, .* of 18709 ")
 
     def test_a_new_version(self):
         self.check([], "A new version of the program")
@@ -134,7 +134,7 @@ class FailingOver(Operated):
 
     def fail_over(self, fence="true", stop="kill $standby 2> /dev/null; true", image="b.img", new="c.img"):
         """Its status, what it prints, and what it tells on standard error."""
-        *printed, status = self.shell.run(f'bin/fail-over {image} {new} 67920 "{fence}" "{stop}" 2> told.txt; echo $?').splitlines()
+        *printed, status = self.shell.run(f'bin/fail-over {image} {new} 103024 "{fence}" "{stop}" 2> told.txt; echo $?').splitlines()
         return int(status), printed, (self.shell.folder / "told.txt").read_text()
 
     def inspected(self, image):
@@ -160,14 +160,14 @@ class FailingOver(Operated):
         self.assertEqual(self.fail_over(image="none.img"), (4, [], "fail-over: none.img cannot be read: none.img is not there; refusal 1: device fault\n"))
 
     def test_an_image_that_holds_nothing(self):
-        self.shell.run("kill $primary; wait $primary; kill $standby; wait $standby", "bin/wbl-server format --image b.img --lines 66728 --role standby")
+        self.shell.run("kill $primary; wait $primary; kill $standby; wait $standby", "bin/wbl-server format --image b.img --lines 84280 --role standby")
         self.assertEqual(self.fail_over(), (5, [], "fail-over: b.img holds nothing, at position 0, and is not promoted\n"))
         self.assertEqual(self.inspected("b.img"), ["position 0", "epoch 1", "role standby"])
 
     def test_again_and_again(self):
         """Wherever it was cut, the same words go on; a new standby's image that is there is kept, and another image is not touched."""
         self.lose_the_primary()
-        made = ["promoted to epoch 2; b.img is a primary's now, at position 2, with 2 keys", "formatted 67920 lines, 8490 entries"]
+        made = ["promoted to epoch 2; b.img is a primary's now, at position 2, with 2 keys", "formatted 103024 lines, 12860 entries"]
         self.assertEqual(self.fail_over(), (0, made, ""))
         for _ in range(2):
             self.assertEqual(self.fail_over(), (0, ["b.img is a primary's already"], ""))
@@ -177,7 +177,7 @@ class FailingOver(Operated):
         self.assert_bytes((self.shell.folder / "a.img").read_bytes(), before)
 
     def test_words_that_are_missing(self):
-        self.assertEqual(self.shell.run("bin/fail-over b.img c.img 67920 true 2> told.txt; echo $?"), "2\n")
+        self.assertEqual(self.shell.run("bin/fail-over b.img c.img 103024 true 2> told.txt; echo $?"), "2\n")
         self.assertEqual((self.shell.folder / "told.txt").read_text(), "fail-over: what it needs is: fail-over IMAGE NEW LINES FENCE STOP\n")
 
     def test_the_page(self):
@@ -196,7 +196,7 @@ class FirstScreen(PairCases):
         shell = PageShell(self.image_folder())
         self.addCleanup(shell.close)
         start, stop = blocks_below(README, "Run it")
-        formatted = "formatted 65536 lines, 8192 entries\nformatted 66728 lines, 8341 entries\n"
+        formatted = "formatted 65536 lines, 8174 entries\nformatted 84280 lines, 10517 entries\n"
         for made in (formatted, ""):
             self.assertEqual(shell.run(*start), f'{made}OK\n"1"\n')
             self.assertEqual(shell.run(*stop, "wait"), "")
@@ -225,23 +225,23 @@ class Sizes(Operated):
         """Nine tenths of the smallest image are kept and written again and again; a monitor tells of more; a full store goes on."""
         self.shell = self.new_shell()
         first, second, *others = blocks_below(PAGE, "A pair")[0]
-        smaller = [first.replace("65536", "4096"), second.replace("66728", "5288")]
+        smaller = [first.replace("65536", "4096"), second.replace("84280", "22840")]
         self.shell.run(*smaller, *others)
         client = self.client()
-        kept = [f"k{at}" for at in range(4_096 // 8 * 9 // 10 - 10)]
+        kept = [f"k{at}" for at in range(494 * 9 // 10 - 10)]
         for value in "12":
             for key in kept:
                 self.assertEqual(client.ask("SET", key, value), OK)
         (status, monitor, count), (watch,) = blocks_below(PAGE, "What to look at")
         self.assertEqual(self.shell.run(monitor), "")
-        self.assertRegex(self.shell.run(status), r"\Aa\.img: primary, .*versions 4\d\d of 512 \(\d\d %, .*\nb\.img: standby, .* of 661 .*\nbehind: -?\d+\n\Z")
+        self.assertRegex(self.shell.run(status), r"\Aa\.img: primary, .*versions 4\d\d of 494 \(\d\d %, .*\nb\.img: standby, .* of 2837 .*\nbehind: -?\d+\n\Z")
         wanted = 1 if shutil.which("ss") else 0
         self.assertEqual(int(self.shell.run(count)), wanted)
         more = [client.ask("SET", f"more{at}", "1") for at in range(100)]
         self.assertEqual(more[-1], b"-ERR store is full\r\n")
         self.assertEqual(self.shell.run(monitor), "over nine tenths: see a larger image\n")
         # (the logs said so as well, the primary's before the store was full)
-        full = re.compile(r'99 of 100 versions are taken, \d+ of 512: see "A larger image" in docs/operating\.md')
+        full = re.compile(r'99 of 100 versions are taken, \d+ of 494: see "A larger image" in docs/operating\.md')
         wait_until(lambda: [line for line in self.shell.run(watch).splitlines() if full.fullmatch(line)], "a log that says how full an image is")
         self.assertEqual([client.ask("GET", kept[0]), client.ask("DEL", *kept[:100])], [bulk(b"2"), integer(100)])
         self.assertEqual(client.ask("SET", "again", "1"), OK)

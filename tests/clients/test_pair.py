@@ -220,16 +220,17 @@ class Sizes(PairCases):
         self.assert_bytes(self.client.read(10_000 * len(ONE)), 10_000 * ONE)
         sender.join(PATIENCE)
 
-    def test_values_of_65536_bytes(self):
+    def test_values_of_1048576_bytes(self):
+        longest = 16 * self.LONGEST
         for way, pieces in [("whole", 1), ("in pieces", 4_096)]:
             with self.case(way):
-                data = spell("SET", "long", self.LONGEST) + spell("GET", "long") + spell("STRLEN", "long")
+                data = spell("SET", "long", longest) + spell("GET", "long") + spell("STRLEN", "long")
                 for at in range(0, len(data), len(data) // pieces):
                     self.client.send(data[at:at + len(data) // pieces])
                 self.assertEqual(self.client.reply(), OK)
-                self.assert_bytes(self.client.reply(), bulk(self.LONGEST))
-                self.assertEqual(self.client.reply(), integer(65_536))
-        too_long = b"*3\r\n$3\r\nSET\r\n$4\r\nlong\r\n$65537\r\n"
+                self.assert_bytes(self.client.reply(), bulk(longest))
+                self.assertEqual(self.client.reply(), integer(1_048_576))
+        too_long = b"*3\r\n$3\r\nSET\r\n$4\r\nlong\r\n$1048577\r\n"
         self.client.send(too_long)
         self.assert_bytes(self.client.read_all(), worked.BAD_LENGTH)
 
@@ -310,19 +311,19 @@ class Room(PairCases):
             self.assert_positions(pair)
 
     def test_one_key_over_and_over_with_room(self):
-        """32,000 SETs of one key into 8,192 entries."""
+        """32,000 SETs of one key into 8,174 entries."""
         self.check(self.pair(), lambda *_: "a", 1)
 
     def test_keys_of_each_client_over_and_over_with_room(self):
-        """32,000 SETs of 800 keys into 8,192 entries."""
+        """32,000 SETs of 800 keys into 8,174 entries."""
         self.check(self.pair(), lambda number, at: f"k{number}.{at}", 800)
 
     def test_small_image_of_4096_lines_one_key_over_and_over(self):
-        """32,000 SETs of one key into 512 entries, of which 800 wait at a time."""
+        """32,000 SETs of one key into 494 entries, of which 800 wait at a time."""
         self.check(self.pair(lines=4_096), lambda *_: "a", 1)
 
     def test_small_image_of_4096_lines_100_keys_over_and_over(self):
-        """32,000 SETs of 100 keys into 512 entries."""
+        """32,000 SETs of 100 keys into 494 entries."""
         self.check(self.pair(lines=4_096), lambda number, at: f"k{(16 * number + at) % 100}", 100)
 
     def test_image_of_16384_lines_800_keys_over_and_over(self):
@@ -330,11 +331,11 @@ class Room(PairCases):
         self.check(self.pair(lines=16_384), lambda number, at: f"k{number}.{at}", 800)
 
     def test_a_full_image_says_so_and_takes_what_fits_again(self):
-        """512 keys fill an image of 4,096 lines. Reads go on; a key that is removed gives its room back."""
+        """494 keys fill an image of 4,096 lines. Reads go on; a key that is removed gives its room back."""
         pair = self.pair(lines=4_096)
         client = pair.client()
         # (each is answered before the next, so no room is on its way)
-        self.assertEqual([client.ask("SET", f"k{at}", "v") for at in range(512)], 512 * [OK])
+        self.assertEqual([client.ask("SET", f"k{at}", "v") for at in range(494)], 494 * [OK])
         self.assertEqual(client.ask("SET", "one more", "v"), STORE_IS_FULL)
         self.assertEqual(client.ask("GET", "k0"), bulk(b"v"))
         self.assertEqual(client.ask("DEL", "k0"), integer(1))
@@ -344,6 +345,6 @@ class Room(PairCases):
             if found == OK:
                 break
         self.assertEqual(found, OK)
-        self.assertEqual(client.ask("DBSIZE"), integer(512))
+        self.assertEqual(client.ask("DBSIZE"), integer(494))
 
 

@@ -138,5 +138,5 @@ class Proxied(Operated):
                     asked.ask(*words)
         with self.case("a value that is too large"), Client(self.shell.port(7200)) as asked:
             with contextlib.suppress(Ended, ConnectionError):
-                self.assertRegex(asked.ask("SET", "large", 65_537 * "v"), rb"\A-")
+                self.assertRegex(asked.ask("SET", "large", 1_048_577 * "v"), rb"\A-")
             self.wait_to_serve(self.shell, 7200)

@@ -63,7 +63,7 @@ class RemovedKeys(PairCases):
 
 
 class RoomForTransactions(PairCases):
-    """Transactions that need more room than is free, while enough of it is on its way: 512 entries, of which each takes 200."""
+    """Transactions that need more room than is free, while enough of it is on its way: 494 entries, of which each takes 200."""
 
     KEYS, ROUNDS, OTHERS = 200, 10, 8
 

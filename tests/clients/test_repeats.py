@@ -164,12 +164,12 @@ class Repeats(OverClients):
             self.assertRegex(output, r"\Aredis-py [\d.]+, sessions: 14 checked\n\Z")
 
     def test_sizes(self):
-        """A value above 65,536 bytes ends the connection, and the client is served again on another."""
+        """A value above 1,048,576 bytes ends the connection, and the client is served again on another."""
         for name, (needed, words, wanted) in LARGE.items():
             if not self.have(*needed):
                 continue
             with self.case("client", name=name):
-                ran = subprocess.run([*words, str(self.nodes.door.number), "60", "65537"], capture_output=True, text=True, timeout=SECONDS, check=False)
+                ran = subprocess.run([*words, str(self.nodes.door.number), "60", "1048577"], capture_output=True, text=True, timeout=SECONDS, check=False)
                 found = ran.stdout.splitlines()
                 self.assertEqual(len(found), 3, ran)
                 self.assertEqual([it for it, of in zip(found, wanted) if of != "*"], [of for of in wanted if of != "*"])
@@ -184,7 +184,7 @@ class Repeats(OverClients):
 
     def test_what_stands_around_a_value_that_is_too_large(self):
         """What was asked before it on the connection is done and answered; what was asked behind it is not done."""
-        rows = [("SET", "a", "1"), ("SET", "large", 65_537 * "v"), ("SET", "b", "1")]
+        rows = [("SET", "a", "1"), ("SET", "large", 1_048_577 * "v"), ("SET", "b", "1")]
         with Client(self.nodes.door.number) as client:
             client.send(b"".join(spell(*row) for row in rows))
             self.assertEqual(client.read_all(), OK + b"-ERR Protocol error: invalid bulk length\r\n")

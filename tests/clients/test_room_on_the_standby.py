@@ -28,6 +28,8 @@ IS_SLOW = True
 LONGEST = 65_536 * b"v"
 # How long each load writes (tests/sweep-room takes longer), and its seed, at which a standby that makes no room is soon stuck.
 SECONDS, SEED = 3, 1
+# An image that has room for values of a mebibyte.
+LARGE_LINES = 65_536
 
 
 class RoomCases(PairCases):
@@ -54,7 +56,7 @@ class Lines(RoomCases):
                 # (each is a group of its own once it is on the image before the other is sent)
                 before = image.read_bytes()
                 client.send(request)
-                wait_until(lambda: image.read_bytes()[32:40] != before[32:40], "a group that is committed")
+                wait_until(lambda: image.read_bytes()[40:48] != before[40:48], "a group that is committed")
             nodes.standby.thaw()
             self.assertEqual([first.reply(), second.reply()], 2 * [OK])
             # (the primary answers that its store is full before it has freed what the first has replaced)
@@ -67,7 +69,7 @@ class Gaps(RoomCases):
 
     @common.unittest.skipUnless(held_syncs.HAS_COMPILER, "there is no gcc")
     def test_a_frame_that_was_cut_short_comes_again(self):
-        """200 of 512 entries are live, and 200 more were begun when the standby was killed before the first sync of the frame: it is taken after the
+        """200 of 494 entries are live, and 200 more were begun when the standby was killed before the first sync of the frame: it is taken after the
         first start."""
         nodes = self.pair(lines=LINES)
         file, keys = nodes.folder / "held", [f"k{number}" for number in range(200)]
@@ -244,7 +246,7 @@ class CutShort(StandingBy):
         puts = [Put((b"%d" % number,), b"v") for number in range(600)]
         frames, writer = [Group(1, 0, 1, tuple(puts[:300])), Group(1, 1, 2, tuple(puts[500:]))], Writer(LINES, STANDBY)
         self.assertTrue(take(writer, frames[0]))
-        self.check(cut_short(writer, puts[300:500]), frames)
+        self.check(cut_short(writer, puts[300:480]), frames)
 
 
 class Loads(PairCases):
@@ -255,15 +257,16 @@ def add_loads():
     """One test for each kind, and how full it is; every other one with kills; and the standby is of the same size, or larger by what lets it always make
     room."""
     rows = [("sessions", 80), ("sessions", 90), ("pages", 80), ("pages", 90), ("blobs", 90), ("blobs", 60), ("any", 80), ("any", 90)]
-    for number, (kind, fill) in enumerate(rows):
+    rows = [*((kind, LINES, fill) for kind, fill in rows), ("mebibytes", LARGE_LINES, 60), ("mebibytes", LARGE_LINES, 80)]
+    for number, (kind, lines, fill) in enumerate(rows):
         for extra in (0, MORE_LINES):
-            options = {"standby_lines": LINES + extra, "kills": number % 2 == 1, "seed": SEED}
+            options = {"standby_lines": lines + extra, "kills": number % 2 == 1, "seed": SEED}
 
-            def test(self, row=(kind, LINES, fill, SECONDS), options=options):
+            def test(self, row=(kind, lines, fill, SECONDS), options=options):
                 outcome = filling.load(*row, **options, most_wait=PATIENCE, folder=self.image_folder())
                 self.assertGreater(outcome.answered, 0)
 
-            setattr(Loads, f"test_{kind}_at_{fill}_beside_{LINES + extra}", test)
+            setattr(Loads, f"test_{kind}_at_{fill}_beside_{lines + extra}", test)
 
 
 add_loads()

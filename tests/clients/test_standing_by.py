@@ -102,12 +102,12 @@ class Following(StandingBy):
         self.assertEqual((writer.record.position, writer.room.runs), (4, []))
 
     def test_what_an_earlier_life_ended_is_freed_first(self):
-        """512 versions of one key leave no free entry, until a frame comes that is next."""
+        """494 versions of one key leave no free entry, until a frame comes that is next."""
         writer = Writer(LINES, STANDBY)
-        for _ in range(512):
+        for _ in range(494):
             writer.commit([[Put((b"a",), b"1")]])
-        self.assertEqual(len(writer.ended), 511)
-        self.follow(writer, Group(1, 512, 513, (Put((b"a",), b"2"),)), Group(1, 513, 514, (Put((b"b",), b"3"),)))
+        self.assertEqual(len(writer.ended), 493)
+        self.follow(writer, Group(1, 494, 495, (Put((b"a",), b"2"),)), Group(1, 495, 496, (Put((b"b",), b"3"),)))
         self.assertEqual(len(writer.live), 2)
 
     def test_frames_after_a_commit_that_was_cut_short(self):
@@ -141,7 +141,7 @@ class Following(StandingBy):
                 words = self.words(path)
                 versions = plain_image.read_versions(words, plain_image.read_image(words).record)
                 self.assertIn([entry for entry, _ in versions.counted], wanted)
-                for _ in range(8):
+                for _ in range(32):
                     self.open_again(path)
             self.assertEqual(plain_image.read_image(self.words(path)).map, {(b"a",): b"1", (b"d",): b"4", (b"e",): b"5"})
 
@@ -157,13 +157,13 @@ class Following(StandingBy):
         self.assertEqual(sorted(plain_image.versions_on(self.words(path))), sorted(plain_image.versions_on(left)))
 
     def test_entries_of_a_gap_are_cleared_for_a_frame_that_needs_them(self):
-        """300 entries are live, and a commit that was cut short has begun 200 of the 212 others. A frame of 100 versions takes some of them."""
+        """300 entries are live, and a commit that was cut short has begun 180 of the 194 others. A frame of 100 versions takes some of them."""
         puts = [Put((b"%d" % number,), b"v") for number in range(600)]
         first, second = Group(1, 0, 1, tuple(puts[:300])), Group(1, 1, 2, tuple(puts[500:]))
         with self.folder() as folder:
             writer = Writer(LINES, STANDBY)
             take(writer, first)
-            self.assert_makes_room(folder, cut_short(writer, puts[300:500]), 1, [first, second])
+            self.assert_makes_room(folder, cut_short(writer, puts[300:480]), 1, [first, second])
 
     def test_versions_are_moved_for_a_frame_that_needs_a_run(self):
         """Five values of 700 lines lie with a short one behind each, and every other long one goes. 2,171 lines are free, but no more than 700 in one piece."""
@@ -183,7 +183,7 @@ class Following(StandingBy):
             writer = Writer(LINES, STANDBY)
             path = self.made(folder, writer.words)
             writer.reopen()
-            puts = tuple(Put((b"%d" % number,), b"") for number in range(513))
+            puts = tuple(Put((b"%d" % number,), b"") for number in range(495))
             long = tuple(Put((key,), 65_536 * b"v") for key in (b"a", b"b", b"c", b"d"))
             with Node(path) as node:
                 for changes in (puts, long):
@@ -191,10 +191,10 @@ class Following(StandingBy):
                     self.assert_holds(path, writer)
                 # as many as there are entries, and then none more before one is removed
                 for frame, is_taken in [
-                    (Group(1, 0, 1, puts[:512]), True),
-                    (Group(1, 1, 2, puts[512:]), False),
+                    (Group(1, 0, 1, puts[:494]), True),
+                    (Group(1, 1, 2, puts[494:]), False),
                     (Group(1, 1, 2, (DropKey(b"7"),)), True),
-                    (Group(1, 2, 3, puts[512:]), True),
+                    (Group(1, 2, 3, puts[494:]), True),
                 ]:
                     answers = [frame.before, frame.after][:1 + is_taken]
                     self.assertEqual(node.exchange(text(frame)), b"".join(text(Acknowledgement(1, at)) for at in answers))

@@ -250,7 +250,8 @@ class LoneSets(NotedCases):
         loader = importlib.machinery.SourceFileLoader("bench_pair", str(common.ROOT / "bin" / "bench-pair"))
         said = importlib.util.module_from_spec(importlib.util.spec_from_loader("bench_pair", loader))
         loader.exec_module(said)
-        nodes = self.pair(lines=LINES)
+        # (a standby whose image has a spare place)
+        nodes = self.pair(lines=8 * LINES)
         both = {nodes.primary: said.LONE_PRIMARY, nodes.standby: said.LONE_STANDBY}
         for node in (nodes.standby, nodes.primary):
             node.end()

@@ -210,7 +210,7 @@ class Reports(ServingCases):
 class Filling(ServingCases):
     """Of versions and of lines it is told by either node, once where they come to nine tenths and once to 99 of 100, whether reports are asked for or not."""
 
-    ENTRIES, ROOM = 512, 3_576
+    ENTRIES, ROOM = 494, 3_576
 
     def setUp(self):
         super().setUp()
@@ -240,23 +240,23 @@ class Filling(ServingCases):
                 self.assertLessEqual(of - taken, of // (10 if share == 9 else 100))
 
     def test_versions(self):
-        self.keep(0, 460)
+        self.keep(0, 444)
         time.sleep(3)
         self.wait_for()
-        self.keep(460, 470)
+        self.keep(444, 454)
         self.wait_for(9)
         # (around nine tenths it is told once)
-        self.drop(450, 470)
+        self.drop(434, 454)
         time.sleep(3)
-        self.keep(450, 470)
+        self.keep(434, 454)
         time.sleep(3)
         self.wait_for(9)
-        self.keep(470, 511)
+        self.keep(454, 493)
         self.wait_for(9, 99)
-        self.drop(300, 511)
+        self.drop(300, 493)
         # (what ended is free once both nodes have nothing to do)
         time.sleep(5 * common.BUSY)
-        self.keep(300, 470)
+        self.keep(300, 454)
         self.wait_for(9, 99, 9)
 
     def test_lines(self):

@@ -70,9 +70,9 @@ def delta():
 
 
 def reopenings():
-    """Both nodes crash and open again, nine times, so that gaps are cleared; then the connection that is left goes on."""
+    """Both nodes crash and open again, 33 times, so that gaps are cleared; then the connection that is left goes on."""
     schedule = first_set()
-    for _ in range(9):
+    for _ in range(33):
         schedule.add("crash standby 0", "reopen standby", "crash primary 0", "reopen primary")
     schedule.add("open-link", "ack-delivered 1", "raise-remote", "clear-gap", "accept-freed", "enter")
     schedule.serve_to_end(1, 1, spell("INCR", "a"))

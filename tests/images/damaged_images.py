@@ -3,15 +3,15 @@
 
 import plain_image
 import plain_writer
-from plain_image import DIRECTORY_LINE, MAGIC, PRIMARY, RECORD_LINES, STANDBY, WORDS_OF_LINE, extents_begin
+from plain_image import DIRECTORY_LINE, GAPS_WORD, LAYOUT, MAGIC, PRIMARY, STANDBY, VERSION_1, WORDS_OF_LINE, extents_begin
 from plain_keyspace import Put
 
 LINES = 4_096
-ENTRIES, FIRST_LINE = LINES // 8, extents_begin(LINES)
+ENTRIES, FIRST_LINE, ROOT = LAYOUT.entries(LINES), extents_begin(LINES), LAYOUT.root_word
 LIMIT, MOST = 2**62, 2**64 - 1
 MAGIC_REFUSED, VERSION_REFUSED, SIZE_REFUSED, DAMAGED = 2, 3, 4, 7
 WORD = {name: number for number, name in enumerate(["begin", "end", "position", "line", "lines", "kind", "lengths", "value"])}
-FIELD_OF = {name: number for number, name in enumerate(["number", "position", "cp", "cd", "epoch", "count"])} | {"role": 22, "last": 23}
+FIELD_OF = {name: number for number, name in enumerate(["number", "position", "cp", "cd", "epoch", "count"])} | {"role": LAYOUT.role_word, "last": LAYOUT.role_word + 1}
 
 
 def base_writer():
@@ -26,7 +26,9 @@ def base_writer():
 
 BASE = base_writer()
 CP, CD, GAP = BASE.record.cp, BASE.record.cd, BASE.record.gaps[0]
-SLOT, OTHER_SLOT = (RECORD_LINES[number % 2] * WORDS_OF_LINE for number in (BASE.record.number, BASE.record.number + 1))
+SLOT, OTHER_SLOT = (LAYOUT.slot_word(LINES, number) for number in (BASE.record.number, BASE.record.number + 1))
+
+V1_RECORD = plain_image.record_words(BASE.record._replace(number=1, gaps=(), layout=VERSION_1))
 
 
 def entry(number, **values):
@@ -45,15 +47,14 @@ def field(**values):
 
 def numbered(number):
     """The record under this number, in its slot."""
-    slot = RECORD_LINES[number % 2] * WORDS_OF_LINE
-    return {4: number} | dict(enumerate(plain_image.record_words(BASE.record._replace(number=number)), slot))
+    return plain_image.record_in_place(LINES, BASE.record._replace(number=number))
 
 
 def gaps(*pairs, count=None, rest=()):
     """The record with these gaps, and perhaps another count of them and words behind them."""
     flat = [bound for pair in pairs for bound in pair] + list(rest)
-    words = flat + [0] * (16 - len(flat))
-    return field(count=len(pairs) if count is None else count) | dict(enumerate(words, SLOT + 6))
+    words = flat + [0] * (2 * LAYOUT.most_gaps - len(flat))
+    return field(count=len(pairs) if count is None else count) | dict(enumerate(words, SLOT + GAPS_WORD))
 
 
 def text(line, data):
@@ -65,20 +66,22 @@ def text(line, data):
 SUPERBLOCKS = [
     ("no magic", MAGIC_REFUSED, {0: 0}),
     ("magic of another format", MAGIC_REFUSED, {0: MAGIC + 1}),
-    ("magic before all else", MAGIC_REFUSED, {0: 0, 1: 9, 2: 9, 3: 9, 4: 9}),
+    ("magic before all else", MAGIC_REFUSED, {0: 0, 1: 9, 2: 9, 3: 9, ROOT: 9}),
     ("version 0", VERSION_REFUSED, {1: 0}),
-    ("version 2", VERSION_REFUSED, {1: 2}),
-    ("version before size and damage", VERSION_REFUSED, {1: 2, 2: 9, 3: 9}),
+    ("version 1", VERSION_REFUSED, {1: 1}),
+    ("version 3", VERSION_REFUSED, {1: 3}),
+    ("version before size and damage", VERSION_REFUSED, {1: 1, 2: 9, 3: 9}),
     ("a line more", SIZE_REFUSED, {2: LINES + 1}),
     ("a line less", SIZE_REFUSED, {2: LINES - 1}),
-    ("size before damage", SIZE_REFUSED, {2: 0, 3: 9, 4: 9}),
-    ("an entry more", DAMAGED, {3: ENTRIES + 1}),
-    ("an entry less", DAMAGED, {3: ENTRIES - 1}),
+    ("size before damage", SIZE_REFUSED, {2: 0, 3: 9, ROOT: 9}),
+    ("a line more of the directory", DAMAGED, {3: LINES // 8 + 1}),
+    ("a line less of the directory", DAMAGED, {3: LINES // 8 - 1}),
+    ("its number of entries", DAMAGED, {3: ENTRIES}),
 ]
 RECORDS = [
-    ("root of no record", DAMAGED, {4: 0}),
-    ("root of the record after it", DAMAGED, {4: BASE.record.number + 1}),
-    ("root of a record that was overwritten", DAMAGED, {4: BASE.record.number - 2}),
+    ("root of no record", DAMAGED, {ROOT: 0}),
+    ("root of the record after it", DAMAGED, {ROOT: BASE.record.number + 1}),
+    ("root of a record that was overwritten", DAMAGED, {ROOT: BASE.record.number - 2}),
     ("both records without a number", DAMAGED, {SLOT: 0, OTHER_SLOT: 0}),
     ("the numbers of the slots exchanged", DAMAGED, {SLOT: BASE.record.number - 1, OTHER_SLOT: BASE.record.number}),
     ("number 0", DAMAGED, numbered(0)),
@@ -94,7 +97,7 @@ RECORDS = [
     ("role 0", DAMAGED, field(role=0)),
     ("role 3", DAMAGED, field(role=3)),
     ("last word", DAMAGED, field(last=1)),
-    ("nine gaps", DAMAGED, gaps(*[(5 + 2 * k, 5 + 2 * k) for k in range(8)], count=9)),
+    ("33 gaps", DAMAGED, gaps(*[(5 + 2 * k, 5 + 2 * k) for k in range(32)], count=33)),
     ("more gaps than fit a word", DAMAGED, gaps(GAP, count=MOST)),
     ("a gap beyond the count", DAMAGED, gaps(GAP, count=0)),
     ("a word beyond the count", DAMAGED, gaps(GAP, rest=[0, 1])),
@@ -128,7 +131,6 @@ ENTRIES_ALONE = [
     ("a key of the longest length word", DAMAGED, entry(1, line=600, lines=1024, lengths=65_535)),
     ("a field too long", DAMAGED, entry(2, line=600, lines=9, lengths=1 + 513 * 65_536)),
     ("a field of all bits", DAMAGED, entry(2, lengths=MOST)),
-    ("a value too long", DAMAGED, entry(1, line=600, lines=1025, value=65_537)),
     ("a value of all bits", DAMAGED, entry(1, value=MOST)),
     ("a position above the record's", DAMAGED, entry(1, position=BASE.record.position + 1)),
     ("an ended version with a kind that there is not", DAMAGED, entry(0, kind=9)),
@@ -147,10 +149,11 @@ ENTRIES_TOGETHER = [
 GARBAGE = [MOST, MOST, MOST, 9, MOST, MOST]
 STRANGE = [
     ("as it was written", {}),
-    ("words 5 to 7 of the superblock", {5: 1, 6: 2, 7: MOST}),
-    ("line 7", dict(enumerate([MOST] * 8, 7 * WORDS_OF_LINE))),
-    ("the other slot", dict(enumerate([MOST] * 24, OTHER_SLOT))),
-    ("the other slot without a record", dict(enumerate([0] * 24, OTHER_SLOT))),
+    ("words 4, 6 and 7 of the superblock", {4: 1, 6: 2, 7: MOST}),
+    ("lines 1 to 7", dict(enumerate([MOST] * 56, WORDS_OF_LINE))),
+    ("a record where version 1 has it", dict(enumerate(V1_RECORD, VERSION_1.slot_word(LINES, 1))) | {VERSION_1.root_word: 1}),
+    ("the other slot", dict(enumerate([MOST] * 72, OTHER_SLOT))),
+    ("the other slot without a record", dict(enumerate([0] * 72, OTHER_SLOT))),
     ("a higher record without the root", {OTHER_SLOT: BASE.record.number + 1}),
     ("lines of no version", dict(enumerate([MOST] * 80, 600 * WORDS_OF_LINE))),
     ("bytes behind those of a version", {(FIRST_LINE + 1) * WORDS_OF_LINE + 1: MOST}),
@@ -166,8 +169,8 @@ STRANGE = [
     ("a gap of one stamp", gaps((4100, 4100))),
     ("a gap to below cp", gaps((5, CP - 1))),
     ("no gap", gaps()),
-    ("eight gaps", gaps(*[(5 + 2 * k, 5 + 2 * k) for k in range(8)])),
-    ("eight gaps with stamps in the oldest", gaps(*[(2 + 2 * k, 2 + 2 * k) for k in range(8)])),
+    ("32 gaps", gaps(*[(5 + 2 * k, 5 + 2 * k) for k in range(32)])),
+    ("32 gaps with stamps in the oldest", gaps(*[(2 + 2 * k, 2 + 2 * k) for k in range(32)])),
     ("a gap over all that was committed", gaps((1, CP - 1))),
     ("a standby", field(role=STANDBY)),
     ("another position and epoch", field(position=LIMIT - 1, epoch=LIMIT - 1)),
@@ -178,7 +181,6 @@ STRANGE = [
     ("the empty key with the empty value", entry(1, lengths=0, value=0)),
     ("a field without key, name and value", entry(2, lengths=0, value=0)),
     ("the longest key and field", entry(2, line=600, lines=17, lengths=512 + 512 * 65_536) | text(600, 1025 * b"k")),
-    ("the longest value", entry(1, line=LINES - 1025, lines=1025, value=65_536) | text(LINES - 1025, 65_537 * b"v")),
     ("a full line", entry(1, line=600, value=63) | text(600, 64 * b"v")),
 ]
 

@@ -1,13 +1,13 @@
 """Images that are drawn by seed, with gaps, ended and half-made entries and hashes, and ways to damage them: bits, words and lines that are others
 (docs/image.md)."""
 
-from plain_image import DIRECTORY_LINE, PRIMARY, STANDBY, WORDS_OF_LINE, extents_begin, reopened
+from plain_image import DIRECTORY_LINE, LAYOUT, MOST_VALUE_BYTES, PRIMARY, STANDBY, WORDS_OF_LINE, extents_begin, reopened
 from plain_writer import Writer
 from standby_node import crashed, drawn_change, with_record
 
 LINES = 4_096
-# The words of the superblock, of the records and of line 7.
-HEAD = 8 * WORDS_OF_LINE
+# The words of the superblock and of line 1, and those of the records.
+HEAD = [*range(2 * WORDS_OF_LINE), *range(LAYOUT.slot_word(LINES, 0), LAYOUT.slot_word(LINES, 1) + LAYOUT.record_words)]
 ONES = 2**64 - 1
 
 
@@ -31,7 +31,7 @@ def drawn_place(draws, words):
     first, end = DIRECTORY_LINE * WORDS_OF_LINE, extents_begin(LINES) * WORDS_OF_LINE
     share = draws.random()
     if share < 0.35:
-        return draws.randrange(HEAD)
+        return draws.choice(HEAD)
     held = [at for at in words if (first <= at < end) == (share < 0.85) and at >= first]
     if held and draws.random() < 0.9:
         return draws.choice(held) // WORDS_OF_LINE * WORDS_OF_LINE + draws.randrange(WORDS_OF_LINE)
@@ -42,7 +42,7 @@ def drawn_value(draws, words, before):
     """A word in the place of another."""
     near = lambda value: (value + draws.choice([-1, 1])) % 2**64
     return draws.choice([
-        lambda: draws.choice([0, 1, 2, 3, 7, 8, 9, 64, 512, 513, 65_536, 65_537, 2**62 - 1, 2**62, 2**63, ONES]),
+        lambda: draws.choice([0, 1, 2, 3, 7, 8, 9, 64, 512, 513, 65_536, MOST_VALUE_BYTES, MOST_VALUE_BYTES + 1, 2**62 - 1, 2**62, 2**63, ONES]),
         lambda: near(before),
         lambda: draws.choice(list(words.values())),
         lambda: near(draws.choice(list(words.values()))),

@@ -41,7 +41,7 @@ class WorkedImage(Inspected):
         for name, changed, is_whole in [
             ("as it was written", {}, True),
             ("a line more of entry 0", entry(0, lines=2), False),
-            ("an entry less", {3: 511}, False),
+            ("a line less of the directory", {3: 511}, False),
             ("an end at cd in entry 1", entry(1, end=4_098), False),
             ("a begin and an end that do not count in entry 1", whole_entry(1, 4_000, 4_097, *6 * [2**64 - 1]), True),
         ]:

@@ -15,20 +15,20 @@ FORMAT_FENCES = 3
 WORKED_IMAGE = {
     # superblock
     0: 3544411304008368727,
-    1: 1,
+    1: 2,
     2: 4096,
     3: 512,
-    4: 2,
-    # record 2, from line 1
-    8: 2,
-    9: 1,
-    10: 1,
-    11: 4098,
-    12: 1,
-    # record 1, from line 4
-    32: 1,
-    35: 4097,
-    36: 1,
+    5: 2,
+    # record 2, from line 502
+    4016: 2,
+    4017: 1,
+    4018: 1,
+    4019: 4098,
+    4020: 1,
+    # record 1, from line 511
+    4088: 1,
+    4091: 4097,
+    4092: 1,
     # entry 0, line 8
     64: 1,
     66: 1,
@@ -45,17 +45,17 @@ WORKED_IMAGE = {
 # on the standby all have the first stamp and the last position, and the version that ended is freed.
 WORKED_GROUP = {
     0: 3544411304008368727,
-    1: 1,
+    1: 2,
     2: 4096,
     3: 512,
-    4: 2,
+    5: 2,
     # record 2 but for cp and cd, and record 1
-    8: 2,
-    9: 3,
-    12: 1,
-    32: 1,
-    35: 4097,
-    36: 1,
+    4016: 2,
+    4017: 3,
+    4020: 1,
+    4088: 1,
+    4091: 4097,
+    4092: 1,
     # entries 0, 1 and 2 but for begin, end and position, lines 8, 9 and 10
     67: 520,
     68: 1,
@@ -79,17 +79,17 @@ WORKED_GROUP = {
 }
 WORKED_GROUP_OF = {
     # cp and cd; of each entry begin, end where it has ended, and position
-    "primary": {10: 3, 11: 4100, 64: 1, 65: 3, 66: 1, 72: 2, 74: 2, 80: 3, 82: 3},
-    "standby": {10: 1, 11: 4098, 65: 1, 66: 3, 72: 1, 74: 3, 80: 1, 82: 3},
+    "primary": {4018: 3, 4019: 4100, 64: 1, 65: 3, 66: 1, 72: 2, 74: 2, 80: 3, 82: 3},
+    "standby": {4018: 1, 4019: 4098, 65: 1, 66: 3, 72: 1, 74: 3, 80: 1, 82: 3},
 }
 
 # The same after the one group `HSET h f 1`: entry 0 is of a field, and line 520 has the bytes 68 66 31.
 WORKED_FIELD = {**WORKED_IMAGE, 69: 2, 70: 65537, 4160: 3237480}
 
-NEW_IMAGE = {0: 3544411304008368727, 1: 1, 2: 4096, 3: 512, 4: 1, 32: 1, 35: 4097, 36: 1}
+NEW_IMAGE = {0: 3544411304008368727, 1: 2, 2: 4096, 3: 512, 5: 1, 4088: 1, 4091: 4097, 4092: 1}
 
 # Where record 2 and record 1 have their role.
-ROLE_OF_RECORD_2, ROLE_OF_RECORD_1 = 30, 54
+ROLE_OF_RECORD_2, ROLE_OF_RECORD_1 = 4086, 4158
 
 # At a crash all words get their oldest candidate, all their newest, or the two in turn.
 PICKS = {"oldest": "0", "newest": "1", "oldest first": "0 1", "newest first": "1 0"}
@@ -184,7 +184,7 @@ class Images(Runs):
                     self.assertEqual(tuple(trace.nodes[node]), (count, count + 1, count, count + 4097, 1, node, 0))
 
     def test_sizes(self):
-        # an eighth of the lines, rounded down, are entries
+        # an eighth of the lines, rounded down, are those of entries and of records
         for lines in [(4_096, 4_103), (4_097, 4_104), (8_191, 4_096), (16_384, 65_536)]:
             with self.case("lines", lines=lines):
                 trace = self.play(sets(2), lines=lines)

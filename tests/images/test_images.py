@@ -14,8 +14,8 @@ import tempfile
 
 import plain_image
 from common import CAUSE, NEWS, Cases, program, run_program, without_cause
-from damaged_images import BASE, ENTRIES_ALONE, ENTRIES_TOGETHER, RECORDS, SLOT, STRANGE, SUPERBLOCKS
-from plain_image import PRIMARY, STANDBY, Words
+from damaged_images import BASE, ENTRIES_ALONE, ENTRIES_TOGETHER, RECORDS, SLOT, STRANGE, SUPERBLOCKS, entry
+from plain_image import DIRECTORY_LINE, MOST_VALUE_BYTES, PRIMARY, STANDBY, WORDS_OF_LINE, Words
 from plain_keyspace import DropKey, Put
 from plain_writer import Writer
 
@@ -103,7 +103,7 @@ class Formatting(Images):
             with self.case("image", lines=lines, role=role), self.folder() as folder:
                 path = folder / "p.img"
                 finished = self.run_words(format_words(path, lines, ROLES[role]))
-                self.assert_written(finished, b"formatted %d lines, %d entries\n" % (lines, lines // 8))
+                self.assert_written(finished, b"formatted %d lines, %d entries\n" % (lines, lines // 8 - 18))
                 self.assert_bytes(path.read_bytes(), image_bytes(lines, Writer(lines, role).words))
                 # (its owner's alone)
                 self.assertEqual(stat.S_IMODE(path.stat().st_mode), 0o600)
@@ -113,7 +113,7 @@ class Formatting(Images):
         with self.folder() as folder:
             path = folder / "p.img"
             path.write_bytes(b"\xa5" * LINES * LINE_BYTES)
-            self.assert_written(self.run_words(format_words(path, role="standby")), b"formatted 4096 lines, 512 entries\n")
+            self.assert_written(self.run_words(format_words(path, role="standby")), b"formatted 4096 lines, 494 entries\n")
             data, front = path.read_bytes(), plain_image.extents_begin(LINES) * LINE_BYTES
             self.assert_bytes(data[:front], image_bytes(LINES, Writer(LINES, STANDBY).words)[:front])
             self.assert_bytes(data[front:], b"\xa5" * (LINES * LINE_BYTES - front))
@@ -164,7 +164,7 @@ class Formatting(Images):
                 with self.case("lines", lines=lines):
                     words = [*apart, mount, program("server"), *format_words(folder / "p.img", lines)]
                     ran = subprocess.run(words, capture_output=True, check=False)
-                    wanted = (DONE, b"formatted 4096 lines, 512 entries\np.img\n", b"") if lines == LINES else (FAILED, b"", refusal(1))
+                    wanted = (DONE, b"formatted 4096 lines, 494 entries\np.img\n", b"") if lines == LINES else (FAILED, b"", refusal(1))
                     self.assertEqual((ran.returncode, ran.stdout, without_cause(ran.stderr)), wanted)
 
     def test_output_that_fails(self):
@@ -208,18 +208,30 @@ class Inspecting(Images):
         writer.commit([[DropKey(b"h")]])
         self.assert_told(LINES, writer.words, told(writer.record, 1))
 
-    def test_eight_gaps(self):
+    def test_32_gaps(self):
         writer = Writer(LINES, STANDBY)
-        for count in range(1, 11):
+        for count in range(1, 35):
             writer.reopen()
             with self.case("reopenings", count=count):
                 self.assert_told(LINES, writer.words, told(writer.record, 0))
 
     def test_a_full_image(self):
         writer = Writer(LINES, PRIMARY)
-        for at in range(0, 512, 64):
-            writer.commit([[Put((b"k%d" % key,), b"v")] for key in range(at, at + 64)])
-        self.assert_told(LINES, writer.words, told(writer.record, 512))
+        for at in range(0, 494, 64):
+            writer.commit([[Put((b"k%d" % key,), b"v")] for key in range(at, min(at + 64, 494))])
+        self.assert_told(LINES, writer.words, told(writer.record, 494))
+
+    def test_the_longest_value(self):
+        """At a key of one byte it takes 16,385 lines. One that is a byte longer breaks a rule."""
+        lines = 20_480
+        writer = Writer(lines, PRIMARY)
+        writer.commit([[Put((b"a",), MOST_VALUE_BYTES * b"v")]])
+        self.assertEqual(writer.words[DIRECTORY_LINE * WORDS_OF_LINE + 4], 16_385)
+        self.assert_told(lines, writer.words, told(writer.record, 1))
+        with self.folder() as folder:
+            path = folder / "p.img"
+            path.write_bytes(image_bytes(lines, writer.words | entry(0, value=MOST_VALUE_BYTES + 1)))
+            self.assert_refused(["inspect", "--image", str(path)], 7)
 
     def test_images_that_break_no_rule(self):
         for name, changes in STRANGE:
@@ -362,5 +374,5 @@ class CommandLines(Images):
         with self.folder() as folder:
             path = folder / "p.img"
             words = ["format", f"--image={path}", "--role=standby", "--lines=4096"]
-            self.assert_written(self.run_words(words), b"formatted 4096 lines, 512 entries\n")
+            self.assert_written(self.run_words(words), b"formatted 4096 lines, 494 entries\n")
             self.assert_written(self.run_words(["inspect", f"--image={path}"]), told(Writer(LINES, STANDBY).record, 0))

@@ -20,7 +20,7 @@ from test_promote import STOPPED, Standby, with_groups
 PROGRAMS = ["server"]
 
 KEPT = 3
-FORMATTED = b"formatted 4096 lines, 512 entries\n"
+FORMATTED = b"formatted 4096 lines, 494 entries\n"
 QUESTION = b"type yes to go on: "
 
 

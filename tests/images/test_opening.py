@@ -3,7 +3,7 @@
 import random
 
 from damaged_images import BASE, ENTRIES_ALONE, ENTRIES_TOGETHER, FIELD_OF, RECORDS, SLOT, STRANGE, SUPERBLOCKS
-from plain_image import PRIMARY, STANDBY
+from plain_image import PRIMARY, STANDBY, VERSION_1
 from plain_keyspace import Put
 from plain_writer import Writer
 from standby_node import LIMIT, StandingBy, crashed, drawn_change, drawn_frames, take, with_record
@@ -41,18 +41,27 @@ class Opening(StandingBy):
                     self.open_again(path)
                     self.assert_opened(before, self.words(path))
 
-    def test_twelve_reopenings(self):
-        """Each adds a gap. From the ninth on, the oldest goes first, under a record of its own."""
+    def test_an_image_of_version_1(self):
+        with self.folder() as folder:
+            writer = Writer(LINES, self.ROLE, layout=VERSION_1)
+            writer.commit([[Put((b"a",), b"1")]])
+            path = self.made(folder, writer.words)
+            data = path.read_bytes()
+            self.assert_refused(self.opening_words(path), 3)
+            self.assert_bytes(path.read_bytes(), data)
+
+    def test_36_reopenings(self):
+        """Each adds a gap. From the 33rd on, the oldest goes first, under a record of its own."""
         with self.folder() as folder:
             writer = Writer(LINES, self.ROLE)
             writer.commit([[Put((b"a",), b"1")]])
             path = self.made(folder, writer.words)
-            for count in range(1, 13):
+            for count in range(1, 37):
                 writer.reopen()
                 with self.case("reopenings", count=count):
                     self.open_again(path)
                     self.assertEqual(words_of(path.read_bytes()), writer.words)
-            self.assertEqual((len(writer.record.gaps), writer.record.number), (8, 2 + 12 + 4))
+            self.assertEqual((len(writer.record.gaps), writer.record.number), (32, 2 + 36 + 4))
 
     def test_what_a_crash_in_a_commit_left(self):
         """Twice in a row: map and position stay, and the entries that it left count for nothing."""

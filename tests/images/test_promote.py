@@ -9,7 +9,7 @@ import tempfile
 
 import plain_image
 from common import CAUSE, NEWS, Cases, run_program, without_news
-from plain_image import PRIMARY, STANDBY, Words
+from plain_image import LAYOUT, PRIMARY, STANDBY, VERSION_1, WORDS_OF_LINE, Words, extents_begin
 from plain_keyspace import DropKey, Put
 from test_images import DONE, FAILED, LINE_BYTES, LINES, MISUSED, format_words, image_bytes, told, words_of
 from damaged_images import BASE, ENTRIES_ALONE, ENTRIES_TOGETHER, RECORDS, SUPERBLOCKS
@@ -33,6 +33,10 @@ TEXTS = {
 }
 
 
+# The slots of records lie between the entries and the extents.
+FIRST_RECORD_WORD, EXTENTS_WORD = LAYOUT.slot_word(LINES, 0), extents_begin(LINES) * WORDS_OF_LINE
+
+
 class Standby(Writer):
     """A standby's image, which is promoted once it is opened again."""
 
@@ -42,7 +46,7 @@ class Standby(Writer):
     def number(self, **values):
         """Gives the record these numbers, as if it had come so far."""
         self.record = self.record._replace(**values)
-        self.words = {word: value for word, value in self.words.items() if not 8 <= word < 56}
+        self.words = {word: value for word, value in self.words.items() if not FIRST_RECORD_WORD <= word < EXTENTS_WORD}
         self._put_record()
 
     def promote(self):
@@ -62,10 +66,10 @@ def with_groups():
     return standby
 
 
-def with_eight_gaps():
+def with_32_gaps():
     standby = Standby()
     standby.commit([[Put((b"a",), b"1")]])
-    for _ in range(8):
+    for _ in range(32):
         standby.reopen()
     return standby
 
@@ -128,7 +132,7 @@ class Promoting(Promotions):
     def test_images_that_hold_something(self):
         for name, standby in [
             ("three frames", with_groups()),
-            ("eight gaps", with_eight_gaps()),
+            ("32 gaps", with_32_gaps()),
             ("a later epoch", of_epoch(7)),
             ("the last epoch but one", of_epoch(LAST_COUNTER - 1)),
         ]:
@@ -138,7 +142,7 @@ class Promoting(Promotions):
     def test_an_image_that_the_program_made(self):
         with self.folder() as folder:
             path = folder / "s.img"
-            self.assert_written(run_program("server", format_words(path, role="standby")), b"formatted 4096 lines, 512 entries\n")
+            self.assert_written(run_program("server", format_words(path, role="standby")), b"formatted 4096 lines, 494 entries\n")
             self.assert_promotes(self.promote(path, STOPPED), 2)
             text = b"record 3\nposition 0\ncp 4097\ncd 8194\nepoch 2\nrole primary\ngaps 1\ngap 1 4096\nlive 0\n"
             self.assert_inspected(path, text)
@@ -178,6 +182,13 @@ class Refusals(Promotions):
         before = path.read_bytes()
         self.assert_refused(self.promote(path, *flags), number)
         self.assert_bytes(path.read_bytes(), before)
+
+    def test_an_image_of_version_1(self):
+        with self.folder() as folder:
+            path, writer = folder / "s.img", Writer(LINES, STANDBY, layout=VERSION_1)
+            writer.commit([[Put((b"a",), b"1")]])
+            path.write_bytes(image_bytes(LINES, writer.words))
+            self.assert_untouched(path, 3, STOPPED)
 
     def test_no_fence(self):
         whole = image_bytes(LINES, with_groups().words)

@@ -10,7 +10,7 @@ import tempfile
 
 import common
 import plain_image
-from plain_image import PRIMARY, STANDBY, Words
+from plain_image import LAYOUT, PRIMARY, STANDBY, VERSION_1, Words
 from plain_keyspace import DropKey, Put
 from plain_writer import Writer
 from standby_node import cut_short
@@ -19,7 +19,7 @@ PROGRAMS = ["server"]
 
 LINES = 4_096
 # Word 4 of an image, and a record's place in it.
-ROOT = 4
+ROOT = LAYOUT.root_word
 
 
 class Status(common.Cases):
@@ -42,10 +42,11 @@ class Status(common.Cases):
     def told(self, name, words):
         """What is to be told of an image, by the plain reader."""
         device = Words(LINES, words)
-        record = plain_image.read_image(device).record
+        layout = VERSION_1 if words[1] == 1 else LAYOUT
+        record = plain_image.read_image(device, layout).record
         versions = plain_image.read_versions(device, record)
         taken, ended = len(versions.counted) + len(versions.gapped), sum(end != 0 for _, end in versions.counted)
-        entries, room = LINES // 8, LINES - 8 - LINES // 8
+        entries, room = layout.entries(LINES), LINES - 8 - LINES // 8
         lines = room - len(plain_image.free_lines(device, record))
         role = {PRIMARY: "primary", STANDBY: "standby"}[record.role]
         shares = f"versions {taken} of {entries} ({100 * taken // entries} %, {ended} ended), lines {lines} of {room} ({100 * lines // room} %)"
@@ -78,8 +79,8 @@ class Status(common.Cases):
         self.assertEqual(self.run_words(*names), (0, f"{told}behind: 2\n", ""))
 
     def test_a_share(self):
-        """Of 512 versions 461 are 90 per cent, by the whole number below; of lines too."""
-        for name, count, length, most in [("versions", 461, 1, 90), ("lines", 3, 65_536, 85)]:
+        """Of 494 versions 445 are 90 per cent, by the whole number below; of lines too."""
+        for name, count, length, most in [("versions", 445, 1, 90), ("lines", 3, 65_536, 85)]:
             with self.case(name):
                 writer = Writer(LINES, PRIMARY)
                 for at in range(count):
@@ -88,12 +89,19 @@ class Status(common.Cases):
                 self.assertEqual(self.run_words("--below", str(most + 1), made), (0, told, ""))
                 self.assertEqual(self.run_words("--below", str(most), made), (1, told, ""))
 
+    def test_an_image_of_version_1(self):
+        writer = Writer(LINES, PRIMARY, layout=VERSION_1)
+        writer.commit([[Put((b"a",), b"1")], [Put((b"b",), b"1")], [Put((b"a",), b"2")]])
+        writer.reopen()
+        self.assertEqual(self.run_words(self.made("it.img", writer.words)), (0, self.told("it.img", writer.words), ""))
+
     def test_what_is_no_image(self):
         (self.folder / "text").write_text("text\n", encoding="ascii")
         words = Writer(LINES, PRIMARY).words
         (self.folder / "cut").write_bytes((self.folder / self.made("it.img", words)).read_bytes()[:100])
         self.made("torn", words | {ROOT: 2})
-        for name, why in [("text", "it does not begin as one"), ("none", "No such file or directory"), ("cut", "it ends too early"), ("torn", "its record is not that of its root")]:
+        self.made("later", words | {1: 9})
+        for name, why in [("later", "it is of another version"), ("text", "it does not begin as one"), ("none", "No such file or directory"), ("cut", "it ends too early"), ("torn", "its record is not that of its root")]:
             with self.case(name):
                 self.assertEqual(self.run_words(name), (2, "", f"{name}: no image that can be read: {why}\n"))
 
@@ -114,7 +122,7 @@ class OfTheServer(Status):
         rows = {
             "role": {PRIMARY: "primary", STANDBY: "standby"}[record.role], "epoch": record.epoch, "position": record.position,
             "versions": len(versions.counted), "ended": sum(end != 0 for _, end in versions.counted), "cut": len(versions.gapped),
-            "entries": LINES // 8, "lines": room - len(plain_image.free_lines(device, record)), "room": room, "gaps": len(record.gaps),
+            "entries": LAYOUT.entries(LINES), "lines": room - len(plain_image.free_lines(device, record)), "room": room, "gaps": len(record.gaps),
         }
         return "".join(f"{word} {value}\n" for word, value in rows.items())
 
@@ -152,6 +160,10 @@ class OfTheServer(Status):
             held.flush()
             self.assertEqual(self.run_words(name), (1, "", "in use\n"))
         self.assertEqual(self.run_words(name), (1, "", f"{name} breaks a rule of an image\nrefusal 7: damaged image\n"))
+
+    def test_an_image_of_version_1(self):
+        name = self.made("it.img", Writer(LINES, PRIMARY, layout=VERSION_1).words)
+        self.assertEqual(self.run_words(name), (1, "", f"{name} is an image of another version\nrefusal 3: bad version\n"))
 
     # (the subcommand has no such option)
     test_a_share = None

@@ -15,6 +15,7 @@ FIELDS = [b"", b"f", b"fg", b"g", b"\0", b"\xff", LONGEST_KEY]
 NUMBERS = [b"0", b"1", b"-1", b"7", b"-40", GREATEST, LEAST]
 NO_NUMBERS = [b"", b"01", b"+1", b"-0", b"9223372036854775808", b"-9223372036854775809", b"1 "]
 VALUES = [*NUMBERS, *NO_NUMBERS, b"text", b"\0\xff", b"$-1\r\n", 100 * b"a longer text", b"NX"]
+# An image of 4,096 lines has room for a few of them; for none near the limit.
 LONG_VALUES = [length * b"v" for length in (65_536, 65_535, 65_534, 8_192)]
 OPTIONS = [b"NX", b"nx", b"nX", b"XX", b"xx", b"EX"]
 

@@ -13,7 +13,7 @@ from plain_replies import (
 )
 
 MOST_KEY_BYTES = 512
-MOST_VALUE_BYTES = 65_536
+MOST_VALUE_BYTES = 1_048_576
 
 LEAST, GREATEST = -2**63, 2**63 - 1
 # (none in the range has more than 19 digits)

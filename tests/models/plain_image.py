@@ -5,26 +5,60 @@ import typing
 
 from plain_keyspace import Put
 
-# "Layout, version 1": what each part is, in words of 64 bits and lines of 8 words.
+# What each part is in both versions, in words of 64 bits and lines of 8 words.
 WORDS_OF_LINE = 8
 LEAST_LINES, MOST_LINES = 4_096, 2**31
 MAGIC = int.from_bytes(b"WBLIMG01", "little")
-VERSION = 1
-RECORD_LINES = (1, 4)
-RECORD_WORDS = 24
 DIRECTORY_LINE = 8
-MOST_GAPS = 8
+GAPS_WORD = 6
 STAMPS_BETWEEN_RECORDS = 4_097
 BOUND = 2**62
 PRIMARY, STANDBY = 1, 2
 STRING, FIELD = 1, 2
-MOST_KEY_BYTES, MOST_VALUE_BYTES = 512, 65_536
+MOST_KEY_BYTES, MOST_VALUE_BYTES = 512, 1_048_576
 LENGTH_SHIFT = 65_536
+
+
+class Layout(typing.NamedTuple):
+    """What is other in each version: the word of the superblock that names the current record, how many lines a record slot has, whether the slots are behind
+    the directory, and how many gaps a record holds."""
+
+    version: int
+    root_word: int
+    slot_lines: int
+    slots_are_behind: bool
+    most_gaps: int
+
+    def entries(self, lines):
+        """How many entries an image of so many lines has."""
+        return lines // 8 - 2 * self.slot_lines * self.slots_are_behind
+
+    def slot_line(self, lines, number):
+        """The first line of the slot of the record of this number."""
+        return (DIRECTORY_LINE + self.entries(lines) if self.slots_are_behind else 1) + self.slot_lines * (number % 2)
+
+    def slot_word(self, lines, number):
+        return self.slot_line(lines, number) * WORDS_OF_LINE
+
+    @property
+    def role_word(self):
+        """The word of a record that has its role, behind the gaps. One that is zero follows, and no other."""
+        return GAPS_WORD + 2 * self.most_gaps
+
+    @property
+    def record_words(self):
+        return self.role_word + 2
+
+
+VERSION_1 = Layout(version=1, root_word=4, slot_lines=3, slots_are_behind=False, most_gaps=8)
+VERSION_2 = Layout(version=2, root_word=5, slot_lines=9, slots_are_behind=True, most_gaps=32)
+# That of new images, and of those that are served.
+LAYOUT = VERSION_2
 
 # "Room for a frame" of docs/replication.md: a standby keeps its last lines free, as many as the longest version has. With so many lines more than its primary
 # it always makes room: seven of eight of them are lines of extents, and at least as many as the spare place has.
 SPARE_LINES = (2 * MOST_KEY_BYTES + MOST_VALUE_BYTES) // 64
-MORE_LINES = 1_192
+MORE_LINES = 18_744
 
 # "Refusals" of docs/replication.md: those of an image that is read.
 WRONG_SIZE, BAD_MAGIC, BAD_VERSION, DAMAGED = 4, 2, 3, 7
@@ -48,6 +82,7 @@ class Record(typing.NamedTuple):
     epoch: int
     gaps: tuple
     role: int
+    layout: Layout = LAYOUT
 
     def told(self):
         """What of it does not depend on how room was made."""
@@ -113,26 +148,26 @@ class Words:
         return b"".join(word.to_bytes(8, "little") for word in words)[:count]
 
 
-def read_image(device):
-    """The image on a device. BadImage where there is none, with the first refusal that docs/image.md names."""
+def read_image(device, layout=LAYOUT):
+    """The image of this layout on a device. BadImage where there is none, with the first refusal that docs/image.md names."""
     if not LEAST_LINES <= device.lines <= MOST_LINES:
         raise BadImage(WRONG_SIZE, "number of lines")
-    magic, version, lines, entries, root = device.slice(0, 5)
+    magic, version, lines, room = device.slice(0, 4)
     if magic != MAGIC:
         raise BadImage(BAD_MAGIC, "magic")
-    if version != VERSION:
+    if version != layout.version:
         raise BadImage(BAD_VERSION, "version")
     if lines != device.lines:
         raise BadImage(WRONG_SIZE, "lines in the superblock")
-    _whole(entries == device.lines // 8, "number of entries")
-    record = _read_record(device, root)
-    return Image(record, _read_map(device, record, _read_entries(device)))
+    _whole(room == device.lines // 8, "word 3 of the superblock")
+    record = _read_record(device, layout)
+    return Image(record, _read_map(device, record, _read_entries(device, layout)))
 
 
 def read_versions(device, record):
     """The entries of a whole image under its record."""
     counted, gapped = [], []
-    for number, entry in enumerate(_read_entries(device)):
+    for number, entry in enumerate(_read_entries(device, record.layout)):
         if record.counts(entry.begin):
             counted.append((number, entry.end if record.counts(entry.end) else 0))
         elif entry.begin:
@@ -149,35 +184,41 @@ def placed(device, number):
     return name, (entry.line, entry.lines)
 
 
-def versions_on(device):
+def versions_on(device, layout=LAYOUT):
     """What the versions of a whole image are."""
-    record = read_image(device).record
-    counted = [entry for entry in _read_entries(device) if record.counts(entry.begin)]
+    record = read_image(device, layout).record
+    counted = [entry for entry in _read_entries(device, layout) if record.counts(entry.begin)]
     return [Version(*_read_version(device, record, entry), entry.position, record.counts(entry.end)) for entry in counted]
 
 
 def free_lines(device, record):
     """The lines of extents that no version has, also none that has ended."""
     taken = set()
-    for entry in _read_entries(device):
+    for entry in _read_entries(device, record.layout):
         if record.counts(entry.begin):
             taken.update(range(entry.line, entry.line + entry.lines))
     return [line for line in range(extents_begin(device.lines), device.lines) if line not in taken]
 
 
-def free_entries(device):
-    return [number for number, entry in enumerate(_read_entries(device)) if entry.begin == 0]
+def free_entries(device, layout=LAYOUT):
+    return [number for number, entry in enumerate(_read_entries(device, layout)) if entry.begin == 0]
 
 
-def _read_entries(device):
-    return [Entry(*device.line(DIRECTORY_LINE + entry)) for entry in range(device.lines // 8)]
+def _read_entries(device, layout):
+    return [Entry(*device.line(DIRECTORY_LINE + entry)) for entry in range(layout.entries(device.lines))]
 
 
 def record_words(record):
     """The words of a record in its slot."""
     flat = [bound for gap in record.gaps for bound in gap]
     head = [record.number, record.position, record.cp, record.cd, record.epoch, len(record.gaps)]
-    return [*head, *flat, *[0] * (2 * MOST_GAPS - len(flat)), record.role, 0]
+    return [*head, *flat, *[0] * (2 * record.layout.most_gaps - len(flat)), record.role, 0]
+
+
+def record_in_place(lines, record):
+    """The words of a record in its slot, and the root, by their indices."""
+    slot = record.layout.slot_word(lines, record.number)
+    return {record.layout.root_word: record.number} | dict(enumerate(record_words(record), slot))
 
 
 def without_oldest_gap(record):
@@ -187,7 +228,7 @@ def without_oldest_gap(record):
 
 def reopened(record):
     """The records that a reopening writes, one after another."""
-    written = [without_oldest_gap(record)] if len(record.gaps) == MOST_GAPS else []
+    written = [without_oldest_gap(record)] if len(record.gaps) == record.layout.most_gaps else []
     last = written[-1] if written else record
     gaps = (*last.gaps, (last.cp + 1, last.cd - 1))
     cd = last.cd + STAMPS_BETWEEN_RECORDS
@@ -199,21 +240,23 @@ def _whole(holds, rule):
         raise BadImage(DAMAGED, rule)
 
 
-def _read_record(device, root):
-    words = device.slice(RECORD_LINES[root % 2] * WORDS_OF_LINE, RECORD_WORDS)
-    number, position, cp, cd, epoch, count = words[:6]
-    pairs = list(zip(words[6:22:2], words[7:22:2]))
+def _read_record(device, layout):
+    root = device.slice(layout.root_word, 1)[0]
+    words = device.slice(layout.slot_word(device.lines, root), layout.record_words)
+    number, position, cp, cd, epoch, count = words[:GAPS_WORD]
+    bounds, (role, last) = words[GAPS_WORD:layout.role_word], words[layout.role_word:]
+    pairs = list(zip(bounds[::2], bounds[1::2]))
     _whole(number == root and 1 <= number < BOUND, "number of the record")
     _whole(position < BOUND, "position")
     _whole(cd == cp + STAMPS_BETWEEN_RECORDS and cd < BOUND, "cp and cd")
     _whole(1 <= epoch < BOUND, "epoch")
-    _whole(count <= MOST_GAPS and not any(map(any, pairs[count:])), "number of gaps")
-    _whole(words[22] in (PRIMARY, STANDBY) and words[23] == 0, "role")
+    _whole(count <= layout.most_gaps and not any(map(any, pairs[count:])), "number of gaps")
+    _whole(role in (PRIMARY, STANDBY) and last == 0, "role")
     before = 0
     for first, last in pairs[:count]:
         _whole(before < first <= last < cp, "gap")
         before = last
-    return Record(number, position, cp, cd, epoch, tuple(pairs[:count]), words[22])
+    return Record(number, position, cp, cd, epoch, tuple(pairs[:count]), role, layout)
 
 
 def _read_map(device, record, versions):
@@ -258,5 +301,5 @@ def lines_of_puts(changes):
 
 
 def extents_begin(lines):
-    """The first line of extents."""
+    """The first line of extents, in both versions."""
     return DIRECTORY_LINE + lines // 8

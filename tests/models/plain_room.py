@@ -5,7 +5,7 @@ import heapq
 import itertools
 import typing
 
-from plain_image import SPARE_LINES, extents_begin, lines_of_puts
+from plain_image import LAYOUT, SPARE_LINES, extents_begin, lines_of_puts
 from plain_keyspace import Clear, Drop, DropKey, Put
 
 
@@ -29,10 +29,10 @@ class Room:
     """What is free of an image of so many lines, beside these places and entries: entries, the lowest first, and runs of lines, each as its first line
     and the line after its last. `given` has the places that were taken since it was emptied last."""
 
-    def __init__(self, lines, places=(), entries=()):
+    def __init__(self, lines, places=(), entries=(), layout=LAYOUT):
         taken = {place.entry for place in places} | set(entries)
         self.lines = lines
-        self.entries = [entry for entry in range(lines // 8) if entry not in taken]
+        self.entries = [entry for entry in range(layout.entries(lines)) if entry not in taken]
         self.runs = [(extents_begin(lines), lines)]
         for place in sorted(places, key=lambda place: place.line):
             first, end = self.runs.pop()

@@ -131,7 +131,7 @@ class Front:
         spare = left - (1 + 2 * names + 4 * values)
         if spare < 0:
             raise Fault
-        for size, limit in names * [(2, 512)] + values * [(4, 65_536)]:
+        for size, limit in names * [(2, 512)] + values * [(4, 1_048_576)]:
             length = self.number(size, 0, min(limit, spare))
             self.take(length)
             spare -= length

@@ -3,26 +3,24 @@ candidates."""
 
 import plain_image
 from plain_device import Device
-from plain_image import (DIRECTORY_LINE, FIELD, LENGTH_SHIFT, MAGIC, PRIMARY, RECORD_LINES, STAMPS_BETWEEN_RECORDS, STRING, VERSION, WORDS_OF_LINE, Entry,
-                         Record, Words, extents_begin, record_words, reopened, without_oldest_gap)
+from plain_image import (DIRECTORY_LINE, FIELD, LAYOUT, LENGTH_SHIFT, MAGIC, PRIMARY, STAMPS_BETWEEN_RECORDS, STRING, WORDS_OF_LINE, Entry, Record, Words,
+                         extents_begin, record_words, reopened, without_oldest_gap)
 from plain_keyspace import Put
 from plain_room import Part, Place, Room, Table
 
 __all__ = ["Part", "Place", "Room", "Table", "Writer"]
 
-ROOT_WORD, RECORD_SLOT_LINES = 4, 3
-
 
 class Writer:
-    """A new image, to which groups are committed one after another, from which what has ended is freed, and which is opened again. Beside
+    """A new image of this layout, to which groups are committed one after another, from which what has ended is freed, and which is opened again. Beside
     it is what its node holds in memory: the free room, and the entry of each record. A primary's is ahead of the image by what waits for a
     commit. `places_may_differ` once a standby may have moved versions or cleared gaps to make room: the places of versions, their stamps, and the record's
     number, stamps and gaps are one way then of many. A fence that fails raises Fault: the image is to crash then."""
 
-    def __init__(self, lines, role, device=None):
-        self.lines = lines
+    def __init__(self, lines, role, device=None, layout=LAYOUT):
+        self.lines, self.layout = lines, layout
         self.device = device or Device()
-        self.record = Record(1, 0, 0, STAMPS_BETWEEN_RECORDS, 1, (), role)
+        self.record = Record(1, 0, 0, STAMPS_BETWEEN_RECORDS, 1, (), role, layout)
         # by its entry each version that is not freed: its name and its place
         self._versions = {}
         # the entries of those that have ended, in the order in which they did; of those that an image tells, in rising order
@@ -50,9 +48,10 @@ class Writer:
         """No magic until all else is durable. (Zeros are not stored over zeros.)"""
         self._put(0, [0])
         self._fence([0])
-        self._put(1, [VERSION, self.lines, self.lines // 8, self.record.number])
-        self._put(RECORD_LINES[1] * WORDS_OF_LINE, record_words(self.record))
-        self._fence(range(DIRECTORY_LINE))
+        self._put(1, [self.layout.version, self.lines, self.lines // 8])
+        self._put(self.layout.slot_word(self.lines, self.record.number), record_words(self.record))
+        self._put(self.layout.root_word, [self.record.number])
+        self._fence([*range(DIRECTORY_LINE), *self._slot(self.record)])
         self._put(0, [MAGIC])
         self._fence([0])
 
@@ -64,7 +63,7 @@ class Writer:
     def read(self):
         """What is in memory is made anew from the image."""
         device = Words(self.lines, self.words)
-        self.record = plain_image.read_image(device).record
+        self.record = plain_image.read_image(device, self.layout).record
         self._versions, self._ended = {}, {}
         versions = plain_image.read_versions(device, self.record)
         for entry, end in versions.counted:
@@ -75,7 +74,7 @@ class Writer:
         self._fill_memory()
 
     def _fill_memory(self):
-        self.room = Room(self.lines, [place for _, place in self._versions.values()], self._gapped)
+        self.room = Room(self.lines, [place for _, place in self._versions.values()], self._gapped, self.layout)
         self.table = Table()
         for entry, (name, _) in self._versions.items():
             if entry not in self._ended:
@@ -172,12 +171,12 @@ class Writer:
             self._versions[entry] = name, place._replace(line=line)
             line += place.lines
         self.device.settle()
-        self.room = Room(self.lines, [place for _, place in self._versions.values()], self._gapped)
+        self.room = Room(self.lines, [place for _, place in self._versions.values()], self._gapped, self.layout)
 
     def clear_gap(self):
         """Clears the oldest gap: each stamp that lies in it, and then the gap. Gives the entries of which it cleared the begin, as places without lines."""
         first, last = self.record.gaps[0]
-        stamps = {entry: self._stamps(entry) for entry in range(self.lines // 8)}
+        stamps = {entry: self._stamps(entry) for entry in range(self.layout.entries(self.lines))}
         begins = [entry for entry, (begin, _) in stamps.items() if first <= begin <= last]
         ends = [entry for entry, (_, end) in stamps.items() if first <= end <= last]
         self._erase(begins, 0)
@@ -189,7 +188,7 @@ class Writer:
 
     def reopen(self):
         """A reopening: where the record has as many gaps as it can, the oldest is cleared first."""
-        if len(self.record.gaps) == plain_image.MOST_GAPS:
+        if len(self.record.gaps) == self.layout.most_gaps:
             self.room.give(self.clear_gap())
         self._put_record(reopened(self.record)[-1])
 
@@ -232,12 +231,16 @@ class Writer:
     def _put_record(self, record=None):
         """A record in its slot, and then its number as the root."""
         record = record or self.record
-        line = RECORD_LINES[record.number % 2]
-        self._put(line * WORDS_OF_LINE, record_words(record))
-        self._fence(range(line, line + RECORD_SLOT_LINES))
-        self._put(ROOT_WORD, [record.number])
+        self._put(self.layout.slot_word(self.lines, record.number), record_words(record))
+        self._fence(self._slot(record))
+        self._put(self.layout.root_word, [record.number])
         self._fence([0])
         self.record = record
+
+    def _slot(self, record):
+        """The lines of the slot of a record."""
+        line = self.layout.slot_line(self.lines, record.number)
+        return range(line, line + self.layout.slot_lines)
 
     def _fence(self, lines):
         """Flushes these lines, and fences."""

@@ -6,7 +6,7 @@ import typing
 
 # The limits: words in a request, the name among them, and bytes in a word.
 MOST_WORDS = 1_024
-MOST_BYTES = 65_536
+MOST_BYTES = 1_048_576
 
 # The texts of the faults, and the bytes that stand for themselves in the third.
 EXPECTED_STAR = b"ERR Protocol error: expected '*'"

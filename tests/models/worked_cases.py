@@ -38,7 +38,7 @@ FIRST_PATH = {
     "empty_value": (b"*3\r\n$3\r\nSET\r\n$1\r\ne\r\n$0\r\n\r\n*2\r\n$3\r\nGET\r\n$1\r\ne\r\n", OK + b"$0\r\n\r\n"),
     "absent_key": (b"*2\r\n$3\r\nGET\r\n$1\r\nz\r\n", b"$-1\r\n"),
     "get_without_a_key": (b"*1\r\n$3\r\nget\r\n", b"-ERR wrong number of arguments for 'get' command\r\n"),
-    "value_of_65537_bytes": (b"*3\r\n$3\r\nSET\r\n$1\r\na\r\n$65537", BAD_LENGTH),
+    "value_of_1048577_bytes": (b"*3\r\n$3\r\nSET\r\n$1\r\na\r\n$1048577", BAD_LENGTH),
     "greatest_number": (
         b"*3\r\n$3\r\nSET\r\n$1\r\nn\r\n$19\r\n9223372036854775807\r\n*2\r\n$4\r\nINCR\r\n$1\r\nn\r\n*2\r\n$3\r\nGET\r\n$1\r\nn\r\n",
         OK + b"-ERR increment or decrement would overflow\r\n$19\r\n9223372036854775807\r\n",
@@ -58,8 +58,8 @@ FAULTS = {
     "word_without_a_dollar": (b"*1\r\n:", b"-ERR Protocol error: expected '$', got ':'\r\n"),
     "word_that_begins_with_byte_01": (b"*1\r\n\x01", b"-ERR Protocol error: expected '$', got '?'\r\n"),
     "length_with_a_sign": (b"*1\r\n$-", BAD_LENGTH),
-    "length_too_great": (b"*1\r\n$99999", BAD_LENGTH),
-    "length_above_the_limit": (b"*3\r\n$3\r\nSET\r\n$1\r\na\r\n$65537", BAD_LENGTH),
+    "length_too_great": (b"*1\r\n$9999999", BAD_LENGTH),
+    "length_above_the_limit": (b"*3\r\n$3\r\nSET\r\n$1\r\na\r\n$1048577", BAD_LENGTH),
     "word_that_goes_on": (b"*1\r\n$4\r\nPINGX", NO_LINE_END),
 }
 

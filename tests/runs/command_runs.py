@@ -67,25 +67,25 @@ class Commands(Runs):
         Put((b"h", b"f"), b"1"), Put((b"h", b"g"), b"2"), Put((b"h", b"t"), b"text"), Put((b"h", b""), b""),
     )
 
-    def show_requests(self, table, kept=KEPT):
+    def show_requests(self, table, kept=KEPT, lines=LINES):
         """Each request is one case: its reply, its changes in order, and `CLOSE` where it closes its connection."""
-        self.show_effects([(asked, effect_of(*wanted)) for asked, *wanted in table], kept)
+        self.show_effects([(asked, effect_of(*wanted)) for asked, *wanted in table], kept, lines)
 
-    def show_effects(self, table, kept=()):
+    def show_effects(self, table, kept=(), lines=LINES):
         """As `show_requests`, with each effect whole. The plain commands have it over these records too, and what one run of many cases
         leaves is, word for word, what the plain machine finds for them (simulation.Runs)."""
-        keyspace, run, room = keyspace_of(kept), [], plain_writer.Room(LINES)
+        keyspace, run, room = keyspace_of(kept), [], plain_writer.Room(lines)
         for asked, wanted in table:
             words = words_of(asked)
             self.assertEqual(plain_commands.effect(keyspace, words), wanted)
             if len(run) == MOST_CASES or not room.take((*kept, *wanted.changes)):
-                self.show_run(run, kept)
-                run, room = [], plain_writer.Room(LINES)
+                self.show_run(run, kept, lines)
+                run, room = [], plain_writer.Room(lines)
                 self.assertTrue(room.take((*kept, *wanted.changes)))
             run.append((words, wanted))
-        self.show_run(run, kept)
+        self.show_run(run, kept, lines)
 
-    def show_run(self, run, kept):
+    def show_run(self, run, kept, lines=LINES):
         """Runs requests one after another, each over these records alone and in a connection of its own, which asks for one more reply
         then."""
         schedule, frames, is_empty = Schedule(len(run)), 0, True
@@ -100,7 +100,7 @@ class Commands(Runs):
             schedule.read_marks(c)
             schedule.write_out(c)
             is_empty = not keyspace_of((*kept, *wanted.changes)).keys
-        trace = self.play(schedule, lines=(LINES, LINES))
+        trace = self.play(schedule, lines=(lines, lines))
         for c, (words, wanted) in enumerate(run):
             last = [(words, wanted.reply)] if wanted.closes else [(words, wanted.reply), ((b"PING",), PONG)]
             with self.case(b" ".join(words)[:200]):

@@ -3,6 +3,7 @@ told, so that a server that tells it too early is seen only here."""
 
 import common
 import worked_cases as worked
+from plain_image import LAYOUT
 from plain_replies import array, bulk
 from simulation import Runs, Schedule, simulate
 from spelling import spell
@@ -36,7 +37,7 @@ class Capacity(Runs):
 
     def check_room(self, lines, request_of):
         """An image of `lines` lines takes a change for each of its entries, and then is full."""
-        room = lines // 8
+        room = LAYOUT.entries(lines)
         schedule = changes(room, request_of)
         schedule.feed(0, request_of(room) + spell("GET", "a") + request_of(room + 1))
         schedule.drain(1, 3, 0)
@@ -95,7 +96,7 @@ class Capacity(Runs):
 
 class TooLarge(common.Cases):
     """A command whose change text reaches 16,777,216 bytes (docs/replication.md, "Frames"): a put of a string takes 7 bytes
-    besides its key and its value. Images of 300,032 lines have room for 256 of the longest values, those of 4,096 lines for
+    besides its key and its value. Images of 300,032 lines have room for the 256 values, those of 4,096 lines for
     three."""
 
     AMPLE, SCARCE = 300_032, 4_096
@@ -104,11 +105,11 @@ class TooLarge(common.Cases):
     REST = 63_488
 
     def mset(self, last):
-        """The request that writes 255 of the longest values, and one of `last` bytes."""
+        """The request that writes 255 values of 65,536 bytes, and one of `last` bytes."""
         return self.mset_of_255(last * b"w")
 
     def mset_of_255(self, *more):
-        """The request that writes 255 of the longest values, and these."""
+        """The request that writes 255 values of 65,536 bytes, and these."""
         values = [*255 * [65_536 * b"v"], *more]
         return spell("MSET", *(word for number, value in enumerate(values) for word in (bytes([number]), value)))
 
@@ -149,6 +150,20 @@ class TooLarge(common.Cases):
         self.assert_bytes(trace.released[0], b"".join(wanted))
         self.assertEqual([node.position for node in trace.nodes.values()], [2, 2])
         self.assertEqual([frame.changes for frame in trace.frames], [257, 1])
+
+    def test_values_of_the_greatest_length(self):
+        """16 puts at keys of one byte take 16,777,344 bytes; with a last value that is 128 bytes shorter they are at the limit."""
+        values = [*15 * [1_048_576 * b"v"], 1_048_448 * b"w"]
+        for more, reply in [(b"", OK), (b"w", TOO_LARGE), (128 * b"w", TOO_LARGE)]:
+            with self.case("more", more=len(more)):
+                words = [word for number, value in enumerate([*values[:-1], values[-1] + more]) for word in (b"%x" % number, value)]
+                schedule = Schedule(1)
+                schedule.feed(0, spell("MSET", *words) + spell("DBSIZE"))
+                schedule.drain(1, 2, 1)
+                trace = simulate(schedule.events, "--lines", f"{self.AMPLE},{self.AMPLE}")
+                is_taken = reply == OK
+                self.assert_bytes(trace.released[0], reply + (b":16\r\n" if is_taken else b":0\r\n"))
+                self.assertEqual([node.position for node in trace.nodes.values()], 2 * [int(is_taken)])
 
     def test_room_is_looked_at_only_up_to_the_limit(self):
         self.check(self.REST, self.SCARCE, STORE_IS_FULL)

@@ -141,7 +141,7 @@ class Refused(Commands):
         "result out of range": (b"INCRBY", b"n", GREATEST),
         "DECRBY with -9223372036854775808": (b"DECRBY", b"n", LEAST),
         "type": "GET h",
-        "APPEND past the limit": (b"APPEND", b"s", 65_536 * b"v"),
+        "APPEND past the limit": (b"APPEND", b"s", 1_048_576 * b"v"),
     }
 
     def test_error_texts(self):
@@ -294,9 +294,12 @@ class Drawn(Runs):
         self.assertGreater(sum(bool(it.changes) for it in effects), len(effects) // 6)
 
     def draw(self, drawn):
-        """Requests, and now and then one more field of a hash, also where the key holds a string."""
+        """Requests, now and then one more field of a hash, also where the key holds a string, and seldom a string of the greatest length, which grows."""
         asked = []
         while len(asked) < self.REQUESTS:
+            if drawn.randrange(2_000) == 0:
+                key = drawn.choice(draws.KEYS)
+                asked += [(b"SET", key, 1_048_576 * b"v"), (b"APPEND", key, drawn.choice(draws.VALUES))]
             if drawn.randrange(8) == 0:
                 key, field, value = drawn.choice(draws.KEYS), drawn.choice(draws.FIELDS), drawn.choice(draws.VALUES)
                 asked += [(b"DEL", key)] * drawn.randrange(2) + [(b"HSET", key, field, value)]

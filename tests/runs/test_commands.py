@@ -22,7 +22,7 @@ class Strings(Commands):
             ("SET s value", OK, write("s", "value")),
             ((b"SET", b"", b""), OK, Put((b"",), b"")),
             ((b"SET", b"\0\r\n", b"\xff "), OK, Put((b"\0\r\n",), b"\xff ")),
-            ((b"SET", b"s", 65_536 * b"v"), OK, Put((b"s",), 65_536 * b"v")),
+            ((b"SET", b"s", 524_288 * b"v"), OK, Put((b"s",), 524_288 * b"v")),
         ])
 
     def test_options_of_set(self):
@@ -84,24 +84,24 @@ class Strings(Commands):
             ((b"APPEND", b"s", b""), integer(5), write("s", "value")),
             ((b"APPEND", b"new", b""), integer(0), write("new", "")),
             ("APPEND h 1", WRONG_TYPE),
-            ((b"APPEND", b"h", 65_536 * b"v"), WRONG_TYPE),
+            ((b"APPEND", b"h", 1_048_576 * b"v"), WRONG_TYPE),
         ])
 
     def test_append_up_to_the_limit(self):
-        long, longest, too_long = 65_535 * b"v", 65_536 * b"v", error("ERR string is longer than 65536 bytes")
+        long, longest, too_long = 1_048_575 * b"v", 1_048_576 * b"v", error("ERR string is longer than 1048576 bytes")
         written = Put((b"long",), longest)
         self.show_requests([
-            ((b"APPEND", b"long", b""), integer(65_535), Put((b"long",), long)),
-            ((b"APPEND", b"long", b"v"), integer(65_536), written),
+            ((b"APPEND", b"long", b""), integer(1_048_575), Put((b"long",), long)),
+            ((b"APPEND", b"long", b"v"), integer(1_048_576), written),
             ((b"APPEND", b"long", b"vv"), too_long),
-            ((b"APPEND", b"longest", b""), integer(65_536), Put((b"longest",), longest)),
+            ((b"APPEND", b"longest", b""), integer(1_048_576), Put((b"longest",), longest)),
             ((b"APPEND", b"longest", b"v"), too_long),
             ((b"APPEND", b"longest", longest), too_long),
-            ((b"APPEND", b"one", long), integer(65_536), Put((b"one",), b"1" + long)),
+            ((b"APPEND", b"one", long), integer(1_048_576), Put((b"one",), b"1" + long)),
             ((b"APPEND", b"one", longest), too_long),
-            ((b"APPEND", b"new", longest), integer(65_536), Put((b"new",), longest)),
-            ((b"STRLEN", b"longest"), integer(65_536)),
-        ], [Put((b"long",), long), Put((b"longest",), longest), Put((b"one",), b"1")])
+            ((b"APPEND", b"new", longest), integer(1_048_576), Put((b"new",), longest)),
+            ((b"STRLEN", b"longest"), integer(1_048_576)),
+        ], [Put((b"long",), long), Put((b"longest",), longest), Put((b"one",), b"1")], lines=131_072)
 
     def test_mset_and_msetnx(self):
         self.show_requests([
@@ -265,11 +265,11 @@ class Connection(Commands):
             ((b"PING", b""), bulk(b"")),
             ("ECHO s", bulk(b"s")),
             ((b"ECHO", b""), bulk(b"")),
-            ((b"ECHO", 65_536 * b"e"), bulk(65_536 * b"e")),
+            ((b"ECHO", 1_048_576 * b"e"), bulk(1_048_576 * b"e")),
             ((b"PING", b"+\r\n\0\xff"), bulk(b"+\r\n\0\xff")),
         ])
 
     def test_quit_alone_closes(self):
-        closing = [(asked, OK, CLOSE) for asked in ("QUIT", "quit", "qUiT now", "QUIT a b c", (b"QUIT", 65_536 * b"q"))]
+        closing = [(asked, OK, CLOSE) for asked in ("QUIT", "quit", "qUiT now", "QUIT a b c", (b"QUIT", 1_048_576 * b"q"))]
         unknown = error("ERR unknown command")
         self.show_requests([*closing, ("QUI", unknown), ("QUITS", unknown), ("ECHO QUIT", bulk(b"QUIT"))])

@@ -140,11 +140,11 @@ class CutCalls(common.Cases):
     def test_reopenings_are_cut_again_and_again(self):
         node, events = CALLS["commit"]
         for picks in (PICKS["newest"], PICKS["oldest first"], drawn_picks("again")):
-            for count in range(0, 60, 6):
+            for count in range(0, 120, 12):
                 with self.case("count", count=count, picks=picks[:3]):
                     machine = self.played(events, f"crash {node} commit {count} {picks}")
                     at = self.check_image(machine, node)
-                    for again in (count % 40, (7 * count) % 40):
+                    for again in (count % 90, (7 * count) % 90):
                         self.assertTrue(machine.play([f"crash {node} reopen {again} {picks}"]).done[-1])
                         self.assertEqual(self.check_image(machine, node), at)
                     self.assertTrue(machine.play(["reopen primary"]).done[-1])
@@ -197,7 +197,7 @@ class CutRuns(Runs):
     def test_reopenings_are_cut_again_and_again(self):
         node, events = CALLS["commit"]
         for name, picks in {**PICKS, "drawn": drawn_picks("again")}.items():
-            for count in (0, 25, 37, 45, 60):
+            for count in (0, 25, 40, 90, 120):
                 with self.case(name, count=count):
                     begun = [*events, f"crash primary commit {count} {picks}"]
                     self.cut_everywhere(begun, "primary", "reopen", picks, f"crash primary reopen {count} {picks}", "reopen primary", *serving_on())

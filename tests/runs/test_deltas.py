@@ -360,8 +360,8 @@ class Deltas(Runs):
         self.assertEqual((trace.nodes["standby"].position, trace.records["standby"]), (0, []))
 
     def test_what_the_standby_frees_for_a_delta(self):
-        # of 512 entries 300 are ended by it, and its 200 puts fit beside them; then all of those are free
-        first = " ".join(["MSET", *(f"a{number} v" for number in range(300))])
+        # of 494 entries 290 are ended by it, and its 200 puts fit beside them; then all of those are free
+        first = " ".join(["MSET", *(f"a{number} v" for number in range(290))])
         second = " ".join(["MSET", *(f"b{number} v" for number in range(200))])
         schedule = reopened([first], ["FLUSHDB", second])
         schedule.add("open-link", "send")
@@ -370,7 +370,7 @@ class Deltas(Runs):
         schedule.add("send")
         schedule.take(2)
         trace = self.play(schedule)
-        self.assertEqual(trace.frames[1].changes, 500)
+        self.assertEqual(trace.frames[1].changes, 490)
         self.assert_same(trace)
         # entry 0 has the begin of the third frame's stamp
         self.assertEqual(trace.words["standby"][64], 3)

@@ -273,25 +273,25 @@ class Requests(Stopping):
                     self.assertEqual((record.position, record.gaps, record.cp, record.cd), (1, ((2, 4_097),), 4_098, 8_195))
                 self.assertEqual(trace.released, [b""])
 
-    def test_eight_gaps_and_a_ninth(self):
+    def test_32_gaps_and_one_more(self):
         schedule = Schedule()
-        schedule.add(*8 * ["crash primary 0", "reopen primary"])
+        schedule.add(*32 * ["crash primary 0", "reopen primary"])
         self.play(schedule)
         record = self.machine.primary.image.record
-        self.assertEqual((record.number, len(record.gaps), record.cp, record.cd), (9, 8, 32_776, 36_873))
+        self.assertEqual((record.number, len(record.gaps), record.cp, record.cd), (33, 32, 32 * 4_097, 33 * 4_097))
         # the opening clears the oldest gap first: three fences, and then its own two
         for fence in range(1, 7):
             for pick in (0, 1):
                 with self.case("fence", fence=fence, pick=pick):
-                    ninth = Schedule()
-                    ninth.add(*schedule.events, f"fail-fence primary {fence}", "crash primary 0", "reopen primary")
-                    self.play(ninth)
+                    one_more = Schedule()
+                    one_more.add(*schedule.events, f"fail-fence primary {fence}", "crash primary 0", "reopen primary")
+                    self.play(one_more)
                     self.assertEqual(bool(self.machine.stops), fence < 6)
-                    ninth.add(f"crash primary {MANY * f'{pick} '}", "reopen primary")
-                    self.play(ninth)
+                    one_more.add(f"crash primary {MANY * f'{pick} '}", "reopen primary")
+                    self.play(one_more)
                     record = self.machine.primary.image.record
-                    self.assertEqual(len(record.gaps), 8)
-                    self.assertIn((record.number, record.gaps[0]), {(11, (4_098, 8_193)), (12, (4_098, 8_193)), (13, (8_195, 12_290))})
+                    self.assertEqual(len(record.gaps), 32)
+                    self.assertIn((record.number, record.gaps[0]), {(35, (4_098, 8_193)), (36, (4_098, 8_193)), (37, (8_195, 12_290))})
 
 
 class Failovers(Stopping):

@@ -14,7 +14,7 @@ from worked_cases import OK, SET_A, STORE_IS_FULL
 PROGRAMS = ["simulator"]
 
 LINES = 4_096
-ENTRIES = LINES // 8
+ENTRIES = plain_image.LAYOUT.entries(LINES)
 
 SET_A_2, SET_B = spell("SET", "a", "2"), spell("SET", "b", "3")
 
@@ -265,12 +265,12 @@ class Gaps(Runs):
         return schedule
 
     def test_gaps_are_cleared_one_by_one(self):
-        for gaps in (0, 1, 3, 8):
+        for gaps in (0, 1, 3, 32):
             with self.case("gaps", gaps=gaps):
                 schedule = self.opened(gaps)
-                schedule.add(*(9 * ["clear-gap"]), *(9 * ["accept-freed"]))
+                schedule.add(*(33 * ["clear-gap"]), *(33 * ["accept-freed"]))
                 trace = self.play(schedule)
-                cleared = gaps * [True] + (9 - gaps) * [False]
+                cleared = gaps * [True] + (33 - gaps) * [False]
                 self.assertEqual(trace.done[2 * gaps:], 2 * cleared)
                 # each reopening wrote a record, and so did each clearing
                 self.assertEqual((trace.nodes["primary"].record, trace.nodes["primary"].gaps), (1 + 2 * gaps, 0))

@@ -134,11 +134,11 @@ class Groups(Runs):
         self.assertEqual([trace.records["primary"], trace.records["standby"]], [records, records])
 
     def test_a_command_has_room_for_all_its_versions_or_for_none(self):
-        # 511 of 512 entries are taken: of a command with two puts nothing is written, and its replies say so
+        # 493 of 494 entries are taken: of a command with two puts nothing is written, and its replies say so
         for request in (spell("MSET", "b", "2", "b", "3"), spell("MSETNX", "c", "2", "d", "3")):
             with self.case("request", request=request):
                 schedule = Schedule(1)
-                for number, size in enumerate(7 * [64] + [63]):
+                for number, size in enumerate(7 * [64] + [45]):
                     schedule.group(0, *(size * [SET_A]))
                     schedule.replicate(number)
                 schedule.group(0, request, SET_B, spell("DEL", "a"))
@@ -146,15 +146,15 @@ class Groups(Runs):
                 schedule.read_marks(0)
                 schedule.write_out(0, 4_096)
                 trace = self.play(schedule)
-                self.assert_bytes(trace.released[0], 511 * OK + STORE_IS_FULL + OK + b":1\r\n")
+                self.assert_bytes(trace.released[0], 493 * OK + STORE_IS_FULL + OK + b":1\r\n")
                 self.assertEqual(trace.records["standby"], [((b"b",), b"2")])
 
     def test_a_standby_has_room_for_a_whole_frame_or_for_none(self):
-        # an image of 4,096 lines has room for 512 versions: for `left` more when three come, the first of which is freed then, and one after them
-        for left, stands in [(4, 512), (3, 513), (2, 510), (1, 511), (0, 512)]:
+        # an image of 4,096 lines has room for 494 versions: for `left` more when three come, the first of which is freed then, and one after them
+        for left, stands in [(4, 494), (3, 495), (2, 492), (1, 493), (0, 494)]:
             with self.case("left", left=left):
                 schedule = Schedule(1)
-                for number, size in enumerate(7 * [64] + [64 - left]):
+                for number, size in enumerate(7 * [64] + [46 - left]):
                     schedule.group(0, *(spell("SET", f"k{64 * number + place}", "1") for place in range(size)))
                     schedule.replicate(number)
                 schedule.group(0, *self.SETS)
@@ -165,6 +165,6 @@ class Groups(Runs):
                 schedule.read_marks(0)
                 schedule.write_out(0, 4_096)
                 trace = self.play(schedule, lines=(8_192, 4_096))
-                self.assertEqual(trace.nodes["primary"].position, 516 - left)
+                self.assertEqual(trace.nodes["primary"].position, 498 - left)
                 self.assertEqual(trace.nodes["standby"].position, stands)
                 self.assert_bytes(trace.released[0], stands * OK)

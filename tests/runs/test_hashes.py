@@ -31,7 +31,7 @@ class Written(Commands):
             ("HSET e f 1", WRONG_TYPE),
             ((b"HSET", b"h", b"", b""), integer(0), Put((b"h", b""), b"")),
             ((b"HSET", b"", b"\0\r\n", b"\xff "), integer(1), Put((b"", b"\0\r\n"), b"\xff ")),
-            ((b"HSET", b"h", LONGEST_KEY, 65_536 * b"v"), integer(1), Put((b"h", LONGEST_KEY), 65_536 * b"v")),
+            ((b"HSET", b"h", LONGEST_KEY, 524_288 * b"v"), integer(1), Put((b"h", LONGEST_KEY), 524_288 * b"v")),
         ])
 
     def test_a_field_named_twice(self):

@@ -169,7 +169,7 @@ class Standby:
 
 def session(draw):
     """Session data: a lognormal length with a median of some 665 bytes."""
-    return max(1, min(1_025, int(draw.lognormvariate(6.5, 1.0) / 64) + 1))
+    return max(1, min(16_385, int(draw.lognormvariate(6.5, 1.0) / 64) + 1))
 
 
 def page(draw):
@@ -221,14 +221,14 @@ def overwrite(draw, length, primary, standby, share, writes):
 
 # ---- the worst that is known: long values, and values about as long as the gaps that are left between them
 
-STEPS = 60
+STEPS, LINES = 60, 64_512
 
 
 def contrive(seed, standby):
-    """Some steps on a pair whose primary has 4,096 lines. The step at which the standby found no room."""
-    draw, primary, made = random.Random(f"contrived {seed}"), Primary(usable(4_096)), 0
-    gap = draw.randint(300, 520)
-    lengths = [1_025, 1_025, SPARE_LINES, gap, gap + 1, gap + 2, draw.randint(1, 100), draw.randint(100, 520)]
+    """Some steps on a pair whose primary has 64,512 lines. The step at which the standby found no room."""
+    draw, primary, made = random.Random(f"contrived {seed}"), Primary(usable(LINES)), 0
+    gap = draw.randint(4_700, 8_200)
+    lengths = [16_385, 16_385, SPARE_LINES, gap, gap + 1, gap + 2, draw.randint(1, 1_600), draw.randint(1_600, 8_200)]
     for step in range(STEPS):
         kind, names = draw.random(), list(primary.places)
         if kind < 0.55:
@@ -248,7 +248,7 @@ def contrive(seed, standby):
 
 class Packing(unittest.TestCase):
     # What is drawn, how many lines the primary's image has, and how many writes.
-    DRAWN = [(any_length, 6_864, 1_500), (session, 4_096, 800), (blob, 8_192, 800), (page, 8_192, 800), (wide, 4_096, 1_500)]
+    DRAWN = [(any_length, 108_256, 1_500), (session, 4_096, 800), (blob, 129_024, 800), (page, 8_192, 800), (wide, 4_096, 1_500)]
     SHARES = [0.8, 0.95, 1.0]
     CONTRIVED = 1_500
     # A history in which each gap that is left is too short for a value, and each value is too long for a gap.
@@ -270,7 +270,7 @@ class Packing(unittest.TestCase):
         moved = collections.Counter()
         for seed in range(self.CONTRIVED):
             with self.subTest(seed=seed):
-                standby = Standby(usable(4_096 + MORE_LINES))
+                standby = Standby(usable(LINES + MORE_LINES))
                 self.assertIsNone(contrive(seed, standby))
                 self.assertEqual(standby.counts["values that found no room below"], 0)
                 moved += standby.counts
@@ -279,11 +279,11 @@ class Packing(unittest.TestCase):
     def test_slides(self):
         """All extents slide down wherever so many lines are free at all, in each order in which they are given."""
         for seed in range(self.CONTRIVED):
-            draw, heap = random.Random(f"slides {seed}"), Heap(usable(4_096 + MORE_LINES))
+            draw, heap = random.Random(f"slides {seed}"), Heap(usable(LINES + MORE_LINES))
             end, line = heap.lines - SPARE_LINES, 0
             while line < end:
-                line += draw.choice([0, 0, 1, 2, 30, 400])
-                lines = min(draw.choice([1, 2, 30, 400, SPARE_LINES]), end - line)
+                line += draw.choice([0, 0, 1, 30, 400, 6_300])
+                lines = min(draw.choice([1, 30, 400, 6_300, SPARE_LINES]), end - line)
                 if lines > 0:
                     heap.claim(line, lines)
                     line += lines
@@ -306,4 +306,4 @@ class Packing(unittest.TestCase):
 
     def test_no_spare_place(self):
         """A standby of so many lines that keeps none of them free finds no room."""
-        self.assertIsNotNone(contrive(self.STUCK, Standby(usable(4_096 + MORE_LINES), keeps_spare=False)))
+        self.assertIsNotNone(contrive(self.STUCK, Standby(usable(LINES + MORE_LINES), keeps_spare=False)))

@@ -8,14 +8,14 @@ import random
 
 import common
 from page_cache import PageCache
-from plain_image import PRIMARY, RECORD_LINES, RECORD_WORDS, WORDS_OF_LINE, BadImage, Words, read_image
+from plain_image import LAYOUT, PRIMARY, WORDS_OF_LINE, BadImage, Words, read_image
 from plain_keyspace import Drop, Put
 from plain_writer import Writer
 
 PROGRAMS = []
 
-LINES, BLOCK_WORDS, ROOT_WORD = 4_096, 8 * 1_024, 4
-SLOTS = {WORDS_OF_LINE * line for line in RECORD_LINES}
+LINES, BLOCK_WORDS = 4_096, 8 * 1_024
+SLOTS = {LAYOUT.slot_word(LINES, number) for number in (0, 1)}
 
 FIRST = [[Put((b"a",), b"1")], [Put((b"b",), 100 * b"2")], [Put((b"a",), b"3"), Put((b"h", b"f"), b"4")]]
 LATER = [[Put((b"a",), b"5"), Put((b"c",), 200 * b"6")], [Drop((b"b",)), Put((b"h", b"g"), b"7")]]
@@ -39,7 +39,7 @@ class Recorded(Writer):
         does()
         bodies, stages = [], []
         for at, words in self.stored:
-            if at in SLOTS and len(words) == RECORD_WORDS or at == ROOT_WORD:
+            if at in SLOTS and len(words) == LAYOUT.record_words or at == LAYOUT.root_word:
                 stages += [bodies] if bodies else []
                 stages, bodies = [*stages, [(at, words)]], []
             else:

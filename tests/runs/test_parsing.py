@@ -11,7 +11,7 @@ PROGRAMS = ["simulator"]
 SET = (b"SET", b"a", b"1")
 GET = (b"GET", b"a")
 NINE = b"\r\n$1\r\n\0\xff*"
-LONGEST = bytes(range(256)) * 256
+LONGEST = bytes(range(256)) * 4_096
 
 # Texts, and the words of the requests that they ask for.
 REQUESTS = {
@@ -33,9 +33,9 @@ FIRST_BYTES = [b"P", b"*0\r\nP", b"\r", b"\n", b"\0", b"$", b"+", b"*0\r\n$"]
 DOLLARS = [(b"*1\r\n" + byte, byte) for byte in (b":", b"*", b"~", b" ", b"'", b"+", b"0")]
 DOLLARS += [(b"*1\r\n" + byte, b"?") for byte in (b"\x01", b"\x1f", b"\x7f", b"\xff", b"\r", b"\n")]
 DOLLARS += [(b"*2\r\n$1\r\na\r\n*", b"*"), (b"*3\r\n$1\r\na\r\n$0\r\n\r\n\r", b"?")]
-IN_LENGTH = [b"*1\r\n$-", b"*1\r\n$65537", b"*1\r\n$65540", b"*1\r\n$00", b"*1\r\n$01", b"*1\r\n$\r", b"*1\r\n$1\n"]
-IN_LENGTH += [b"*1\r\n$1\r1", b"*2\r\n$1\r\na\r\n$+", b"*3\r\n$3\r\nSET\r\n$1\r\na\r\n$65537", b"*1\r\n$x"]
-IN_LENGTH += [b"*1\r\n$ ", b"*1\r\n$99999", b"*1\r\n$65536x", b"*1\r\n$655360"]
+IN_LENGTH = [b"*1\r\n$-", b"*1\r\n$1048577", b"*1\r\n$1048580", b"*1\r\n$00", b"*1\r\n$01", b"*1\r\n$\r", b"*1\r\n$1\n"]
+IN_LENGTH += [b"*1\r\n$1\r1", b"*2\r\n$1\r\na\r\n$+", b"*3\r\n$3\r\nSET\r\n$1\r\na\r\n$1048577", b"*1\r\n$x"]
+IN_LENGTH += [b"*1\r\n$ ", b"*1\r\n$9999999", b"*1\r\n$1048576x", b"*1\r\n$10485760"]
 AFTER_WORD = [b"*1\r\n$4\r\nPINGX", b"*1\r\n$4\r\nPING\n", b"*1\r\n$4\r\nPING\rX", b"*1\r\n$0\r\nX"]
 AFTER_WORD += [b"*2\r\n$1\r\na\r\n$1\r\nbb"]
 
@@ -101,12 +101,12 @@ class Requests(Parsed):
         self.assertEqual([call.words for call in self.play(schedule).calls], [SET, GET, (b"PING",)])
 
     def test_the_greatest_count_and_length(self):
-        # cut where a count, a length, a word or a line end begins, and in pieces of 63 and of 65,536 bytes
+        # cut where a count, a length, a word or a line end begins, and in pieces of 16,383 and of 65,536 bytes
         many, long = spelling.spell(*(1_024 * [b"w"])), spelling.spell(b"ECHO", LONGEST)
         for name, text, words in [("words", many, 1_024 * (b"w",)), ("bytes", long, (b"ECHO", LONGEST))]:
             cuts = [*range(24), *range(len(text) - 4, len(text) + 1)]
             ways = [[text[:cut], text[cut:]] for cut in cuts]
-            ways += [[text[at:at + size] for at in range(0, len(text), size)] for size in (63, 65_536)]
+            ways += [[text[at:at + size] for at in range(0, len(text), size)] for size in (16_383, 65_536)]
             schedule = Schedule(len(ways))
             for c, pieces in enumerate(ways):
                 for piece in pieces:

@@ -71,16 +71,16 @@ class Restarts(Runs):
         self.assertEqual(tuple(trace.nodes["primary"])[:4], (2, 5, 8_196, 12_293))
         self.assertEqual([line.gaps for line in trace.nodes.values()], [2, 0])
 
-    def test_nine_reopenings_of_each_node(self):
-        # a record has eight gaps at most: the oldest goes
+    def test_33_reopenings_of_each_node(self):
+        # a record has 32 gaps at most: the oldest goes
         schedule = Schedule(1)
         schedule.serve_to_end(0, 0, SET_A)
-        for number in range(1, 10):
+        for number in range(1, 34):
             for node in NODES:
                 schedule.add(f"crash {node} 0 1", f"reopen {node}")
             schedule.add("enter")
             schedule.serve_to_end(number, number, spell("SET", "a", str(number)))
         trace = self.play(schedule)
-        self.assertEqual(trace.released, 10 * [OK])
-        self.assertEqual([line.gaps for line in trace.nodes.values()], [8, 8])
-        self.assertEqual(trace.records["primary"], [((b"a",), b"9")])
+        self.assertEqual(trace.released, 34 * [OK])
+        self.assertEqual([line.gaps for line in trace.nodes.values()], [32, 32])
+        self.assertEqual(trace.records["primary"], [((b"a",), b"33")])

@@ -50,25 +50,25 @@ class FirstPath(Runs):
 
     def test_the_last_entry(self):
         schedule = Schedule(1)
-        for _ in range(513):
+        for _ in range(495):
             schedule.feed(0, SET_A)
         schedule.feed(0, GET_A)
-        schedule.drain(1, 514, 513)
+        schedule.drain(1, 496, 495)
         trace = self.play(schedule)
-        self.assert_bytes(trace.released[0], 512 * OK + STORE_IS_FULL + ONE)
-        self.assertEqual([node.position for node in trace.nodes.values()], [512, 512])
+        self.assert_bytes(trace.released[0], 494 * OK + STORE_IS_FULL + ONE)
+        self.assertEqual([node.position for node in trace.nodes.values()], [494, 494])
 
     def test_a_standby_that_fills_first(self):
         # it frees what a frame ended, so each SET is of another key
         schedule = Schedule(1)
-        for number in range(513):
+        for number in range(495):
             schedule.feed(0, spell("SET", f"k{number}", "1"))
-        schedule.drain(1, 513, 514)
+        schedule.drain(1, 495, 496)
         trace = self.play(schedule, lines=(8_192, 4_096))
-        self.assertEqual(len(trace.calls), 513)
+        self.assertEqual(len(trace.calls), 495)
         self.assertEqual(trace.calls[-1].reply, OK)
-        self.assert_bytes(trace.released[0], 512 * OK)
-        self.assertEqual([node.position for node in trace.nodes.values()], [513, 512])
+        self.assert_bytes(trace.released[0], 494 * OK)
+        self.assertEqual([node.position for node in trace.nodes.values()], [495, 494])
 
     def test_every_seat_once(self):
         # the numbers 0 to 1,023; with one more to enter none is free

@@ -14,7 +14,7 @@ PROGRAMS = ["server"]
 
 # The lines of an image, and the versions that it takes.
 LINES = 4_096
-MOST_VERSIONS = 512
+MOST_VERSIONS = 494
 # As many keys as there are versions.
 FULL = b"".join(spell("SET", f"k{number}", "v") for number in range(MOST_VERSIONS))
 
@@ -115,11 +115,18 @@ class Transactions(Served):
 class Limits(Served):
     """What clients meet at their limits, and one above (docs/protocol.md, "Limits that a client meets")."""
 
-    LONGEST = bytes(range(256)) * 256
+    LONG = bytes(range(256)) * 256
+    LONGEST = 16 * LONG
+
+    def test_a_word_of_1048576_bytes(self):
+        # no image of 4,096 lines has room for it
+        data = spell("ECHO", self.LONGEST) + spell("SET", "a", self.LONGEST) + GET_A
+        self.assert_served(data, plain_replies.bulk(self.LONGEST) + STORE_IS_FULL + NULL)
+        self.assert_served(b"*2\r\n$4\r\nECHO\r\n$1048577\r\n" + SET_A, worked.BAD_LENGTH)
 
     def test_a_value_of_65536_bytes(self):
-        data = spell("SET", "a", self.LONGEST) + GET_A
-        output = OK + plain_replies.bulk(self.LONGEST)
+        data = spell("SET", "a", self.LONG) + GET_A
+        output = OK + plain_replies.bulk(self.LONG)
         self.assert_served(data, output)
         for size in (7, 63, 4_096, 65_536):
             with self.case("in pieces", size=size):
@@ -138,11 +145,11 @@ class Limits(Served):
         self.assert_served(data, OK + ONE + 2 * refusal + NULL)
 
     def test_append_past_the_limit(self):
-        data = spell("SET", "a", 65_535 * "v") + spell("APPEND", "a", "xy") + spell("STRLEN", "a")
-        refusal = b"-ERR string is longer than 65536 bytes\r\n"
-        self.assert_served(data, OK + refusal + b":65535\r\n")
-        data += spell("APPEND", "a", "x") + spell("APPEND", "a", "") + spell("APPEND", "a", "y")
-        self.assert_served(data, OK + refusal + b":65535\r\n" + 2 * b":65536\r\n" + refusal)
+        # (of what is not past the limit there is no room)
+        data = spell("SET", "a", "xy") + spell("APPEND", "a", 1_048_575 * "v") + spell("STRLEN", "a") + spell("APPEND", "a", 1_048_574 * "v")
+        refusal = b"-ERR string is longer than 1048576 bytes\r\n"
+        self.assert_served(data, OK + refusal + b":2\r\n" + STORE_IS_FULL)
+        self.assert_served(data + spell("APPEND", "a", 1_048_576 * "v") + spell("APPEND", "a", "v"), OK + refusal + b":2\r\n" + STORE_IS_FULL + refusal + b":3\r\n")
 
     def test_the_store_is_full_by_lines(self):
         # 502, 1,025 and 1,025 of 3,576 lines; 1,024 are left, which a value of 65,535 bytes takes with its key

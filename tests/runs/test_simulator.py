@@ -186,9 +186,11 @@ class Lines(Cases):
                 self.assertEqual(trace.released, [b"+OK\r\n"])
 
     def test_many_reopenings(self):
-        # of the gaps of nine reopenings the oldest was cleared, in a record of its own
-        trace = simulate([*(9 * ["crash primary 0", "reopen primary"])])
-        self.assertEqual((trace.nodes["primary"].record, trace.nodes["primary"].gaps), (11, 8))
+        # nine gaps are held; of those of 33 reopenings the oldest was cleared, in a record of its own
+        for count, wanted in [(9, (10, 9)), (32, (33, 32)), (33, (35, 32))]:
+            with self.case("reopenings", count=count):
+                trace = simulate([*(count * ["crash primary 0", "reopen primary"])])
+                self.assertEqual((trace.nodes["primary"].record, trace.nodes["primary"].gaps), wanted)
 
     def test_greatest_numbers(self):
         most = ABOVE_U64 - 1

@@ -321,16 +321,16 @@ class Entries(Talks):
                         self.assertEqual((image.map, image.record.position), (left, 3) if is_new else (held, 1))
 
     def test_a_full_store_refuses_that_element_alone(self):
-        # of 512 versions two are left: MSET finds no room, two SETs do, and what makes no version needs none
+        # of 494 versions two are left: MSET finds no room, two SETs do, and what makes no version needs none
         asked = ["MSET a 1 b 2 c 3", "SET a 2", "DEL b", "SET b 3", "SET b 4", "APPEND a x", "GET a", "DEL a"]
         replies = [STORE_IS_FULL, "+OK", ":0", "+OK", STORE_IS_FULL, STORE_IS_FULL, "$1\r\n2", ":1"]
-        told = said("A", *(word for number in range(510) for word in (f"SET k{number} 1", "+OK"))) + said("A", "MULTI", "+OK", *(word for each in asked for word in (each, "+QUEUED")))
+        told = said("A", *(word for number in range(492) for word in (f"SET k{number} 1", "+OK"))) + said("A", "MULTI", "+OK", *(word for each in asked for word in (each, "+QUEUED")))
         told += said("A", "EXEC", "*8" + "".join(f"\r\n{reply}" for reply in replies), "MGET a b", "*2\r\n$-1\r\n$1\r\n3")
-        self.talk(told, 511)
+        self.talk(told, 493)
 
     def test_a_transaction_that_takes_all_room(self):
-        # 256 requests of two puts each
-        queued = [f"MSET a{number} {number} k{number} {number}" for number in range(256)]
-        told = said("A", "MULTI", "+OK", *(word for each in queued for word in (each, "+QUEUED")), "EXEC", "*256" + 256 * "\r\n+OK")
-        trace = self.talk(told + said("A", "SET a1 2", STORE_IS_FULL, "DBSIZE", ":512"), 1)
-        self.assertEqual([frame.changes for frame in trace.frames], [512])
+        # 247 requests of two puts each
+        queued = [f"MSET a{number} {number} k{number} {number}" for number in range(247)]
+        told = said("A", "MULTI", "+OK", *(word for each in queued for word in (each, "+QUEUED")), "EXEC", "*247" + 247 * "\r\n+OK")
+        trace = self.talk(told + said("A", "SET a1 2", STORE_IS_FULL, "DBSIZE", ":494"), 1)
+        self.assertEqual([frame.changes for frame in trace.frames], [494])

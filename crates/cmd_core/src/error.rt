@@ -17,7 +17,7 @@ pub enum CommandError {
     DecrementOverflow,
     /// The key holds a hash where a string is asked for, or a string where a hash is.
     WrongType,
-    /// A string would be longer than 65,536 bytes.
+    /// A string would be longer than `MAX_VALUE_BYTES`.
     LongString,
 }
 
@@ -34,7 +34,7 @@ impl CommandError {
             CommandError::DecrementOverflow => b"ERR decrement would overflow",
             CommandError::WrongType =>
                 b"WRONGTYPE Operation against a key holding the wrong kind of value",
-            CommandError::LongString => b"ERR string is longer than 65536 bytes",
+            CommandError::LongString => b"ERR string is longer than 1048576 bytes",
         }
     }
 }

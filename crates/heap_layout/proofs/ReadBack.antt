@@ -2,6 +2,7 @@
 use Rattle.std.proofs.Common.{◌≡◌, ℕ, ◌+◌, ◌*◌, ◌/◌, ◌%◌, ◌<◌, ◌≤◌, ◌==◌, List, ◌++◌, length, drop, ◌⊎◌, inl, inr, refl, sym, ap, ap₂, ◌∙◌, arith, length-append, append_assoc}
 use Rattle.std.proofs.Math.Seq.{take-append_seam, drop-append_seam}
 use Rattle.std.proofs.lemmas.Bool.{cond_both, eqb-true}
+use Rattle.kv_types.specs.declared.limits.TheConstants.{MAX_VALUE_BYTES}
 use Rattle.kv_types.specs.declared.record_id.RecordId.{RecordId}
 use Rattle.kv_types.specs.declared.record_id.RecordId.TheVariants.{Str, Field}
 use Rattle.kv_types.specs.Keyspace.{key_of}
@@ -136,7 +137,7 @@ kind_of_name (Field key f) kind field is none = inr is
 
 -- It breaks no rule.
 pub IsEntry-put : (lines : ℕ) (image : Image) (stamp position : ℕ) (put : Put) → IsPlaced (directory_room lines) lines put → HasItsLines put → IsStorable put
-    → IsShortName put.id → length put.value ≤ 65536 → HasPut image stamp position put → IsEntry lines image put.entry.0
+    → IsShortName put.id → length put.value ≤ MAX_VALUE_BYTES → HasPut image stamp position put → IsEntry lines image put.entry.0
 IsEntry-put lines image stamp position put placed fits storable short small has =
     let i = put.entry.0 in
     let low : key_bytes image i ≡ length (key_of put.id) = ap (λ (n : ℕ). n % 65536) has.lengths ∙ low_length put.id storable.key in
@@ -157,7 +158,7 @@ IsEntry-put lines image stamp position put placed fits storable short small has 
     }
 
 -- What was written is whole, and is read back.
-pub put_reads : (lines stamp position : ℕ) (put : Put) (old new : Image) → IsPlaced (directory_room lines) lines put → HasItsLines put → IsStorable put → IsShortName put.id → length put.value ≤ 65536
+pub put_reads : (lines stamp position : ℕ) (put : Put) (old new : Image) → IsPlaced (directory_room lines) lines put → HasItsLines put → IsStorable put → IsShortName put.id → length put.value ≤ MAX_VALUE_BYTES
     → ((word : ℕ) → new word ≡ written (put_pairs stamp position put) old word) → IsEntry lines new put.entry.0 × (entry_in new put.entry.0 ≡ entry_of_put stamp position put)
 put_reads lines stamp position put old new placed fits storable short small is =
     let has = HasPut-written lines stamp position put old new placed is in (

@@ -1,5 +1,6 @@
 //! The shape of a record in an image: what its entry says of its bytes, and the record that they make up.
 ghost use Rattle.std.specs.Prelude.{◌≡◌, ◌↔◌, ◌+◌, ◌-◌, ◌/◌, ◌*◌, ◌^◌, ◌<◌, ◌≤◌, length, vec_len, IsTrue, MatchOption, IfOk};
+ghost use Rattle.kv_types.specs.declared.limits.TheConstants.{MAX_KEY_BYTES, MAX_VALUE_BYTES};
 ghost use Rattle.pmem.specs.Crash.{image_of};
 ghost use Rattle.model.specs.declared.image.TheConstants.{MIN_LINES};
 ghost use Rattle.model.specs.Image as images;
@@ -112,7 +113,7 @@ fn bytes_at<P: Pmem>(
     line: u64,
     count: u64,
 ) -> Result<Vec<u8>, AllocError>
-    requires short { count < 1_000_000 }
+    requires short { count ≤ 2 * MAX_KEY_BYTES + MAX_VALUE_BYTES }
     requires within { first_word line + (count + (WORD_BYTES - 1)) / WORD_BYTES ≤ first_word (P.state device.now).lines }
     ensures bytes { IfOk result (λ v. v.items ≡ images.bytes_at (image_of (P.state device.now).words) line count) }
     ensures len { IfOk result (λ v. vec_len v ≡ count) }

@@ -18,7 +18,7 @@ pub type Key = BoundedBytes<MAX_KEY_BYTES>;
 /// A field of a hash, at most 512 bytes.
 pub type Field = BoundedBytes<MAX_KEY_BYTES>;
 
-/// A value, at most 65,536 bytes.
+/// A value, at most 1,048,576 bytes.
 pub type Value = BoundedBytes<MAX_VALUE_BYTES>;
 
 /// At most `MAX` bytes of any content. Up to 22 lie in the value itself, and more are shared by its copies. A clause sees the list of the

@@ -4,7 +4,7 @@
 pub const MAX_KEY_BYTES: usize = 512;
 
 /// The longest value, in bytes.
-pub const MAX_VALUE_BYTES: usize = 65_536;
+pub const MAX_VALUE_BYTES: usize = 1_048_576;
 
 /// The longest change, in bytes of a frame: the longest value put into the longest field of the longest key.
 pub const MAX_CHANGE_BYTES: usize = 1
@@ -24,5 +24,5 @@ pub struct Limits {
 /// The limits of the protocol. The type `Request` holds no request beyond them.
 pub const REQUEST_LIMITS: Limits = Limits {
     words: 1_024,
-    word_bytes: 65_536,
+    word_bytes: 1_048_576,
 };

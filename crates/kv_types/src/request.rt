@@ -7,7 +7,7 @@ use bytes::Bytes;
 use std::alloc::AllocError;
 use std::marker::Model;
 
-/// The words of one command: 1 to 1,024 words of at most 65,536 bytes each. A clause sees the list of the words. The first word is looked up once, when
+/// The words of one command: 1 to 1,024 words of at most 1,048,576 bytes each. A clause sees the list of the words. The first word is looked up once, when
 /// the request is made.
 #[derive(Debug, Drop)]
 pub struct Request {

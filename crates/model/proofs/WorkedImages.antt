@@ -1,4 +1,4 @@
--- The worked images, computed from the definitions: a new primary image of 4,096 lines, after the group of `SET a 1` or of `HSET h f 1`, and the
+-- The worked images, computed from the definitions: a new primary image of version 1 and of 4,096 lines, after the group of `SET a 1` or of `HSET h f 1`, and the
 -- first where the root of the commit was lost.
 use Rattle.std.proofs.Common.{◌≡◌, ℕ, zero, suc, ◌<◌, ◌≤◌, Bool, true, false, ◌*◌, ◌||◌, ◌&&◌, nat_eq, if◌then◌else◌, List, [], ◌∷◌, codes, Some, None, Option, is_none, ⊎_elim, refl, sym, subst, ◌∙◌, arith, eqb-true}
 use Rattle.std.proofs.lemmas.Bool.{cases_lt, and_parts}

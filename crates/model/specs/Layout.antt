@@ -1,7 +1,7 @@
 -- Where the parts of an image lie, by its layout. A line is 8 words, and line 0 is the superblock (this project's profile).
 use Rattle.std.specs.Prelude.{ℕ, ◌+◌, ◌-◌, ◌*◌, ◌/◌, ◌%◌}
 use Rattle.model.specs.declared.layout.Layout.{Layout}
-use Rattle.model.specs.declared.layout.Layout.TheVariants.{Version1, Version2}
+use Rattle.model.specs.declared.layout.Layout.TheVariants.{Version1, Version2, Halfway}
 use Rattle.model.specs.declared.layout.TheConstants.{DIRECTORY_LINE, ENTRY_SHARE, GAPS_WORD, LINE_WORDS}
 
 -- the first word of a line, and the word that is `k` words after it
@@ -15,6 +15,7 @@ line_word line k = first_word line + k
 abbrev pub version : Layout → ℕ
 version Version1 = 1
 version Version2 = 2
+version Halfway = 3
 
 -- ---- the directory, and the extents behind it
 
@@ -26,11 +27,13 @@ directory_room lines = lines / ENTRY_SHARE
 abbrev pub slot_lines : Layout → ℕ
 slot_lines Version1 = 3
 slot_lines Version2 = 9
+slot_lines Halfway = 3
 
 -- how many entries the directory has in an image of `lines` lines
 abbrev pub entries_of_lines : Layout → ℕ → ℕ
 entries_of_lines Version1 lines = directory_room lines
 entries_of_lines Version2 lines = directory_room lines - 2 * slot_lines Version2
+entries_of_lines Halfway lines = directory_room lines - 2 * slot_lines Version2
 
 -- the line of entry i
 abbrev pub entry_line : ℕ → ℕ
@@ -50,11 +53,13 @@ first_extent_line lines = DIRECTORY_LINE + directory_room lines
 abbrev pub root_word : Layout → ℕ
 root_word Version1 = 4
 root_word Version2 = 5
+root_word Halfway = 4
 
 -- the first line of slot 0, and the line after slot 1
 abbrev pub first_slot_line : Layout → ℕ → ℕ
 first_slot_line Version1 lines = 1
 first_slot_line Version2 lines = directory_end Version2 lines
+first_slot_line Halfway lines = 1
 
 abbrev pub slots_end : Layout → ℕ → ℕ
 slots_end layout lines = first_slot_line layout lines + 2 * slot_lines layout
@@ -71,6 +76,7 @@ record_word layout lines n k = line_word (slot_line layout lines n) k
 abbrev pub max_gaps : Layout → ℕ
 max_gaps Version1 = 8
 max_gaps Version2 = 32
+max_gaps Halfway = 8
 
 -- how many words a record has for its gaps
 abbrev pub gap_room : Layout → ℕ

@@ -16,7 +16,7 @@ ghost use Rattle.model.specs.Call.{MayReply, MayAnswer, admission_at, memory_rep
 ghost use Rattle.model.specs.Call.{IsLegal, state_after, keyspace_after, position_of, cut_at, items_of, IsPrefix};
 ghost use Rattle.model.specs.Position.{changes_at, changes_since};
 ghost use Rattle.model.specs.declared.layout.Layout.{Layout};
-ghost use Rattle.model.specs.declared.layout.Layout.TheVariants.{Version1, Version2};
+ghost use Rattle.model.specs.declared.layout.Layout.TheVariants.{Version1, Version2, Halfway};
 ghost use Rattle.model.specs.Layout.{first_word, version, directory_room, entries_of_lines, entry_line, directory_end, first_extent_line, root_word, slot_line, slot_lines, slots_end, max_gaps, role_word};
 ghost use Rattle.model.specs.Image.{Image, Version, IsMapOf, map_below, Holds};
 ghost use Rattle.model.specs.Group.{Contents, IsGroup, IsConsistent, after_group, changes_of_group, entries_of};
@@ -31,15 +31,18 @@ use crate::record::MAX_GAPS;
 /// Where the parts of an image of 4,096 lines lie by each layout: the first of its entries, the slots of records 2 and 3, and the extents; and how many entries
 /// there are, and which word of a record is its role. A record fills its slot. In any image an entry is in the directory, the root is behind the words that say
 /// what the image is, and the slots are before the extents; and where there are 144 lines or more, the slots of version 2 lie between its directory and its
-/// extents.
+/// extents. Halfway, the root and the record are where they are in version 1, and the entries are those of version 2.
 pub fn layouts_place_the_parts()
     ensures version_1 { (entries_of_lines Version1 4096 ≡ 512) × (entry_line 0 ≡ 8) × (slot_line Version1 4096 2 ≡ 1) × (slot_line Version1 4096 3 ≡ 4)
         × (slots_end Version1 4096 ≡ 7) × (first_extent_line 4096 ≡ 520) × (role_word Version1 ≡ 22) }
     ensures version_2 { (entries_of_lines Version2 4096 ≡ 494) × (entry_line 0 ≡ 8) × (slot_line Version2 4096 2 ≡ 502) × (slot_line Version2 4096 3 ≡ 511)
         × (slots_end Version2 4096 ≡ 520) × (first_extent_line 4096 ≡ 520) × (role_word Version2 ≡ 70) }
+    ensures halfway { (version Halfway ≡ 3) × (root_word Halfway ≡ root_word Version1) × (max_gaps Halfway ≡ max_gaps Version1)
+        × (role_word Halfway ≡ role_word Version1) × ((lines n : ℕ) → slot_line Halfway lines n ≡ slot_line Version1 lines n) }
     ensures records { (layout : Layout) → (role_word layout + 2 ≡ first_word (slot_lines layout)) × (max_gaps layout ≤ MAX_GAPS) }
     ensures versions { (layout other : Layout) → version layout ≡ version other → layout ≡ other }
-    ensures entries { (lines : ℕ) → (entries_of_lines Version1 lines ≡ lines / 8) × (entries_of_lines Version2 lines ≡ lines / 8 - 18) }
+    ensures entries { (lines : ℕ) → (entries_of_lines Version1 lines ≡ lines / 8) × (entries_of_lines Version2 lines ≡ lines / 8 - 18)
+        × (entries_of_lines Halfway lines ≡ lines / 8 - 18) }
     ensures fit { (layout : Layout) (lines : ℕ) → entries_of_lines layout lines ≤ directory_room lines }
     ensures root { (layout : Layout) → (SUPERBLOCK_WORDS ≤ root_word layout) × (root_word layout < first_word 1) }
     ensures slots { (layout : Layout) (lines : ℕ) → MIN_LINES ≤ lines → slots_end layout lines ≤ first_extent_line lines }

@@ -26,17 +26,19 @@ pub const ENTRY_SHARE: u64 = 8;
 pub const FIELD_LENGTH_UNIT: u64 = 65_536;
 
 /// Where the parts of an image lie, by its version. Line 0 is the superblock, and the extents begin right after the directory, or after the record slots
-/// where these stand behind it. The directory and the extents begin at the same lines in both versions.
+/// where these stand behind it. The directory and the extents begin at the same lines in all of them.
 #[derive(Clone, Copy, Debug, PartialEq, Eq)]
 pub enum Layout {
     /// The two record slots stand before the directory.
     Version1 = 1,
     /// Records hold more gaps, and their slots stand right behind the directory, which has an entry fewer for each line of theirs.
     Version2 = 2,
+    /// On its way from version 1 to version 2: its records stand as those of version 1, and it is read without the entries that version 2 has no room for.
+    Halfway = 3,
 }
 
 /// The layout of new images, and of those that are opened.
-pub const LAYOUT: Layout = Layout::Version1;
+pub const LAYOUT: Layout = Layout::Version2;
 
 impl Layout {
     ghost use Rattle.std.specs.Prelude.{◌≡◌, ◌≢◌, ◌+◌, ◌<◌, ◌^◌, MatchOption};
@@ -49,6 +51,7 @@ impl Layout {
         match number {
             1 => Some(Layout::Version1),
             2 => Some(Layout::Version2),
+            3 => Some(Layout::Halfway),
             _ => None,
         }
     }
@@ -60,6 +63,7 @@ impl Layout {
         match self {
             Layout::Version1 => 1,
             Layout::Version2 => 2,
+            Layout::Halfway => 3,
         }
     }
 
@@ -68,7 +72,7 @@ impl Layout {
         ensures { result ≡ layouts.root_word self }
     {
         match self {
-            Layout::Version1 => 4,
+            Layout::Version1 | Layout::Halfway => 4,
             Layout::Version2 => 5,
         }
     }
@@ -78,7 +82,7 @@ impl Layout {
         ensures { result ≡ layouts.slot_lines self }
     {
         match self {
-            Layout::Version1 => 3,
+            Layout::Version1 | Layout::Halfway => 3,
             Layout::Version2 => 9,
         }
     }
@@ -88,7 +92,7 @@ impl Layout {
         ensures { result ≡ layouts.max_gaps self }
     {
         match self {
-            Layout::Version1 => 8,
+            Layout::Version1 | Layout::Halfway => 8,
             Layout::Version2 => 32,
         }
     }
@@ -98,7 +102,7 @@ impl Layout {
         ensures { result ≡ layouts.role_word self }
     {
         match self {
-            Layout::Version1 => GAPS_WORD + 2 * 8,
+            Layout::Version1 | Layout::Halfway => GAPS_WORD + 2 * 8,
             Layout::Version2 => GAPS_WORD + 2 * 32,
         }
     }
@@ -117,7 +121,7 @@ impl Layout {
         let room = Layout::directory_room(lines);
         match self {
             Layout::Version1 => room,
-            Layout::Version2 => room.saturating_sub(2 * 9),
+            Layout::Version2 | Layout::Halfway => room.saturating_sub(2 * 9),
         }
     }
 
@@ -141,7 +145,7 @@ impl Layout {
         ensures { result ≡ layouts.first_slot_line self lines }
     {
         match self {
-            Layout::Version1 => 1,
+            Layout::Version1 | Layout::Halfway => 1,
             Layout::Version2 => DIRECTORY_LINE + self.entries_of_lines(lines),
         }
     }

@@ -3,11 +3,10 @@ use Rattle.std.specs.Prelude.{◌≡◌, ◌⊎◌, ℕ, ◌<◌, ◌≤◌, Som
 use Rattle.kv_types.specs.declared.refusal.Refusal.{Refusal}
 use Rattle.kv_types.specs.declared.refusal.Refusal.TheVariants.{Damaged as BreaksRule}
 use Rattle.heap_layout.specs.Superblock.{super_refusal}
-use Rattle.model.specs.declared.layout.TheConstants.{LAYOUT}
 use Rattle.model.specs.declared.record.Record.{Record}
 use Rattle.model.specs.Image.{Image}
 use Rattle.wbl_engine.specs.Lawful.{IsUndamaged}
-use Rattle.wbl_engine.specs.Reopening.{RefusesReading}
+use Rattle.wbl_engine.specs.Reopening.{RefusesReading, layout_in}
 use Rattle.server.specs.Told.{newline}
 use Rattle.server.specs.declared.losing.Held.{Held}
 use Rattle.server.specs.declared.losing.Loss.{Loss}
@@ -35,7 +34,7 @@ pub record IsEmpty (lines : ℕ) (image : Image) : Type 0 where
 -- the superblock is no image's
 pub record IsNone (lines : ℕ) (image : Image) : Type 0 where
   pub refusal : Refusal
-  pub refused : super_refusal LAYOUT lines image ≡ Some refusal
+  pub refused : super_refusal (layout_in image) lines image ≡ Some refusal
 
 -- there is nothing to lose
 abbrev pub HoldsNothing : ℕ → Image → Type 0
@@ -44,7 +43,7 @@ HoldsNothing lines image = IsNone lines image ⊎ IsEmpty lines image
 -- what is lost with an image
 abbrev pub IsLoss : (lines : ℕ) (image : Image) → Loss → Type 0
 IsLoss lines image (Whole held) = IsHeld lines image held
-IsLoss lines image Damaged = RefusesReading LAYOUT lines image BreaksRule
+IsLoss lines image Damaged = RefusesReading (layout_in image) lines image BreaksRule
 
 -- an undamaged image is at this position or above it
 pub record IsAtLeast (lines : ℕ) (image : Image) (least : ℕ) : Type 0 where

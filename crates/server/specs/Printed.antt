@@ -3,8 +3,12 @@ use Rattle.std.specs.Prelude.{ℕ, Option, List, [], ◌∷◌, ◌++◌, length
 use Rattle.std.specs.List.{concat, flat_map}
 use Rattle.std.specs.Fmt.{decimal}
 use Rattle.std.specs.Io.KnownBytes.{Appends}
+use Rattle.kv_types.specs.Keyspace.{Keyspace}
 use Rattle.pmem.specs.Device.{State}
+use Rattle.pmem.specs.Crash.{image_of}
+use Rattle.model.specs.declared.layout.Layout.TheVariants.{Version2}
 use Rattle.model.specs.declared.layout.TheConstants.{LAYOUT}
+use Rattle.model.specs.Layout.{version}
 use Rattle.model.specs.declared.record.Gap.{Gap}
 use Rattle.model.specs.declared.record.Role.{Role}
 use Rattle.model.specs.declared.record.Role.TheVariants.{Primary, Standby}
@@ -16,6 +20,8 @@ use Rattle.wbl_engine.specs.Inspecting.{live_below}
 use Rattle.wbl_engine.specs.Lawful.{IsUndamaged}
 use Rattle.wbl_engine.specs.Promoting.{promoted}
 use Rattle.wbl_engine.specs.Restarting.{IsReopened}
+use Rattle.wbl_migrate.specs.Migrating.{IsMigratable, IsMigrated}
+use Rattle.wbl_migrate.specs.Steps.{Leaves}
 use Rattle.server.specs.Told.{newline}
 
 -- after an image of so many lines was formatted
@@ -41,11 +47,12 @@ gap_line gap = codes "gap " ++ decimal gap.first ++ codes " " ++ decimal gap.las
 abbrev pub gap_lines : List Gap → List ℕ
 gap_lines gaps = flat_map gap_line gaps
 
--- the record of an image, and how many of its entries are live
+-- the version of an image, its record, and how many of its entries are live
 abbrev pub image_text : Record → ℕ → List ℕ
 image_text r live =
     concat
-    (number_line (codes "record") r.number
+    (number_line (codes "version") (version r.layout)
+    ∷ number_line (codes "record") r.number
     ∷ number_line (codes "position") r.position
     ∷ number_line (codes "cp") r.cp
     ∷ number_line (codes "cd") r.cd
@@ -56,11 +63,20 @@ image_text r live =
     ∷ number_line (codes "live") live
     ∷ [])
 
--- An undamaged image of so many lines was told of: its record, and how many of its entries are live.
+-- An undamaged image of so many lines was told of: its version, its record, and how many of its entries are live.
 pub record TellsImage (lines : ℕ) (image : Image) (before after : Option (List ℕ)) : Type 0 where
   pub current : Record
   pub undamaged : IsUndamaged lines current image
   pub told : Appends before after (image_text current (live_below current image (entries_of_lines current.layout lines)))
+
+-- how many entries an image has that was migrated
+abbrev pub migrated_text : ℕ → List ℕ
+migrated_text lines = codes "migrated to version 2, " ++ decimal (entries_of_lines Version2 lines) ++ codes " entries" ++ newline
+
+-- An image that could be migrated, if it was not of version 2 before, is of version 2, with its map, its position, epoch and role; and how many entries it has is told.
+pub record TellsMigration (old new : State) (before after : Option (List ℕ)) : Type 0 where
+  pub migrated : (r : Record) (s : Keyspace) → IsMigratable old.lines r s (image_of old.words) → Leaves new (IsMigrated old.lines r s)
+  pub told : Appends before after (migrated_text old.lines)
 
 -- An undamaged image of so many lines was a standby's. It was opened again, and what it held then each crash leaves now under a primary's record of the
 -- next epoch, which is told.

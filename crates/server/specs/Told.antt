@@ -3,9 +3,8 @@ use Rattle.std.specs.Prelude.{ℕ, List, [], ◌∷◌, ◌++◌, Option, Some, 
 use Rattle.std.specs.Fmt.{decimal}
 use Rattle.std.specs.Io.KnownBytes.{Keeps}
 use Rattle.kv_types.specs.Refusal.{refusal_number, refusal_text}
-use Rattle.model.specs.declared.layout.TheConstants.{LAYOUT}
 use Rattle.model.specs.Image.{Image}
-use Rattle.wbl_engine.specs.Reopening.{RefusesReading}
+use Rattle.wbl_engine.specs.Reopening.{RefusesReading, layout_in}
 use Rattle.server.specs.declared.serve.ServeError.{ServeError}
 use Rattle.server.specs.declared.serve.ServeError.TheVariants.{Broken, Random, Read, Refused, Socket, Write}
 use Rattle.server.specs.declared.failure.Failure.{Failure}
@@ -54,7 +53,7 @@ text_of (Kept why) = Some (kept_text why)
 
 -- If an image was refused, it was for what reading it refuses, and nothing was printed.
 abbrev pub IsReadingRefusal : ServeError → ℕ → Image → (before after : Option (List ℕ)) → Type 0
-IsReadingRefusal (Refused refusal) lines image before after = RefusesReading LAYOUT lines image refusal × Keeps before after
+IsReadingRefusal (Refused refusal) lines image before after = RefusesReading (layout_in image) lines image refusal × Keeps before after
 IsReadingRefusal (Read error) lines image before after = ⊥
 IsReadingRefusal (Random error) lines image before after = ⊥
 IsReadingRefusal (Socket error) lines image before after = ⊥

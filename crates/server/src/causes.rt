@@ -51,7 +51,10 @@ fn cause_of<I: Images>(refusal: Refusal, images: &I, name: &str) -> Option<&'sta
     match refusal {
         Refusal::Fault => Some(fault_of(images.trouble(name))),
         Refusal::BadMagic => Some("does not begin as an image"),
-        Refusal::BadVersion => Some("is an image of another version"),
+        Refusal::BadVersion => Some(
+            "is an image of another version; wbl-server migrate brings one of version 1 to version 2",
+        ),
+        Refusal::Full => Some("has no place for a version that has to move"),
         Refusal::WrongSize => Some("has not as many lines as an image, or as were asked for"),
         Refusal::Exhausted => Some("has come to the end of a counter"),
         Refusal::Damaged => Some(damage_of(images.trouble(name))),

@@ -8,6 +8,7 @@ use crate::failure::Failure;
 use crate::formatting::format;
 use crate::images::Images;
 use crate::inspecting::inspect;
+use crate::migrating::migrate;
 use crate::options::{PROGRAM, Task, options};
 use crate::promoting::promote;
 use crate::serve::{ServeError, serve};
@@ -126,6 +127,11 @@ fn run<
                 &mut errors,
             );
             tell_cause_of_making(alloc, images, image, &done, &mut errors);
+            done
+        }
+        Task::Migrate { image } => {
+            let done = migrate(alloc, images, image, writer);
+            tell_cause(alloc, images, image, &done, &mut errors);
             done
         }
         Task::Inspect { image } => {

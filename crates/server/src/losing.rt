@@ -8,10 +8,11 @@ ghost use Rattle.server.specs.Asked.{HoldsNothing, IsLoss};
 use crate::images::Images;
 use heap_layout::{Versions, read_versions};
 use kv_types::{Key, Refusal};
-use model::{LAYOUT, Record, Role};
+use model::{Record, Role};
 use pmem::Pmem;
 use std::alloc::{AllocError, Global};
 use std::fmt;
+use wbl_engine::layout_in;
 
 /// What an undamaged image above position 0 holds.
 #[derive(Clone, Copy, Debug, PartialEq, Eq)]
@@ -79,7 +80,8 @@ fn loss_on<P: Pmem>(alloc: Global, device: &P) -> Result<Option<Loss>, Refusal>
     ensures none { result ≡ Ok None → HoldsNothing (P.state device.now).lines (image_of (P.state device.now).words) }
     ensures cause { IfErr result (λ refusal. refusal ≡ Memory) }
 {
-    match wbl_engine::inspect(alloc, device, LAYOUT) {
+    // (one of an older version holds something too)
+    match wbl_engine::inspect(alloc, device, layout_in(device)) {
         Ok((current, _)) if current.position == 0 => Ok(None),
         Ok((current, _)) => {
             let keys = count_keys(alloc, device, &current)?;

@@ -15,6 +15,7 @@ mod inspecting;
 mod link_listener;
 mod listening;
 mod losing;
+mod migrating;
 mod options;
 mod pair;
 mod promoting;

@@ -72,6 +72,10 @@ pub enum Task<'a> {
         old_primary_stopped: bool,
         at_least: u64,
     },
+    /// To bring an image to version 2 of the format.
+    Migrate {
+        image: &'a str,
+    },
     /// To print what an image holds.
     Inspect {
         image: &'a str,
@@ -129,6 +133,7 @@ fn grammar<'a>(alloc: Global) -> Result<Command<'a>, Error> {
         .subcommand(primary_command(alloc)?)?
         .subcommand(standby_command(alloc)?)?
         .subcommand(promote_command(alloc)?)?
+        .subcommand(migrate_command(alloc)?)?
         .subcommand(inspect_command(alloc)?)?
         .subcommand(status_command(alloc)?)?;
     Ok(command)
@@ -205,6 +210,13 @@ fn promote_command<'a>(alloc: Global) -> Result<Command<'a>, Error> {
         .arg(image(alloc))?
         .arg(stopped)?
         .arg(at_least)?;
+    Ok(command)
+}
+
+fn migrate_command<'a>(alloc: Global) -> Result<Command<'a>, Error> {
+    let command = Command::new(alloc, "migrate")
+        .about("Brings an image of version 1 to version 2, with what it holds")
+        .arg(image(alloc))?;
     Ok(command)
 }
 
@@ -308,6 +320,7 @@ fn task_of<'a>(name: &str, found: &ArgMatches<'a>, from: Option<IpAddr>) -> Opti
             old_primary_stopped: found.get_flag(STOPPED),
             at_least: found.get_one(AT_LEAST).unwrap_or(0),
         }),
+        "migrate" => Some(Task::Migrate { image }),
         "inspect" => Some(Task::Inspect { image }),
         "status" => Some(Task::Status {
             image,

@@ -4,11 +4,11 @@ use Rattle.std.specs.Prelude.{replicate}
 use Rattle.pmem.specs.Device.{State}
 use Rattle.pmem.specs.Runs.{Runs, stores, flushes, pairs_from, lines_from}
 use Rattle.pmem.proofs.Staging.{length-pairs_from, get_or-pairs_from}
-use Rattle.model.specs.declared.layout.TheConstants.{DIRECTORY_LINE, LAYOUT}
-use Rattle.model.specs.Layout.{first_word, slot_lines, version}
+use Rattle.model.specs.Layout.{first_word, root_word, version}
 use Rattle.model.specs.declared.record.Record.{Record}
-use Rattle.model.specs.Image.{directory_room, entries_of_lines, first_extent_line, record_words, slot_line}
-use Rattle.wbl_engine.specs.Formatting.{first_record, superblock_words, slot_words, slot_0, slot_1, behind_slots, rest_words, run_pairs, new_pairs}
+use Rattle.model.specs.Image.{directory_room, first_extent_line, record_words, slot_line}
+use Rattle.wbl_record.specs.Record.{body_pairs, root_pairs}
+use Rattle.wbl_engine.specs.Formatting.{superblock_words, words_behind_magic, new_pairs}
 use Rattle.heap_layout.proofs.LayoutRuns.{Runs-more_stores}
 use Rattle.wbl_engine.proofs.NewImage.{zeros, length-zeros, get_or-zeros}
 
@@ -21,48 +21,32 @@ zero_pair first count i below =
     ∙ ap (λ (x : ℕ). (first + i, x)) (get_or-zeros count i))
 
 -- four runs in sequence
-run_runs : {a b c d e : State} (lines : ℕ) (super slot first rest : List ℕ) → Runs a b (stores (pairs_from 1 super) a.words)
-    → Runs b c (stores (pairs_from (slot_0 lines) slot) b.words) → Runs c d (stores (pairs_from (slot_1 lines) first) c.words)
-    → Runs d e (stores (pairs_from (behind_slots lines) rest) d.words)
-    → Runs a e (stores (run_pairs lines super slot first rest) a.words)
-run_runs {a} {b} {c} {d} {e} lines super slot first rest run1 run2 run3 run4 =
-    Runs-more_stores (pairs_from 1 super ++ pairs_from (slot_0 lines) slot ++ pairs_from (slot_1 lines) first) (pairs_from (behind_slots lines) rest)
-    (Runs-more_stores (pairs_from 1 super ++ pairs_from (slot_0 lines) slot) (pairs_from (slot_1 lines) first)
-    (Runs-more_stores (pairs_from 1 super) (pairs_from (slot_0 lines) slot) run1 run2) run3)
-    run4
-
--- how many words are zero behind slot 1, which begins at line `line_1`
-abbrev pub zeros_behind : ℕ → ℕ → ℕ
-zeros_behind line_1 entries = first_word DIRECTORY_LINE - (first_word line_1 + slot_words) + first_word entries
+run_runs : {a b c d e : State} (p q r s : List (ℕ × ℕ)) → Runs a b (stores p a.words) → Runs b c (stores q b.words) → Runs c d (stores r c.words)
+    → Runs d e (stores s d.words) → Runs a e (stores (p ++ q ++ r ++ s) a.words)
+run_runs p q r s run1 run2 run3 run4 =
+    Runs-more_stores (p ++ q ++ r) s (Runs-more_stores (p ++ q) r (Runs-more_stores p q run1 run2) run3) run4
 
 -- what was read and made are the words of a new image
-pub new_run : {a b c d e : State} {lines count room entries line_0 line_1 number width : ℕ} {first : Record} {words : List ℕ} → number ≡ version LAYOUT
-    → width ≡ slot_lines LAYOUT
-    → count ≡ lines → room ≡ directory_room count → entries ≡ entries_of_lines LAYOUT count → line_0 ≡ slot_line LAYOUT count 0
-    → line_1 ≡ slot_line LAYOUT count 1
-    → first ≡ first_record first.role → words ≡ record_words first
-    → Runs a b (stores (pairs_from 1 (number ∷ count ∷ room ∷ 1 ∷ 0 ∷ 0 ∷ 0 ∷ [])) a.words)
-    → Runs b c (stores (pairs_from (first_word line_0) (replicate (first_word width) 0)) b.words)
-    → Runs c d (stores (pairs_from (first_word line_1) words) c.words)
-    → Runs d e (stores (pairs_from (first_word line_1 + first_word width)
-    (replicate (first_word DIRECTORY_LINE - (first_word line_1 + first_word width) + first_word entries) 0)) d.words)
-    → Runs a e (stores (new_pairs lines first.role) a.words)
+pub new_run : {a b c d e : State} {lines count room extents line number root : ℕ} {words : List ℕ} (first : Record) → count ≡ lines → room ≡ directory_room count
+    → extents ≡ first_extent_line count → line ≡ slot_line first.layout count first.number → number ≡ version first.layout → words ≡ record_words first
+    → root ≡ root_word first.layout
+    → Runs a b (stores (pairs_from 1 (replicate (first_word extents - 1) 0)) a.words)
+    → Runs b c (stores (pairs_from 1 (number ∷ count ∷ room ∷ [])) b.words)
+    → Runs c d (stores (pairs_from (first_word line) words) c.words)
+    → Runs d e (stores (pairs_from root (first.number ∷ [])) d.words)
+    → Runs a e (stores (new_pairs lines first) a.words)
 unfolding new_pairs
-new_run {a} {b} {c} {d} {e} {count = count} {room = room} {entries = entries} {line_0 = line_0} {line_1 = line_1} {first = first} is_number is_width
-    is_count is_room are_entries is_0 is_1 is_first is_words run1 run2 run3 run4 =
-    let body : List ℕ = record_words (first_record first.role) in
-    subst (λ (n : ℕ). Runs a e (stores (run_pairs n (superblock_words n) (replicate slot_words 0) body (replicate (rest_words n) 0)) a.words)) is_count
-    (run_runs count (superblock_words count) (replicate slot_words 0) body (replicate (rest_words count) 0)
-    (subst (λ (n : ℕ). Runs a b (stores (pairs_from 1 (version LAYOUT ∷ count ∷ n ∷ 1 ∷ 0 ∷ 0 ∷ 0 ∷ [])) a.words)) is_room
-    (subst (λ (v : ℕ). Runs a b (stores (pairs_from 1 (v ∷ count ∷ room ∷ 1 ∷ 0 ∷ 0 ∷ 0 ∷ [])) a.words)) is_number run1))
-    (subst (λ (n : ℕ). Runs b c (stores (pairs_from (first_word n) (replicate slot_words 0)) b.words)) is_0
-    (subst (λ (w : ℕ). Runs b c (stores (pairs_from (first_word line_0) (replicate (first_word w) 0)) b.words)) is_width run2))
-    (subst (λ (n : ℕ). Runs c d (stores (pairs_from (first_word n) body) c.words)) is_1
-    (subst (λ (ws : List ℕ). Runs c d (stores (pairs_from (first_word line_1) ws) c.words)) (is_words ∙ ap record_words is_first) run3))
-    (subst (λ (n : ℕ). Runs d e (stores (pairs_from (first_word n + slot_words) (replicate (zeros_behind n (entries_of_lines LAYOUT count)) 0)) d.words)) is_1
-    (subst (λ (n : ℕ). Runs d e (stores (pairs_from (first_word line_1 + slot_words) (replicate (zeros_behind line_1 n) 0)) d.words)) are_entries
-    (subst (λ (w : ℕ). Runs d e (stores (pairs_from (first_word line_1 + first_word w)
-    (replicate (first_word DIRECTORY_LINE - (first_word line_1 + first_word w) + first_word entries) 0)) d.words)) is_width run4))))
+new_run {a} {b} {c} {d} {e} {count = count} {room = room} {line = line} first is_count is_room is_extents is_line is_number is_words is_root
+    run1 run2 run3 run4 =
+    subst (λ (n : ℕ). Runs a e (stores (pairs_from 1 (replicate (words_behind_magic n) 0) ++ pairs_from 1 (superblock_words first.layout n) ++ body_pairs n first
+    ++ root_pairs first) a.words)) is_count
+    (run_runs (pairs_from 1 (replicate (words_behind_magic count) 0)) (pairs_from 1 (superblock_words first.layout count)) (body_pairs count first) (root_pairs first)
+    (subst (λ (n : ℕ). Runs a b (stores (pairs_from 1 (replicate (first_word n - 1) 0)) a.words)) is_extents run1)
+    (subst (λ (n : ℕ). Runs b c (stores (pairs_from 1 (version first.layout ∷ count ∷ n ∷ [])) b.words)) is_room
+    (subst (λ (n : ℕ). Runs b c (stores (pairs_from 1 (n ∷ count ∷ room ∷ [])) b.words)) is_number run2))
+    (subst (λ (n : ℕ). Runs c d (stores (pairs_from (first_word n) (record_words first)) c.words)) is_line
+    (subst (λ (ws : List ℕ). Runs c d (stores (pairs_from (first_word line) ws) c.words)) is_words run3))
+    (subst (λ (n : ℕ). Runs d e (stores ((n, first.number) ∷ []) d.words)) is_root run4))
 
 pub new_flushes : {a b : State} (lines count line : ℕ) → count ≡ lines → line ≡ first_extent_line count → Runs a b (flushes (lines_from 0 line) a.words)
     → Runs a b (flushes (lines_from 0 (first_extent_line lines)) a.words)

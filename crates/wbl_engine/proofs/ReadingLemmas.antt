@@ -5,7 +5,7 @@ use Rattle.kv_types.specs.declared.refusal.Refusal.TheVariants.{Damaged, Memory}
 use Rattle.heap_layout.specs.Versions.{AreVersions}
 use Rattle.model.specs.declared.record.Record.{Record}
 use Rattle.model.specs.declared.layout.Layout.{Layout}
-use Rattle.model.specs.declared.layout.Layout.TheVariants.{Version1, Version2}
+use Rattle.model.specs.declared.layout.Layout.TheVariants.{Version1, Version2, Halfway}
 use Rattle.model.specs.Layout.{version}
 use Rattle.model.specs.Image.{HasSuperblock, Image}
 use Rattle.model.proofs.LayoutLemmas.{same_version}
@@ -16,8 +16,9 @@ use Rattle.wbl_engine.specs.Reopening.{RefusesReading, layout_in}
 
 -- an image is opened again by the layout of its version
 pub layout_in_is : (layout : Layout) (image : Image) → image 1 ≡ version layout → layout_in image ≡ layout
-layout_in_is Version1 image is = ap (λ (n : ℕ). if n == 2 then Version2 else Version1) is
-layout_in_is Version2 image is = ap (λ (n : ℕ). if n == 2 then Version2 else Version1) is
+layout_in_is Version1 image is = ap (λ (n : ℕ). if n == 2 then Version2 else if n == 3 then Halfway else Version1) is
+layout_in_is Version2 image is = ap (λ (n : ℕ). if n == 2 then Version2 else if n == 3 then Halfway else Version1) is
+layout_in_is Halfway image is = ap (λ (n : ℕ). if n == 2 then Version2 else if n == 3 then Halfway else Version1) is
 
 -- an undamaged image has one record
 pub undamaged_unique : {lines : ℕ} {image : Image} (r s : Record) → IsCurrent lines image r → IsUndamaged lines s image → s ≡ r

@@ -4,13 +4,15 @@ use Rattle.pmem.specs.Device.{Word}
 use Rattle.pmem.specs.Crash.{IsImage}
 use Rattle.pmem.specs.Runs.{pairs_from}
 use Rattle.model.specs.declared.image.TheConstants.{STAMP_WINDOW}
-use Rattle.model.specs.declared.layout.TheConstants.{DIRECTORY_LINE, LAYOUT}
+use Rattle.model.specs.declared.layout.Layout.{Layout}
+use Rattle.model.specs.declared.layout.TheConstants.{LAYOUT}
 use Rattle.model.specs.declared.record.Record.{Record}
 use Rattle.model.specs.declared.record.TheConstants.{FIRST_EPOCH}
 use Rattle.model.specs.declared.record.Role.{Role}
-use Rattle.model.specs.Layout.{first_word, slot_lines, version}
-use Rattle.model.specs.Image.{Image, magic_number, directory_room, entries_of_lines, record_words, slot_line}
+use Rattle.model.specs.Layout.{first_word, version}
+use Rattle.model.specs.Image.{Image, magic_number, directory_room, entries_of_lines, first_extent_line}
 use Rattle.model.specs.Group.{Contents}
+use Rattle.wbl_record.specs.Record.{body_pairs, root_pairs}
 use Rattle.wbl_engine.specs.Contents.{Keeps}
 
 -- the record of a new image
@@ -37,36 +39,18 @@ new_contents lines role =
       is_free = λ i. nat_lt i (entries_of_lines LAYOUT lines);
     }
 
--- the superblock after the magic
-abbrev pub superblock_words : ℕ → List ℕ
-superblock_words lines = version LAYOUT ∷ lines ∷ directory_room lines ∷ 1 ∷ 0 ∷ 0 ∷ 0 ∷ []
+-- the superblock after the magic, up to the root
+abbrev pub superblock_words : Layout → ℕ → List ℕ
+superblock_words layout lines = version layout ∷ lines ∷ directory_room lines ∷ []
 
--- how many words a record slot has, where the two slots begin, and where they end
-abbrev pub slot_words : ℕ
-slot_words = first_word (slot_lines LAYOUT)
+-- how many words are between the magic and the extents
+abbrev pub words_behind_magic : ℕ → ℕ
+words_behind_magic lines = first_word (first_extent_line lines) - 1
 
-abbrev pub slot_0 : ℕ → ℕ
-slot_0 lines = first_word (slot_line LAYOUT lines 0)
-
-abbrev pub slot_1 : ℕ → ℕ
-slot_1 lines = first_word (slot_line LAYOUT lines 1)
-
-abbrev pub behind_slots : ℕ → ℕ
-behind_slots lines = slot_1 lines + slot_words
-
--- these four runs of words, up to the extents
-abbrev pub run_pairs : ℕ → List ℕ → List ℕ → List ℕ → List ℕ → List (ℕ × ℕ)
-run_pairs lines super slot first rest =
-    pairs_from 1 super ++ pairs_from (slot_0 lines) slot ++ pairs_from (slot_1 lines) first ++ pairs_from (behind_slots lines) rest
-
--- how many words are between the slots and the extents: those before the directory, and its own
-abbrev pub rest_words : ℕ → ℕ
-rest_words lines = first_word DIRECTORY_LINE - behind_slots lines + first_word (entries_of_lines LAYOUT lines)
-
--- all words of a new image but the magic, up to the extents
-unfoldable pub new_pairs : ℕ → Role → List (ℕ × ℕ)
-new_pairs lines role =
-    run_pairs lines (superblock_words lines) (replicate slot_words 0) (record_words (first_record role)) (replicate (rest_words lines) 0)
+-- all words of a new image but the magic, up to the extents: zeros, and then over some of them the superblock, the first record, and the root, which names it
+unfoldable pub new_pairs : ℕ → Record → List (ℕ × ℕ)
+new_pairs lines first =
+    pairs_from 1 (replicate (words_behind_magic lines) 0) ++ pairs_from 1 (superblock_words first.layout lines) ++ body_pairs lines first ++ root_pairs first
 
 -- What a crash leaves of a device of these words that is being formatted: an image from before, the new one whole, or one without the magic.
 abbrev pub IsFormatting : (ℕ → Word) → ℕ → Role → Image → Type 0

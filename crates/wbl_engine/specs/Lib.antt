@@ -2,6 +2,7 @@ pub mod AtRest
 pub mod Committing
 pub mod Contents
 pub mod Erasing
+pub mod Fencing
 pub mod Formatting
 pub mod Freeing
 pub mod Inspecting

@@ -10,7 +10,7 @@ use Rattle.pmem.specs.Device.{State, Only}
 use Rattle.pmem.specs.Crash.{IsImage, image_of}
 use Rattle.model.specs.declared.image.TheConstants.{COUNTER_LIMIT, MAX_LINES, MIN_LINES, STAMP_WINDOW}
 use Rattle.model.specs.declared.layout.Layout.{Layout}
-use Rattle.model.specs.declared.layout.Layout.TheVariants.{Version1, Version2}
+use Rattle.model.specs.declared.layout.Layout.TheVariants.{Version1, Version2, Halfway}
 use Rattle.model.specs.declared.layout.TheConstants.{DIRECTORY_LINE, SUPERBLOCK_WORDS}
 use Rattle.model.specs.Layout.{first_word, max_gaps, version}
 use Rattle.model.specs.declared.record.Gap.{Gap}
@@ -118,7 +118,7 @@ pub record KeepsThrough (old new : Contents) : Type 0 where
 
 -- The layout by which an image is opened again that tells its version itself. (One of a version that there is not is refused as one of version 1.)
 abbrev pub layout_in : Image → Layout
-layout_in image = if image 1 == version Version2 then Version2 else Version1
+layout_in image = if image 1 == version Version2 then Version2 else if image 1 == version Halfway then Halfway else Version1
 
 -- Why an image of this layout is not read: the superblock earns this refusal, or the image breaks a rule, or an allocation was refused.
 abbrev pub RefusesReading : Layout → ℕ → Image → Refusal → Type 0

@@ -1,5 +1,5 @@
 //! What the layers above know of an engine.
-ghost use Rattle.std.specs.Prelude.{◌≡◌, ◌⊎◌, ◌+◌, ◌<◌, ◌≤◌, ◌↔◌, ℕ, [], length, Bool, true, false, Some, Ok, Err, IsOk, IsErr, IsErrOf, IfOk, IfErr, OnOk, OnErr};
+ghost use Rattle.std.specs.Prelude.{◌≡◌, ◌⊎◌, ◌+◌, ◌<◌, ◌≤◌, [], length, Bool, false, Some, Err, IsOk, IsErrOf, IfOk, IfErr, OnOk, OnErr};
 ghost use Rattle.pmem.specs.Device.{State};
 ghost use Rattle.pmem.specs.Runs.{LeavesOnly};
 ghost use Rattle.model.specs.declared.group.Group.{Group};
@@ -7,6 +7,7 @@ ghost use Rattle.model.specs.Image.{Version};
 ghost use Rattle.model.specs.Group.{Contents, IsGroup, after_group, entries_of};
 ghost use Rattle.model.specs.declared.image.TheConstants.{COUNTER_LIMIT};
 ghost use Rattle.wbl_engine.specs.Contents.{Keeps, IsDurable, Same, Exhausts};
+ghost use Rattle.wbl_engine.specs.Fencing.{StopsAtFault};
 ghost use Rattle.wbl_engine.specs.Freeing.{AreEnded, Clears, KeepsFreedOr, KeepsMap, KeepsVersions, KeepsWithoutSome, after_free, cleared_contents, extents_of};
 ghost use Rattle.wbl_engine.specs.Promoting.{ExhaustsPromotion, promoted};
 ghost use Rattle.wbl_engine.specs.Relocating.{ExhaustsRelocation, IsRelocation, KeepsKeyspace, after_relocation};
@@ -39,15 +40,11 @@ pub trait Durable {
         ensures ok { IfOk result (λ committed. committed ≡ (contents self.new).current.position) }
         ensures moved { OnOk result (Same (after_group (contents self.old) group.now) (contents self.new)) }
         ensures durable { OnOk result (IsDurable (device self.new) (contents self.new)) }
-        ensures sound { OnOk result ((is_faulted self.new ≡ false) × ((device self.new).failures ≡ (device self.old).failures)) }
+        ensures fences { StopsAtFault device is_faulted self.old result self.new }
         ensures causes { IfErr result (λ refusal. (refusal ≡ Refusal.Fault) ⊎ (refusal ≡ Refusal.Exhausted)) }
-        ensures fault { IsErrOf result Refusal.Fault → (is_faulted self.old ≡ true) ⊎ ((device self.old).failures < (device self.new).failures) }
-        ensures stopped { IsErrOf result Refusal.Fault → is_faulted self.new ≡ true }
         ensures exhausted { IsErrOf result Refusal.Exhausted → Exhausts (contents self.old) group.now × (self.new ≡ self.old) }
         ensures exhausts { is_faulted self.old ≡ false → Exhausts (contents self.old) group.now → result ≡ Err Refusal.Exhausted }
         ensures stays { OnErr result (Same (contents self.old) (contents self.new)) }
-        ensures faulted { is_faulted self.old ≡ true → (result ≡ Err Refusal.Fault) × (self.new ≡ self.old) }
-        ensures asked_moment { (device self.new).kept ≡ (device self.old).kept }
         // whole or not at all, at any moment of the call
         ensures moments { is_faulted self.old ≡ false → LeavesOnly (device self.old) (device self.new)
             (λ image. Keeps (contents self.old) image ⊎ Keeps (after_group (contents self.old) group.now) image) };
@@ -65,17 +62,13 @@ pub trait Durable {
         ensures ok { IfOk result (λ committed. committed ≡ (contents self.new).current.position) }
         ensures moved { OnOk result (Same (after_group (after_free entries.now (contents self.old)) group.now) (contents self.new)) }
         ensures durable { OnOk result (IsDurable (device self.new) (contents self.new)) }
-        ensures sound { OnOk result ((is_faulted self.new ≡ false) × ((device self.new).failures ≡ (device self.old).failures)) }
+        ensures fences { StopsAtFault device is_faulted self.old result self.new }
         ensures causes { IfErr result (λ refusal. (refusal ≡ Refusal.Fault) ⊎ (refusal ≡ Refusal.Exhausted)) }
-        ensures fault { IsErrOf result Refusal.Fault → (is_faulted self.old ≡ true) ⊎ ((device self.old).failures < (device self.new).failures) }
-        ensures stopped { IsErrOf result Refusal.Fault → is_faulted self.new ≡ true }
         // as loads return it
         ensures stays { IsErrOf result Refusal.Fault → is_faulted self.old ≡ false
             → Same (after_free entries.now (contents self.old)) (contents self.new) }
         ensures exhausted { IsErrOf result Refusal.Exhausted → Exhausts (contents self.old) group.now × (self.new ≡ self.old) }
         ensures exhausts { is_faulted self.old ≡ false → Exhausts (contents self.old) group.now → result ≡ Err Refusal.Exhausted }
-        ensures faulted { is_faulted self.old ≡ true → (result ≡ Err Refusal.Fault) × (self.new ≡ self.old) }
-        ensures asked_moment { (device self.new).kept ≡ (device self.old).kept }
         ensures moments { is_faulted self.old ≡ false → LeavesOnly (device self.old) (device self.new)
             (KeepsFreedOr entries.now (contents self.old) (after_group (after_free entries.now (contents self.old)) group.now)) };
 
@@ -88,15 +81,11 @@ pub trait Durable {
         ensures moved { OnOk result (Same (after_relocation (contents self.old) part.now) (contents self.new)) }
         ensures map { OnOk result (KeepsKeyspace (contents self.old) (contents self.new)) }
         ensures durable { OnOk result (IsDurable (device self.new) (contents self.new)) }
-        ensures sound { OnOk result ((is_faulted self.new ≡ false) × ((device self.new).failures ≡ (device self.old).failures)) }
+        ensures fences { StopsAtFault device is_faulted self.old result self.new }
         ensures causes { IfErr result (λ refusal. (refusal ≡ Refusal.Fault) ⊎ (refusal ≡ Refusal.Exhausted)) }
-        ensures fault { IsErrOf result Refusal.Fault → (is_faulted self.old ≡ true) ⊎ ((device self.old).failures < (device self.new).failures) }
-        ensures stopped { IsErrOf result Refusal.Fault → is_faulted self.new ≡ true }
         ensures exhausted { IsErrOf result Refusal.Exhausted → ExhaustsRelocation (contents self.old).current × (self.new ≡ self.old) }
         ensures exhausts { is_faulted self.old ≡ false → ExhaustsRelocation (contents self.old).current → result ≡ Err Refusal.Exhausted }
         ensures stays { OnErr result (Same (contents self.old) (contents self.new)) }
-        ensures faulted { is_faulted self.old ≡ true → (result ≡ Err Refusal.Fault) × (self.new ≡ self.old) }
-        ensures asked_moment { (device self.new).kept ≡ (device self.old).kept }
         // the version lies in its old place or in the new one, at any moment of the call
         ensures moments { is_faulted self.old ≡ false → LeavesOnly (device self.old) (device self.new)
             (λ image. Keeps (contents self.old) image ⊎ Keeps (after_relocation (contents self.old) part.now) image) };
@@ -112,16 +101,12 @@ pub trait Durable {
         ensures moved { OnOk result (Same (after_free entries.now (contents self.old)) (contents self.new)) }
         ensures map { OnOk result (KeepsMap (contents self.old) (contents self.new)) }
         ensures durable { OnOk result (IsDurable (device self.new) (contents self.new)) }
-        ensures sound { OnOk result ((is_faulted self.new ≡ false) × ((device self.new).failures ≡ (device self.old).failures)) }
+        ensures fences { StopsAtFault device is_faulted self.old result self.new }
         ensures causes { IfErr result (λ refusal. (refusal ≡ Refusal.Fault) ⊎ (refusal ≡ Refusal.Memory)) }
-        ensures fault { IsErrOf result Refusal.Fault → (is_faulted self.old ≡ true) ⊎ ((device self.old).failures < (device self.new).failures) }
-        ensures stopped { IsErrOf result Refusal.Fault → is_faulted self.new ≡ true }
         // as loads return it
         ensures stays { IsErrOf result Refusal.Fault → is_faulted self.old ≡ false
             → Same (after_free entries.now (contents self.old)) (contents self.new) }
         ensures memory { IsErrOf result Refusal.Memory → self.new ≡ self.old }
-        ensures faulted { is_faulted self.old ≡ true → (result ≡ Err Refusal.Fault) × (self.new ≡ self.old) }
-        ensures asked_moment { (device self.new).kept ≡ (device self.old).kept }
         ensures moments { is_faulted self.old ≡ false
             → LeavesOnly (device self.old) (device self.new) (KeepsWithoutSome entries.now (contents self.old)) };
 
@@ -135,18 +120,14 @@ pub trait Durable {
             → IfOk result (λ freed. Clears (contents self.old) freed.entries.items (contents self.new)) }
         ensures extents { IfOk result (λ freed. freed.extents.items ≡ []) }
         ensures durable { OnOk result (IsDurable (device self.new) (contents self.new)) }
-        ensures sound { OnOk result ((is_faulted self.new ≡ false) × ((device self.new).failures ≡ (device self.old).failures)) }
+        ensures fences { StopsAtFault device is_faulted self.old result self.new }
         ensures causes { IfErr result (λ refusal. (refusal ≡ Refusal.Fault) ⊎ ((refusal ≡ Refusal.Exhausted) ⊎ (refusal ≡ Refusal.Memory))) }
-        ensures fault { IsErrOf result Refusal.Fault → (is_faulted self.old ≡ true) ⊎ ((device self.old).failures < (device self.new).failures) }
-        ensures stopped { IsErrOf result Refusal.Fault → is_faulted self.new ≡ true }
         ensures stays { IsErrOf result Refusal.Fault → KeepsVersions (contents self.old) (contents self.new) }
         ensures memory { IsErrOf result Refusal.Memory → self.new ≡ self.old }
         ensures exhausted { IsErrOf result Refusal.Exhausted → (0 < length (contents self.old).current.gaps.items)
             × (COUNTER_LIMIT ≤ (contents self.old).current.number + 1) × (self.new ≡ self.old) }
         ensures exhausts { is_faulted self.old ≡ false → 0 < length (contents self.old).current.gaps.items
             → COUNTER_LIMIT ≤ (contents self.old).current.number + 1 → result ≡ Err Refusal.Exhausted }
-        ensures faulted { is_faulted self.old ≡ true → (result ≡ Err Refusal.Fault) × (self.new ≡ self.old) }
-        ensures asked_moment { (device self.new).kept ≡ (device self.old).kept }
         // the versions stay, at any moment of the call
         ensures moments { is_faulted self.old ≡ false → LeavesOnly (device self.old) (device self.new)
             (λ image. Keeps (contents self.old) image ⊎ Keeps (cleared_contents (contents self.old)) image) };
@@ -157,15 +138,11 @@ pub trait Durable {
     fn promote(&mut self) -> Result<(), Refusal>
         ensures moved { OnOk result (Same (promoted (contents self.old)) (contents self.new)) }
         ensures durable { OnOk result (IsDurable (device self.new) (contents self.new)) }
-        ensures sound { OnOk result ((is_faulted self.new ≡ false) × ((device self.new).failures ≡ (device self.old).failures)) }
+        ensures fences { StopsAtFault device is_faulted self.old result self.new }
         ensures causes { IfErr result (λ refusal. (refusal ≡ Refusal.Fault) ⊎ (refusal ≡ Refusal.Exhausted)) }
-        ensures fault { IsErrOf result Refusal.Fault → (is_faulted self.old ≡ true) ⊎ ((device self.old).failures < (device self.new).failures) }
-        ensures stopped { IsErrOf result Refusal.Fault → is_faulted self.new ≡ true }
         ensures exhausted { IsErrOf result Refusal.Exhausted → ExhaustsPromotion (contents self.old).current × (self.new ≡ self.old) }
         ensures exhausts { is_faulted self.old ≡ false → ExhaustsPromotion (contents self.old).current → result ≡ Err Refusal.Exhausted }
         ensures stays { OnErr result (Same (contents self.old) (contents self.new)) }
-        ensures faulted { is_faulted self.old ≡ true → (result ≡ Err Refusal.Fault) × (self.new ≡ self.old) }
-        ensures asked_moment { (device self.new).kept ≡ (device self.old).kept }
         // the standby's image before or the primary's after, at any moment of the call
         ensures moments { is_faulted self.old ≡ false → LeavesOnly (device self.old) (device self.new)
             (λ image. Keeps (contents self.old) image ⊎ Keeps (promoted (contents self.old)) image) };

@@ -7,9 +7,7 @@ ghost use Rattle.wbl_engine.specs.AtRest.{IsAtRest};
 ghost use Rattle.wbl_engine.specs.Formatting.{first_record, new_pairs, IsFormatting};
 
 use arrayvec::ArrayVec;
-use model::{
-    DIRECTORY_LINE, FIRST_EPOCH, LAYOUT, LINE_WORDS, Layout, MAGIC, Record, Role, STAMP_WINDOW,
-};
+use model::{FIRST_EPOCH, LAYOUT, LINE_WORDS, Layout, MAGIC, Record, Role, STAMP_WINDOW};
 use pmem::{Fault, Pmem, flush_lines, persist, store_words};
 use wbl_record::words_of;
 
@@ -32,31 +30,24 @@ pub fn format_device<P: Pmem>(device: &mut P, first: &Record) -> Result<(), Faul
     persist(device, &[(0, MAGIC)], &[0])
 }
 
-/// Writes everything but the magic: superblock, both slots, the first of which is empty, and an empty directory.
+/// Writes everything but the magic, up to the extents: zeros, and then the superblock, the first record in its slot, and its number as the root.
 fn write_new<P: Pmem>(device: &mut P, first: &Record) -> Result<(), Fault>
     requires many { MIN_LINES ≤ (P.state device.old).lines }
     requires few { (P.state device.old).lines ≤ MAX_LINES }
-    requires first { first.now ≡ first_record first.now.role }
-    ensures ok { OnOk result (Staged (P.state device.old) (P.state device.new) (new_pairs (P.state device.old).lines first.now.role)
+    ensures ok { OnOk result (Staged (P.state device.old) (P.state device.new) (new_pairs (P.state device.old).lines first.now)
         (lines_from 0 (first_extent_line (P.state device.old).lines))) }
-    ensures err { OnErr result (StageFailed (P.state device.old) (P.state device.new) (new_pairs (P.state device.old).lines first.now.role)) }
+    ensures err { OnErr result (StageFailed (P.state device.old) (P.state device.new) (new_pairs (P.state device.old).lines first.now)) }
 {
     let lines = device.lines();
-    let slot_0 = LINE_WORDS * LAYOUT.slot_line(lines, 0);
-    let slot_1 = LINE_WORDS * LAYOUT.slot_line(lines, 1);
-    let slot_words = LINE_WORDS * LAYOUT.slot_lines();
-    let behind_slots = slot_1 + slot_words;
-    let before_directory = LINE_WORDS * DIRECTORY_LINE - behind_slots;
+    let layout = first.layout;
     let room = Layout::directory_room(lines);
-    store_words(device, 1, &[LAYOUT.version(), lines, room, 1, 0, 0, 0]);
-    clear_words(device, slot_0, slot_words);
-    store_words(device, slot_1, words_of(first).as_slice());
-    clear_words(
-        device,
-        behind_slots,
-        before_directory + LINE_WORDS * LAYOUT.entries_of_lines(lines),
-    );
-    flush_lines(device, 0, Layout::first_extent_line(lines));
+    let extents = Layout::first_extent_line(lines);
+    let slot = LINE_WORDS * layout.slot_line(lines, first.number);
+    clear_words(device, 1, LINE_WORDS * extents - 1);
+    store_words(device, 1, &[layout.version(), lines, room]);
+    store_words(device, slot, words_of(first).as_slice());
+    store_words(device, layout.root_word(), &[first.number]);
+    flush_lines(device, 0, extents);
     device.fence()
 }
 

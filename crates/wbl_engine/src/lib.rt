@@ -31,4 +31,5 @@ pub use laws::{
     reopening_keeps_contents, same_contents_are_lawful,
 };
 pub use model::{Gap, Record, Role};
+pub use reopening::layout_in;
 pub use restarting::Restarting;

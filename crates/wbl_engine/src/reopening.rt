@@ -28,13 +28,15 @@ use pmem::{Fault, Pmem};
 use std::alloc::{AllocError, Global};
 use wbl_record::write_next;
 
-/// The layout by which the image is opened again, as its version tells.
-pub(crate) fn layout_in<P: Pmem>(device: &P) -> Layout
+/// The layout of the image, as its version tells. One of a version that there is not counts as of version 1, by which it is refused.
+pub fn layout_in<P: Pmem>(device: &P) -> Layout
     requires { MIN_LINES ≤ (P.state device.now).lines }
     ensures { result ≡ the_layout_in (image_of (P.state device.now).words) }
 {
     if device.load(1) == Layout::Version2.version() {
         Layout::Version2
+    } else if device.load(1) == Layout::Halfway.version() {
+        Layout::Halfway
     } else {
         Layout::Version1
     }

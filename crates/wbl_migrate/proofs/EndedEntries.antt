@@ -7,7 +7,7 @@ use Rattle.pmem.specs.Crash.{IsImage, image_of}
 use Rattle.pmem.specs.Runs.{IsPartlyStored, IsStored, Staged}
 use Rattle.pmem.proofs.Staging.{same_or_other}
 use Rattle.model.specs.declared.layout.Layout.{Layout}
-use Rattle.model.specs.declared.layout.Layout.TheVariants.{Version1, Version2}
+use Rattle.model.specs.declared.layout.Layout.TheVariants.{Version1, Version2, Halfway}
 use Rattle.model.specs.declared.layout.TheConstants.{DIRECTORY_LINE}
 use Rattle.model.specs.declared.record.Record.{Record}
 use Rattle.model.specs.Layout.{first_word}
@@ -97,6 +97,7 @@ pub record IsHead (layout : Layout) (lines word : ℕ) : Type 0 where
 slots_before : (layout : Layout) (lines : ℕ) → 0 < entries_of_lines layout lines → slots_end layout lines ≤ first_extent_line lines
 slots_before Version1 lines some = omega arith
 slots_before Version2 lines some = omega (arith, some)
+slots_before Halfway lines some = omega (arith, some)
 
 -- these words are as in an image that keeps the contents
 pub record HasHead (contents : Contents) (image : Image) : Type 0 where

@@ -19,7 +19,6 @@ mod EndedRuns
 mod TwoSetsLemmas
 pub mod Maps
 pub mod MovableLemmas
-mod HalfwayLemmas
 pub mod Touching
 pub mod Marks
 pub mod Renewing

@@ -6,17 +6,16 @@ use Rattle.kv_types.specs.Keyspace.{Keyspace}
 use Rattle.pmem.specs.Device.{State}
 use Rattle.pmem.specs.Crash.{image_of}
 use Rattle.model.specs.declared.image.TheConstants.{COUNTER_LIMIT}
-use Rattle.model.specs.declared.layout.Layout.TheVariants.{Version1}
+use Rattle.model.specs.declared.layout.Layout.TheVariants.{Version1, Halfway}
 use Rattle.model.specs.declared.record.Record.{Record}
 use Rattle.model.specs.Layout.{version}
-use Rattle.model.specs.Image.{Image}
+use Rattle.model.specs.Image.{HasSuperblock, Image}
 use Rattle.heap_layout.specs.Superblock.{super_refusal}
 use Rattle.wbl_engine.specs.Relocating.{ExhaustsRelocation}
 use Rattle.wbl_engine.specs.Reopening.{ExhaustsReopening, RefusesReopening}
-use Rattle.wbl_migrate.specs.declared.stage.Stage.TheVariants.{Old, Halfway}
 use Rattle.wbl_migrate.specs.Limits.{IsAtLimit}
-use Rattle.wbl_migrate.specs.Migrating.{GoesOnFrom, IsHalfwayImage, IsHalfwayRecord, IsMigratable, IsOldImage}
-use Rattle.wbl_migrate.specs.Stage.{HasSuperblockAt, IsMovable}
+use Rattle.wbl_migrate.specs.Migrating.{GoesOnFrom, HasGapless, IsHalfwayImage, IsMigratable, IsOldImage}
+use Rattle.wbl_migrate.specs.Stage.{IsMovable}
 use Rattle.wbl_migrate.specs.Steps.{Leaves}
 use Rattle.wbl_migrate.specs.Vacating.{StaysOldWith}
 use Rattle.wbl_migrate.proofs.Migratable.{IsTold, halfway_record, none_some}
@@ -45,13 +44,13 @@ vacating_exhausts lines image q r s d whole old told =
     elim told [ inl refuses ↦ inl (inl (reopening_exhausts lines image q r s whole old refuses)) | inr left ↦ inr (inl left) ]
 
 -- when they were
-pub switching_exhausts : (lines : ℕ) (r q : Record) (s : Keyspace) (d e : State) → GoesOnFrom r q → Leaves d (IsMovable Old lines q s)
+pub switching_exhausts : (lines : ℕ) (r q : Record) (s : Keyspace) (d e : State) → GoesOnFrom r q → Leaves d (IsMovable Version1 lines q s)
     → (COUNTER_LIMIT ≤ q.number + 1) × (e ≡ d) → IsAtLimit lines r s e
 switching_exhausts lines r q s d e goes movable told =
-    inr (inr (record { current = q; goes_on = goes; last = told.0; movable = subst (λ (x : State). Leaves x (IsMovable Old lines q s)) (sym told.1) movable }))
+    inr (inr (record { current = q; goes_on = goes; last = told.0; movable = subst (λ (x : State). Leaves x (IsMovable Version1 lines q s)) (sym told.1) movable }))
 
 -- halfway
-pub finishing_exhausts : (d e : State) (r q : Record) (s : Keyspace) → IsHalfwayRecord d.lines (image_of d.words) q
+pub finishing_exhausts : (d e : State) (r q : Record) (s : Keyspace) → HasGapless d.lines (image_of d.words) q
     → IsHalfwayImage d.lines r s (image_of d.words) → COUNTER_LIMIT ≤ q.number + 1 → IsAtLimit d.lines r s e
 finishing_exhausts d e r q s current halfway last =
     inl (inr (subst (λ (x : Record). COUNTER_LIMIT ≤ x.number + 1) (halfway_record d.lines r q s (image_of d.words) halfway current) last))
@@ -64,16 +63,16 @@ if_err (Ok value) holds then = tt
 if_err (Err e) holds then = then e holds
 
 -- an image that can be migrated on, by its version
-pub only_old : (lines : ℕ) (r : Record) (s : Keyspace) (image : Image) → HasSuperblockAt Old lines image → IsMigratable lines r s image
+pub only_old : (lines : ℕ) (r : Record) (s : Keyspace) (image : Image) → HasSuperblock Version1 lines image → IsMigratable lines r s image
     → IsOldImage lines r s image
 only_old lines r s image has (inl old) = old
 only_old lines r s image has (inr (inl halfway)) =
     let a = has.version in let b = halfway.movable.holds.superblock.version in absurd (omega (arith, a, b))
-only_old lines r s image has (inr (inr new)) = let a = has.version in let b = new.superblock.version in absurd (omega (arith, a, b))
+only_old lines r s image has (inr (inr new)) = let a = has.version in let b = new.1.superblock.version ∙ ap version new.0 in absurd (omega (arith, a, b))
 
-pub only_halfway : (lines : ℕ) (r : Record) (s : Keyspace) (image : Image) → HasSuperblockAt Halfway lines image → IsMigratable lines r s image
+pub only_halfway : (lines : ℕ) (r : Record) (s : Keyspace) (image : Image) → HasSuperblock Halfway lines image → IsMigratable lines r s image
     → IsHalfwayImage lines r s image
 only_halfway lines r s image has (inl old) =
     let a = has.version in let b = old.undamaged.superblock.version ∙ ap version old.layout in absurd (omega (arith, a, b))
 only_halfway lines r s image has (inr (inl halfway)) = halfway
-only_halfway lines r s image has (inr (inr new)) = let a = has.version in let b = new.superblock.version in absurd (omega (arith, a, b))
+only_halfway lines r s image has (inr (inr new)) = let a = has.version in let b = new.1.superblock.version ∙ ap version new.0 in absurd (omega (arith, a, b))

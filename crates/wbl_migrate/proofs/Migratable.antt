@@ -1,5 +1,5 @@
 -- What each step of a migration leaves can be migrated on.
-use Rattle.std.proofs.Common.{◌≡◌, ◌⊎◌, Some, None, ℕ, refl, inl, inr, sym, ap, subst, ◌∙◌, arith}
+use Rattle.std.proofs.Common.{◌≡◌, ◌≤◌, List, [], length, ◌⊎◌, Some, None, ℕ, refl, inl, inr, sym, ap, subst, ◌∙◌, arith}
 use Rattle.kv_types.specs.declared.refusal.Refusal.{Refusal}
 use Rattle.kv_types.specs.declared.refusal.Refusal.TheVariants.{Damaged, Exhausted, Fault, Full, Memory, WrongRole}
 use Rattle.kv_types.specs.Keyspace.{Keyspace}
@@ -7,19 +7,20 @@ use Rattle.pmem.specs.Device.{State, Only}
 use Rattle.pmem.specs.Crash.{IsImage, image_of}
 use Rattle.pmem.specs.Runs.{LeavesOnly}
 use Rattle.pmem.proofs.Leaving.{LeavesOnly-then, LeavesOnly-weaken, none_leaves}
-use Rattle.model.specs.declared.layout.Layout.TheVariants.{Version1}
+use Rattle.model.specs.declared.layout.Layout.{Layout}
+use Rattle.model.specs.declared.layout.Layout.TheVariants.{Version1, Version2, Halfway}
+use Rattle.model.specs.declared.record.Gap.{Gap}
 use Rattle.model.specs.declared.record.Record.{Record}
 use Rattle.model.specs.Layout.{version}
-use Rattle.model.specs.Image.{Image}
+use Rattle.model.specs.Image.{HasSuperblock, Holds, Image, IsMapOf, entries_of_lines, version_at}
 use Rattle.model.proofs.RecordLemmas.{HasRecord-unique}
 use Rattle.heap_layout.specs.Superblock.{super_refusal}
 use Rattle.wbl_record.specs.Current.{IsCurrent, IsLawful}
 use Rattle.wbl_engine.specs.Reopening.{RefusesReopening}
-use Rattle.wbl_migrate.specs.declared.stage.Stage.TheVariants.{Old, Halfway, New}
-use Rattle.wbl_migrate.specs.Migrating.{GoesOnFrom, IsHalfwayImage, IsHalfwayRecord, IsMigratable, IsMigrated, IsOldImage, StaysMigratable, StaysOld}
-use Rattle.wbl_migrate.specs.Stage.{HasSuperblockAt, IsMovable}
+use Rattle.wbl_migrate.specs.Migrating.{GoesOnFrom, HasGapless, IsHalfwayImage, IsMigratable, IsMigrated, IsOldImage, StaysMigratable, StaysOld}
+use Rattle.wbl_migrate.specs.Stage.{IsMovable, KeepsMap, in_layout}
 use Rattle.wbl_migrate.specs.Steps.{Leaves, IsHalfwayOrNew, renewed}
-use Rattle.wbl_migrate.proofs.HalfwayLemmas.{halfway_unique}
+use Rattle.wbl_migrate.proofs.MovableLemmas.{as_it_is}
 
 -- ---- the record
 
@@ -31,18 +32,50 @@ goes_renewed : (r q : Record) → GoesOnFrom r q → GoesOnFrom r (renewed q)
 goes_renewed r q goes = record { position = goes.position; epoch = goes.epoch; role = goes.role }
 
 -- an image has one record
+pub one_record : (lines : ℕ) (q r : Record) (image : Image) → IsCurrent lines image q → IsCurrent lines image r → q ≡ r
+one_record lines q r image is was = HasRecord-unique lines image q r is.lawful.few is.version_is was.version_is is.has_record was.has_record
+
 pub old_record : (lines : ℕ) (r q : Record) (s : Keyspace) (image : Image) → IsOldImage lines r s image → IsCurrent lines image q → q ≡ r
-old_record lines r q s image old is =
-    let was = old.undamaged.current in
-    HasRecord-unique lines image q r is.lawful.few is.version_is was.version_is is.has_record was.has_record
+old_record lines r q s image old is = one_record lines q r image is old.undamaged.current
 
-pub halfway_is : (lines : ℕ) (r : Record) (s : Keyspace) (image : Image) → IsHalfwayImage lines r s image → IsHalfwayRecord lines image r
+halfway_holds : (lines : ℕ) (r : Record) (s : Keyspace) (image : Image) → IsHalfwayImage lines r s image → Holds lines r s image
+halfway_holds lines r s image halfway = subst (λ (q : Record). Holds lines q s image) (as_it_is r Halfway halfway.layout) halfway.movable.holds
+
+pub halfway_is : (lines : ℕ) (r : Record) (s : Keyspace) (image : Image) → IsHalfwayImage lines r s image → HasGapless lines image r
 halfway_is lines r s image halfway =
-    let holds = halfway.movable.holds in
-    record { layout = holds.layout; gapless = halfway.movable.gapless; has_record = holds.has_record; lawful = halfway.lawful }
+    let holds = halfway_holds lines r s image halfway in
+    record {
+      current = record { version_is = holds.superblock.version; has_record = holds.has_record; lawful = halfway.lawful };
+      gapless = halfway.movable.gapless;
+    }
 
-pub halfway_record : (lines : ℕ) (r q : Record) (s : Keyspace) (image : Image) → IsHalfwayImage lines r s image → IsHalfwayRecord lines image q → q ≡ r
-halfway_record lines r q s image halfway is = halfway_unique lines image q r is (halfway_is lines r s image halfway)
+pub halfway_record : (lines : ℕ) (r q : Record) (s : Keyspace) (image : Image) → IsHalfwayImage lines r s image → HasGapless lines image q → q ≡ r
+halfway_record lines r q s image halfway is = one_record lines q r image is.current (halfway_is lines r s image halfway).current
+
+-- where its record has a gap, it has none without
+pub with_gap : (lines : ℕ) (q r : Record) (image : Image) → IsCurrent lines image q → ¬ (q.gaps.items ≡ []) → ¬ HasGapless lines image r
+with_gap lines q r image is gap other =
+    gap (subst (λ (x : Record). x.gaps.items ≡ []) (sym (one_record lines q r image is other.current)) other.gapless)
+
+-- ---- the map
+
+map_kept : (lines : ℕ) (r q : Record) (s : Keyspace) (image : Image) → GoesOnFrom r q → IsMigratable lines q s image → KeepsMap lines r.position s image
+map_kept lines r q s image goes (inl old) =
+    record {
+      current = q;
+      position_is = goes.position;
+      holds = record {
+        superblock = old.undamaged.superblock;
+        has_record = old.undamaged.current.has_record;
+        map = subst (λ (layout : Layout). IsMapOf (version_at q image) (entries_of_lines layout lines) s) (sym old.layout) old.map;
+      };
+    }
+map_kept lines r q s image goes (inr (inl halfway)) =
+    record { current = q; position_is = goes.position; holds = halfway_holds lines q s image halfway }
+map_kept lines r q s image goes (inr (inr new)) = record { current = q; position_is = goes.position; holds = new.1 }
+
+pub migratable_map : (lines : ℕ) (r : Record) (s : Keyspace) (image : Image) → StaysMigratable lines r s image → KeepsMap lines r.position s image
+migratable_map lines r s image stays = map_kept lines r stays.current s image stays.goes_on stays.is
 
 -- ---- a device that has crashed leaves what it holds
 
@@ -66,41 +99,60 @@ stays d lines r s certain is =
 later : (lines : ℕ) (r q : Record) (s : Keyspace) (image : Image) → GoesOnFrom r q → IsLawful q → IsHalfwayOrNew lines q s image
     → StaysMigratable lines r s image
 later lines r q s image goes lawful (inl halfway) =
-    record { current = q; goes_on = goes; is = inr (inl (record { lawful = lawful; movable = halfway })) }
+    let none = halfway.gapless in
+    record {
+      current = in_layout Halfway q;
+      goes_on = record { position = goes.position; epoch = goes.epoch; role = goes.role };
+      is = inr (inl (record {
+        layout = refl;
+        lawful = record {
+          some = lawful.some;
+          number = lawful.number;
+          position = lawful.position;
+          limit = lawful.limit;
+          room = lawful.room;
+          some_epoch = lawful.some_epoch;
+          epoch = lawful.epoch;
+          few = subst (λ (gaps : List Gap). length gaps ≤ 8) (sym none) (omega arith);
+          gaps = lawful.gaps;
+        };
+        movable = record { holds = halfway.holds; gapless = none; behind = halfway.behind; last = halfway.last };
+      }));
+    }
 later lines r q s image goes lawful (inr new) =
-    record { current = renewed q; goes_on = goes_renewed r q goes; is = inr (inr new.holds) }
+    record { current = renewed q; goes_on = goes_renewed r q goes; is = inr (inr (refl, new.holds)) }
 
-pub new_migrated : (d : State) (lines : ℕ) (r q : Record) (s : Keyspace) → GoesOnFrom r q → Leaves d (IsMovable New lines (renewed q) s)
+pub new_migrated : (d : State) (lines : ℕ) (r q : Record) (s : Keyspace) → GoesOnFrom r q → Leaves d (IsMovable Version2 lines (renewed q) s)
     → Leaves d (IsMigrated lines r s)
 new_migrated d lines r q s goes all image is =
-    let new : IsMovable New lines (renewed q) s image = all image is in
-    record { current = renewed q; goes_on = goes_renewed r q goes; holds = new.holds }
+    let new : IsMovable Version2 lines (renewed q) s image = all image is in
+    record { current = renewed q; goes_on = goes_renewed r q goes; holds = (refl, new.holds) }
 
 -- an image that was halfway, whose record was read
-halfway_movable : (d : State) (r q : Record) (s : Keyspace) → IsCertain d → IsHalfwayRecord d.lines (image_of d.words) q
+halfway_movable : (d : State) (r q : Record) (s : Keyspace) → IsCertain d → HasGapless d.lines (image_of d.words) q
     → IsHalfwayImage d.lines r s (image_of d.words) → Leaves d (IsMovable Halfway d.lines q s)
 halfway_movable d r q s certain current halfway =
     let same : q ≡ r = halfway_record d.lines r q s (image_of d.words) halfway current in
     subst (λ (x : Record). Leaves d (IsMovable Halfway d.lines x s)) (sym same)
     (certain_image d (IsMovable Halfway d.lines r s) certain halfway.movable)
 
-halfway_goes : (d : State) (r q : Record) (s : Keyspace) → IsHalfwayRecord d.lines (image_of d.words) q → IsHalfwayImage d.lines r s (image_of d.words)
+halfway_goes : (d : State) (r q : Record) (s : Keyspace) → HasGapless d.lines (image_of d.words) q → IsHalfwayImage d.lines r s (image_of d.words)
     → GoesOnFrom r q
 halfway_goes d r q s current halfway =
     subst (GoesOnFrom r) (sym (halfway_record d.lines r q s (image_of d.words) halfway current)) (goes_nowhere r)
 
-pub finished : (d e : State) (r q : Record) (s : Keyspace) → IsCertain d → IsHalfwayRecord d.lines (image_of d.words) q
-    → (Leaves d (IsMovable Halfway d.lines q s) → Leaves e (IsMovable New d.lines (renewed q) s))
+pub finished : (d e : State) (r q : Record) (s : Keyspace) → IsCertain d → HasGapless d.lines (image_of d.words) q
+    → (Leaves d (IsMovable Halfway d.lines q s) → Leaves e (IsMovable Version2 d.lines (renewed q) s))
     → IsHalfwayImage d.lines r s (image_of d.words) → Leaves e (IsMigrated d.lines r s)
 finished d e r q s certain current done halfway =
     new_migrated e d.lines r q s (halfway_goes d r q s current halfway) (done (halfway_movable d r q s certain current halfway))
 
-pub finishing : (d e : State) (r q : Record) (s : Keyspace) → IsCertain d → IsHalfwayRecord d.lines (image_of d.words) q
+pub finishing : (d e : State) (r q : Record) (s : Keyspace) → IsCertain d → HasGapless d.lines (image_of d.words) q
     → (Leaves d (IsMovable Halfway d.lines q s) → LeavesOnly d e (IsHalfwayOrNew d.lines q s))
     → IsHalfwayImage d.lines r s (image_of d.words) → LeavesOnly d e (StaysMigratable d.lines r s)
 finishing d e r q s certain current moments halfway =
     LeavesOnly-weaken (StaysMigratable d.lines r s)
-    (λ image is. later d.lines r q s image (halfway_goes d r q s current halfway) current.lawful is)
+    (λ image is. later d.lines r q s image (halfway_goes d r q s current halfway) current.current.lawful is)
     (moments (halfway_movable d r q s certain current halfway))
 
 -- ---- from version 1 on
@@ -113,19 +165,19 @@ pub vacating : (a b : State) (lines : ℕ) (r : Record) (s : Keyspace) → Leave
 vacating a b lines r s moments = LeavesOnly-weaken (StaysMigratable lines r s) (old_stays lines r s) moments
 
 -- after the entries were emptied the image was switched
-pub upgraded : (a b c : State) (r q : Record) (s : Keyspace) → b.lines ≡ a.lines → GoesOnFrom r q → Leaves b (IsMovable Old a.lines q s)
-    → (Leaves b (IsMovable Old b.lines q s) → Leaves c (IsMovable New b.lines (renewed q) s)) → Leaves c (IsMigrated a.lines r s)
+pub upgraded : (a b c : State) (r q : Record) (s : Keyspace) → b.lines ≡ a.lines → GoesOnFrom r q → Leaves b (IsMovable Version1 a.lines q s)
+    → (Leaves b (IsMovable Version1 b.lines q s) → Leaves c (IsMovable Version2 b.lines (renewed q) s)) → Leaves c (IsMigrated a.lines r s)
 upgraded a b c r q s counted goes vacated done =
     subst (λ (n : ℕ). Leaves c (IsMigrated n r s)) counted
-    (new_migrated c b.lines r q s goes (done (subst (λ (n : ℕ). Leaves b (IsMovable Old n q s)) (sym counted) vacated)))
+    (new_migrated c b.lines r q s goes (done (subst (λ (n : ℕ). Leaves b (IsMovable Version1 n q s)) (sym counted) vacated)))
 
-pub upgrading : (a b c : State) (r q : Record) (s : Keyspace) → b.lines ≡ a.lines → GoesOnFrom r q → IsLawful q → Leaves b (IsMovable Old a.lines q s)
+pub upgrading : (a b c : State) (r q : Record) (s : Keyspace) → b.lines ≡ a.lines → GoesOnFrom r q → IsLawful q → Leaves b (IsMovable Version1 a.lines q s)
     → LeavesOnly a b (StaysOld a.lines r s)
-    → (Leaves b (IsMovable Old b.lines q s) → LeavesOnly b c (λ image. IsImage b.words image ⊎ IsHalfwayOrNew b.lines q s image))
+    → (Leaves b (IsMovable Version1 b.lines q s) → LeavesOnly b c (λ image. IsImage b.words image ⊎ IsHalfwayOrNew b.lines q s image))
     → LeavesOnly a c (StaysMigratable a.lines r s)
 upgrading a b c r q s counted goes lawful vacated first second =
     let switched : LeavesOnly b c (λ image. IsImage b.words image ⊎ IsHalfwayOrNew b.lines q s image) =
-    second (subst (λ (n : ℕ). Leaves b (IsMovable Old n q s)) (sym counted) vacated) in
+    second (subst (λ (n : ℕ). Leaves b (IsMovable Version1 n q s)) (sym counted) vacated) in
     LeavesOnly-then (vacating a b a.lines r s first)
     (LeavesOnly-weaken (StaysMigratable a.lines r s)
     (λ image is.
@@ -177,7 +229,7 @@ module _ {lines : ℕ} {image : Image} {q : Record} {cause told : Refusal} {X : 
 -- ---- the stage
 
 -- an image that can be migrated on, and whose version is 2
-pub only_new : (lines : ℕ) (r : Record) (s : Keyspace) (image : Image) → HasSuperblockAt New lines image → IsMigratable lines r s image
+pub only_new : (lines : ℕ) (r : Record) (s : Keyspace) (image : Image) → HasSuperblock Version2 lines image → IsMigratable lines r s image
     → IsMigrated lines r s image
 only_new lines r s image has (inl old) =
     let a = has.version in let b = old.undamaged.superblock.version ∙ ap version old.layout in absurd (omega (arith, a, b))

@@ -8,7 +8,7 @@ use Rattle.kv_types.specs.declared.place.EntryNo.{EntryNo}
 use Rattle.kv_types.specs.declared.place.Extent.{Extent}
 use Rattle.heap_layout.specs.declared.entry.Entry.{Entry}
 use Rattle.model.specs.declared.layout.Layout.{Layout}
-use Rattle.model.specs.declared.layout.Layout.TheVariants.{Version1, Version2}
+use Rattle.model.specs.declared.layout.Layout.TheVariants.{Version1, Version2, Halfway}
 use Rattle.model.specs.Group.{AreApart, Contents}
 use Rattle.model.specs.Image.{Version, entries_of_lines}
 use Rattle.model.proofs.DirectoryLemmas.{entries_same}
@@ -43,6 +43,7 @@ open_as lines lines' places places' gapped gapped' cleared place lines_is places
 pub kept_within : (layout : Layout) (lines n : ℕ) → n < entries_kept lines → n < entries_of_lines layout lines
 kept_within Version1 lines n lt = omega (arith, lt)
 kept_within Version2 lines n lt = lt
+kept_within Halfway lines n lt = lt
 
 -- Each version lies in one of the places, and an entry without one is free.
 pub record HasPlaces (contents : Contents) (gapped cleared : List EntryNo) (places : List Place) : Type 0 where

@@ -6,7 +6,7 @@ use Rattle.pmem.specs.Runs.{LeavesOnly, Staged, StageFailed, IsStored}
 use Rattle.pmem.proofs.Leaving.{LeavesOnly-then, LeavesOnly-weaken}
 use Rattle.pmem.proofs.Staging.{IsStored-pairs_from, stored_or_outside}
 use Rattle.model.specs.declared.layout.Layout.{Layout}
-use Rattle.model.specs.declared.layout.Layout.TheVariants.{Version2}
+use Rattle.model.specs.declared.layout.Layout.TheVariants.{Version2, Halfway}
 use Rattle.model.specs.declared.record.Record.{Record}
 use Rattle.model.specs.Layout.{first_word}
 use Rattle.model.specs.Image.{HasRecord, Image, record_words, root_word, slot_line}
@@ -15,9 +15,8 @@ use Rattle.wbl_record.specs.Record.{IsRecordWord, body_lines, body_pairs, root_p
 use Rattle.wbl_record.proofs.Mixing.{IsMixed, mixed}
 use Rattle.wbl_record.proofs.RecordLemmas.{recorded}
 use Rattle.wbl_migrate.specs.Stage.{IsMovable}
-use Rattle.wbl_migrate.specs.declared.stage.Stage.TheVariants.{Halfway}
 use Rattle.wbl_migrate.specs.Steps.{KeepsOthers, Leaves}
-use Rattle.wbl_migrate.proofs.MovableLemmas.{agrees_but_record, movable_at, old_record_stays}
+use Rattle.wbl_migrate.proofs.MovableLemmas.{agrees_but_record, halfway_stays, movable_at}
 use Rattle.wbl_migrate.proofs.Touching.{IsStep, either_step, keeps_then, one_stored, staged_step, step_keeps}
 
 -- ---- nothing that is written is read halfway
@@ -32,8 +31,8 @@ renewing_image a lines n r s image room all which =
     λ word other. elim (mix.same word) [ inl e ↦ e | inr is ↦ absurd (other is) ] in
     let agrees = agrees_but_record lines n mix.base image room same in
     let version : image 1 ≡ mix.base 1 = same 1 (λ is. elim is [ inl e ↦ omega (arith, e) | inr slot ↦ omega (arith, slot.0) ]) in
-    movable_at Halfway Halfway lines r r s mix.base image refl movable.holds.layout refl movable.gapless (version ∙ movable.holds.superblock.version)
-    (old_record_stays lines r mix.base image movable.holds.layout agrees movable.holds.has_record) agrees movable
+    movable_at Halfway Halfway lines r r s mix.base image refl refl movable.gapless (version ∙ movable.holds.superblock.version)
+    (halfway_stays lines r mix.base image agrees movable.holds.has_record) agrees movable
 
 module _ (next : Record) (layout : next.layout ≡ Version2) where
   -- the words of the record

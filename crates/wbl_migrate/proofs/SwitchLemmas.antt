@@ -5,20 +5,20 @@ use Rattle.pmem.specs.Device.{State}
 use Rattle.pmem.specs.Crash.{IsImage}
 use Rattle.pmem.specs.Runs.{LeavesOnly}
 use Rattle.pmem.proofs.Leaving.{LeavesOnly-then, LeavesOnly-weaken}
+use Rattle.model.specs.declared.layout.Layout.TheVariants.{Version1, Version2, Halfway}
 use Rattle.model.specs.declared.record.Record.{Record}
 use Rattle.model.specs.Image.{HasRecord, Image}
-use Rattle.wbl_migrate.specs.Stage.{IsMovable, KeepsMap}
-use Rattle.wbl_migrate.specs.declared.stage.Stage.TheVariants.{Old, Halfway, New}
+use Rattle.wbl_migrate.specs.Stage.{IsMovable, KeepsMap, in_layout}
 use Rattle.wbl_migrate.specs.Steps.{Leaves, IsAtSomeStage, IsHalfwayOrNew, IsRenewed, renewed}
 
 -- ---- the map
 
 halfway_or_new_keeps : (lines : ℕ) (r : Record) (s : Keyspace) (image : Image) → IsHalfwayOrNew lines r s image → KeepsMap lines r.position s image
-halfway_or_new_keeps lines r s image (inl halfway) = record { stage = Halfway; current = r; position_is = refl; holds = halfway.holds }
-halfway_or_new_keeps lines r s image (inr new) = record { stage = New; current = renewed r; position_is = refl; holds = new.holds }
+halfway_or_new_keeps lines r s image (inl halfway) = record { current = in_layout Halfway r; position_is = refl; holds = halfway.holds }
+halfway_or_new_keeps lines r s image (inr new) = record { current = renewed r; position_is = refl; holds = new.holds }
 
 some_stage_keeps : (lines : ℕ) (r : Record) (s : Keyspace) (image : Image) → IsAtSomeStage lines r s image → KeepsMap lines r.position s image
-some_stage_keeps lines r s image (inl old) = record { stage = Old; current = r; position_is = refl; holds = old.holds }
+some_stage_keeps lines r s image (inl old) = record { current = in_layout Version1 r; position_is = refl; holds = old.holds }
 some_stage_keeps lines r s image (inr later) = halfway_or_new_keeps lines r s image later
 
 pub halfway_map : (a b : State) (lines : ℕ) (r : Record) (s : Keyspace) → LeavesOnly a b (IsHalfwayOrNew lines r s)
@@ -42,13 +42,13 @@ renewed_images a b lines r s counted moments has =
     subst (λ (n : ℕ). Leaves b (IsRenewed n r s)) (sym counted)
     (λ image is. record { movable = moments.each image (inl is); next = has image is })
 
-pub new_images : (b c : State) (lines : ℕ) (r : Record) (s : Keyspace) → b.lines ≡ lines → Leaves c (IsMovable New b.lines (renewed r) s)
-    → Leaves c (IsMovable New lines (renewed r) s)
-new_images b c lines r s counted all = subst (λ (n : ℕ). Leaves c (IsMovable New n (renewed r) s)) counted all
+pub new_images : (b c : State) (lines : ℕ) (r : Record) (s : Keyspace) → b.lines ≡ lines → Leaves c (IsMovable Version2 b.lines (renewed r) s)
+    → Leaves c (IsMovable Version2 lines (renewed r) s)
+new_images b c lines r s counted all = subst (λ (n : ℕ). Leaves c (IsMovable Version2 n (renewed r) s)) counted all
 
 -- and then the mark
 pub mark_moments : (a b c : State) (lines : ℕ) (r : Record) (s : Keyspace) → b.lines ≡ lines → LeavesOnly a b (IsMovable Halfway lines r s)
-    → LeavesOnly b c (λ image. IsRenewed b.lines r s image ⊎ IsMovable New b.lines (renewed r) s image) → LeavesOnly a c (IsHalfwayOrNew lines r s)
+    → LeavesOnly b c (λ image. IsRenewed b.lines r s image ⊎ IsMovable Version2 b.lines (renewed r) s image) → LeavesOnly a c (IsHalfwayOrNew lines r s)
 mark_moments a b c lines r s counted first second =
     LeavesOnly-then (record_moments a b lines r s first)
     (subst (λ (n : ℕ). LeavesOnly b c (IsHalfwayOrNew n r s)) counted
@@ -61,12 +61,12 @@ pub halfway_images : (b : State) (lines : ℕ) (r : Record) (s : Keyspace) → b
 halfway_images b lines r s counted all = subst (λ (n : ℕ). Leaves b (IsMovable Halfway n r s)) (sym counted) all
 
 pub first_mark_moments : (a b : State) (lines : ℕ) (r : Record) (s : Keyspace)
-    → LeavesOnly a b (λ image. IsMovable Old lines r s image ⊎ IsMovable Halfway lines r s image) → LeavesOnly a b (IsAtSomeStage lines r s)
+    → LeavesOnly a b (λ image. IsMovable Version1 lines r s image ⊎ IsMovable Halfway lines r s image) → LeavesOnly a b (IsAtSomeStage lines r s)
 first_mark_moments a b lines r s moments =
     LeavesOnly-weaken (IsAtSomeStage lines r s) (λ image is. elim is [ inl old ↦ inl old | inr halfway ↦ inr (inl halfway) ]) moments
 
 pub all_moments : (a b c : State) (lines : ℕ) (r : Record) (s : Keyspace) → b.lines ≡ lines
-    → LeavesOnly a b (λ image. IsMovable Old lines r s image ⊎ IsMovable Halfway lines r s image) → LeavesOnly b c (IsHalfwayOrNew b.lines r s)
+    → LeavesOnly a b (λ image. IsMovable Version1 lines r s image ⊎ IsMovable Halfway lines r s image) → LeavesOnly b c (IsHalfwayOrNew b.lines r s)
     → LeavesOnly a c (IsAtSomeStage lines r s)
 all_moments a b c lines r s counted first second =
     LeavesOnly-then (first_mark_moments a b lines r s first)

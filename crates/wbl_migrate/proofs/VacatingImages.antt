@@ -19,7 +19,7 @@ use Rattle.model.specs.Layout as layouts
 use Rattle.model.specs.declared.record.Record.{Record}
 use Rattle.model.specs.declared.record.Role.{Role}
 use Rattle.model.specs.Group.{Contents, IsConsistent, entries_of}
-use Rattle.model.specs.Image.{Image, IsMapOf, Version, counts, directory_room, entries_of_lines, entry_word, magic_number, version_at, version_in}
+use Rattle.model.specs.Image.{Holds, Image, IsMapOf, Version, counts, directory_room, entries_of_lines, entry_word, magic_number, version_at, version_in}
 use Rattle.model.proofs.MapLemmas.{IsMapOf-same, value_at-maps}
 use Rattle.wbl_engine.specs.Contents.{IsDurable, Keeps}
 use Rattle.wbl_engine.specs.Freeing.{record_after_clearing}
@@ -30,7 +30,6 @@ use Rattle.wbl_engine.proofs.ReadingLemmas.{undamaged_unique}
 use Rattle.wbl_engine.proofs.ReopeningLaws.{new_entries}
 use Rattle.wbl_engine.proofs.RoomLemmas.{room_layout}
 use Rattle.wbl_engine.proofs.ShownContents.{shown_consistent}
-use Rattle.wbl_migrate.specs.declared.stage.Stage.TheVariants.{Old}
 use Rattle.wbl_migrate.specs.Leaving.{IsEmptied}
 use Rattle.wbl_migrate.specs.Migrating.{GoesOnFrom, IsOldImage, StaysOld}
 use Rattle.wbl_migrate.specs.Moving.{AreKnown, HoldsBy}
@@ -39,6 +38,7 @@ use Rattle.wbl_migrate.specs.Steps.{Leaves}
 use Rattle.wbl_migrate.specs.Vacating.{HasLastEntry, IsVacated, StaysOldWith, StopsAt, Vacates}
 use Rattle.wbl_migrate.proofs.KnownLemmas.{image_size, reopened_known, reopened_lawful}
 use Rattle.wbl_migrate.proofs.Maps.{version_at-none}
+use Rattle.wbl_migrate.proofs.MovableLemmas.{as_it_is}
 use Rattle.wbl_migrate.proofs.Picks.{none_some}
 use Rattle.wbl_migrate.proofs.StepLemmas.{ok_no_error}
 
@@ -175,27 +175,22 @@ module _ (lines : ℕ) (r : Record) (s : Keyspace) where
         absurd (emptied i (version_in a.current image i) low
         (sym (keeps.versions i high) ∙ cond-true (counts a.current (image (entry_word i 0))) (Some (version_in a.current image i)) _ is))
 
-    movable : a.current.gaps.items ≡ [] → IsEmptied a → IsMovable Old a.lines a.current s image
+    movable : a.current.gaps.items ≡ [] → IsEmptied a → IsMovable Version1 a.lines a.current s image
     movable gapless emptied =
         record {
-          holds = record {
-            superblock = record {
-              magic = keeps.superblock.magic;
-              version = keeps.superblock.version ∙ ap layouts.version stand.layout;
-              line_count = keeps.superblock.line_count;
-              room = keeps.superblock.room;
-            };
-            layout = stand.layout;
-            has_record = keeps.has_record;
-            map = image_map a image stand keeps;
-          };
+          holds = subst (λ (q : Record). Holds a.lines q s image) (sym (as_it_is a.current Version1 stand.layout))
+              (record {
+                superblock = keeps.superblock;
+                has_record = keeps.has_record;
+                map = IsMapOf-same a.versions (version_at a.current image) (entries_of a) s (λ i below. sym (keeps.versions i below)) stand.map;
+              });
           gapless = gapless;
           behind = λ i below counted. ((keeps.entries i (old_within i below)).whole counted).above;
           last = λ i low high. uncounted emptied i low (old_within i high) (counts a.current (image (entry_word i 0))) refl;
         }
 
-    emptied_movable : a.current.gaps.items ≡ [] → IsEmptied a → IsMovable Old lines a.current s image
-    emptied_movable gapless emptied = subst (λ (n : ℕ). IsMovable Old n a.current s image) stand.line_count (movable gapless emptied)
+    emptied_movable : a.current.gaps.items ≡ [] → IsEmptied a → IsMovable Version1 lines a.current s image
+    emptied_movable gapless emptied = subst (λ (n : ℕ). IsMovable Version1 n a.current s image) stand.line_count (movable gapless emptied)
 
   -- ---- the device in the end
 
@@ -206,10 +201,10 @@ module _ (lines : ℕ) (r : Record) (s : Keyspace) where
     pub vacated_goes_on : GoesOnFrom r current
     vacated_goes_on = subst (GoesOnFrom r) vacated.held.current_is end_stand.goes_on
 
-    pub vacated_movable : Leaves d (IsMovable Old lines current s)
+    pub vacated_movable : Leaves d (IsMovable Version1 lines current s)
     vacated_movable image is =
         let same = vacated.held.current_is in
-        subst (λ (q : Record). IsMovable Old lines q s image) same
+        subst (λ (q : Record). IsMovable Version1 lines q s image) same
         (emptied_movable vacated.new image end_stand (vacated.held.durable image is)
         (subst (λ (q : Record). q.gaps.items ≡ []) (sym same) vacated.gapless) vacated.emptied)
 

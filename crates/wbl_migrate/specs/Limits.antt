@@ -3,10 +3,10 @@ use Rattle.std.specs.Prelude.{◌⊎◌, ℕ, ◌+◌, ◌≤◌}
 use Rattle.kv_types.specs.Keyspace.{Keyspace}
 use Rattle.pmem.specs.Device.{State}
 use Rattle.model.specs.declared.image.TheConstants.{COUNTER_LIMIT}
+use Rattle.model.specs.declared.layout.Layout.TheVariants.{Version1}
 use Rattle.model.specs.declared.record.Record.{Record}
 use Rattle.wbl_engine.specs.Relocating.{ExhaustsRelocation}
 use Rattle.wbl_engine.specs.Reopening.{ExhaustsReopening}
-use Rattle.wbl_migrate.specs.declared.stage.Stage.TheVariants.{Old}
 use Rattle.wbl_migrate.specs.Migrating.{GoesOnFrom}
 use Rattle.wbl_migrate.specs.Stage.{IsMovable}
 use Rattle.wbl_migrate.specs.Steps.{Leaves}
@@ -17,7 +17,7 @@ pub record IsVacatedAtLimit (lines' : ℕ) (r : Record) (s : Keyspace) (d : Stat
   pub current : Record
   pub goes_on : GoesOnFrom r current
   pub last : COUNTER_LIMIT ≤ current.number + 1
-  pub movable : Leaves d (IsMovable Old lines' current s)
+  pub movable : Leaves d (IsMovable Version1 lines' current s)
 
 -- A counter of the record would reach the limit, or one of the record that an image of version 1 has come to have.
 abbrev pub IsAtLimit : ℕ → Record → Keyspace → State → Type 0

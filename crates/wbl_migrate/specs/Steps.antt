@@ -4,13 +4,12 @@ use Rattle.kv_types.specs.Keyspace.{Keyspace}
 use Rattle.pmem.specs.Device.{State, MayBe}
 use Rattle.pmem.specs.Crash.{IsImage, image_of}
 use Rattle.pmem.specs.Runs.{Stays}
-use Rattle.model.specs.declared.layout.Layout.TheVariants.{Version2}
+use Rattle.model.specs.declared.layout.Layout.TheVariants.{Version1, Version2, Halfway}
 use Rattle.model.specs.declared.record.Record.{Record}
 use Rattle.model.specs.Image.{Image, HasRecord}
 use Rattle.wbl_record.specs.Record.{IsRecordWord}
 use Rattle.wbl_migrate.specs.declared.marking.TheConstants.{VERSION_WORD}
 use Rattle.wbl_migrate.specs.Stage.{IsMovable}
-use Rattle.wbl_migrate.specs.declared.stage.Stage.TheVariants.{Old, Halfway, New}
 
 -- each image that a crash may leave now satisfies P
 abbrev pub Leaves : State → (Image → Type 0) → Type 0
@@ -41,8 +40,8 @@ IsSwitchWord lines r word = (word ≡ VERSION_WORD) ⊎ IsRecordWord Version2 li
 
 -- the keyspace under the record halfway, or under the next record in an image of version 2
 abbrev pub IsHalfwayOrNew : ℕ → Record → Keyspace → Image → Type 0
-IsHalfwayOrNew lines r s image = IsMovable Halfway lines r s image ⊎ IsMovable New lines (renewed r) s image
+IsHalfwayOrNew lines r s image = IsMovable Halfway lines r s image ⊎ IsMovable Version2 lines (renewed r) s image
 
 -- the same, or under the record in an image of version 1
 abbrev pub IsAtSomeStage : ℕ → Record → Keyspace → Image → Type 0
-IsAtSomeStage lines r s image = IsMovable Old lines r s image ⊎ IsHalfwayOrNew lines r s image
+IsAtSomeStage lines r s image = IsMovable Version1 lines r s image ⊎ IsHalfwayOrNew lines r s image

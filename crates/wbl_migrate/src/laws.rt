@@ -1,43 +1,34 @@
 //! Laws of the definitions, each the contract of a function that does nothing.
-ghost use Rattle.std.specs.Prelude.{◌≡◌, ℕ, ◌+◌, ◌<◌, ◌≤◌, ◌↔◌, false, []};
+ghost use Rattle.std.specs.Prelude.{◌≡◌, ℕ, ◌+◌, ◌<◌, ◌≤◌, false, []};
 ghost use Rattle.kv_types.specs.Keyspace.{Keyspace};
 ghost use Rattle.pmem.specs.Device.{State};
 ghost use Rattle.pmem.specs.Crash.{IsSettled, image_of};
 ghost use Rattle.model.specs.declared.image.TheConstants.{COUNTER_LIMIT, MIN_LINES};
+ghost use Rattle.model.specs.declared.layout.Layout.{Layout};
 ghost use Rattle.model.specs.declared.layout.Layout.TheVariants.{Version1, Version2};
 ghost use Rattle.model.specs.declared.record.Record.{Record};
 ghost use Rattle.model.specs.Image.{Image, Holds, counts, directory_end, entries_of_lines, entry_line, entry_word, first_extent_line, slot_line, slots_end};
 ghost use Rattle.heap_layout.specs.Version.{IsUnder};
 ghost use Rattle.wbl_record.specs.Current.{IsLawful};
-ghost use Rattle.wbl_migrate.specs.declared.stage.Stage.{Stage};
 ghost use Rattle.wbl_migrate.specs.Stage.{HoldsAt, IsMovable};
-ghost use Rattle.wbl_migrate.specs.declared.stage.Stage.TheVariants.{Old, New};
 ghost use Rattle.wbl_migrate.specs.Steps.{Leaves, renewed};
-
-/// An old image is one of version 1 as `model` defines it, and a new one is one of version 2.
-pub fn old_and_new_images_are_of_their_versions()
-    ensures old { (lines : ℕ) (r : Record) (s : Keyspace) (image : Image)
-        → HoldsAt Old lines r s image ↔ ((r.layout ≡ Version1) × Holds lines r s image) }
-    ensures new { (lines : ℕ) (r : Record) (s : Keyspace) (image : Image)
-        → HoldsAt New lines r s image ↔ ((r.layout ≡ Version2) × Holds lines r s image) }
-{}
 
 /// An image of version 1 can be migrated on where its entries break no rule, its record has no gap, and none of its last entries counts.
 pub fn undamaged_images_are_movable()
     ensures { (lines : ℕ) (r : Record) (s : Keyspace) (image : Image) → r.layout ≡ Version1 → Holds lines r s image → r.gaps.items ≡ []
         → ((i : ℕ) → i < entries_of_lines Version1 lines → IsUnder r lines image i)
         → ((i : ℕ) → entries_of_lines Version2 lines ≤ i → i < entries_of_lines Version1 lines → counts r (image (entry_word i 0)) ≡ false)
-        → IsMovable Old lines r s image }
+        → IsMovable Version1 lines r s image }
 {}
 
 /// An image is at one stage, which its version tells.
 pub fn images_are_at_one_stage()
-    ensures { (a b : Stage) (lines : ℕ) (r q : Record) (s t : Keyspace) (image : Image) → HoldsAt a lines r s image → HoldsAt b lines q t image → a ≡ b }
+    ensures { (a b : Layout) (lines : ℕ) (r q : Record) (s t : Keyspace) (image : Image) → HoldsAt a lines r s image → HoldsAt b lines q t image → a ≡ b }
 {}
 
 /// A device that has crashed leaves just what it holds. So where a crash left an image that can be migrated on, its device may be migrated on.
 pub fn crashed_devices_go_on()
-    ensures { (d : State) (stage : Stage) (lines : ℕ) (r : Record) (s : Keyspace) → IsSettled d.words → IsMovable stage lines r s (image_of d.words)
+    ensures { (d : State) (stage : Layout) (lines : ℕ) (r : Record) (s : Keyspace) → IsSettled d.words → IsMovable stage lines r s (image_of d.words)
         → Leaves d (IsMovable stage lines r s) }
 {}
 

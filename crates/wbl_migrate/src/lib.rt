@@ -16,7 +16,6 @@ mod migrating_tests;
 mod moving;
 #[cfg(test)]
 mod moving_tests;
-mod reading;
 mod record;
 mod stage;
 mod switching;
@@ -31,14 +30,13 @@ pub use ended::{
 pub use known::read_versions_are_known;
 pub use laws::{
     crashed_devices_go_on, images_are_at_one_stage, new_slots_are_the_last_entries,
-    old_and_new_images_are_of_their_versions, renewed_records_are_lawful,
-    undamaged_images_are_movable,
+    renewed_records_are_lawful, undamaged_images_are_movable,
 };
 pub use leaving::move_all_ended;
-pub use marking::{HALFWAY_VERSION, VERSION_WORD, mark_halfway, mark_new};
+pub use marking::{VERSION_WORD, mark_halfway, mark_new};
 pub use migrating::{migratable_images_keep_their_map, migrate};
 pub use moving::{Place, move_live, move_version};
 pub use record::write_new_record;
-pub use stage::{Stage, stage_of};
+pub use stage::stage_of;
 pub use switching::{go_on, switch};
 pub use vacating::vacate;

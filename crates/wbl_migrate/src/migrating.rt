@@ -1,27 +1,26 @@
 //! The migration as a whole, from whatever stage an image is at.
-ghost use Rattle.std.specs.Prelude.{◌≡◌, ◌⊎◌, ◌<◌, ◌≤◌, ℕ, Ok, Err, None, Some, IfOk, IfErr, MatchResult};
+ghost use Rattle.std.specs.Prelude.{◌≡◌, ◌⊎◌, ◌<◌, ◌≤◌, ℕ, Ok, Err, None, Some, IfOk, IfErr, OnErr, MatchResult};
 ghost use Rattle.kv_types.specs.declared.refusal.Refusal.{Refusal as Cause};
 ghost use Rattle.kv_types.specs.Keyspace.{Keyspace};
 ghost use Rattle.pmem.specs.Device.{Only};
 ghost use Rattle.pmem.specs.Crash.{image_of};
 ghost use Rattle.pmem.specs.Runs.{LeavesOnly};
 ghost use Rattle.model.specs.declared.image.TheConstants.{MIN_LINES};
-ghost use Rattle.model.specs.declared.layout.Layout.TheVariants.{Version1};
+ghost use Rattle.model.specs.declared.layout.Layout.TheVariants.{Version1, Version2};
 ghost use Rattle.model.specs.declared.record.Record.{Record as CommitRecord};
-ghost use Rattle.model.specs.Image.{Image};
+ghost use Rattle.model.specs.Image.{HasSuperblock, Image};
 ghost use Rattle.heap_layout.specs.Superblock.{super_refusal};
-ghost use Rattle.wbl_migrate.specs.declared.stage.Stage.TheVariants.{New};
 ghost use Rattle.wbl_migrate.specs.Limits.{IsAtLimit};
-ghost use Rattle.wbl_migrate.specs.Migrating.{IsHalfwayImage, IsMigratable, IsMigrated, IsOldImage, StaysMigratable};
-ghost use Rattle.wbl_migrate.specs.Stage.{HasSuperblockAt, KeepsMap, stage_refusal};
+ghost use Rattle.wbl_migrate.specs.Migrating.{HasGapless, IsHalfwayImage, IsMigratable, IsMigrated, IsOldImage, StaysMigratable};
+ghost use Rattle.wbl_migrate.specs.Stage.{KeepsMap, stage_refusal};
 ghost use Rattle.wbl_migrate.specs.Steps.{Leaves};
 ghost use Rattle.wbl_migrate.specs.Vacating.{HasLastEntry, StaysOldWith};
 
-use crate::reading::read_halfway;
-use crate::stage::{Stage, stage_of};
+use crate::stage::stage_of;
 use crate::switching::{go_on, switch};
 use crate::vacating::vacate;
 use kv_types::Refusal;
+use model::{Layout, Record};
 use pmem::Pmem;
 use std::alloc::Global;
 use wbl_record::read_current;
@@ -40,7 +39,7 @@ pub fn migrate<P: Pmem>(alloc: Global, device: P) -> Result<P, (Refusal, P)>
     ensures ok { IfOk result (λ after. (r : CommitRecord) (s : Keyspace) → IsMigratable (P.state device).lines r s (image_of (P.state device).words)
         → Leaves (P.state after) (IsMigrated (P.state device).lines r s)) }
     // of version 2 it is already
-    ensures unchanged { HasSuperblockAt New (P.state device).lines (image_of (P.state device).words) →
+    ensures unchanged { HasSuperblock Version2 (P.state device).lines (image_of (P.state device).words) →
         stage_refusal (P.state device).lines (image_of (P.state device).words) ≡ None → result ≡ Ok device }
     ensures line_count { IfOk result (λ after. (P.state after).lines ≡ (P.state device).lines) }
     ensures sound { IfOk result (λ after. (P.state after).failures ≡ (P.state device).failures) }
@@ -68,9 +67,9 @@ pub fn migrate<P: Pmem>(alloc: Global, device: P) -> Result<P, (Refusal, P)>
         (λ refused. LeavesOnly (P.state device) (P.state refused.1) (StaysMigratable (P.state device).lines r s)) }
 {
     match stage_of(&device) {
-        Ok(Stage::Old) => upgrade(alloc, device),
-        Ok(Stage::Halfway) => finish(device),
-        Ok(Stage::New) => Ok(device),
+        Ok(Layout::Version1) => upgrade(alloc, device),
+        Ok(Layout::Halfway) => finish(device),
+        Ok(Layout::Version2) => Ok(device),
         Err(refusal) => Err((refusal, device)),
     }
 }
@@ -165,5 +164,24 @@ fn finish<P: Pmem>(device: P) -> Result<P, (Refusal, P)>
     match go_on(&mut device, &current) {
         Ok(()) => Ok(device),
         Err(refusal) => Err((refusal, device)),
+    }
+}
+
+/// Reads the current record of an image that is halfway.
+///
+/// # Errors
+///
+/// `Damaged` as at `read_current`, or where the record has a gap, which no migration leaves.
+fn read_halfway<P: Pmem>(device: &P) -> Result<Record, Refusal>
+    requires { MIN_LINES ≤ (P.state device.now).lines }
+    ensures ok { IfOk result (λ r. HasGapless (P.state device.now).lines (image_of (P.state device.now).words) r) }
+    ensures damaged { OnErr result ((r : CommitRecord) → ¬ HasGapless (P.state device.now).lines (image_of (P.state device.now).words) r) }
+    ensures cause { IfErr result (λ refusal. refusal ≡ Refusal.Damaged) }
+{
+    let current = read_current(device)?;
+    if current.gaps.is_empty() {
+        Ok(current)
+    } else {
+        Err(Refusal::Damaged)
     }
 }

@@ -5,12 +5,12 @@ ghost use Rattle.pmem.specs.Crash.{IsSettled};
 ghost use Rattle.pmem.specs.Sim.{state_of};
 
 use crate::ended_tests::two_sets;
-use crate::{Stage, migrate, stage_of};
+use crate::{migrate, stage_of};
 use kv_types::Refusal;
 use model::{LINE_WORDS, Layout, MIN_LINES, Role};
 use pmem::{Crashing, Pmem, SimPmem};
 use std::alloc::Global;
-use wbl_engine::{Durable, WblEngine};
+use wbl_engine::{Durable, WblEngine, inspect};
 
 /// How many entries version 2 keeps of 512, and the line of the first.
 const ENTRIES: u64 = 494;
@@ -73,7 +73,7 @@ fn count(device: &SimPmem, first: u64, count: u64, position: u64, value: u8, is_
 /// Whether the device has the image of version 1, with a gap.
 fn is_old(device: &SimPmem) -> bool {
     device.lines() == MIN_LINES
-        && stage_of(device) == Ok(Stage::Old)
+        && stage_of(device) == Ok(Layout::Version1)
         && device.load(4) == 3
         && device.load(LINE_WORDS * 4 + 5) == 1
         && count(device, ENTRIES, 18, 1, b'1', true) == 1
@@ -88,7 +88,7 @@ fn is_new(device: &SimPmem) -> bool {
     }
     let root = device.load(5);
     let record = LINE_WORDS * (FIRST_ENTRY_LINE + ENTRIES + 9 * (root % 2));
-    stage_of(device) == Ok(Stage::New)
+    stage_of(device) == Ok(Layout::Version2)
         && device.load(record) == root
         && device.load(record + 1) == 2
         && device.load(record + 4) == 1
@@ -109,14 +109,23 @@ fn reopens(alloc: Global, device: SimPmem) -> Result<bool, Refusal> {
     }
 }
 
-/// Whether a crash after so many calls of a migration, with these picks, leaves an image at this stage, which then comes to version 2, and is reopened so.
-fn goes_on_from(alloc: Global, calls: u64, picks: &[u64], left: Stage) -> Result<bool, Refusal> {
+/// Whether an engine reads the image as one of this layout, at position 2 and with one live version.
+fn is_read(alloc: Global, device: &SimPmem, layout: Layout) -> bool {
+    match inspect(alloc, device, layout) {
+        Ok((current, live)) => current.layout == layout && current.position == 2 && live == 1,
+        Err(_) => false,
+    }
+}
+
+/// Whether a crash after so many calls of a migration, with these picks, leaves an image at this stage, which an engine reads so, and which then comes to
+/// version 2, and is reopened so.
+fn goes_on_from(alloc: Global, calls: u64, picks: &[u64], left: Layout) -> Result<bool, Refusal> {
     let old = old_image(alloc)?;
     if !is_old(&old) {
         return Ok(false);
     }
     let device = cut_off(alloc, old, calls, picks);
-    let is_left = stage_of(&device) == Ok(left);
+    let is_left = stage_of(&device) == Ok(left) && is_read(alloc, &device, left);
     match migrate(alloc, device) {
         Ok(device) => Ok(is_left && is_new(&device) && reopens(alloc, device)?),
         Err((refusal, _)) => Err(refusal),
@@ -129,19 +138,19 @@ fn goes_on_from(alloc: Global, calls: u64, picks: &[u64], left: Stage) -> Result
 #[test]
 fn migrates_from_a_crash(rt: HostRuntime) -> Result<(), Refusal> {
     for (calls, oldest, newest) in [
-        (0, Stage::Old, Stage::Old),
-        (30, Stage::Old, Stage::Old),
-        (62, Stage::Old, Stage::Old),
-        (94, Stage::Old, Stage::Old),
-        (116, Stage::Old, Stage::Old),
-        (146, Stage::Old, Stage::Old),
-        (148, Stage::Old, Stage::Old),
-        (170, Stage::Old, Stage::Old),
-        (173, Stage::Old, Stage::Old),
-        (175, Stage::Old, Stage::Halfway),
-        (220, Stage::Halfway, Stage::Halfway),
-        (263, Stage::Halfway, Stage::New),
-        (1_000, Stage::New, Stage::New),
+        (0, Layout::Version1, Layout::Version1),
+        (30, Layout::Version1, Layout::Version1),
+        (62, Layout::Version1, Layout::Version1),
+        (94, Layout::Version1, Layout::Version1),
+        (116, Layout::Version1, Layout::Version1),
+        (146, Layout::Version1, Layout::Version1),
+        (148, Layout::Version1, Layout::Version1),
+        (170, Layout::Version1, Layout::Version1),
+        (173, Layout::Version1, Layout::Version1),
+        (175, Layout::Version1, Layout::Halfway),
+        (220, Layout::Halfway, Layout::Halfway),
+        (263, Layout::Halfway, Layout::Version2),
+        (1_000, Layout::Version2, Layout::Version2),
     ] {
         assert!(rt;
             goes_on_from(rt.alloc(), calls, &[], oldest)?,

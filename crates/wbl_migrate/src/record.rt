@@ -4,13 +4,12 @@ ghost use Rattle.std.specs.Prelude.{◌≡◌, ◌⊎◌, ◌+◌, ◌<◌, ◌�
 ghost use Rattle.kv_types.specs.Keyspace.{Keyspace};
 ghost use Rattle.pmem.specs.Runs.{LeavesOnly, Staged, StageFailed, pairs_from, lines_from};
 ghost use Rattle.model.specs.declared.image.TheConstants.{MIN_LINES};
-ghost use Rattle.model.specs.declared.layout.Layout.TheVariants.{Version2};
+ghost use Rattle.model.specs.declared.layout.Layout.TheVariants.{Version2, Halfway};
 ghost use Rattle.model.specs.declared.record.Record.{Record as CommitRecord};
 ghost use Rattle.model.specs.Layout.{first_word};
 ghost use Rattle.model.specs.Image.{HasRecord};
 ghost use Rattle.wbl_record.specs.Record.{IsRecordWord};
 ghost use Rattle.wbl_migrate.specs.Stage.{IsMovable};
-ghost use Rattle.wbl_migrate.specs.declared.stage.Stage.TheVariants.{Halfway};
 ghost use Rattle.wbl_migrate.specs.Steps.{Leaves, KeepsOthers, renewed};
 
 use arrayvec::ArrayVec;

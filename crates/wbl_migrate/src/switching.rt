@@ -4,8 +4,8 @@ ghost use Rattle.kv_types.specs.Keyspace.{Keyspace};
 ghost use Rattle.pmem.specs.Crash.{IsImage};
 ghost use Rattle.pmem.specs.Runs.{LeavesOnly};
 ghost use Rattle.model.specs.declared.image.TheConstants.{COUNTER_LIMIT, MIN_LINES};
+ghost use Rattle.model.specs.declared.layout.Layout.TheVariants.{Version1, Version2, Halfway};
 ghost use Rattle.wbl_migrate.specs.Stage.{IsMovable, KeepsMap};
-ghost use Rattle.wbl_migrate.specs.declared.stage.Stage.TheVariants.{Old, Halfway, New};
 ghost use Rattle.wbl_migrate.specs.Steps.{Leaves, KeepsOthers, IsAtSomeStage, IsHalfwayOrNew, IsSwitchWord, renewed};
 
 use crate::marking::{mark_halfway, mark_new};
@@ -23,8 +23,8 @@ use pmem::{Fault, Pmem};
 pub fn switch<P: Pmem>(device: &mut P, current: &Record) -> Result<(), Refusal>
     requires { MIN_LINES ≤ (P.state device.old).lines }
     ensures ok { OnOk result ((s : Keyspace)
-        → Leaves (P.state device.old) (IsMovable Old (P.state device.old).lines current.now s)
-        → Leaves (P.state device.new) (IsMovable New (P.state device.old).lines (renewed current.now) s)) }
+        → Leaves (P.state device.old) (IsMovable Version1 (P.state device.old).lines current.now s)
+        → Leaves (P.state device.new) (IsMovable Version2 (P.state device.old).lines (renewed current.now) s)) }
     ensures sound { OnOk result ((P.state device.new).failures ≡ (P.state device.old).failures) }
     ensures causes { IfErr result (λ refusal. (refusal ≡ Refusal.Fault) ⊎ (refusal ≡ Refusal.Exhausted)) }
     ensures err { IsErrOf result Refusal.Fault → (P.state device.old).failures < (P.state device.new).failures }
@@ -32,15 +32,15 @@ pub fn switch<P: Pmem>(device: &mut P, current: &Record) -> Result<(), Refusal>
     ensures exhausts { COUNTER_LIMIT ≤ current.now.number + 1 → result ≡ Err Refusal.Exhausted }
     ensures elsewhere { KeepsOthers (P.state device.old) (P.state device.new) (IsSwitchWord (P.state device.old).lines current.now) }
     ensures moments { (s : Keyspace)
-        → Leaves (P.state device.old) (IsMovable Old (P.state device.old).lines current.now s)
+        → Leaves (P.state device.old) (IsMovable Version1 (P.state device.old).lines current.now s)
         → LeavesOnly (P.state device.old) (P.state device.new) (IsAtSomeStage (P.state device.old).lines current.now s) }
     // of version 1 it is one that a crash could leave before
     ensures unmarked { (s : Keyspace)
-        → Leaves (P.state device.old) (IsMovable Old (P.state device.old).lines current.now s)
+        → Leaves (P.state device.old) (IsMovable Version1 (P.state device.old).lines current.now s)
         → LeavesOnly (P.state device.old) (P.state device.new) (λ image.
         IsImage (P.state device.old).words image ⊎ IsHalfwayOrNew (P.state device.old).lines current.now s image) }
     ensures map { (s : Keyspace)
-        → Leaves (P.state device.old) (IsMovable Old (P.state device.old).lines current.now s)
+        → Leaves (P.state device.old) (IsMovable Version1 (P.state device.old).lines current.now s)
         → LeavesOnly (P.state device.old) (P.state device.new) (KeepsMap (P.state device.old).lines current.now.position s) }
 {
     if is_last(current) {
@@ -62,7 +62,7 @@ pub fn go_on<P: Pmem>(device: &mut P, current: &Record) -> Result<(), Refusal>
     requires { MIN_LINES ≤ (P.state device.old).lines }
     ensures ok { OnOk result ((s : Keyspace)
         → Leaves (P.state device.old) (IsMovable Halfway (P.state device.old).lines current.now s)
-        → Leaves (P.state device.new) (IsMovable New (P.state device.old).lines (renewed current.now) s)) }
+        → Leaves (P.state device.new) (IsMovable Version2 (P.state device.old).lines (renewed current.now) s)) }
     ensures sound { OnOk result ((P.state device.new).failures ≡ (P.state device.old).failures) }
     ensures causes { IfErr result (λ refusal. (refusal ≡ Refusal.Fault) ⊎ (refusal ≡ Refusal.Exhausted)) }
     ensures err { IsErrOf result Refusal.Fault → (P.state device.old).failures < (P.state device.new).failures }

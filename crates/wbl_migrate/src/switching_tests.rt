@@ -3,7 +3,7 @@ ghost use Rattle.std.specs.Prelude.{◌≡◌, ◌+◌, ◌*◌, ◌≤◌, IfOk
 ghost use Rattle.model.specs.declared.image.TheConstants.{MIN_LINES};
 ghost use Rattle.pmem.specs.Sim.{state_of};
 
-use crate::{HALFWAY_VERSION, VERSION_WORD, go_on, switch};
+use crate::{VERSION_WORD, go_on, switch};
 use arrayvec::ArrayVec;
 use kv_types::Refusal;
 use model::{LINE_WORDS, Layout, MAGIC, MIN_LINES, Record, Role, STAMP_WINDOW};
@@ -75,7 +75,7 @@ fn goes_on_from(alloc: Global, calls: u64, picks: &[u64], left: u64) -> Result<b
     let version = device.load(VERSION_WORD);
     if version == 1 {
         switch(&mut device, &current())?;
-    } else if version == HALFWAY_VERSION {
+    } else if version == Layout::Halfway.version() {
         go_on(&mut device, &current())?;
     }
     Ok(version == left && is_new(&device))

@@ -9,7 +9,6 @@ ghost use Rattle.model.specs.declared.record.Record.{Record as CommitRecord};
 ghost use Rattle.wbl_record.specs.Current.{IsLawful};
 ghost use Rattle.wbl_engine.specs.Relocating.{ExhaustsRelocation};
 ghost use Rattle.wbl_engine.specs.Reopening.{RefusesReopening};
-ghost use Rattle.wbl_migrate.specs.declared.stage.Stage.TheVariants.{Old};
 ghost use Rattle.wbl_migrate.specs.Leaving.{AreLeaving, IsEmptied};
 ghost use Rattle.wbl_migrate.specs.Migrating.{GoesOnFrom, IsOldImage, StaysOld};
 ghost use Rattle.wbl_migrate.specs.Moving.{AreKnown, HoldsBy, IsLeft, IsReady, IsStep};
@@ -41,7 +40,7 @@ pub fn vacate<P: Pmem>(alloc: Global, device: P, role: Role) -> Result<(P, Recor
     ensures goes_on { IfOk result (λ o. (r : CommitRecord) (s : Keyspace) → IsOldImage (P.state device).lines r s (image_of (P.state device).words)
         → GoesOnFrom r o.1) }
     ensures ok { IfOk result (λ o. (r : CommitRecord) (s : Keyspace) → IsOldImage (P.state device).lines r s (image_of (P.state device).words)
-        → Leaves (P.state o.0) (IsMovable Old (P.state device).lines o.1 s)) }
+        → Leaves (P.state o.0) (IsMovable Version1 (P.state device).lines o.1 s)) }
     ensures lawful { IfOk result (λ o. IsLawful o.1) }
     ensures line_count { IfOk result (λ o. (P.state o.0).lines ≡ (P.state device).lines) }
     ensures sound { IfOk result (λ o. (P.state o.0).failures ≡ (P.state device).failures) }

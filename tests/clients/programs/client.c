@@ -5,7 +5,7 @@
 #include <stdlib.h>
 #include <string.h>
 
-#define LONGEST 65536
+#define LONGEST 1048576
 #define PIPELINE 1000
 
 static int checked = 0;
@@ -83,7 +83,7 @@ static void bytes_of_any_kind(redisContext *context) {
     const char key[] = {0, '\r', '\n', (char)0xff};
     TEXT(context, REDIS_REPLY_STATUS, "OK", "SET %b %b", key, sizeof key, longest, (size_t)LONGEST);
     redisReply *reply = asked(context, "GET %b", key, sizeof key);
-    check(reply->type == REDIS_REPLY_STRING && reply->len == LONGEST && memcmp(reply->str, longest, LONGEST) == 0, "65,536 bytes");
+    check(reply->type == REDIS_REPLY_STRING && reply->len == LONGEST && memcmp(reply->str, longest, LONGEST) == 0, "1,048,576 bytes");
     freeReplyObject(reply);
     NUMBER(context, 1, "DEL %b", key, sizeof key);
 }

@@ -17,14 +17,14 @@ returns-in_err-write_new-clause-moments g c =
     let lines = (g.P.Pmem.state c.args.device.now).lines in
     let role = c.args.first.now.role in
     let first = c.in_ok-persist.ensures.ok in
-    second_moments lines role first (second_failed lines role first.stays.lines c.in_err-write_new.ensures.err).moments
+    second_moments lines role first (second_failed lines role c.args.first.now first.stays.lines c.requires.first c.in_err-write_new.ensures.err).moments
 
 pub returns-clause-rest : goal.returns-clause-rest
 returns-clause-rest g c =
     let d = g.P.Pmem.state c.args.device.now in
     let role = c.args.first.now.role in
     let first = c.in_ok-persist.ensures.ok in
-    let second = second_staged d.lines role first.stays.lines c.in_ok-write_new.ensures.ok in
+    let second = second_staged d.lines role c.args.first.now first.stays.lines c.requires.first c.in_ok-write_new.ensures.ok in
     on_ok_weaker c.persist-2.result
     (λ third.
     subst (λ (r : Record). IsAtRest r (g.P.Pmem.state c.persist-2.new.device)) (sym c.requires.first)
@@ -36,9 +36,9 @@ returns-clause-moments g c =
     let lines = (g.P.Pmem.state c.args.device.now).lines in
     let role = c.args.first.now.role in
     let first = c.in_ok-persist.ensures.ok in
-    let second = second_staged lines role first.stays.lines c.in_ok-write_new.ensures.ok in
+    let second = second_staged lines role c.args.first.now first.stays.lines c.requires.first c.in_ok-write_new.ensures.ok in
     let third : LeavesOnly (g.P.Pmem.state c.write_new.new.device) (g.P.Pmem.state c.persist-2.new.device)
     (IsPartlyStored (magic_pairs magic_number) (g.P.Pmem.state c.write_new.new.device).words) =
     on_both c.persist-2.result (on_ok_weaker c.persist-2.result (λ staged. staged.moments) c.persist-2.ensures.ok)
     (on_err_weaker c.persist-2.result (λ failed. failed.moments) c.persist-2.ensures.err) in
-    third_moments lines role first second third
+    third_moments lines role c.requires.many first second third

@@ -35,14 +35,14 @@ returns-in_err-freed-clause-step g c =
     rw (exit.1 ∙ ap Err exit.2)
     (step-then g.E.Durable.device g.E.Durable.contents g.E.Durable.is_faulted KeepsAllVersions keeps_same keeps_then c.args.engine.now c.loop-alloc.engine c.clear_gap.new.self tt
     (Err c.in_err-freed.field-0.0) c.loop-alloc.invariant.so_far
-    (uncleared_step g.E.Durable.device g.E.Durable.contents g.E.Durable.is_faulted c.loop-alloc.engine c.clear_gap.new.self stands told.asked_moment (told.moments stands.sound)
+    (uncleared_step g.E.Durable.device g.E.Durable.contents g.E.Durable.is_faulted c.loop-alloc.engine c.clear_gap.new.self stands told.fences.asked_moment (told.moments stands.sound)
     c.in_err-freed.field-0.0 told.causes
     (λ fault. elim (cases_lt ((g.E.Durable.contents c.loop-alloc.engine).current.number + 1) COUNTER_LIMIT) [
       | inl below ↦ below
       | inr reached ↦ let is = told.exhausts stands.sound (some g at) reached in absurd (cc)
     ])
     (λ exhausted. (told.exhausted (ap Err exhausted)).2) (λ memory. told.memory (ap Err memory)) (λ fault. told.stays (ap Err fault))
-    (λ fault. (told.stopped (ap Err fault), failed_now (g.E.Durable.is_faulted c.loop-alloc.engine) (told.fault (ap Err fault)) stands.sound))))
+    (λ fault. (told.fences.stopped (ap Err fault), failed_now (g.E.Durable.is_faulted c.loop-alloc.engine) (told.fences.fault (ap Err fault)) stands.sound))))
 
 -- the gap was cleared
 now : (g : Over) (c : After-deref g) → IsReady g.E.Durable.device g.E.Durable.contents g.E.Durable.is_faulted c.loop-alloc.engine
@@ -52,13 +52,13 @@ now g c stands has =
     let told = c.in_ok-freed.ensures in
     step-then g.E.Durable.device g.E.Durable.contents g.E.Durable.is_faulted KeepsAllVersions keeps_same keeps_then c.args.engine.now c.loop-alloc.engine c.clear_gap.new.self tt
     (Ok tt) c.loop-alloc.invariant.so_far
-    (cleared_step g.E.Durable.device g.E.Durable.contents g.E.Durable.is_faulted c.loop-alloc.engine c.clear_gap.new.self stands told.asked_moment (told.moments stands.sound)
+    (cleared_step g.E.Durable.device g.E.Durable.contents g.E.Durable.is_faulted c.loop-alloc.engine c.clear_gap.new.self stands told.fences.asked_moment (told.moments stands.sound)
     c.in_ok-freed.freed.entries.items
     (elim (cases_lt ((g.E.Durable.contents c.loop-alloc.engine).current.number + 1) COUNTER_LIMIT) [
       | inl below ↦ below
       | inr reached ↦ absurd (ok_no_error c.in_ok-freed.freed Exhausted (told.exhausts stands.sound has reached))
     ])
-    (told.clears has) told.durable told.sound)
+    (told.clears has) told.durable told.fences.sound)
 
 pub returns-in_err-extend_from_slice-clause-step : goal.returns-in_err-extend_from_slice-clause-step
 returns-in_err-extend_from_slice-clause-step g c =

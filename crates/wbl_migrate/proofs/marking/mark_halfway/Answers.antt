@@ -1,31 +1,31 @@
-use Rattle.std.proofs.Common.{◌≡◌, ◌∷◌, []}
+use Rattle.std.proofs.Common.{◌≡◌}
 use Rattle.std.proofs.lemmas.Result.{on_ok_weaker}
 use Rattle.wbl_migrate.specs.declared.marking.TheConstants.{VERSION_WORD}
-use Rattle.wbl_migrate.proofs.Touching.{either_step, one_stored, step_keeps}
-use Rattle.wbl_migrate.proofs.Marks.{halfway_ok, halfway_moments, halfway_unmarked}
+use Rattle.wbl_migrate.proofs.Touching.{one_stored, step_keeps}
+use Rattle.wbl_migrate.proofs.Marks.{halfway_ok, halfway_moments, halfway_unmarked, mark_stored}
 use Rattle.wbl_migrate.proofs.marking.mark_halfway.Goals as goal
 
 pub returns-clause-ok : goal.returns-clause-ok
 returns-clause-ok g c =
     let old = g.P.Pmem.state c.args.device.now in
-    on_ok_weaker c.persist.result (λ staged r s all. halfway_ok old (g.P.Pmem.state c.persist.new.device) old.lines r s staged all) c.persist.ensures.ok
+    on_ok_weaker c.persist.result
+    (λ staged r s all. halfway_ok old (g.P.Pmem.state c.persist.new.device) c.version.result old.lines r s c.version.ensures staged all) c.persist.ensures.ok
 
 pub returns-clause-elsewhere : goal.returns-clause-elsewhere
 returns-clause-elsewhere g c =
     step_keeps (λ word. word ≡ VERSION_WORD) (λ word x stored. one_stored VERSION_WORD 3 word x stored)
-    (either_step (g.P.Pmem.state c.args.device.now) (g.P.Pmem.state c.persist.new.device) ((VERSION_WORD, 3) ∷ []) (0 ∷ []) c.persist.result
-    c.persist.ensures.ok c.persist.ensures.err)
+    (mark_stored c.persist.result c.version.result 3 c.version.ensures c.persist.ensures.ok c.persist.ensures.err)
 
 pub returns-clause-moments : goal.returns-clause-moments
 returns-clause-moments g c r s all =
     let old = g.P.Pmem.state c.args.device.now in
     let new = g.P.Pmem.state c.persist.new.device in
     halfway_moments old new old.lines r s
-    (either_step old new ((VERSION_WORD, 3) ∷ []) (0 ∷ []) c.persist.result c.persist.ensures.ok c.persist.ensures.err) all
+    (mark_stored c.persist.result c.version.result 3 c.version.ensures c.persist.ensures.ok c.persist.ensures.err) all
 
 pub returns-clause-unmarked : goal.returns-clause-unmarked
 returns-clause-unmarked g c r s all =
     let old = g.P.Pmem.state c.args.device.now in
     let new = g.P.Pmem.state c.persist.new.device in
     halfway_unmarked old new old.lines r s
-    (either_step old new ((VERSION_WORD, 3) ∷ []) (0 ∷ []) c.persist.result c.persist.ensures.ok c.persist.ensures.err) all
+    (mark_stored c.persist.result c.version.result 3 c.version.ensures c.persist.ensures.ok c.persist.ensures.err) all

@@ -14,10 +14,10 @@ returns-clause-ok g c =
 pub returns-clause-elsewhere : goal.returns-clause-elsewhere
 returns-clause-elsewhere g c =
     step_keeps (λ word. word ≡ VERSION_WORD) (λ word x stored. one_stored VERSION_WORD 2 word x stored)
-    (mark_stored c.persist.result c.version.result c.version.ensures c.persist.ensures.ok c.persist.ensures.err)
+    (mark_stored c.persist.result c.version.result 2 c.version.ensures c.persist.ensures.ok c.persist.ensures.err)
 
 pub returns-clause-moments : goal.returns-clause-moments
 returns-clause-moments g c r s all =
     let old = g.P.Pmem.state c.args.device.now in
     let new = g.P.Pmem.state c.persist.new.device in
-    new_moments old new old.lines r s (mark_stored c.persist.result c.version.result c.version.ensures c.persist.ensures.ok c.persist.ensures.err) all
+    new_moments old new old.lines r s (mark_stored c.persist.result c.version.result 2 c.version.ensures c.persist.ensures.ok c.persist.ensures.err) all

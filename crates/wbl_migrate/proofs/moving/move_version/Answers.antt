@@ -64,7 +64,7 @@ returns-in_err-relocate-clause-step g c =
     rw (exit.1 ∙ ap Err exit.2)
     (unmoved_step g.E.Durable.device g.E.Durable.contents g.E.Durable.is_faulted c.args.engine.now ready (move g at) (asked g at) c.relocate.new.self c.in_err-relocate.field-0.0 told.causes
     (λ fault exhausts. let is = told.exhausts ready.sound exhausts in let both : Fault ≡ Exhausted = cc in cc) (λ exhausted. (told.exhausted (ap Err exhausted)).1) told.stays
-    (λ fault. (told.stopped (ap Err fault), failed_now (g.E.Durable.is_faulted c.args.engine.now) (told.fault (ap Err fault)) ready.sound)) told.asked_moment (told.moments ready.sound))
+    (λ fault. (told.fences.stopped (ap Err fault), failed_now (g.E.Durable.is_faulted c.args.engine.now) (told.fences.fault (ap Err fault)) ready.sound)) told.fences.asked_moment (told.moments ready.sound))
 
 room : (g : Over) (c : After-deref g) → ¬ ExhaustsRelocation (g.E.Durable.contents c.args.engine.now).current
 room g c = λ exhausts. ok_no_error c.in_ok-relocate.field-0 Exhausted (c.in_ok-relocate.ensures.exhausts c.requires.ready.sound exhausts)
@@ -75,7 +75,7 @@ free-requires g c =
     let told = c.in_ok-relocate.ensures in
     subst (AreEnded (g.E.Durable.contents c.relocate.new.self)) (sym (c.deref.ensures.value ∙ c.in_ok-part.ensures.ended))
     (mid_ended g.E.Durable.device g.E.Durable.contents g.E.Durable.is_faulted c.args.engine.now c.requires.ready (move g at.After-relocate) (asked g at.After-relocate) c.relocate.new.self (room g at.After-deref)
-    told.moved told.durable told.sound told.asked_moment (told.moments c.requires.ready.sound))
+    told.moved told.durable told.fences.sound told.fences.asked_moment (told.moments c.requires.ready.sound))
 
 pub returns-in_err-free-clause-step : goal.returns-in_err-free-clause-step
 returns-in_err-free-clause-step g c =
@@ -87,12 +87,12 @@ returns-in_err-free-clause-step g c =
     let entries : c.deref.result.now ≡ c.args.from ∷ [] = c.deref.ensures.value ∙ c.in_ok-part.ensures.ended in
     rw (exit.1 ∙ ap Err exit.2)
     (unfreed_step g.E.Durable.device g.E.Durable.contents g.E.Durable.is_faulted c.args.engine.now ready (move g at.After-relocate) (asked g at.After-relocate) c.relocate.new.self (room g at.After-deref)
-    told.moved told.durable told.sound told.asked_moment (told.moments ready.sound) c.free.new.self last.asked_moment
+    told.moved told.durable told.fences.sound told.fences.asked_moment (told.moments ready.sound) c.free.new.self last.fences.asked_moment
     (subst (λ (xs : List EntryNo). LeavesOnly (g.E.Durable.device c.relocate.new.self) (g.E.Durable.device c.free.new.self) (KeepsWithoutSome xs (g.E.Durable.contents c.relocate.new.self))) entries
-    (last.moments told.sound.0))
+    (last.moments told.fences.sound.0))
     c.in_err-free.field-0.0 last.causes (λ memory. last.memory (ap Err memory))
-    (λ fault. subst (λ (xs : List EntryNo). Same (after_free xs (g.E.Durable.contents c.relocate.new.self)) (g.E.Durable.contents c.free.new.self)) entries (last.stays (ap Err fault) told.sound.0))
-    (λ fault. (last.stopped (ap Err fault), failed_now (g.E.Durable.is_faulted c.relocate.new.self) (last.fault (ap Err fault)) told.sound.0)))
+    (λ fault. subst (λ (xs : List EntryNo). Same (after_free xs (g.E.Durable.contents c.relocate.new.self)) (g.E.Durable.contents c.free.new.self)) entries (last.stays (ap Err fault) told.fences.sound.0))
+    (λ fault. (last.fences.stopped (ap Err fault), failed_now (g.E.Durable.is_faulted c.relocate.new.self) (last.fences.fault (ap Err fault)) told.fences.sound.0)))
 
 pub returns-clause-moved : goal.returns-clause-moved
 returns-clause-moved g c =
@@ -102,9 +102,9 @@ returns-clause-moved g c =
     let last = c.in_ok-free.ensures in
     let entries : c.deref.result.now ≡ c.args.from ∷ [] = c.deref.ensures.value ∙ c.in_ok-part.ensures.ended in
     moved_has g.E.Durable.device g.E.Durable.contents g.E.Durable.is_faulted c.args.engine.now ready (move g at.After-relocate) (asked g at.After-relocate) c.relocate.new.self (room g at.After-deref)
-    told.moved told.durable told.sound told.asked_moment (told.moments ready.sound) c.free.new.self last.asked_moment
+    told.moved told.durable told.fences.sound told.fences.asked_moment (told.moments ready.sound) c.free.new.self last.fences.asked_moment
     (subst (λ (xs : List EntryNo). LeavesOnly (g.E.Durable.device c.relocate.new.self) (g.E.Durable.device c.free.new.self) (KeepsWithoutSome xs (g.E.Durable.contents c.relocate.new.self))) entries
-    (last.moments told.sound.0))
+    (last.moments told.fences.sound.0))
     (subst (λ (xs : List EntryNo). Same (after_free xs (g.E.Durable.contents c.relocate.new.self)) (g.E.Durable.contents c.free.new.self)) entries last.moved)
 
 pub returns-clause-step : goal.returns-clause-step
@@ -115,7 +115,7 @@ returns-clause-step g c =
     let last = c.in_ok-free.ensures in
     let entries : c.deref.result.now ≡ c.args.from ∷ [] = c.deref.ensures.value ∙ c.in_ok-part.ensures.ended in
     moved_step g.E.Durable.device g.E.Durable.contents g.E.Durable.is_faulted c.args.engine.now ready (move g at.After-relocate) (asked g at.After-relocate) c.relocate.new.self (room g at.After-deref)
-    told.moved told.durable told.sound told.asked_moment (told.moments ready.sound) c.free.new.self last.asked_moment
+    told.moved told.durable told.fences.sound told.fences.asked_moment (told.moments ready.sound) c.free.new.self last.fences.asked_moment
     (subst (λ (xs : List EntryNo). LeavesOnly (g.E.Durable.device c.relocate.new.self) (g.E.Durable.device c.free.new.self) (KeepsWithoutSome xs (g.E.Durable.contents c.relocate.new.self))) entries
-    (last.moments told.sound.0))
-    (subst (λ (xs : List EntryNo). Same (after_free xs (g.E.Durable.contents c.relocate.new.self)) (g.E.Durable.contents c.free.new.self)) entries last.moved) last.durable last.sound
+    (last.moments told.fences.sound.0))
+    (subst (λ (xs : List EntryNo). Same (after_free xs (g.E.Durable.contents c.relocate.new.self)) (g.E.Durable.contents c.free.new.self)) entries last.moved) last.durable last.fences.sound

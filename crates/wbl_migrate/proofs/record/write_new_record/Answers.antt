@@ -1,9 +1,9 @@
 use Rattle.std.proofs.Common.{subst}
 use Rattle.pmem.proofs.Leaving.{none_leaves}
+use Rattle.model.specs.declared.layout.Layout.TheVariants.{Halfway}
 use Rattle.model.specs.declared.record.Record.{Record}
 use Rattle.model.specs.Image.{HasRecord}
 use Rattle.wbl_migrate.specs.Stage.{IsMovable}
-use Rattle.wbl_migrate.specs.declared.stage.Stage.TheVariants.{Halfway}
 use Rattle.wbl_migrate.specs.Steps.{Leaves}
 use Rattle.wbl_migrate.proofs.record.write_new_record.Goals as goal
 

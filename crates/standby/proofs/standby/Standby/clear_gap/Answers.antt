@@ -41,7 +41,7 @@ returns-in_err-freed-clause-tidies g c =
     rw (exit.1 ∙ ap Err exit.2)
     (Tidies-uncleared g.E.Durable.device g.E.Durable.contents g.E.Durable.is_faulted g.K.Keyspace.table c.args.self.now (stands g at.After-has_no_gap) c.requires.none (far g at.After-clear_gap)
     c.clear_gap.new.self c.in_err-freed.field-0.0 _ refl refl refl refl told.causes (λ exhausted. (told.exhausted (ap Err exhausted)).1) (λ memory. told.memory (ap Err memory)) (λ fault. told.stays (ap Err fault))
-    (λ fault. (told.stopped (ap Err fault), failed_now (g.E.Durable.is_faulted c.args.self.now.engine) (told.fault (ap Err fault)) c.requires.sound)) told.asked_moment (told.moments c.requires.sound))
+    (λ fault. (told.fences.stopped (ap Err fault), failed_now (g.E.Durable.is_faulted c.args.self.now.engine) (told.fences.fault (ap Err fault)) c.requires.sound)) told.fences.asked_moment (told.moments c.requires.sound))
 
 clears : (g : Over) (c : After-deref-2 g) → 0 < length (g.E.Durable.contents c.args.self.now.engine).current.gaps.items → Clears (g.E.Durable.contents c.args.self.now.engine) c.in_ok-freed.freed.entries.items (g.E.Durable.contents c.clear_gap.new.self)
 clears g c some = c.in_ok-freed.ensures.clears some
@@ -60,7 +60,7 @@ returns-clause-tidies g c =
     let given = subst₂ (λ (entries : List EntryNo) (extents : List Extent). GivesAll c.args.self.now.heap entries extents c.give_all.new.heap) c.deref.ensures.value (c.deref-2.ensures.value ∙ told.extents) c.give_all.ensures in
     Tidies-cleared g.E.Durable.device g.E.Durable.contents g.E.Durable.is_faulted g.K.Keyspace.table c.args.self.now (stands g at.After-has_no_gap) c.requires.none (far g at.After-clear_gap)
     c.clear_gap.new.self c.in_ok-freed.freed.entries.items c.give_all.new.heap _ refl refl refl refl (some g at.After-clear_gap) (clears g at.After-deref-2 (some g at.After-clear_gap)) given
-    told.durable told.sound told.asked_moment (told.moments c.requires.sound)
+    told.durable told.fences.sound told.fences.asked_moment (told.moments c.requires.sound)
 
 pub returns-clause-counters : goal.returns-clause-counters
 returns-clause-counters g c = λ frame fits _.

@@ -61,7 +61,7 @@ module _ (g : Over) (c : After-relocate g) where
   sound = subst (λ e. g.E.Durable.is_faulted e ≡ false) (sym same) c.requires.sound
 
   asked_moment : (g.E.Durable.device c.relocate.new.self).kept ≡ (g.E.Durable.device c.args.self.now.engine).kept
-  asked_moment = subst (λ e. (g.E.Durable.device c.relocate.new.self).kept ≡ (g.E.Durable.device e).kept) same c.relocate.ensures.asked_moment
+  asked_moment = subst (λ e. (g.E.Durable.device c.relocate.new.self).kept ≡ (g.E.Durable.device e).kept) same c.relocate.ensures.fences.asked_moment
 
   moments : LeavesOnly (g.E.Durable.device c.args.self.now.engine) (g.E.Durable.device c.relocate.new.self)
       (λ image. Keeps (g.E.Durable.contents c.args.self.now.engine) image ⊎ Keeps (after_relocation (g.E.Durable.contents c.args.self.now.engine) c.in-Some.part) image)
@@ -81,9 +81,9 @@ returns-in_err-relocate-clause-rearranges g c =
     (λ exhausted. subst (λ e. ExhaustsRelocation (g.E.Durable.contents e).current) was (told.exhausted (ap Err exhausted)).0)
     (subst (λ e. Same (g.E.Durable.contents e) (g.E.Durable.contents c.relocate.new.self)) was told.stays)
     (λ fault. (
-      told.stopped (ap Err fault),
+      told.fences.stopped (ap Err fault),
       subst (λ e. (g.E.Durable.device e).failures < (g.E.Durable.device c.relocate.new.self).failures) was
-          (failed_now (g.E.Durable.is_faulted c.place_again.new.self.engine) (told.fault (ap Err fault)) (sound g at.After-relocate)),
+          (failed_now (g.E.Durable.is_faulted c.place_again.new.self.engine) (told.fences.fault (ap Err fault)) (sound g at.After-relocate)),
     ))
     (asked_moment g at.After-relocate) (moments g at.After-relocate))
 
@@ -94,7 +94,7 @@ free_ended-requires g c =
     let was = same g at.After-relocate in
     Stands-moved g.E.Durable.device g.E.Durable.contents g.E.Durable.is_faulted g.K.Keyspace.table c.args.frame.now c.args.self.now (ready g at.After-is_near_limit) (far g at.After-place_again) c.args.id.now c.in-Some.part
     c.place_again.new.self (again g at.After-relocate) _ refl refl refl (subst (λ e. Same (after_relocation (g.E.Durable.contents e) c.in-Some.part) (g.E.Durable.contents c.relocate.new.self)) was told.moved) told.durable
-    (told.sound.0, subst (λ e. (g.E.Durable.device c.relocate.new.self).failures ≡ (g.E.Durable.device e).failures) was told.sound.1) (asked_moment g at.After-relocate) (moments g at.After-relocate)
+    (told.fences.sound.0, subst (λ e. (g.E.Durable.device c.relocate.new.self).failures ≡ (g.E.Durable.device e).failures) was told.fences.sound.1) (asked_moment g at.After-relocate) (moments g at.After-relocate)
 
 pub returns-in_err-free_ended-clause-rearranges : goal.returns-in_err-free_ended-clause-rearranges
 returns-in_err-free_ended-clause-rearranges g c =
@@ -105,7 +105,7 @@ returns-in_err-free_ended-clause-rearranges g c =
     rw (exit.1 ∙ ap Err exit.2)
     (Rearranges-kept g.E.Durable.device g.E.Durable.contents g.E.Durable.is_faulted g.K.Keyspace.table c.args.frame.now c.args.self.now (ready g at.After-is_near_limit) (far g at.After-place_again) c.args.id.now c.in-Some.part
     c.place_again.new.self (again g at.After-relocate) _ refl refl refl (subst (λ e. Same (after_relocation (g.E.Durable.contents e) c.in-Some.part) (g.E.Durable.contents c.relocate.new.self)) was told.moved) told.durable
-    (told.sound.0, subst (λ e. (g.E.Durable.device c.relocate.new.self).failures ≡ (g.E.Durable.device e).failures) was told.sound.1) (asked_moment g at.After-relocate) (moments g at.After-relocate)
+    (told.fences.sound.0, subst (λ e. (g.E.Durable.device c.relocate.new.self).failures ≡ (g.E.Durable.device e).failures) was told.fences.sound.1) (asked_moment g at.After-relocate) (moments g at.After-relocate)
     c.in_err-free_ended.field-0.0 c.free_ended.new.self (search (rules, c.in_err-free_ended.ensures)))
 
 pub returns-clause-rearranges : goal.returns-clause-rearranges
@@ -115,5 +115,5 @@ returns-clause-rearranges g c =
     let was = same g at.After-relocate in
     Rearranges-moved g.E.Durable.device g.E.Durable.contents g.E.Durable.is_faulted g.K.Keyspace.table c.args.frame.now c.args.self.now (ready g at.After-is_near_limit) (far g at.After-place_again) c.args.id.now c.in-Some.part
     c.place_again.new.self (again g at.After-relocate) _ refl refl refl (subst (λ e. Same (after_relocation (g.E.Durable.contents e) c.in-Some.part) (g.E.Durable.contents c.relocate.new.self)) was told.moved) told.durable
-    (told.sound.0, subst (λ e. (g.E.Durable.device c.relocate.new.self).failures ≡ (g.E.Durable.device e).failures) was told.sound.1) (asked_moment g at.After-relocate) (moments g at.After-relocate)
+    (told.fences.sound.0, subst (λ e. (g.E.Durable.device c.relocate.new.self).failures ≡ (g.E.Durable.device e).failures) was told.fences.sound.1) (asked_moment g at.After-relocate) (moments g at.After-relocate)
     c.in_ok-free_ended.field-0 c.free_ended.new.self (search (rules, c.in_ok-free_ended.ensures))
