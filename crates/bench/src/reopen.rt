@@ -38,7 +38,7 @@ pub const SMALL: Load = Load {
     versions: 100,
 };
 
-/// 100,000 versions in an image of 50 MiB, which has room for 102,400.
+/// 100,000 versions in an image of 50 MiB, which has room for 102,382.
 pub const LARGE: Load = Load {
     lines: 819_200,
     versions: 100_000,
