@@ -6,7 +6,10 @@ ghost use Rattle.links.specs.declared.log.Lost.TheVariants.{Unwritten};
 use crate::log::Lost;
 use std::io::{self, ErrorKind, Write};
 
-/// Writes what was put, and empties it.
+/// How many bytes of room are kept between two writes, at most.
+const MOST_KEPT_BYTES: usize = 262_144;
+
+/// Writes what was put, and empties it. Room for a long frame, or a delta, is given up then, and not kept for as long as the link lives.
 ///
 /// # Errors
 ///
@@ -19,6 +22,7 @@ pub(crate) fn write_put<O: Write>(to: &mut O, out: &mut Vec<u8>) -> Result<(), L
 {
     let written = write_whole(to, out);
     out.clear();
+    out.shrink_to(MOST_KEPT_BYTES);
     match written {
         Ok(()) => Ok(()),
         Err(_) => Err(Lost::Unwritten),

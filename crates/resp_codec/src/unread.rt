@@ -11,6 +11,9 @@ use bytes::{Bytes, BytesMut};
 use kv_types::{ProtocolFault, Stop};
 use std::alloc::{AllocError, Global};
 
+/// How many bytes of a word room is made for before they came, at most: who names a length and sends no more is not to cost so much.
+const JOINED_BYTES: usize = 65_536;
+
 /// The bytes of pieces that were not read yet. A part that lies in one piece is read where it lies.
 #[derive(Drop)]
 pub(crate) struct Unread {
@@ -70,14 +73,14 @@ impl Unread {
         }
     }
 
-    /// Joins the next `missing` bytes of the last piece, or all of them, to those of earlier pieces, with room for `missing`.
+    /// Joins the next `missing` bytes of the last piece, or all of them, to those of earlier pieces, with room for some that are still to come.
     fn join(&mut self, missing: usize) -> Result<(), AllocError>
         ensures cut { OnOk result (self.new.cut.items ≡ self.old.cut.items ++ take missing self.old.rest) }
         ensures rest { OnOk result (self.new.rest ≡ drop missing self.old.rest) }
         ensures err { OnErr result ((self.new.cut.items ≡ self.old.cut.items) × (self.new.rest ≡ self.old.rest)) }
     {
-        self.cut.reserve(missing)?;
         let more = missing.min(self.rest.len());
+        self.cut.reserve(missing.min(more.max(JOINED_BYTES)))?;
         let (next, _) = self.rest.as_slice().split_at(more);
         self.cut.extend_reserved(next);
         skip(&mut self.rest, more);
@@ -157,6 +160,15 @@ impl Unread {
         }
     }
 
+    /// Gives up the block of earlier pieces, where none of their bytes is left: a word that was taken from it has it alone then.
+    fn let_go(&mut self)
+        ensures { unread_bytes self.new ≡ unread_bytes self.old }
+    {
+        if self.cut.is_empty() {
+            self.cut = BytesMut::new(self.allocator());
+        }
+    }
+
     /// Takes a word that lies in one place with its line end.
     fn take_word(&mut self, len: usize) -> Result<Bytes, AllocError>
         requires { len + 2 ≤ length (front self.old) }
@@ -171,6 +183,7 @@ impl Unread {
         } else {
             let word = self.cut.freeze_to(len)?;
             self.cut.advance(2);
+            self.let_go();
             Ok(word)
         }
     }

@@ -14,6 +14,9 @@ use kv_types::Refusal;
 use std::alloc::{AllocError, Global};
 use std::marker::Model;
 
+/// How many bytes of room are kept for the frames to come, at most, once nothing is left to read.
+const MOST_KEPT_BYTES: usize = 2 * 65_536;
+
 /// The beginning of a frame.
 #[derive(Drop)]
 pub(crate) struct Begun {
@@ -28,6 +31,20 @@ struct Taken {
     messages: Vec<Message>,
     /// No continuation of what follows them is a frame.
     is_broken: bool,
+}
+
+/// Gives up the room of bytes that were all read, where it is large: a long frame is not to keep it for as long as the decoder lives.
+fn let_go(unread: &mut BytesMut)
+    ensures { unread.new.items ≡ unread.old.items }
+{
+    if !unread.is_empty() {
+        return;
+    }
+    // (all of it is spare then, so that the capacity tells of it)
+    unread.clear();
+    if unread.capacity() > MOST_KEPT_BYTES {
+        *unread = BytesMut::new(*unread.allocator());
+    }
 }
 
 /// Keeps a piece. (A single byte is stored without a call.)
@@ -78,6 +95,7 @@ impl Begun {
         let messages = split.messages;
         let progress = split.progress;
         self.unread.advance(given);
+        let_go(&mut self.unread);
         if let Some(place) = progress {
             self.progress = place;
         }

@@ -13,7 +13,7 @@ use Rattle.model.specs.declared.group.PlacedChange.{PlacedChange}
 use Rattle.model.specs.declared.group.PlacedChange.TheVariants as placed
 use Rattle.model.specs.declared.group.Put.{Put}
 use Rattle.model.specs.declared.layout.Layout.{Layout}
-use Rattle.model.specs.declared.layout.Layout.TheVariants.{Version1}
+use Rattle.model.specs.declared.layout.Layout.TheVariants.{Version2}
 use Rattle.model.specs.declared.record.Record.{Record}
 use Rattle.model.specs.declared.record.Role.TheVariants.{Primary}
 use Rattle.model.specs.Group.{AreAllApart, AreApart, AreParts, Contents, HasItsLines, IsGroup, IsPlaced, IsUnused, Versions, after_group, change_of, changes_versions, ended_by, ended_where_begun, entries_of, is_ended_version, is_live_version, is_put_at, NamesEnded, part_versions, parts_versions, put_of, puts_of_group, puts_of_part, version_of_put}
@@ -160,17 +160,17 @@ module _ {a b : ℕ} {old : Contents} {group : Group} (new : IsNew 4096 Primary 
         ),
       )
 
-  old_entries : entries_of old ≡ 512
-  old_entries = ap (λ (layout : Layout). entries_of_lines layout old.lines) new.layout ∙ ap (entries_of_lines Version1) new.line_count
+  old_entries : entries_of old ≡ 494
+  old_entries = ap (λ (layout : Layout). entries_of_lines layout old.lines) new.layout ∙ ap (entries_of_lines Version2) new.line_count
 
-  unused : (put : Put) → put.entry.0 < 512 → IsUnused old.versions old.is_free put
+  unused : (put : Put) → put.entry.0 < 494 → IsUnused old.versions old.is_free put
   unused put low =
       record {
         entry = new.is_free put.entry.0 (omega (arith, low, old_entries));
         lines = λ i version is. let clash : None ≡ Some version = sym (new.versions i) ∙ is in absurd (cc);
       }
 
-  pub two_sets_asked : a ≢ b → a < 512 → b < 512 → IsGroup old group
+  pub two_sets_asked : a ≢ b → a < 494 → b < 494 → IsGroup old group
   two_sets_asked differ first_low second_low =
       record {
         epoch = inl (two.epoch ∙ sym new.epoch);
@@ -202,10 +202,10 @@ module _ {old : Contents} {group : Group} (new : IsNew 4096 Primary old) (two : 
   lines_are : held.lines ≡ 4096
   lines_are = same.lines ∙ new.line_count
 
-  held_entries : entries_of held ≡ 512
+  held_entries : entries_of held ≡ 494
   held_entries =
       ap (λ (layout : Layout). entries_of_lines layout held.lines) (ap (λ (q : Record). q.layout) same.current ∙ new.layout)
-      ∙ ap (entries_of_lines Version1) lines_are
+      ∙ ap (entries_of_lines Version2) lines_are
 
   lines_apart : (i : ℕ) (version : Version) → held.versions i ≡ Some version → AreApart 600 1 version.first_line version.lines
   lines_apart i version is =

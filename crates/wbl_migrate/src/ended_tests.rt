@@ -10,7 +10,7 @@ ghost use Rattle.wbl_migrate.specs.TwoSets.{IsTwoSets, set_at};
 use crate::move_ended;
 use heap_layout::Entry;
 use kv_types::{EntryNo, Extent, Key, RecordId, Refusal, Value};
-use model::{FIRST_EPOCH, Group, Layout, MIN_LINES, Part, PlacedChange, Put, Record, Role};
+use model::{FIRST_EPOCH, Group, LAYOUT, MIN_LINES, Part, PlacedChange, Put, Record, Role};
 use pmem::{Crashing, Fault, SimPmem};
 use std::alloc::{AllocError, Global};
 use wbl_engine::{Durable, Versions, WblEngine};
@@ -61,11 +61,7 @@ fn one_entry(alloc: Global, entry: u64) -> Result<Vec<EntryNo>, AllocError>
 }
 
 /// `SET a 1` and then `SET a 2`, in these two entries.
-pub(crate) fn two_sets(
-    alloc: Global,
-    first_entry: u64,
-    second_entry: u64,
-) -> Result<Group, AllocError>
+fn two_sets(alloc: Global, first_entry: u64, second_entry: u64) -> Result<Group, AllocError>
     ensures { IfOk result (IsTwoSets first_entry second_entry) }
 {
     let first = part(
@@ -107,7 +103,7 @@ fn image_of_both(alloc: Global) -> Result<(SimPmem, Record), Refusal>
 fn reopened(alloc: Global, device: SimPmem) -> Result<Versions, Refusal> {
     let mut device = device;
     device.crash(&[]);
-    match WblEngine::reopen(alloc, device, Layout::Version1, Role::Primary) {
+    match WblEngine::reopen(alloc, device, LAYOUT, Role::Primary) {
         Ok((_, versions)) => Ok(versions),
         Err((refusal, _)) => Err(refusal),
     }

@@ -1,14 +1,13 @@
-//! An image that an engine made, brought to version 2 with crashes on the way.
+//! A small image by hand, with a gap and with both kinds of versions in its last entries, brought to version 2 with crashes on the way.
 ghost use Rattle.std.specs.Prelude.{◌≡◌, ◌+◌, ◌≤◌};
 ghost use Rattle.model.specs.declared.image.TheConstants.{MIN_LINES};
 ghost use Rattle.pmem.specs.Crash.{IsSettled};
 ghost use Rattle.pmem.specs.Sim.{state_of};
 
-use crate::ended_tests::two_sets;
 use crate::{migrate, stage_of};
 use kv_types::Refusal;
-use model::{LINE_WORDS, Layout, MIN_LINES, Role};
-use pmem::{Crashing, Pmem, SimPmem};
+use model::{LINE_WORDS, Layout, MAGIC, MIN_LINES, Role, STAMP_WINDOW};
+use pmem::{Crashing, Pmem, SimPmem, flush_lines, store_words};
 use std::alloc::Global;
 use wbl_engine::{Durable, WblEngine, inspect};
 
@@ -20,17 +19,32 @@ const FIRST_ENTRY_LINE: u64 = 8;
 /// The image of version 1 of `SET a 1` and `SET a 2`, which lie in two entries that version 2 does not keep. It was reopened after a crash, so that its record
 /// has a gap.
 fn old_image(alloc: Global) -> Result<SimPmem, Refusal> {
-    let group = two_sets(alloc, 494, 511)?;
-    let mut engine = match WblEngine::format(SimPmem::new(alloc, MIN_LINES)?, Role::Primary) {
-        Ok(engine) => engine,
-        Err((refusal, _)) => return Err(refusal),
-    };
-    engine.commit(&group)?;
-    let mut device = engine.into_device();
-    device.crash(&[]);
-    match WblEngine::reopen(alloc, device, Layout::Version1, Role::Primary) {
-        Ok((engine, _)) => Ok(engine.into_device()),
-        Err((refusal, _)) => Err(refusal),
+    let mut device = SimPmem::new(alloc, MIN_LINES)?;
+    store_words(&mut device, 0, &[MAGIC, 1, MIN_LINES, 512, 3, 0, 0, 0]);
+    // number, position, cp, cd, epoch, and a gap from 3 to 4,097; the role behind all gaps
+    store_words(
+        &mut device,
+        LINE_WORDS * 4,
+        &[3, 2, 4_098, 4_099 + STAMP_WINDOW, 1, 1, 3, 4_097],
+    );
+    store_words(&mut device, LINE_WORDS * 4 + 22, &[1]);
+    store_words(
+        &mut device,
+        LINE_WORDS * (FIRST_ENTRY_LINE + 494),
+        &[1, 2, 1, 520, 1, 1, 1, 1],
+    );
+    store_words(
+        &mut device,
+        LINE_WORDS * (FIRST_ENTRY_LINE + 511),
+        &[2, 0, 2, 521, 1, 1, 1, 1],
+    );
+    store_words(&mut device, LINE_WORDS * 520, &[12_641]);
+    store_words(&mut device, LINE_WORDS * 521, &[12_897]);
+    flush_lines(&mut device, 0, 8);
+    flush_lines(&mut device, FIRST_ENTRY_LINE + ENTRIES, 20);
+    match device.fence() {
+        Ok(()) => Ok(device),
+        Err(_fault) => Err(Refusal::Fault),
     }
 }
 

@@ -4,7 +4,7 @@ ghost use Rattle.wbl_migrate.specs.Moving.{AreKnown, IsReady};
 
 use crate::{clear_gaps, move_live, read_versions_are_known};
 use kv_types::Refusal;
-use model::{Layout, Role};
+use model::{LAYOUT, Role};
 use pmem::{Crashing, SimPmem};
 use std::alloc::Global;
 use wbl_engine::{Durable, Versions, WblEngine};
@@ -19,7 +19,7 @@ fn reopened<P: Crashing + Drop>(
 {
     let mut device = device;
     device.crash(&[]);
-    match WblEngine::reopen(alloc, device, Layout::Version1, Role::Standby) {
+    match WblEngine::reopen(alloc, device, LAYOUT, Role::Standby) {
         Ok(opened) => Ok(opened),
         Err((refusal, _)) => Err(refusal),
     }

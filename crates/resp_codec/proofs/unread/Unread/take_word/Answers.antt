@@ -9,4 +9,4 @@ returns-in_ok-word-clause-ok c =
 
 pub returns-in_ok-word-2-clause-ok : goal.returns-in_ok-word-2-clause-ok
 returns-in_ok-word-2-clause-ok c =
-    rw (c.advance.ensures.items, c.in_ok-word-2.ensures.rest.0) (left-in_cut c.args.len c.args.self.now.cut.items c.args.self.now.rest (rw (← c.is_empty.ensures, c.if-is_empty.false) at c.requires))
+    rw (c.let_go.ensures, c.advance.ensures.items, c.in_ok-word-2.ensures.rest.0) (left-in_cut c.args.len c.args.self.now.cut.items c.args.self.now.rest (rw (← c.is_empty.ensures, c.if-is_empty.false) at c.requires))
