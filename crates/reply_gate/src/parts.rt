@@ -76,11 +76,22 @@ impl Parts {
     {
         if self.values.is_empty() {
             self.text.advance(n);
+            self.rewind();
             return;
         }
         let mut left = n;
         while left > 0 {
             left -= self.advance_first(left);
+        }
+        self.rewind();
+    }
+
+    /// Where nothing of the text is left, what comes next begins at the front of its block: behind what was removed it would be moved as it grows.
+    fn rewind(&mut self)
+        ensures { all_bytes self.new ≡ all_bytes self.old }
+    {
+        if self.text.is_empty() {
+            self.text.clear();
         }
     }
 

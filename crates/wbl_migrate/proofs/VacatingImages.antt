@@ -53,14 +53,14 @@ pub record StandFor (lines' : ℕ) (r : Record) (s : Keyspace) (contents : Conte
 -- ---- what a reopening gives
 
 -- Its contents are what the steps ask for. `d` is the device of the engine that was opened.
-pub opened_contents : {lines : ℕ} {before : Image} {role : Role} {contents : Contents} {counted : List (EntryNo × Entry)} {gapped : List EntryNo}
+pub opened_contents : (layout : Layout) {lines : ℕ} {before : Image} {role : Role} {contents : Contents} {counted : List (EntryNo × Entry)} {gapped : List EntryNo}
     {X Y : Type 0} {opened : X} {device : Y} (d : State)
-    → ((refusal : Refusal) → super_refusal Version1 lines before ≡ Some refusal → ◌≡◌ {A = Result X (Refusal × Y)} (Ok opened) (Err (refusal, device)))
+    → ((refusal : Refusal) → super_refusal layout lines before ≡ Some refusal → ◌≡◌ {A = Result X (Refusal × Y)} (Ok opened) (Err (refusal, device)))
     → Reopens lines before role contents counted gapped → IsShown contents counted gapped (image_of d.words) → IsDurable d contents
     → IsConsistent contents × AreLawful contents × AreKnown contents counted gapped []
-opened_contents {lines} {before} {role} {contents} {counted} {gapped} {X} {Y} {opened} {device} d superblock reopens shown durable =
+opened_contents layout {lines} {before} {role} {contents} {counted} {gapped} {X} {Y} {opened} {device} d superblock reopens shown durable =
     let keeps : Keeps contents (image_of d.words) = durable (image_of d.words) (λ word. inl refl) in
-    let size = image_size Version1 lines before (λ refusal is. ok_no_error opened (refusal, device) (superblock refusal is)) in
+    let size = image_size layout lines before (λ refusal is. ok_no_error opened (refusal, device) (superblock refusal is)) in
     let same = sym reopens.lines_are in (
       shown_consistent lines before (image_of d.words) role contents counted gapped reopens shown keeps,
       reopened_lawful lines before (image_of d.words) role contents counted gapped reopens shown keeps (subst (λ (n : ℕ). MIN_LINES ≤ n) same size.0)

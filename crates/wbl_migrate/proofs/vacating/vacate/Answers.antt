@@ -15,19 +15,19 @@ use Rattle.wbl_migrate.proofs.vacating.vacate.Goals as goal
 pub vacate_engine-requires-clause-ready : goal.vacate_engine-requires-clause-ready
 vacate_engine-requires-clause-ready g c =
     let told = c.in-Ok.ensures in
-    let opened = opened_contents (g.P.Pmem.state c.in-Ok.engine.device) told.superblock told.reopens told.shown told.durable in
+    let opened = opened_contents Version1 (g.P.Pmem.state c.in-Ok.engine.device) told.superblock told.reopens told.shown told.durable in
     record { sound = told.sound.0; durable = told.durable; consistent = opened.0; lawful = opened.1 }
 
 pub vacate_engine-requires-clause-known : goal.vacate_engine-requires-clause-known
 vacate_engine-requires-clause-known g c =
     let told = c.in-Ok.ensures in
-    let opened = opened_contents (g.P.Pmem.state c.in-Ok.engine.device) told.superblock told.reopens told.shown told.durable in
+    let opened = opened_contents Version1 (g.P.Pmem.state c.in-Ok.engine.device) told.superblock told.reopens told.shown told.durable in
     opened.2
 
 pub returns-in-Ok-clause-goes_on : goal.returns-in-Ok-clause-goes_on
 returns-in-Ok-clause-goes_on g c =
     let told = c.in-Ok.ensures in
-    let opened = opened_contents (g.P.Pmem.state c.in-Ok.engine.device) told.superblock told.reopens told.shown told.durable in
+    let opened = opened_contents Version1 (g.P.Pmem.state c.in-Ok.engine.device) told.superblock told.reopens told.shown told.durable in
     IfOk-weaker c.vacate_engine.result _ _
     (λ o vacated r s old. vacated_goes_on _ r s _ o.1 (g.P.Pmem.state o.0) (opened_stand told.reopens r s old opened.1) vacated)
     c.vacate_engine.ensures.vacated
@@ -35,7 +35,7 @@ returns-in-Ok-clause-goes_on g c =
 pub returns-in-Ok-clause-ok : goal.returns-in-Ok-clause-ok
 returns-in-Ok-clause-ok g c =
     let told = c.in-Ok.ensures in
-    let opened = opened_contents (g.P.Pmem.state c.in-Ok.engine.device) told.superblock told.reopens told.shown told.durable in
+    let opened = opened_contents Version1 (g.P.Pmem.state c.in-Ok.engine.device) told.superblock told.reopens told.shown told.durable in
     IfOk-weaker c.vacate_engine.result _ _
     (λ o vacated r s old. vacated_movable _ r s _ o.1 (g.P.Pmem.state o.0) (opened_stand told.reopens r s old opened.1) vacated)
     c.vacate_engine.ensures.vacated
@@ -47,7 +47,7 @@ returns-in-Ok-clause-no_fault g c =
 pub returns-in-Ok-clause-moments : goal.returns-in-Ok-clause-moments
 returns-in-Ok-clause-moments g c r s old =
     let told = c.in-Ok.ensures in
-    let opened = opened_contents (g.P.Pmem.state c.in-Ok.engine.device) told.superblock told.reopens told.shown told.durable in
+    let opened = opened_contents Version1 (g.P.Pmem.state c.in-Ok.engine.device) told.superblock told.reopens told.shown told.durable in
     let a = g.P.Pmem.state c.args.device in
     let b = g.P.Pmem.state c.in-Ok.engine.device in
     let stand = opened_stand told.reopens r s old opened.1 in
@@ -64,7 +64,7 @@ returns-in-Err-clause-moments g c r s old =
 pub returns-in-Ok-clause-full : goal.returns-in-Ok-clause-full
 returns-in-Ok-clause-full g c =
     let told = c.in-Ok.ensures in
-    let opened = opened_contents (g.P.Pmem.state c.in-Ok.engine.device) told.superblock told.reopens told.shown told.durable in
+    let opened = opened_contents Version1 (g.P.Pmem.state c.in-Ok.engine.device) told.superblock told.reopens told.shown told.durable in
     IfErr-weaker c.vacate_engine.result _ _
     (λ refused stops full r s old.
     stopped_old _ r s _ (HasLastEntry (g.P.Pmem.state c.args.device).lines) (left_counts (g.P.Pmem.state c.args.device).lines) _
@@ -74,7 +74,7 @@ returns-in-Ok-clause-full g c =
 pub returns-in-Ok-clause-exhausted : goal.returns-in-Ok-clause-exhausted
 returns-in-Ok-clause-exhausted g c =
     let told = c.in-Ok.ensures in
-    let opened = opened_contents (g.P.Pmem.state c.in-Ok.engine.device) told.superblock told.reopens told.shown told.durable in
+    let opened = opened_contents Version1 (g.P.Pmem.state c.in-Ok.engine.device) told.superblock told.reopens told.shown told.durable in
     IfErr-weaker c.vacate_engine.result _ _
     (λ refused stops exhausted r s old.
     inr (stopped_old _ r s _ (λ (current : Record) (_ : Image). ExhaustsRelocation current) (λ b image _ _ _ _ is. is) _
