@@ -4,6 +4,8 @@ are counted."""
 import contextlib
 import fcntl
 import functools
+import importlib.machinery
+import importlib.util
 import os
 import pathlib
 import random
@@ -86,6 +88,14 @@ def program(crate):
     if not os.access(path, os.X_OK) or path.is_dir():
         raise MissingProgram(f"no program at {path}: build it with `{build}`, or name another by {variable}")
     return str(path)
+
+
+def script(name):
+    """A script of `bin/` as a module."""
+    loader = importlib.machinery.SourceFileLoader(name.replace("-", "_"), str(ROOT / "bin" / name))
+    module = importlib.util.module_from_spec(importlib.util.spec_from_loader(loader.name, loader))
+    loader.exec_module(module)
+    return module
 
 
 class Finished(typing.NamedTuple):

@@ -6,8 +6,6 @@ WBL_ROUNDS says how often the system goes down in each test of that, 3 times if 
 
 import collections
 import contextlib
-import importlib.machinery
-import importlib.util
 import itertools
 import os
 import pathlib
@@ -247,9 +245,7 @@ class LoneSets(NotedCases):
     def test_it_is_what_bench_pair_says(self):
         if not self.loaded:
             return
-        loader = importlib.machinery.SourceFileLoader("bench_pair", str(common.ROOT / "bin" / "bench-pair"))
-        said = importlib.util.module_from_spec(importlib.util.spec_from_loader("bench_pair", loader))
-        loader.exec_module(said)
+        said = common.script("bench-pair")
         # (a standby whose image has a spare place)
         nodes = self.pair(lines=8 * LINES)
         both = {nodes.primary: said.LONE_PRIMARY, nodes.standby: said.LONE_STANDBY}
