@@ -62,7 +62,8 @@ NEWS = re.compile(
 CAUSE = re.compile(
     rb"(?P<file>[^\n]*?) (?P<cause>is not there|is held by another process|may not be opened by this user, or is no file|could not be made, read, written or synced"
     rb"|could not be made: its folder is not there|could not be made: this user may not write to its folder, or there is no room"
-    rb"|does not begin as an image|is an image of another version|has not as many lines as an image, or as were asked for|has come to the end of a counter"
+    rb"|does not begin as an image|is an image of another version; wbl-server migrate brings one of version 1 to version 2"
+    rb"|has no place for a version that has to move|has not as many lines as an image, or as were asked for|has come to the end of a counter"
     rb"|is in use by another process, and changed while it was read|breaks a rule of an image|is an image of the other role)\n"
 )
 

@@ -201,6 +201,12 @@ def run(*words):
     return finished.output
 
 
+def inspected(image):
+    """What `inspect` tells of an image: a number or a word by its name."""
+    rows = [line.split(" ", 1) for line in run("inspect", "--image", str(image)).decode().splitlines()]
+    return {name: int(value) if value.isdigit() else value for name, value in rows}
+
+
 class Node:
     """A primary or a standby: the image, how the program is called over it, and its process while it runs."""
 
@@ -273,9 +279,8 @@ class Node:
             self.process.wait()
 
     def inspect(self):
-        """What `inspect` tells of the image: a number or a word by its name. The process must have ended."""
-        rows = [line.split(" ", 1) for line in run("inspect", "--image", str(self.image)).decode().splitlines()]
-        return {name: int(value) if value.isdigit() else value for name, value in rows}
+        """What `inspect` tells of the image. The process must have ended."""
+        return inspected(self.image)
 
     def read_image(self):
         """The image, as the plain reader has it. A process that runs may write meanwhile."""

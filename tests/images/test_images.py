@@ -29,7 +29,7 @@ NOT_MADE = b"could not be made: this user may not write to its folder, or there 
 
 # "Refusals" of docs/replication.md, those of images and their files.
 TEXTS = {
-    1: "device fault", 2: "bad magic", 3: "bad version", 4: "wrong size", 6: "stamps exhausted", 7: "damaged image", 16: "wrong role",
+    1: "device fault", 2: "bad magic", 3: "bad version", 4: "wrong size", 5: "full", 6: "stamps exhausted", 7: "damaged image", 16: "wrong role",
 }
 
 

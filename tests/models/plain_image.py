@@ -21,17 +21,18 @@ LENGTH_SHIFT = 65_536
 
 class Layout(typing.NamedTuple):
     """What is other in each version: the word of the superblock that names the current record, how many lines a record slot has, whether the slots are behind
-    the directory, and how many gaps a record holds."""
+    the directory, how many gaps a record holds, and how many of the last entries it has not."""
 
     version: int
     root_word: int
     slot_lines: int
     slots_are_behind: bool
     most_gaps: int
+    lacks: int
 
     def entries(self, lines):
         """How many entries an image of so many lines has."""
-        return lines // 8 - 2 * self.slot_lines * self.slots_are_behind
+        return lines // 8 - self.lacks
 
     def slot_line(self, lines, number):
         """The first line of the slot of the record of this number."""
@@ -50,8 +51,11 @@ class Layout(typing.NamedTuple):
         return self.role_word + 2
 
 
-VERSION_1 = Layout(version=1, root_word=4, slot_lines=3, slots_are_behind=False, most_gaps=8)
-VERSION_2 = Layout(version=2, root_word=5, slot_lines=9, slots_are_behind=True, most_gaps=32)
+VERSION_1 = Layout(version=1, root_word=4, slot_lines=3, slots_are_behind=False, most_gaps=8, lacks=0)
+VERSION_2 = Layout(version=2, root_word=5, slot_lines=9, slots_are_behind=True, most_gaps=32, lacks=18)
+# An image that a crash left between the two.
+HALFWAY = VERSION_1._replace(version=3, lacks=VERSION_2.lacks)
+LAYOUTS = {layout.version: layout for layout in (VERSION_1, VERSION_2, HALFWAY)}
 # That of new images, and of those that are served.
 LAYOUT = VERSION_2
 
