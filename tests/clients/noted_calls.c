@@ -3,6 +3,7 @@
 //                 `write FD OFFSET BYTES`, `sync FD` (of a file or a folder) or `data FD`, and ` failed` behind it where it did
 //   NOTED_FAILS   which of its syncs fails, the first being 1: nothing is asked of the system, and the answer is EIO
 //   NOTED_TORN    which of its writes fails: the first half is written, and the answer is EIO
+//   NOTED_BYTES   a file that what each of its writes wrote is added to, one behind the other
 //   NOTED_IMAGE   a file of which what is durable is kept in another, NOTED_SYNCED: what was written is written there too, but only once a
 //                 sync has come back well
 // A program that never syncs keeps what it writes in memory until it ends.
@@ -27,7 +28,7 @@ struct written {
 };
 
 static pthread_mutex_t lock = PTHREAD_MUTEX_INITIALIZER;
-static int log_file = -1, synced_file = -1;
+static int log_file = -1, synced_file = -1, bytes_file = -1;
 static const char *image;
 static long syncs, fails, writes, torn;
 static struct written *first, **last = &first;
@@ -38,12 +39,14 @@ static int open_plainly(const char *path, int flags) {
 
 __attribute__((constructor)) static void begin(void) {
     const char *log = getenv("NOTED_LOG"), *synced = getenv("NOTED_SYNCED"), *number = getenv("NOTED_FAILS"), *torn_number = getenv("NOTED_TORN");
+    const char *written = getenv("NOTED_BYTES");
     image = getenv("NOTED_IMAGE");
     log_file = log ? open_plainly(log, O_WRONLY | O_CREAT | O_APPEND) : -1;
     synced_file = synced ? open_plainly(synced, O_WRONLY) : -1;
+    bytes_file = written ? open_plainly(written, O_WRONLY | O_CREAT | O_APPEND) : -1;
     fails = number ? atol(number) : 0;
     torn = torn_number ? atol(torn_number) : 0;
-    if (log_file < 0 || (synced && synced_file < 0)) {
+    if (log_file < 0 || (synced && synced_file < 0) || (written && bytes_file < 0)) {
         abort();
     }
 }
@@ -130,6 +133,9 @@ static void write_what_is_kept(void) {
         note(result != (ssize_t)length, "write %d %lld %zu", file, (long long)offset, length);                                  \
         if (result > 0 && is_image(file)) {                                                                                     \
             keep(bytes, (size_t)result, offset);                                                                                \
+        }                                                                                                                       \
+        if (result > 0 && bytes_file >= 0 && syscall(SYS_write, bytes_file, bytes, (size_t)result) != result) {                 \
+            abort();                                                                                                            \
         }                                                                                                                       \
         if (is_torn) {                                                                                                          \
             errno = EIO;                                                                                                        \

@@ -32,17 +32,20 @@ def library(folder):
 class Noting:
     """How a program is started so that its calls are noted, and what was noted. `fails` is which of its syncs fails, and `torn` which of its
     writes, 0 for none; `synced` is where what is durable of the image is kept: a copy of the image when this is made, or what the run before left there,
-    where this one goes on behind it."""
+    where this one goes on behind it. What is written is kept where `keeps_bytes` says so."""
 
-    def __init__(self, loaded, image, fails=0, torn=0, keeps=True, goes_on=False):
-        self.image, self.log, self.synced = image, image.with_suffix(".calls"), image.with_suffix(".synced")
+    def __init__(self, loaded, image, fails=0, torn=0, keeps=True, goes_on=False, keeps_bytes=False):
+        self.image, self.log, self.synced, self.bytes = image, *map(image.with_suffix, (".calls", ".synced", ".bytes"))
         self.fails = fails
-        self.log.unlink(missing_ok=True)
+        for noted in (self.log, self.bytes):
+            noted.unlink(missing_ok=True)
         settings = {"LD_PRELOAD": loaded, "NOTED_LOG": self.log, "NOTED_FAILS": fails, "NOTED_TORN": torn}
         if keeps:
             if not goes_on:
                 shutil.copyfile(image, self.synced)
             settings |= {"NOTED_IMAGE": image, "NOTED_SYNCED": self.synced}
+        if keeps_bytes:
+            settings |= {"NOTED_BYTES": self.bytes}
         self.settings = {name: str(value) for name, value in settings.items()}
         self.words = ["/usr/bin/env", *(f"{name}={value}" for name, value in settings.items())]
 
@@ -57,6 +60,15 @@ class Noting:
             path = rest[0] if word in ("open", "made") else paths.get(file, "")
             numbers = () if word in ("open", "made") else tuple(map(int, " ".join(rest).split()))
             found.append(Call(word, path, numbers, failed))
+        return found
+
+    def writes_and_syncs(self):
+        """What the program asked of its image, in order: of each write its offset and its bytes, and None for each sync. None of them failed."""
+        found = []
+        with self.bytes.open("rb") as written:
+            for call in self.calls():
+                if call.path == str(self.image) and call.word in ("write", "sync", "data"):
+                    found.append((call.numbers[0], written.read(call.numbers[1])) if call.word == "write" else None)
         return found
 
     def crash(self, draws=None):

@@ -44,6 +44,11 @@ class PageCache:
         left._bring(brings)
         return left.disk
 
+    @property
+    def waiting(self):
+        """The words that wait with another value than the disk has, in rising order."""
+        return sorted(place for place in self.dirty if self.disk.get(place, 0) != self.cached.get(place, 0))
+
     def _bring(self, picks):
         for place in self.dirty:
             if picks(place):
