@@ -8,6 +8,8 @@ import typing
 
 SOURCE = pathlib.Path(__file__).resolve().parent / "noted_calls.c"
 WORD, BLOCK = 8, 4_096
+# Without one no library is made.
+HAS_COMPILER = shutil.which("gcc") is not None
 OPTIONS = ["-shared", "-fPIC", "-O1", "-Wall", "-Wextra", "-Werror", "-D_GNU_SOURCE"]
 
 
@@ -23,7 +25,7 @@ class Call(typing.NamedTuple):
 def library(folder):
     """The library in this folder, which is made there, or None where there is no gcc."""
     made = pathlib.Path(folder, "noted_calls.so")
-    if not shutil.which("gcc"):
+    if not HAS_COMPILER:
         return None
     subprocess.run(["gcc", *OPTIONS, "-o", made, SOURCE, "-ldl"], check=True)
     return made

@@ -81,9 +81,9 @@ def with_gaps():
     return writer
 
 
-def with_all_last_entries():
+def with_all_last_entries(lines=LINES):
     """As many gaps as a record of version 1 holds, and something in each of the last entries, of a standby."""
-    writer = OldWriter(STANDBY)
+    writer = OldWriter(STANDBY, lines)
     writer.fill(20)
     writer.commit_last([[Put((f"l{number}".encode(),), 70 * b"1") for number in range(LAST - 4)]])
     writer.commit([[DropKey(f"l{number}".encode()) for number in range(0, LAST - 4, 2)], [DropKey(b"k3")]])
