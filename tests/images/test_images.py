@@ -15,7 +15,7 @@ import tempfile
 import plain_image
 from common import CAUSE, NEWS, Cases, program, run_program, without_cause
 from damaged_images import BASE, ENTRIES_ALONE, ENTRIES_TOGETHER, RECORDS, SLOT, STRANGE, SUPERBLOCKS, entry
-from plain_image import DIRECTORY_LINE, MOST_VALUE_BYTES, PRIMARY, STANDBY, WORDS_OF_LINE, Words
+from plain_image import DIRECTORY_LINE, LAYOUT, LAYOUTS, MOST_VALUE_BYTES, PRIMARY, STANDBY, WORDS_OF_LINE, Words
 from plain_keyspace import DropKey, Put
 from plain_writer import Writer
 
@@ -52,7 +52,7 @@ def words_of(data):
 
 def told(record, live):
     """What `inspect` prints of a record with so many live entries."""
-    lines = [f"record {record.number}", f"position {record.position}", f"cp {record.cp}", f"cd {record.cd}"]
+    lines = [f"version {record.layout.version}", f"record {record.number}", f"position {record.position}", f"cp {record.cp}", f"cd {record.cd}"]
     lines += [f"epoch {record.epoch}", f"role {ROLES[record.role]}", f"gaps {len(record.gaps)}"]
     lines += [f"gap {first} {last}" for first, last in record.gaps]
     return "".join(f"{line}\n" for line in [*lines, f"live {live}"]).encode()
@@ -189,16 +189,16 @@ class Inspecting(Images):
         """Three SETs as one group, before a reopening and after it."""
         writer = Writer(LINES, PRIMARY)
         writer.commit([[Put((key,), b"1")] for key in (b"a", b"b", b"c")])
-        self.assert_told(LINES, writer.words, b"record 2\nposition 3\ncp 3\ncd 4100\nepoch 1\nrole primary\ngaps 0\nlive 3\n")
+        self.assert_told(LINES, writer.words, b"version 2\nrecord 2\nposition 3\ncp 3\ncd 4100\nepoch 1\nrole primary\ngaps 0\nlive 3\n")
         writer.reopen()
-        text = b"record 3\nposition 3\ncp 4100\ncd 8197\nepoch 1\nrole primary\ngaps 1\ngap 4 4099\nlive 3\n"
+        text = b"version 2\nrecord 3\nposition 3\ncp 4100\ncd 8197\nepoch 1\nrole primary\ngaps 1\ngap 4 4099\nlive 3\n"
         self.assert_told(LINES, writer.words, text)
 
     def test_new_images(self):
         for lines, role in [(4_096, PRIMARY), (4_103, STANDBY), (40_000, STANDBY)]:
             with self.case("image", lines=lines, role=role):
                 name = ROLES[role].encode()
-                text = b"record 1\nposition 0\ncp 0\ncd 4097\nepoch 1\nrole %s\ngaps 0\nlive 0\n" % name
+                text = b"version 2\nrecord 1\nposition 0\ncp 0\ncd 4097\nepoch 1\nrole %s\ngaps 0\nlive 0\n" % name
                 self.assert_told(lines, Writer(lines, role).words, text)
 
     def test_versions_that_have_ended_are_not_live(self):
@@ -248,6 +248,15 @@ class Inspecting(Images):
         self.assert_told(LINES, words, told(record, len(plain_image.read_image(Words(LINES, words)).map)))
 
 
+def of_its_version(words):
+    """How `inspect` refuses an image, which it reads by whatever version the superblock names."""
+    try:
+        plain_image.read_image(Words(LINES, words), LAYOUTS.get(words.get(1), LAYOUT))
+    except plain_image.BadImage as why:
+        return why.number
+    return None
+
+
 class Refusals(Images):
     """Files that are no image are refused with their cause, and stay as they were."""
 
@@ -261,11 +270,12 @@ class Refusals(Images):
             path = folder / "p.img"
             for name, number, changes in table:
                 with self.case(name):
+                    words = BASE.words | changes
                     with self.assertRaises(plain_image.BadImage) as refused:
-                        plain_image.read_image(Words(LINES, BASE.words | changes))
+                        plain_image.read_image(Words(LINES, words))
                     self.assertEqual(refused.exception.number, number)
-                    path.write_bytes(image_bytes(LINES, BASE.words | changes))
-                    self.assert_no_image(path, number)
+                    path.write_bytes(image_bytes(LINES, words))
+                    self.assert_no_image(path, of_its_version(words))
 
     def test_superblocks(self):
         self.check(SUPERBLOCKS)

@@ -14,6 +14,7 @@ from plain_image import LAYOUT, PRIMARY, STANDBY, VERSION_1, Words
 from plain_keyspace import DropKey, Put
 from plain_writer import Writer
 from standby_node import cut_short
+from test_migrating import OTHER_VERSION
 
 PROGRAMS = ["server"]
 
@@ -163,7 +164,7 @@ class OfTheServer(Status):
 
     def test_an_image_of_version_1(self):
         name = self.made("it.img", Writer(LINES, PRIMARY, layout=VERSION_1).words)
-        self.assertEqual(self.run_words(name), (1, "", f"{name} is an image of another version\nrefusal 3: bad version\n"))
+        self.assertEqual(self.run_words(name), (1, "", f"{name} {OTHER_VERSION.decode()}\nrefusal 3: bad version\n"))
 
     # (the subcommand has no such option)
     test_a_share = None
