@@ -23,11 +23,13 @@ PIECES = (1, 7, 50, 65_536)
 
 
 class CuttingLink:
-    """Stands between the primary and the standby. While it cuts, each connection lets through some bytes either way, a number that is drawn; the
-    rest is lost and both sides see the end."""
+    """Stands between the primary and the standby, and passes on what comes in pieces of these lengths. While it cuts, each connection lets through some bytes
+    either way, a number that is drawn; the rest is lost and both sides see the end."""
 
-    def __init__(self, standby, draws):
-        self.standby, self.draws, self.cuts, self.is_cutting = standby, draws, 0, False
+    def __init__(self, standby, draws, pieces=PIECES):
+        self.standby, self.draws, self.pieces, self.cuts, self.is_cutting = standby, draws, pieces, 0, False
+        # how many bytes were passed on
+        self.passed = 0
         self.port, self.door, self.open = Port(), socket.socket(), []
         self.door.setsockopt(socket.SOL_SOCKET, socket.SO_REUSEADDR, 1)
         self.door.bind((HOST, self.port.number))
@@ -56,6 +58,7 @@ class CuttingLink:
                     continue
                 self.open += [primary, standby]
                 for one, other in ((primary, standby), (standby, primary)):
+                    other.setsockopt(socket.IPPROTO_TCP, socket.TCP_NODELAY, 1)
                     most = self._drawn_length() if self.is_cutting else None
                     threading.Thread(target=self._pass_on, args=(one, other, most), daemon=True).start()
 
@@ -65,14 +68,24 @@ class CuttingLink:
 
     def _pass_on(self, one, other, most):
         with contextlib.suppress(OSError):
-            while data := one.recv(self.draws.choice(PIECES)):
+            while data := one.recv(self.draws.choice(self.pieces)):
                 other.sendall(data if most is None else data[:most])
+                self.passed += len(data)
                 most = None if most is None else most - len(data)
                 if most is not None and most <= 0:
                     self.cuts += 1
                     break
         shut(one)
         shut(other)
+
+
+def put_between(nodes, between):
+    """Starts the primary of a pair again, to send by way of this."""
+    primary = nodes.primary
+    primary.end()
+    primary.words[primary.words.index("--link") + 1] = between.port.address()
+    primary.start()
+    wait_until(primary.is_listening, "a primary that listens")
 
 
 def shut(end):
@@ -90,11 +103,7 @@ class CutLinks(PairCases):
         self.nodes = self.pair()
         self.between = CuttingLink(self.nodes.link.number, random.Random(f"cuts {time.time()}"))
         self.addCleanup(self.between.close)
-        primary = self.nodes.primary
-        primary.end()
-        primary.words[primary.words.index("--link") + 1] = self.between.port.address()
-        primary.start()
-        wait_until(primary.is_listening, "a primary that listens")
+        put_between(self.nodes, self.between)
         with self.nodes.client() as client:
             self.assertEqual(client.ask("FLUSHDB"), OK)
 
