@@ -158,7 +158,7 @@ class StandingBy(Images):
         self.assertEqual(left.counted, versions.counted)
         # (an entry of a gap that was cleared is free)
         self.assertLessEqual(set(left.gapped), set(versions.gapped))
-        if len(image.record.gaps) < 8:
+        if len(image.record.gaps) < LAYOUT.most_gaps:
             self.assertEqual(left.gapped, versions.gapped)
 
     def assert_words(self, found, wanted):

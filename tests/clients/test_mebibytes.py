@@ -2,17 +2,14 @@
 them, links that pass them on in pieces of a few bytes, standbys that were away, nodes that were killed, and what one costs in memory."""
 
 import functools
-import pathlib
 import random
-import time
 
 import worked_cases as worked
-from pair import wait_until
+from pair import PATIENCE, wait_until
 from plain_image import MOST_VALUE_BYTES
 from plain_keyspace import Put
 from plain_replies import LONG_STRING, OK, array, bulk, error, integer
 from plain_wire import Acknowledgement, Group, text
-from plain_writer import Writer
 from spelling import spell
 from standby_node import Node, StandingBy
 from test_cut_links import CuttingLink, put_between
@@ -212,8 +209,6 @@ class SlowLinks(Large):
 class Away(Large):
     """A standby that is away while values are set, and comes back."""
 
-    KEYS = [f"k{number}" for number in range(4)]
-
     def set_while_away(self):
         """Two are set while both nodes are there; then, while the standby is away, one of them once more, a new one, and one in a field. The primary holds them,
         and answers nothing."""
@@ -289,7 +284,7 @@ class Frames(StandingBy):
                 link.settimeout(0.3)
                 with self.assertRaises(TimeoutError):
                     link.recv(64)
-                link.settimeout(None)
+                link.settimeout(PATIENCE)
                 link.sendall(begun[-1:])
                 self.assertEqual((said, link.recv(64)), (text(Acknowledgement(1, 0)), b""))
             self.assertEqual(node.exchange(self.frame(MOST_VALUE_BYTES)), text(Acknowledgement(1, 0)) + text(Acknowledgement(1, 1)))

@@ -2,11 +2,12 @@
 
 import random
 
+import plain_image
 from damaged_images import BASE, ENTRIES_ALONE, ENTRIES_TOGETHER, FIELD_OF, RECORDS, SLOT, STRANGE, SUPERBLOCKS
-from plain_image import PRIMARY, STANDBY, VERSION_1
+from plain_image import LAYOUT, PRIMARY, STANDBY, VERSION_1
 from plain_keyspace import Put
 from plain_writer import Writer
-from standby_node import LIMIT, StandingBy, crashed, drawn_change, drawn_frames, take, with_record
+from standby_node import LIMIT, Node, StandingBy, crashed, cut_short, drawn_change, drawn_frames, take, with_record
 from test_images import LINES, image_bytes, limited, words_of
 
 PROGRAMS = ["server"]
@@ -104,6 +105,33 @@ class Opening(StandingBy):
             data = path.read_bytes()
             self.assert_refused(self.opening_words(path), 1, preexec_fn=limited(0))
             self.assert_bytes(path.read_bytes(), data)
+
+
+class Killed(StandingBy):
+    """A standby that is killed again and again, while nothing comes to it, so that it clears no gap."""
+
+    def test_34_openings(self):
+        """The gaps of eight and of 31 that were killed are all there with the next; the 33rd clears the oldest, and with it what a commit that was cut short had left."""
+        draws, writer = random.Random("killed"), Writer(LINES, self.ROLE)
+        for frame in drawn_frames(draws, 0, 4):
+            take(writer, frame)
+        with self.folder() as folder:
+            path = self.made(folder, cut_short(writer, [Put((b"cut",), b"v")]))
+            first = self.words(path)
+            image = plain_image.read_image(first)
+            cut = plain_image.read_versions(first, plain_image.reopened(image.record)[-1]).gapped
+            self.assertEqual(len(cut), 1)
+            record = image.record
+            for count in range(1, 35):
+                record = plain_image.reopened(record)[-1]
+                with self.case("openings", count=count):
+                    with Node(path):
+                        pass
+                    after = self.words(path)
+                    self.assertEqual(plain_image.read_image(after), plain_image.Image(record, image.map))
+                    self.assertEqual(len(record.gaps), min(count, LAYOUT.most_gaps))
+                    left = plain_image.read_versions(after, record).gapped
+                    self.assertEqual(left, cut if count <= LAYOUT.most_gaps else [])
 
 
 class OpeningOfAPrimary(Opening):
