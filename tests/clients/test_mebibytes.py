@@ -2,7 +2,9 @@
 them, links that pass them on in pieces of a few bytes, standbys that were away, nodes that were killed, and what one costs in memory."""
 
 import functools
+import pathlib
 import random
+import time
 
 import worked_cases as worked
 from pair import PATIENCE, wait_until
@@ -25,6 +27,13 @@ MANY_LINES, LINES = 786_432, 393_216
 FEW_LINES = 20_480
 # So many MSET may put, each at a key of one byte: one more takes 16,777,344 bytes of change text.
 MOST_PUTS = 15
+# What is measured of memory: values, or connections. The C library keeps up to some MiB of what was given up to it.
+COUNT = 20
+SPARE_BYTES = 8 * 2**20
+# A connection has rings and blocks, and what it says it will send takes 64 KiB before it comes.
+CONNECTION_BYTES = 131_072
+# What the first long value costs once: the places of lists that are made for good.
+ONCE_BYTES = 384 * 1_024
 # The length of a request's last word, but for its last digit.
 ALMOST_A_LENGTH = b"*3\r\n$3\r\nSET\r\n$1\r\nk\r\n$104857"
 
@@ -288,3 +297,84 @@ class Frames(StandingBy):
                 link.sendall(begun[-1:])
                 self.assertEqual((said, link.recv(64)), (text(Acknowledgement(1, 0)), b""))
             self.assertEqual(node.exchange(self.frame(MOST_VALUE_BYTES)), text(Acknowledgement(1, 0)) + text(Acknowledgement(1, 1)))
+
+
+def resident(node, name="VmRSS"):
+    """How many bytes of memory a node takes, or took at most (VmHWM)."""
+    rows = pathlib.Path("/proc", str(node.process.pid), "status").read_text(encoding="ascii").splitlines()
+    return next(1_024 * int(row.split()[1]) for row in rows if row.startswith(f"{name}:"))
+
+
+class Memory(Large):
+    """What such values cost. It catches a buffer that keeps the room of a long word, of a long frame or of a delta, and room for what did not come."""
+
+    def both(self, name="VmRSS"):
+        return [resident(node, name) for node in (self.nodes.primary, self.nodes.standby)]
+
+    def assert_grown(self, before, most, name="VmRSS"):
+        for role, first, last in zip(("primary", "standby"), before, self.both(name)):
+            with self.case("bytes", role=role, grown=last - first, most=most):
+                self.assertLessEqual(last - first, most)
+
+    def rest(self):
+        """Until what ended is freed."""
+        time.sleep(1.5)
+
+    def start_with_connections(self, count):
+        """A pair with as many connections, each of which has asked for something, and what both nodes take then."""
+        self.start(lines=MANY_LINES)
+        clients = [self.nodes.client() for _ in range(count)]
+        for client in [self.client, *clients]:
+            self.assertEqual(client.ask("SET", "small", "v"), OK)
+        self.rest()
+        return clients, self.both()
+
+    def test_the_first(self):
+        """No more than three times its length at any moment: as itself, as words of the image, and as a frame or a word that is read."""
+        (client,), before = self.start_with_connections(1)
+        self.assertEqual(client.ask("SET", "k", value(0)), OK)
+        self.rest()
+        self.assert_grown(before, 3 * MOST_VALUE_BYTES + ONCE_BYTES, "VmHWM")
+
+    def test_of_connections_that_rest(self):
+        """Twice its length for each that is stored, and nothing for a connection that once brought one."""
+        clients, before = self.start_with_connections(COUNT)
+        for number, client in enumerate(clients):
+            self.assertEqual(client.ask("SET", f"k{number}", value(number)), OK)
+        self.rest()
+        self.assert_grown(before, 2 * COUNT * MOST_VALUE_BYTES + SPARE_BYTES)
+        before = self.both()
+        for number, client in enumerate(clients):
+            self.assert_bytes(client.ask("ECHO", value(number)), bulk(value(number)))
+        self.rest()
+        self.assert_grown(before, SPARE_BYTES)
+
+    def test_of_lengths_alone(self):
+        """Connections that tell of a value, and send a byte of it."""
+        clients, before = self.start_with_connections(COUNT)
+        for client in clients:
+            client.send(ALMOST_A_LENGTH + b"6\r\nv")
+        self.rest()
+        self.assert_grown(before, COUNT * CONNECTION_BYTES + SPARE_BYTES // 4)
+
+    def test_of_a_delta(self):
+        """Once it was sent and taken, both nodes take as much as when they are opened again."""
+        self.start(lines=MANY_LINES)
+        for number in range(COUNT):
+            self.assertEqual(self.client.ask("SET", f"k{number}", value(number)), OK)
+        self.nodes.end()
+        self.nodes.standby.format(MANY_LINES)
+        for turn in ("by a delta", "opened again"):
+            for node in (self.nodes.standby, self.nodes.primary):
+                node.start()
+            self.nodes.wait()
+            self.client = self.nodes.client()
+            self.assertEqual(self.client.ask("SET", "a", turn), OK)
+            self.rest()
+            found = self.both()
+            if turn == "by a delta":
+                by_delta = found
+                self.nodes.end()
+        for role, first, last in zip(("primary", "standby"), found, by_delta):
+            with self.case("bytes", role=role, opened=first, by_delta=last):
+                self.assertLessEqual(last, first + SPARE_BYTES)
