@@ -219,8 +219,8 @@ class Away(Large):
     """A standby that is away while values are set, and comes back."""
 
     def set_while_away(self):
-        """Two are set while both nodes are there; then, while the standby is away, one of them once more, a new one, and one in a field. The primary holds them,
-        and answers nothing."""
+        """Two are set while both nodes are there; then, while the standby is away, one of them once more, a new one, and one in a field, and one is removed.
+        The primary holds that, and answers nothing."""
         self.start(lines=LINES)
         self.assertEqual(self.client.ask_all([("SET", "a", value(0)), ("SET", "b", value(1))]), 2 * [OK])
         self.nodes.standby.end()

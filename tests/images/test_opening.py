@@ -111,7 +111,8 @@ class Killed(StandingBy):
     """A standby that is killed again and again, while nothing comes to it, so that it clears no gap."""
 
     def test_34_openings(self):
-        """The gaps of eight and of 31 that were killed are all there with the next; the 33rd clears the oldest, and with it what a commit that was cut short had left."""
+        """The gaps of eight that were killed are all there with the ninth, and so up to the 32nd; the 33rd clears the oldest, and with it what a commit that
+        was cut short had left."""
         draws, writer = random.Random("killed"), Writer(LINES, self.ROLE)
         for frame in drawn_frames(draws, 0, 4):
             take(writer, frame)
