@@ -178,7 +178,7 @@ class Repeats(OverClients):
             needed, words, (*_, wanted) = LARGE[name]
             if self.have(*needed):
                 with self.case("megabytes", name=name):
-                    ran = subprocess.run([*words, str(self.nodes.door.number), "60", "5000000"], capture_output=True, text=True, timeout=SECONDS, check=False)
+                    ran = subprocess.run([*words, str(self.nodes.door.number), "60", "30000000"], capture_output=True, text=True, timeout=SECONDS, check=False)
                     first, *_, last = ran.stdout.splitlines()
                     self.assertEqual((first == wanted, last), (False, wanted))
 

@@ -10,8 +10,8 @@ use pipes::RingOutlet;
 use std::net::TcpStream;
 use std::sync::Wait;
 
-/// How many blocks are read and let go after the last item, 1 MiB in all.
-const LAST_BLOCKS: usize = 64;
+/// How many blocks are read and let go after the last item, 16 MiB in all: a client that sends a word which is too long is told so, where it still writes.
+const LAST_BLOCKS: usize = 1_024;
 
 /// How far the reading of a connection is.
 #[derive(Clone, Copy, Debug, PartialEq, Eq)]
