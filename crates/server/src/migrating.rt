@@ -1,5 +1,5 @@
 //! The subcommand `migrate`.
-ghost use Rattle.std.specs.Prelude.{IfOk, MatchResult};
+ghost use Rattle.std.specs.Prelude.{ℕ, IfOk, MatchResult};
 ghost use Rattle.kv_types.specs.Keyspace.{Keyspace};
 ghost use Rattle.pmem.specs.Device.{Only};
 ghost use Rattle.pmem.specs.Crash.{image_of};
