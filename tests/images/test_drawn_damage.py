@@ -73,15 +73,18 @@ class Damaged(Inspected, StandingBy):
         with self.case(name):
             self.put(path, changed)
             damaged = words | changed
+            # (of each version that there is)
+            layout = plain_image.LAYOUTS.get(damaged.get(1, 0), plain_image.LAYOUT)
             try:
-                image = plain_image.read_image(Words(LINES, damaged))
+                image = plain_image.read_image(Words(LINES, damaged), layout)
                 wanted = (DONE, told(image.record, len(image.map)), b"")
             except plain_image.BadImage as bad:
                 image, wanted = None, (FAILED, b"", refusal(bad.number))
             said = "whole" if image else f"refusal {wanted[2][8:9].decode()}"
             counted[said] = counted.get(said, 0) + 1
             self.assertEqual(self.inspected(path), wanted)
-            if image and draws.randrange(OPENED) == 0 and image.record.number < plain_image.BOUND - 3 and image.record.cd < plain_image.BOUND // 2:
+            is_served = layout == plain_image.LAYOUT
+            if image and draws.randrange(OPENED) == 0 and is_served and image.record.number < plain_image.BOUND - 3 and image.record.cd < plain_image.BOUND // 2:
                 self.show_opened(path, image, damaged)
         self.put(path, {at: words.get(at, 0) for at in changed})
 

@@ -2,14 +2,16 @@
 arrivals (the page of crates/bench says what the program prints)."""
 
 import common
+from plain_image import LAYOUT, WORDS_OF_LINE
 
 PROGRAMS = ["bench"]
 
 
 def commit(sets, kind, ended):
     """The calls of a commit of so many SETs of one line each, `ended` of them for each SET ending a version, by docs/image.md: of each SET the
-    words of a line and of an entry, then the 24 words of a record in three lines, then the root. What it ended is freed then: a word each."""
-    return f"commit {sets} {kind}: {sets * (8 + 8 + 2 * ended) + 24 + 1} stores, {sets * (2 + 2 * ended) + 3 + 1} flushes, {3 + ended} fences"
+    words of a line and of an entry, then the words and lines of a record, then the root. What it ended is freed then: a word each."""
+    stores, flushes = sets * (8 + 8 + 2 * ended) + LAYOUT.record_words + 1, sets * (2 + 2 * ended) + LAYOUT.record_words // WORDS_OF_LINE + 1
+    return f"commit {sets} {kind}: {stores} stores, {flushes} flushes, {3 + ended} fences"
 
 
 # What a turn asks for. The strings are as many afterwards, and there are a hash and ten counters.
