@@ -1,4 +1,0 @@
-mod LinesLemmas
-mod ReopenedLemmas
-mod RingLemmas
-mod KeptVersionsLemmas
