@@ -8,7 +8,7 @@ import bisect
 import itertools
 
 # How many places are tried.
-TRIES = 64
+TRIES = 16
 
 
 def in_order(extents):
@@ -28,102 +28,67 @@ def sums_of(numbers):
     return list(itertools.accumulate(numbers, initial=0))
 
 
-def make_window(extents, first, end, need):
-    """Moves that empty one of the windows of `need` lines that have the fewest in use, or `None`."""
+def make_window(extents, first, end, lines, need, most):
+    """At most `most` moves, of no more lines together, that leave `need` free lines in a stretch, or `None`: as long a stretch as the run, then longer ones."""
     placed = in_order(extents)
-    gaps = [(low, high) for low, high in gaps_of(placed, first, end) if low < high]
-    for _, start in windows(placed, first, end, need)[:TRIES]:
-        moves = empty(placed, gaps, (first, end), (start, start + need))
-        if moves is not None:
+    holes = [(low, high) for low, high in gaps_of(placed, first, end) if low < high]
+    more = 0
+    while sum(high - low for low, high in holes) >= need:
+        length = min(need + more, end - first)
+        found = [empty(placed, holes, (end, lines), start, length, need) for _, start in stretches(placed, first, end, length)[:TRIES]]
+        moves = min((moves for moves in found if moves is not None), key=len, default=None)
+        if moves is not None and max(len(moves), sum(extents[index][1] for index, _ in moves)) <= most:
             return moves
-    return None
-
-
-def windows(placed, first, end, need):
-    """How many lines of extents reach into each window, and where it begins: the cheapest first."""
-    firsts = [line for line, _, _ in placed]
-    ends = [line + lines for line, lines, _ in placed]
-    sums = sums_of(lines for _, lines, _ in placed)
-    starts = {first, *firsts, *ends, *(line - need for line in firsts)}
-    return sorted(
-        (sums[bisect.bisect_left(firsts, start + need)] - sums[bisect.bisect_right(ends, start)], start)
-        for start in starts if first <= start and start + need <= end)
-
-
-def empty(placed, gaps, bounds, window):
-    """Moves of the extents that reach into the window, the longest first, each to the first hole outside that holds it."""
-    (first, end), (start, behind) = bounds, window
-    within = [(line, lines, index) for line, lines, index in placed if line < behind and start < line + lines]
-    holes = [hole for gap in gaps for hole in outside(gap, window)]
-    moves = []
-    for line, lines, index in sorted(within, key=lambda one: -one[1]):
-        at = next((at for at, (low, high) in enumerate(holes) if high - low >= lines), None)
-        if at is None:
+        if length >= min(end - first, most):
             return None
-        low, high = holes[at]
-        moves.append((index, low))
-        holes[at] = (low + lines, high)
-        holes += outside((max(line, first), min(line + lines, end)), window)
-    return moves
-
-
-def outside(lines, window):
-    """Those of the lines that lie below the window, and those behind it."""
-    (low, high), (start, behind) = lines, window
-    return [(a, b) for a, b in ((low, min(high, start)), (max(low, behind), high)) if a < b]
-
-
-def push_down(extents, first, end, lines, need):
-    """Moves that push extents down until `need` free lines are one run, or `None`."""
-    placed = in_order(extents)
-    havens = havens_of(placed, lines)
-    for _, floor in floors(placed, first, end, need)[:TRIES]:
-        moves, high = push_from(placed, havens, floor, end, need)
-        if high >= need:
-            return moves
+        more = 2 * more or max(need // 8, 1)
     return None
 
 
-def havens_of(placed, lines):
-    """For each extent the longest run of free lines above it, as (how many, first line)."""
-    havens, high, longest = [], lines, (0, lines)
-    for line, count, _ in reversed(placed):
-        gap = high - (line + count)
-        if gap > longest[0]:
-            longest = (gap, line + count)
-        havens.append(longest)
-        high = line
-    return havens[::-1]
+def stretches(placed, first, end, length):
+    """How many lines the extents have that begin in each stretch, and where it begins: the cheapest first."""
+    firsts = [line for line, _, _ in placed]
+    sums = sums_of(lines for _, lines, _ in placed)
+    starts = {first, *firsts, *(line + lines for line, lines, _ in placed)}
+    return sorted(
+        (sums[bisect.bisect_left(firsts, start + length)] - sums[bisect.bisect_left(firsts, start)], start)
+        for start in starts if first <= start and start + length <= end)
 
 
-def floors(placed, first, end, need):
-    """How many lines are pushed from each floor on until there is room, and the floor: the cheapest first."""
-    gaps = gaps_of(placed, first, end)
-    live = sums_of(lines for _, lines, _ in placed)
-    free = sums_of(high - low for low, high in gaps)
-    found = []
-    for at, (low, high) in enumerate(gaps):
-        behind = bisect.bisect_left(free, free[at] + need)
-        if low < high and behind < len(free):
-            found.append((live[behind - 1] - live[at], low))
-    return sorted(found)
+def empty(placed, holes, bounds, start, length, need):
+    """The moves of the extents that begin in the stretch, in order, until `need` lines are free below the next one: each into the hole that was found for it,
+    or down to those that stay. `None` where so many are not free behind all."""
+    end, lines = bounds
+    behind = next((min(line, end) for line, _, _ in placed if line >= start + length), end)
+    within = [one for one in placed if start <= one[0] < behind]
+    goes = find_holes(within, [(low, high) for low, high in holes if not start <= low < behind])
+    moves, floor = [], start
+    for line, count, index in within:
+        if min(line, end) - floor >= need:
+            return moves
+        if index in goes:
+            moves.append((index, goes[index]))
+        elif line <= floor or line - floor < count and lines - end < count:
+            floor = max(floor, line + count)
+        else:
+            if line - floor < count:
+                moves.append((index, end))
+            moves.append((index, floor))
+            floor += count
+    return moves if behind - floor >= need else None
 
 
-def push_from(placed, havens, floor, end, need):
-    """The moves, and how many free lines then lie above the last extent that was pushed."""
-    moves = []
-    for (line, lines, index), (free, haven) in zip(placed, havens):
-        hole = line - floor
-        if line >= end or hole >= need:
-            return moves, min(line, end) - floor
-        if hole <= 0 or hole < lines and free < lines:
-            floor = max(floor, line + lines)
-            continue
-        if hole < lines:
-            moves.append((index, haven))
-        moves.append((index, floor))
-        floor += lines
-    return moves, end - floor
+def find_holes(within, holes):
+    """By the indices of those that have one, the line to which each goes: the longest first, into the shortest hole that is long enough."""
+    lengths, goes = sorted((high - low, low) for low, high in holes), {}
+    for _, count, index in sorted(within, key=lambda one: -one[1]):
+        at = bisect.bisect_left(lengths, (count, -1))
+        if at < len(lengths):
+            free, low = lengths.pop(at)
+            goes[index] = low
+            if free > count:
+                bisect.insort(lengths, (free - count, low + count))
+    return goes
 
 
 def slide_down(extents, first, end, need):

@@ -1,4 +1,4 @@
-"""The room of an image, from docs/image.md and docs/replication.md ("Room for a frame"), and in which entry each record is."""
+"""The room of an image, from docs/image.md and docs/replication.md ("The way of a group"), and in which entry each record is."""
 
 import copy
 import heapq

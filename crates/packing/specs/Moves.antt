@@ -51,3 +51,13 @@ pub record MakesRun (first end lines need : ℕ) (extents : List Extent) (moves 
   pub are : AreMoves first lines extents moves
   pub run : HasRun first end need (after_moves extents moves)
   pub apart : IsTrue (are_all_apart extents) → IsTrue (are_all_apart (after_moves extents moves))
+
+-- how many lines the moves move, each time that they do
+abbrev pub lines_moved : List Move → ℕ
+lines_moved [] = 0
+lines_moved (move ∷ moves) = move.to.lines + lines_moved moves
+
+-- They are at most so many, and move at most so many lines together.
+pub record MovesAtMost (most : ℕ) (moves : List Move) : Type 0 where
+  pub few : length moves ≤ most
+  pub short : lines_moved moves ≤ most

@@ -1,7 +1,7 @@
 //! Places where a run might be made, the cheapest first.
 
 /// How many places are tried.
-const TRIES: usize = 64;
+const TRIES: usize = 16;
 
 /// A place where a run might be made.
 #[derive(Clone, Copy, PartialEq, Eq, PartialOrd, Ord)]

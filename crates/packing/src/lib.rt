@@ -2,15 +2,15 @@
 #![tactic(auto)]
 
 mod choice;
+mod holes;
 mod moves;
 mod placed;
 mod plan;
-mod pushing;
 mod sliding;
+mod stretches;
 mod windows;
 
 pub use moves::Move;
-pub use pushing::push_down;
 pub use sliding::slide_down;
 pub use windows::make_window;
 

@@ -1,6 +1,6 @@
 //! Moves, and whether each goes to free lines.
 ghost use Rattle.std.specs.Prelude.{◌≡◌, ◌+◌, ◌≤◌, ◌↔◌, IsTrue, IfOk, IfSome, None};
-ghost use Rattle.packing.specs.Moves.{are_apart, is_free, IsMove, AreMoves, after_moves};
+ghost use Rattle.packing.specs.Moves.{are_apart, is_free, IsMove, AreMoves, MovesAtMost, after_moves};
 
 use kv_types::Extent;
 use std::alloc::{AllocError, Global};
@@ -51,6 +51,20 @@ fn is_move(first: u64, end: u64, extents: &[Extent], step: Move) -> bool
         && first <= step.to.first_line
         && ends_by(step.to, end)
         && is_free(step.to, extents)
+}
+
+/// Whether they are at most so many, and move at most so many lines together.
+pub(crate) fn moves_at_most(most: u64, moves: &[Move]) -> bool
+    ensures { IsTrue result ↔ MovesAtMost most moves.now }
+{
+    let mut left = most;
+    for step in moves {
+        if left < step.to.lines {
+            return false;
+        }
+        left -= step.to.lines;
+    }
+    moves.len() as u64 <= most
 }
 
 /// Where the extents lie after these moves. `None` where one of them does not go to free lines between `first` and `end` at its turn.

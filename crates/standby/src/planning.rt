@@ -1,11 +1,13 @@
 //! Which versions are moved, so that a frame finds room.
-ghost use Rattle.std.specs.Prelude.{◌≡◌, [], false, true, None, Ok, IfOk, IfErr, OnOk};
+ghost use Rattle.std.specs.Prelude.{◌≡◌, ◌*◌, ◌<◌, ◌^◌, [], false, true, None, Ok, IfOk, IfErr, IfSome, OnOk};
 ghost use Rattle.model.specs.Image.{first_extent_line};
+ghost use Rattle.packing.specs.Moves.{MovesAtMost};
 ghost use Rattle.packing.specs.Sliding.{CanSlide};
 ghost use Rattle.placing.specs.Below.{HasRoomBelow};
 ghost use Rattle.wbl_engine.specs.Contents.{IsDurable};
 ghost use Rattle.standby.specs.Following.{Follows, IsGapless, WouldExhaust};
 ghost use Rattle.standby.specs.Taking.{Rearranges};
+ghost use Rattle.standby.specs.declared.planning.TheConstants.{FEW};
 
 use crate::standby::Standby;
 use frames::Frame;
@@ -13,18 +15,21 @@ use heap_layout::lines_for;
 use kv_types::{Change, Extent, Refusal};
 use model::Layout;
 use mv_keyspace::{Keyspace, Row};
-use packing::{Move, make_window, push_down, slide_down};
+use packing::{Move, make_window, slide_down};
 use std::alloc::{AllocError, Global};
 use wbl_engine::Durable;
 
 /// How a run of free lines is made.
 #[derive(Clone, Copy, Debug)]
 enum Way {
-    /// The run with the fewest live lines is emptied.
+    /// A stretch of the lines is emptied, by few moves.
     Window,
-    /// Versions are pushed down, one behind another: few where few are enough.
+    /// The shortest stretch is emptied that can be; or else all versions slide down, one behind another.
     Down,
 }
+
+/// How many times as many lines as a run has are moved for it at most, where that is enough.
+const FEW: u64 = 4;
 
 /// How many lines the puts of a frame want.
 #[derive(Clone, Copy, Debug)]
@@ -130,8 +135,9 @@ impl<E: Durable, K: Keyspace> Standby<E, K> {
     }
 }
 
-/// Moves that leave a run of so many free lines below `end` in an image of `lines` lines, if some are found. By `Way::Down` they are wherever the extents
-/// leave so many lines free there, and the lines from `end` on are enough for each.
+/// Moves that leave a run of so many free lines below `end` in an image of `lines` lines, if some are found. By `Way::Window` they are at most four times as
+/// many as these lines, and move no more lines. By `Way::Down` they are found wherever the extents leave so many lines free there, and the lines from
+/// `end` on are enough for each.
 ///
 /// # Errors
 ///
@@ -144,12 +150,21 @@ fn plan(
     lines: u64,
     need: u64,
 ) -> Result<Option<Vec<Move>>, AllocError>
+    ensures few { way ≡ Way.Window → FEW * need < 2 ^ 64 → IfOk result (λ plan. IfSome plan (λ moves. MovesAtMost (FEW * need) moves.items)) }
     ensures found { way ≡ Way.Down → CanSlide (first_extent_line lines) end lines need extents.now → IfOk result (λ plan. ¬ (plan ≡ None)) }
 {
     let first = Layout::first_extent_line(lines);
     match way {
-        Way::Window => make_window(alloc, extents, first, end, need),
-        Way::Down => match push_down(alloc, extents, first, end, lines, need)? {
+        Way::Window => make_window(
+            alloc,
+            extents,
+            first,
+            end,
+            lines,
+            need,
+            need.saturating_mul(FEW),
+        ),
+        Way::Down => match make_window(alloc, extents, first, end, lines, need, u64::MAX)? {
             Some(moves) => Ok(Some(moves)),
             None => slide_down(alloc, extents, first, end, lines, need),
         },
