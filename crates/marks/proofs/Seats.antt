@@ -50,18 +50,18 @@ splits own v a b t m at =
     let n : ℕ = length (set t.views own left) in
     let committer : ℕ = if v.raises_local && a then n else m.committer in
     let link : ℕ = if v.raises_remote && b then n else m.link in
-    let fits : ℕ → MarkView → Type 0 = λ seat u. Suits committer link m.local m.remote m.stop seat u in
+    let fits : ℕ → MarkView → Type 0 = λ seat u. Suits committer link m.local m.remote m.heard seat u in
     let its_left : fits own left = record {
       below_local = mine.below_local;
       below_remote = mine.below_remote;
-      below_stop = mine.below_stop;
+      below_heard = mine.below_heard;
       raising_local = kept n m.committer m.local own v.local v.raises_local a mine.raising_local;
       raising_remote = kept n m.link m.remote own v.remote v.raises_remote b mine.raising_remote;
     } in
     let its_right : fits n right = record {
       below_local = mine.below_local;
       below_remote = mine.below_remote;
-      below_stop = mine.below_stop;
+      below_heard = mine.below_heard;
       raising_local = given n m.committer m.local own v.local v.raises_local a mine.raising_local;
       raising_remote = given n m.link m.remote own v.remote v.raises_remote b mine.raising_remote;
     } in
@@ -70,7 +70,7 @@ splits own v a b t m at =
     record {
       below_local = was.below_local;
       below_remote = was.below_remote;
-      below_stop = was.below_stop;
+      below_heard = was.below_heard;
       raising_local = uncut n m.committer m.local own seat u.local v.local u.raises_local v.raises_local a apart mine.raising_local was.raising_local;
       raising_remote = uncut n m.link m.remote own seat u.remote v.remote u.raises_remote v.raises_remote b apart mine.raising_remote was.raising_remote;
     } in
@@ -79,9 +79,9 @@ splits own v a b t m at =
       link = link;
       local = m.local;
       remote = m.remote;
-      stop = m.stop;
+      heard = m.heard;
       words = m.words;
-      stops_once = m.stops_once;
+      heard_once = m.heard_once;
       has_committer = has_split (λ u. u.raises_local) t.views own m.committer v left right v.raises_local a at refl refl refl m.has_committer;
       has_link = has_split (λ u. u.raises_remote) t.views own m.link v left right v.raises_remote b at refl refl refl m.has_link;
       each = λ seat u there. ⊎_elim
@@ -125,18 +125,18 @@ joins own v other w t m at apart there =
     let theirs = m.each other w there_before in
     let committer : ℕ = if w.raises_local then own else m.committer in
     let link : ℕ = if w.raises_remote then own else m.link in
-    let fits : ℕ → MarkView → Type 0 = λ seat u. Suits committer link m.local m.remote m.stop seat u in
+    let fits : ℕ → MarkView → Type 0 = λ seat u. Suits committer link m.local m.remote m.heard seat u in
     let its_both : fits own (joined v w) = record {
       below_local = below_both v.raises_local w.raises_local v.local w.local m.local mine.below_local theirs.below_local;
       below_remote = below_both v.raises_remote w.raises_remote v.remote w.remote m.remote mine.below_remote theirs.below_remote;
-      below_stop = omega (arith, mine.below_stop, theirs.below_stop);
+      below_heard = omega (arith, mine.below_heard, theirs.below_heard);
       raising_local = both m.committer m.local own other apart v.raises_local w.raises_local v.local w.local mine.raising_local theirs.raising_local;
       raising_remote = both m.link m.remote own other apart v.raises_remote w.raises_remote v.remote w.remote mine.raising_remote theirs.raising_remote;
     } in
     let its_spent : fits other spent = record {
       below_local = omega arith;
       below_remote = omega arith;
-      below_stop = omega arith;
+      below_heard = omega arith;
       raising_local = λ is. unset is;
       raising_remote = λ is. unset is;
     } in
@@ -145,7 +145,7 @@ joins own v other w t m at apart there =
     record {
       below_local = was.below_local;
       below_remote = was.below_remote;
-      below_stop = was.below_stop;
+      below_heard = was.below_heard;
       raising_local = untaken m.committer m.local own other apart seat u.local w.local u.raises_local w.raises_local away theirs.raising_local was.raising_local;
       raising_remote = untaken m.link m.remote own other apart seat u.remote w.remote u.raises_remote w.raises_remote away theirs.raising_remote was.raising_remote;
     } in
@@ -154,9 +154,9 @@ joins own v other w t m at apart there =
       link = link;
       local = m.local;
       remote = m.remote;
-      stop = m.stop;
+      heard = m.heard;
       words = m.words;
-      stops_once = m.stops_once;
+      heard_once = m.heard_once;
       has_committer = has_joined (λ u. u.raises_local) t.views own other m.committer v w (joined v w) v.raises_local w.raises_local at apart there_before refl refl refl m.has_committer refl;
       has_link = has_joined (λ u. u.raises_remote) t.views own other m.link v w (joined v w) v.raises_remote w.raises_remote at apart there_before refl refl refl m.has_link refl;
       each = λ seat u here. ⊎_elim

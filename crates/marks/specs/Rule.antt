@@ -6,10 +6,10 @@ use Rattle.atomic_table.specs.Table.{State, Me, Step}
 use Rattle.marks.specs.declared.view.MarkView.{MarkView}
 
 -- What a seat knows is at most the words. One that raises the local word is the committer's and knows it exactly; likewise the remote word and the link.
-pub record Suits (committer link local remote stop seat : ℕ) (v : MarkView) : Type 0 where
+pub record Suits (committer link local remote heard seat : ℕ) (v : MarkView) : Type 0 where
   pub below_local : v.local ≤ local
   pub below_remote : v.remote ≤ remote
-  pub below_stop : v.stop ≤ stop
+  pub below_heard : v.heard ≤ heard
   pub raising_local : v.raises_local ≡ true → (seat ≡ committer) × (v.local ≡ local)
   pub raising_remote : v.raises_remote ≡ true → (seat ≡ link) × (v.remote ≡ remote)
 
@@ -26,12 +26,12 @@ pub record Marked (t : Table) : Type 0 where
   pub link : ℕ
   pub local : ℕ
   pub remote : ℕ
-  pub stop : ℕ
-  pub words : t.words ≡ local ∷ remote ∷ stop ∷ []
-  pub stops_once : stop ≤ 1
+  pub heard : ℕ
+  pub words : t.words ≡ local ∷ remote ∷ heard ∷ []
+  pub heard_once : heard ≤ 1
   pub has_committer : Has (λ v. v.raises_local) t.views committer
   pub has_link : Has (λ v. v.raises_remote) t.views link
-  pub each : (seat : ℕ) (v : MarkView) → get_elem? t.views seat ≡ some v → Suits committer link local remote stop seat v
+  pub each : (seat : ℕ) (v : MarkView) → get_elem? t.views seat ≡ some v → Suits committer link local remote heard seat v
 
 abbrev Seat : Type 0
 Seat = Me (Unit {0}) MarkView
@@ -57,9 +57,9 @@ FindsLocal step m found m' = (m.0.local ≤ found) × (m.0.raises_local ≡ true
 abbrev pub FindsRemote : At → Seat → ℕ → Seat → Type 0
 FindsRemote step m found m' = (m.0.remote ≤ found) × (m.0.raises_remote ≡ true → found ≡ m.0.remote) × Learns m m' (record m.0 { remote = found })
 
--- afterwards the seat knows that the stop word is 1
-abbrev pub Stops : At → Seat → ℕ → Seat → Type 0
-Stops step m found m' = Learns m m' (record m.0 { stop = 1 })
+-- afterwards the seat knows that the heard word is 1
+abbrev pub Hears : At → Seat → ℕ → Seat → Type 0
+Hears step m found m' = Learns m m' (record m.0 { heard = 1 })
 
-abbrev pub FindsStop : At → Seat → ℕ → Seat → Type 0
-FindsStop step m found m' = (m.0.stop ≤ found) × (found ≤ 1) × Learns m m' (record m.0 { stop = found })
+abbrev pub FindsHeard : At → Seat → ℕ → Seat → Type 0
+FindsHeard step m found m' = (m.0.heard ≤ found) × (found ≤ 1) × Learns m m' (record m.0 { heard = found })

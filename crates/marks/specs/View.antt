@@ -4,7 +4,7 @@ use Rattle.marks.specs.declared.view.MarkView.{MarkView}
 
 -- the first seat raises both marks
 abbrev pub opening : ℕ → MarkView
-opening local = record { local = local; remote = 0; stop = 0; raises_local = true; raises_remote = true }
+opening local = record { local = local; remote = 0; heard = 0; raises_local = true; raises_remote = true }
 
 -- what a split leaves: the raises that the new seat does not take
 abbrev pub keeping : Bool → Bool → MarkView → MarkView
@@ -22,11 +22,11 @@ abbrev pub joined : MarkView → MarkView → MarkView
 joined v w = record {
   local = number_of_both v.raises_local w.raises_local v.local w.local;
   remote = number_of_both v.raises_remote w.raises_remote v.remote w.remote;
-  stop = max v.stop w.stop;
+  heard = max v.heard w.heard;
   raises_local = v.raises_local || w.raises_local;
   raises_remote = v.raises_remote || w.raises_remote;
 }
 
 -- a seat that was joined into another no longer knows anything
 abbrev pub spent : MarkView
-spent = record { local = 0; remote = 0; stop = 0; raises_local = false; raises_remote = false }
+spent = record { local = 0; remote = 0; heard = 0; raises_local = false; raises_remote = false }

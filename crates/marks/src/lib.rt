@@ -1,4 +1,4 @@
-//! The marks: how far each node holds the list of calls, and whether to stop, in three words that threads share.
+//! The marks: how far each node holds the list of calls, and whether the standby was heard, in three words that threads share.
 #![tactic(auto)]
 
 mod gauge;

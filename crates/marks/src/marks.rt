@@ -2,7 +2,7 @@
 ghost use Rattle.std.specs.Prelude.{◌≡◌, ℕ, ◌≤◌, max, true, false, if◌then◌else◌, IfOk, IfErr};
 ghost use Rattle.marks.specs.View.{opening, keeping, taking, joined};
 
-use crate::rule::{FindLocal, FindRemote, FindStop, MarkRule, RaiseLocal, RaiseRemote, Stop};
+use crate::rule::{FindHeard, FindLocal, FindRemote, Hear, MarkRule, RaiseLocal, RaiseRemote};
 use crate::seat::MarkSeat;
 use crate::view::{Both, Cut, Halves, MarkView};
 use atomic_table::Table;
@@ -16,9 +16,9 @@ const LOCAL: usize = 0;
 
 const REMOTE: usize = 1;
 
-const STOP: usize = 2;
+const HEARD: usize = 2;
 
-/// How far the list of calls is durable on this node, how far the standby has acknowledged it, and whether to stop.
+/// How far the list of calls is durable on this node, how far the standby has acknowledged it, and whether it was heard at all.
 ///
 /// Each is a word that threads read and raise in single steps through a `&`, and no word ever falls. A thread takes a step
 /// with a seat of these marks. No call but `new` takes memory, and none blocks.
@@ -39,7 +39,7 @@ impl Model for Marks {
 }
 
 impl Marks {
-    /// Marks that begin where the engine's image is durable (local) and at 0 (remote), with the seat that raises both.
+    /// Marks that begin where the engine's image is durable (local) and at 0 (remote), and of a standby that was not heard, with the seat that raises both.
     ///
     /// # Errors
     ///
@@ -125,23 +125,24 @@ impl Marks {
         self.table.shared.load::<FindRemote>(&mut seat.seat, REMOTE)
     }
 
-    /// Asks all threads to stop. The stop word is 1 from now on.
-    pub fn stop(&self, seat: &mut MarkSeat)
+    /// The standby was heard: it has acknowledged something, perhaps position 0. The heard word is 1 from now on. The seat is the link's.
+    pub fn hear(&self, seat: &mut MarkSeat, _ack: &Ack)
         requires marks { seat.old.marks ≡ self.now }
+        requires raises { seat.old.knows.raises_remote ≡ true }
         ensures marks { seat.new.marks ≡ seat.old.marks }
-        ensures knows { seat.new.knows ≡ record seat.old.knows { stop = 1 } }
+        ensures knows { seat.new.knows ≡ record seat.old.knows { heard = 1 } }
     {
-        self.table.shared.store::<Stop>(&mut seat.seat, STOP, 1);
+        self.table.shared.store::<Hear>(&mut seat.seat, HEARD, 1);
     }
 
-    /// Whether somebody has asked to stop: yes whenever the seat knew it, and only if the stop word is 1.
-    pub fn stopped(&self, seat: &mut MarkSeat) -> bool
+    /// Whether the standby was heard: yes whenever the seat knew it, and only if the heard word is 1.
+    pub fn has_heard(&self, seat: &mut MarkSeat) -> bool
         requires marks { seat.old.marks ≡ self.now }
         ensures marks { seat.new.marks ≡ seat.old.marks }
-        ensures knows { seat.new.knows ≡ record seat.old.knows { stop = (if result then 1 else 0) } }
-        ensures known { seat.old.knows.stop ≡ 1 → result ≡ true }
+        ensures knows { seat.new.knows ≡ record seat.old.knows { heard = (if result then 1 else 0) } }
+        ensures known { seat.old.knows.heard ≡ 1 → result ≡ true }
     {
-        let found = self.table.shared.load::<FindStop>(&mut seat.seat, STOP);
+        let found = self.table.shared.load::<FindHeard>(&mut seat.seat, HEARD);
         found == 1
     }
 }

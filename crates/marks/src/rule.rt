@@ -46,18 +46,18 @@ impl Play<(), MarkView> for FindRemote {
     ghost then = { FindsRemote };
 }
 
-pub(crate) struct Stop;
+pub(crate) struct Hear;
 
-impl Play<(), MarkView> for Stop {
-    ghost use Rattle.marks.specs.Rule.{Stops};
+impl Play<(), MarkView> for Hear {
+    ghost use Rattle.marks.specs.Rule.{Hears};
 
-    ghost then = { Stops };
+    ghost then = { Hears };
 }
 
-pub(crate) struct FindStop;
+pub(crate) struct FindHeard;
 
-impl Play<(), MarkView> for FindStop {
-    ghost use Rattle.marks.specs.Rule.{FindsStop};
+impl Play<(), MarkView> for FindHeard {
+    ghost use Rattle.marks.specs.Rule.{FindsHeard};
 
-    ghost then = { FindsStop };
+    ghost then = { FindsHeard };
 }

@@ -1,5 +1,5 @@
 //! The marks, as one thread has them.
-ghost use Rattle.std.specs.Prelude.{◌≡◌, ◌≤◌, max, true};
+ghost use Rattle.std.specs.Prelude.{◌≡◌, ◌≤◌, max, true, if◌then◌else◌};
 ghost use Rattle.std.specs.Arc.{arc_value};
 
 use crate::marks::Marks;
@@ -65,11 +65,21 @@ impl ThreadMarks {
         self.marks.raise_local(&mut self.seat, committed)
     }
 
-    /// Raises the remote mark to the position that the standby acknowledged. A position below the mark leaves it unchanged. The thread is the link's.
+    /// Whether the standby was heard, of these marks: yes whenever that was known here.
+    pub fn has_heard(&mut self) -> bool
+        ensures knows { self.new ≡ record self.old { heard = (if result then 1 else 0) } }
+        ensures known { self.old.heard ≡ 1 → result ≡ true }
+    {
+        self.marks.has_heard(&mut self.seat)
+    }
+
+    /// Raises the remote mark to the position that the standby acknowledged, which was heard so. A position below the mark leaves it unchanged. The thread is
+    /// the link's.
     pub fn raise_remote(&mut self, ack: Ack)
         requires { self.old.raises_remote ≡ true }
-        ensures { self.new ≡ record self.old { remote = max self.old.remote ack.position } }
+        ensures { self.new ≡ record self.old { remote = max self.old.remote ack.position; heard = 1 } }
     {
-        self.marks.raise_remote(&mut self.seat, ack)
+        self.marks.raise_remote(&mut self.seat, ack);
+        self.marks.hear(&mut self.seat, &ack)
     }
 }

@@ -8,8 +8,8 @@ pub struct MarkView {
     pub local: u64,
     /// What it has seen of the remote word.
     pub remote: u64,
-    /// What it has seen of the stop word: 0 or 1.
-    pub stop: u64,
+    /// What it has seen of the heard word: 1 where the standby was heard, else 0.
+    pub heard: u64,
     /// Whether the seat is the committer's, which knows the local word exactly.
     pub raises_local: bool,
     /// Whether the seat is the link's, which knows the remote word exactly.

@@ -1,3 +1,4 @@
+mod AgainLemmas
 mod ClosingLemmas
 mod EndingLemmas
 mod HereOrLent

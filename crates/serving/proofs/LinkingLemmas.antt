@@ -1,5 +1,5 @@
 -- What the link of a primary starts with that was opened.
-use Rattle.std.proofs.Common.{◌≡◌, ℕ, ◌^◌, ◌≤◌, sym, subst, ◌∙◌, ap}
+use Rattle.std.proofs.Common.{ℕ, ◌^◌, ◌≤◌, sym, subst, ◌∙◌, ap}
 use Rattle.kv_types.specs.Change.{changes_size}
 use Rattle.model.specs.declared.record.Role.TheVariants as role
 use Rattle.model.specs.Group.{Contents, IsConsistent}

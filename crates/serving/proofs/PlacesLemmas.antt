@@ -1,5 +1,5 @@
 -- Places of connections: those of nobody, and whose the one is who is there.
-use Rattle.std.proofs.Common.{◌≡◌, ℕ, zero, suc, ◌++◌, List, [], ◌∷◌, length, Option, Some, None, IfSome, refl, sym, ap, ◌∙◌}
+use Rattle.std.proofs.Common.{◌≡◌, ℕ, zero, suc, ◌++◌, List, [], ◌∷◌, length, Option, Some, None, IfSome, refl, sym}
 use Rattle.pipes.specs.declared.limits.TheConstants.{MAX_SEATS}
 use Rattle.serving.specs.declared.open_connection.OpenConnection.{OpenConnection}
 use Rattle.serving.specs.Places.{AreInPlace, connection_at}

@@ -7,6 +7,7 @@ use Rattle.pmem.specs.Device.{State}
 use Rattle.kv_types.specs.declared.refusal.Refusal.{Refusal}
 use Rattle.kv_types.specs.declared.refusal.Refusal.TheVariants as refusal
 use Rattle.lending.specs.declared.view.EndView.{EndView}
+use Rattle.marks.specs.declared.view.MarkView.{MarkView}
 use Rattle.model.specs.declared.group.Group.{Group}
 use Rattle.model.specs.declared.work.Work.{Work}
 use Rattle.model.specs.Group.{Contents}
@@ -230,18 +231,18 @@ module _ {E : Type 0} (device : E → State) (contents : E → Contents) (is_fau
   no-does : (s : Sequencing) (job : CommitJob E) → DoesOr s job s job
   no-does s job = inl (does-by s s job job (no-acts (node s [] job.back) job.groups))
 
-  steps-taken : (job : CommitJob E) (lender : EndView (CommitJob E)) (old : Sequencing) (home' : Option (CommitJob E)) (lender' : EndView (CommitJob E)) (new : Sequencing) (it : JobCame)
-      → HasStepsTaken device contents is_faulted job lender old home' lender' new it → JobActs old job home' lender' new
-  steps-taken job lender old home' lender' new came.Away taken = absurd taken
-  steps-taken job lender old home' lender' new came.Rests (due, home, lent, same) = rw (home, same) (record { job' = job; is_job = refl; does = no-does old job })
-  steps-taken job lender old home' lender' new came.Lent (due, long, home, lent, same) = rw (home, lent, same) (record { job' = job; is_job = refl; does = no-does old job })
-  steps-taken job lender old home' lender' new (came.Stepped did) (due, short, job', home, lent, back) = rw home (record { job' = job'; is_job = refl; does = comes-acts job job' old new did back })
+  steps-taken : (heard : ℕ) (job : CommitJob E) (lender : EndView (CommitJob E)) (old : Sequencing) (home' : Option (CommitJob E)) (lender' : EndView (CommitJob E)) (new : Sequencing) (it : JobCame)
+      → HasStepsTaken device contents is_faulted heard job lender old home' lender' new it → JobActs old job home' lender' new
+  steps-taken heard job lender old home' lender' new came.Away taken = absurd taken
+  steps-taken heard job lender old home' lender' new came.Rests (due, home, lent, same) = rw (home, same) (record { job' = job; is_job = refl; does = no-does old job })
+  steps-taken heard job lender old home' lender' new came.Lent (due, long, home, lent, same) = rw (home, lent, same) (record { job' = job; is_job = refl; does = no-does old job })
+  steps-taken heard job lender old home' lender' new (came.Stepped did) (due, short, job', home, lent, back) = rw home (record { job' = job'; is_job = refl; does = comes-acts job job' old new did back })
 
-  tends-job : (remote : ℕ) (is_short : Bool) (gathering noted : Gathering) (job : CommitJob E) (lender : EndView (CommitJob E)) (old : Sequencing) (home' : Option (CommitJob E)) (lender' : EndView (CommitJob E))
-      (new : Sequencing) (tended : Tended) → is_ok tended.closed ≡ true → TendsJob device contents is_faulted remote is_short gathering noted job lender old home' lender' new tended → JobActs old job home' lender' new
-  tends-job remote is_short gathering noted job lender old home' lender' new tended ok tends =
+  tends-job : (read : MarkView) (is_short : Bool) (gathering noted : Gathering) (job : CommitJob E) (lender : EndView (CommitJob E)) (old : Sequencing) (home' : Option (CommitJob E)) (lender' : EndView (CommitJob E))
+      (new : Sequencing) (tended : Tended) → is_ok tended.closed ≡ true → TendsJob device contents is_faulted read is_short gathering noted job lender old home' lender' new tended → JobActs old job home' lender' new
+  tends-job read is_short gathering noted job lender old home' lender' new tended ok tends =
       let ready = tends.ready in
-      let taken = steps-taken ready lender tends.between home' lender' new tended.job tends.steps in
+      let taken = steps-taken read.heard ready lender tends.between home' lender' new tended.job tends.steps in
       let closes = by tended.closed ok tends.closes in
       let first : Does old job tends.between ready =
       record {
@@ -251,17 +252,17 @@ module _ {E : Type 0} (device : E → State) (contents : E → Contents) (is_fau
       } in
       record { job' = taken.job'; is_job = taken.is_job; does = then-does old tends.between new job ready taken.job' first taken.does }
     where
-      by : (closed : Result Bool Refusal) → is_ok closed ≡ true → ClosesOrLacks gathering remote is_short old job.back.work tends.between tends.ready.back.work noted closed
+      by : (closed : Result Bool Refusal) → is_ok closed ≡ true → ClosesOrLacks gathering read.remote is_short old job.back.work tends.between tends.ready.back.work noted closed
           → FrontTold (node_of device contents is_faulted seats old [] job.back.committer job.back.work) (node_of device contents is_faulted seats tends.between [] job.back.committer tends.ready.back.work)
-      by (Ok did) ok closes = closes-acts gathering noted remote is_short did job.back.committer old tends.between job.back.work tends.ready.back.work closes
+      by (Ok did) ok closes = closes-acts gathering noted read.remote is_short did job.back.committer old tends.between job.back.work tends.ready.back.work closes
       by (Err cause) ok lacks = absurd (true≢false (sym ok))
 
-  pub tends-acts : (remote : ℕ) (is_short : Bool) (gathering noted : Gathering) (home : Option (CommitJob E)) (lender : EndView (CommitJob E)) (old : Sequencing) (home' : Option (CommitJob E)) (lender' : EndView (CommitJob E))
+  pub tends-acts : (read : MarkView) (is_short : Bool) (gathering noted : Gathering) (home : Option (CommitJob E)) (lender : EndView (CommitJob E)) (old : Sequencing) (home' : Option (CommitJob E)) (lender' : EndView (CommitJob E))
       (new : Sequencing) (tended : Tended) (job : CommitJob E) → is_ok tended.closed ≡ true → IsJob device contents is_faulted home lender job
-      → Tends device contents is_faulted remote is_short gathering noted home lender old home' lender' new tended → JobActs old job home' lender' new
-  tends-acts remote is_short gathering noted (Some here) lender old home' lender' new tended job ok is tends =
-      subst (λ (j : CommitJob E). JobActs old j home' lender' new) is (tends-job remote is_short gathering noted here lender old home' lender' new tended ok tends)
-  tends-acts remote is_short gathering noted None lender old home' lender' new tended job ok is (away, same_gathering, home, lent, same) =
+      → Tends device contents is_faulted read is_short gathering noted home lender old home' lender' new tended → JobActs old job home' lender' new
+  tends-acts read is_short gathering noted (Some here) lender old home' lender' new tended job ok is tends =
+      subst (λ (j : CommitJob E). JobActs old j home' lender' new) is (tends-job read is_short gathering noted here lender old home' lender' new tended ok tends)
+  tends-acts read is_short gathering noted None lender old home' lender' new tended job ok is (away, same_gathering, home, lent, same) =
       rw (home, lent, same) (record { job' = job; is_job = is; does = no-does old job })
 
   -- ---- a job that is fetched

@@ -1,9 +1,10 @@
 -- What a round does with the committer's job, put together.
-use Rattle.std.proofs.Common.{◌≡◌, ℕ, Bool, Option, Some, Result, Ok, Err, IfOk, IfErr, OnErr, sym, subst}
+use Rattle.std.proofs.Common.{◌≡◌, ℕ, Bool, true, false, ◌&&◌, nat_eq, if◌then◌else◌, Option, Some, Result, Ok, Err, IfOk, IfErr, OnErr, ap, sym, subst, ◌∙◌}
 use Rattle.pmem.specs.Device.{State}
 use Rattle.kv_types.specs.declared.refusal.Refusal.{Refusal}
 use Rattle.kv_types.specs.declared.refusal.Refusal.TheVariants as refusal
 use Rattle.lending.specs.declared.view.EndView.{EndView}
+use Rattle.marks.specs.declared.view.MarkView.{MarkView}
 use Rattle.model.specs.declared.work.Work.{Work}
 use Rattle.model.specs.Group.{Contents}
 use Rattle.pipes.specs.Waiting.{Waiting}
@@ -20,21 +21,30 @@ pub closes-or-lacks : (gathering noted : Gathering) (remote : ℕ) (is_short : B
 closes-or-lacks gathering noted remote is_short old new before after (Ok did) closes memory lacks = closes
 closes-or-lacks gathering noted remote is_short old new before after (Err cause) closes memory lacks = (memory, lacks)
 
+-- by the word that was found of whether the standby was heard
+pub due-by : (word : ℕ) (heard due found is : Bool) → word ≡ (if heard then 1 else 0) → (heard && due) ≡ found → found ≡ is → (nat_eq word 1 && due) ≡ is
+due-by word true due found is word_is due_is found_is = ap (λ (n : ℕ). nat_eq n 1 && due) word_is ∙ due_is ∙ found_is
+due-by word false due found is word_is due_is found_is = ap (λ (n : ℕ). nat_eq n 1 && due) word_is ∙ due_is ∙ found_is
+
+-- what was known before is found
+pub heard-known : (word before : ℕ) (found : Bool) → word ≡ (if found then 1 else 0) → (before ≡ 1 → found ≡ true) → before ≡ 1 → word ≡ 1
+heard-known word before found is known was = is ∙ ap (λ (b : Bool). if b then 1 else 0) (known was)
+
 module _ {E : Type 0} (device : E → State) (contents : E → Contents) (is_faulted : E → Bool) where
-  pub tends-home : (remote : ℕ) (is_short : Bool) (gathering noted : Gathering) (home : Option (CommitJob E)) (job : CommitJob E) (lender : EndView (CommitJob E)) (old : Sequencing)
+  pub tends-home : (read : MarkView) (is_short : Bool) (gathering noted : Gathering) (home : Option (CommitJob E)) (job : CommitJob E) (lender : EndView (CommitJob E)) (old : Sequencing)
       (home' : Option (CommitJob E)) (lender' : EndView (CommitJob E)) (new : Sequencing) (tended : Tended) → home ≡ Some job
-      → TendsJob device contents is_faulted remote is_short gathering noted job lender old home' lender' new tended
-      → Tends device contents is_faulted remote is_short gathering noted home lender old home' lender' new tended
-  tends-home remote is_short gathering noted home job lender old home' lender' new tended is tends =
-      subst (λ (h : Option (CommitJob E)). Tends device contents is_faulted remote is_short gathering noted h lender old home' lender' new tended) (sym is) tends
+      → TendsJob device contents is_faulted read is_short gathering noted job lender old home' lender' new tended
+      → Tends device contents is_faulted read is_short gathering noted home lender old home' lender' new tended
+  tends-home read is_short gathering noted home job lender old home' lender' new tended is tends =
+      subst (λ (h : Option (CommitJob E)). Tends device contents is_faulted read is_short gathering noted h lender old home' lender' new tended) (sym is) tends
 
   -- said of other names of the same
-  pub tends-same : (remote : ℕ) (short short' : Bool) (gathering gathering' noted : Gathering) (home home1 : Option (CommitJob E)) (lender lender1 : EndView (CommitJob E)) (old : Sequencing)
+  pub tends-same : (read : MarkView) (short short' : Bool) (gathering gathering' noted : Gathering) (home home1 : Option (CommitJob E)) (lender lender1 : EndView (CommitJob E)) (old : Sequencing)
       (home' : Option (CommitJob E)) (lender' : EndView (CommitJob E)) (new : Sequencing) (tended : Tended) → short ≡ short' → gathering ≡ gathering' → home ≡ home1 → lender ≡ lender1
-      → Tends device contents is_faulted remote short gathering noted home lender old home' lender' new tended
-      → Tends device contents is_faulted remote short' gathering' noted home1 lender1 old home' lender' new tended
-  tends-same remote short short' gathering gathering' noted home home1 lender lender1 old home' lender' new tended is_short is_gathering is_home is_lender tends =
-      subst (λ (l : EndView (CommitJob E)). Tends device contents is_faulted remote short' gathering' noted home1 l old home' lender' new tended) is_lender
-      (subst (λ (h : Option (CommitJob E)). Tends device contents is_faulted remote short' gathering' noted h lender old home' lender' new tended) is_home
-      (subst (λ (g : Gathering). Tends device contents is_faulted remote short' g noted home lender old home' lender' new tended) is_gathering
-      (subst (λ (s : Bool). Tends device contents is_faulted remote s gathering noted home lender old home' lender' new tended) is_short tends)))
+      → Tends device contents is_faulted read short gathering noted home lender old home' lender' new tended
+      → Tends device contents is_faulted read short' gathering' noted home1 lender1 old home' lender' new tended
+  tends-same read short short' gathering gathering' noted home home1 lender lender1 old home' lender' new tended is_short is_gathering is_home is_lender tends =
+      subst (λ (l : EndView (CommitJob E)). Tends device contents is_faulted read short' gathering' noted home1 l old home' lender' new tended) is_lender
+      (subst (λ (h : Option (CommitJob E)). Tends device contents is_faulted read short' gathering' noted h lender old home' lender' new tended) is_home
+      (subst (λ (g : Gathering). Tends device contents is_faulted read short' g noted home lender old home' lender' new tended) is_gathering
+      (subst (λ (s : Bool). Tends device contents is_faulted read s gathering noted home lender old home' lender' new tended) is_short tends)))

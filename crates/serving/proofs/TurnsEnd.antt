@@ -1,5 +1,5 @@
 -- How the turns of a connection end, and how many there were.
-use Rattle.std.proofs.Common.{◌≡◌, ◌≢◌, ℕ, ◌+◌, Bool, List, [], ◌∷◌, ◌++◌, length, ap, ◌∙◌, length-append, arith}
+use Rattle.std.proofs.Common.{◌≡◌, ℕ, ◌+◌, length, ap, ◌∙◌, length-append, arith}
 use Rattle.pipes.specs.Ring.{offered_at}
 use Rattle.redis_core.specs.declared.turn.Turn.{Turn}
 use Rattle.redis_core.specs.declared.turn.Turn.TheVariants as turn

@@ -8,7 +8,7 @@ use Rattle.model.specs.declared.group.TheConstants.{MAX_PARTS}
 use Rattle.model.specs.Call.{changes_of, is_nonempty}
 use Rattle.clients.specs.LookAhead.{LooksFrom}
 use Rattle.pipes.specs.declared.ring_pipe.RingInlet.{RingInlet}
-use Rattle.pipes.specs.Ring.{RingTakes, IsSameOutlet, IsSameOutlet-refl, IsSameOutlet-trans, offered_at, taken_at}
+use Rattle.pipes.specs.Ring.{RingTakes, IsSameOutlet-refl, IsSameOutlet-trans, offered_at, taken_at}
 use Rattle.redis_core.specs.declared.turn.Turn.{Turn}
 use Rattle.redis_core.specs.declared.turn.Turn.TheVariants as turn
 use Rattle.multi_watch.specs.Session.{Session}

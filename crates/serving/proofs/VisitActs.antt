@@ -1,5 +1,5 @@
 -- What serving the connections did is acts of the front.
-use Rattle.std.proofs.Common.{◌≡◌, ◌≢◌, ◌⊎◌, inl, inr, ℕ, zero, suc, false, List, [], ◌∷◌, ◌++◌, Option, Some, None, slice_set, refl, sym, ap, subst, ◌∙◌}
+use Rattle.std.proofs.Common.{◌≡◌, ◌≢◌, ◌⊎◌, inl, inr, ℕ, zero, suc, ◌+◌, Bool, true, false, if◌then◌else◌, length, List, [], ◌∷◌, ◌++◌, Option, Some, None, slice_set, refl, sym, ap, subst, ◌∙◌}
 use Rattle.std.proofs.lemmas.Bool.{cases_eq}
 use Rattle.std.proofs.lemmas.Grind.{flat_map-append}
 use Rattle.std.specs.List.{flat_map}
@@ -16,7 +16,8 @@ use Rattle.node_steps.proofs.SeatActs.{left-act, seated-act}
 use Rattle.serving.specs.Acts.{AreSeated, ServesActs}
 use Rattle.serving.specs.Places.{PutsAt, connection_at}
 use Rattle.serving.specs.Turns.{AreAnswered}
-use Rattle.serving.specs.Visiting.{Admits, Floor, Goes, Heeds, HeedsEach, ServesRound, Stays, StaysListed, Visits, VisitsEach, VisitsOne, VisitsPlace, floor_of}
+use Rattle.serving.specs.Filling.{closed_at}
+use Rattle.serving.specs.Visiting.{Admits, Floor, Goes, Heeds, HeedsEach, HeedsPlace, IsListed, ServesRound, Stays, StaysListed, Visits, VisitsFrom, VisitsOne, VisitsPlace, floor_of, without}
 use Rattle.serving.specs.declared.open_connection.OpenConnection.{OpenConnection}
 use Rattle.serving.specs.declared.open_connections.OpenConnections.{OpenConnections}
 use Rattle.serving.specs.declared.turns.Served.{Served}
@@ -109,34 +110,42 @@ put-away seats number c old new own puts seated k other here =
 
 -- ---- visits
 
-goes-acts : (came : Served) (seats : List (Option ℕ)) (number c : ℕ) (connection : OpenConnection) (old : Floor) (between : Sequencing) (new : Floor) → connection.arrival.seat ≡ number → HasSeat seats c number
-    → AreSeated seats old.places → Goes came connection number old between new → VisitActs seats between new.places new.sequencer
-goes-acts ended.Over seats number c connection old between new at own seated (puts, again, closes) = record {
+-- one stays, with or without a place in the list, and nothing is called
+stay-acts : (seats : List (Option ℕ)) (number c : ℕ) (stay : OpenConnection) (places : List (Option OpenConnection)) (between : Sequencing) (new : Floor) → stay.arrival.seat ≡ number → HasSeat seats c number
+    → AreSeated seats places → PutsAt number (Some stay) places new.places → new.sequencer ≡ between → VisitActs seats between new.places new.sequencer
+stay-acts seats number c stay places between new at own seated puts same = record {
+  seats' = seats;
+  serves = subst (ServesActs seats between seats) (sym same) (serves-none seats between);
+  seated = put-back seats number c stay places new.places at own puts seated;
+}
+
+goes-acts : (came : Served) (any : Bool) (seats : List (Option ℕ)) (number at c : ℕ) (connection : OpenConnection) (old : Floor) (between : Sequencing) (new : Floor) → connection.arrival.seat ≡ number
+    → HasSeat seats c number → AreSeated seats old.places → Goes came any connection number at old between new → VisitActs seats between new.places new.sequencer
+goes-acts ended.Over any seats number at c connection old between new is own seated (puts, again, closes) = record {
   seats' = slice_set seats c None;
   serves = record {
     acts = Left c ∷ [];
-    are = λ node. (with_seats (slice_set seats c None) new.sequencer node, left-act (with_seats seats between node) c number new.sequencer own (subst (λ n. MovesSeat between n None new.sequencer) at closes), refl);
+    are = λ node. (with_seats (slice_set seats c None) new.sequencer node, left-act (with_seats seats between node) c number new.sequencer own (subst (λ n. MovesSeat between n None new.sequencer) is closes), refl);
     none_handed = refl;
   };
   seated = put-away seats number c old.places new.places own puts seated;
 }
-goes-acts ended.Idle seats number c connection old between new at own seated (puts, again, same) =
-    let stay : OpenConnection = record connection { is_again = false } in
-    record { seats' = seats; serves = subst (ServesActs seats between seats) (sym same) (serves-none seats between); seated = put-back seats number c stay old.places new.places at own puts seated }
-goes-acts ended.Busy seats number c connection old between new at own seated ((is_listed, puts, lists), same) =
-    let stay : OpenConnection = record connection { is_again = is_listed } in
-    record { seats' = seats; serves = subst (ServesActs seats between seats) (sym same) (serves-none seats between); seated = put-back seats number c stay old.places new.places at own puts seated }
-goes-acts ended.Waits seats number c connection old between new at own seated ((is_listed, puts, lists), same) =
-    let stay : OpenConnection = record connection { is_again = is_listed } in
-    record { seats' = seats; serves = subst (ServesActs seats between seats) (sym same) (serves-none seats between); seated = put-back seats number c stay old.places new.places at own puts seated }
+goes-acts ended.Idle any seats number at c connection old between new is own seated (puts, again, same) =
+    stay-acts seats number c (record connection { is_again = false }) old.places between new is own seated puts same
+goes-acts ended.Busy any seats number at c connection old between new is own seated ((is_listed, puts, lists), same) =
+    stay-acts seats number c (record connection { is_again = is_listed }) old.places between new is own seated puts same
+goes-acts ended.Waits true seats number at c connection old between new is own seated ((is_listed, puts, lists), same) =
+    stay-acts seats number c (record connection { is_again = is_listed }) old.places between new is own seated puts same
+goes-acts ended.Waits false seats number at c connection old between new is own seated (puts, again, same) =
+    stay-acts seats number c connection old.places between new is own seated puts same
 
-one-acts : (seats : List (Option ℕ)) (number c : ℕ) (connection : OpenConnection) (old new : Floor) → HasSeat seats c number → AreSeated seats old.places → VisitsOne number connection old new
-    → VisitActs seats old.sequencer new.places new.sequencer
-one-acts seats number c connection old new own seated visits =
+one-acts : (seats : List (Option ℕ)) (share number at c : ℕ) (connection : OpenConnection) (old new : Floor) (passed : Bool) → HasSeat seats c number → AreSeated seats old.places
+    → VisitsOne share number at connection old new passed → VisitActs seats old.sequencer new.places new.sequencer
+one-acts seats share number at c connection old new passed own seated visits =
     let turns = visits.turns.1 in
-    let at : visits.after.arrival.seat ≡ number = visits.turns.0 ∙ visits.of_seat in
+    let is : visits.after.arrival.seat ≡ number = visits.turns.0 ∙ visits.of_seat in
     let served = answered-acts seats c connection.arrival.seat old.sequencer turns.items turns.made visits.between (subst (HasSeat seats c) (sym visits.of_seat) own) turns.answered in
-    let rest = goes-acts visits.came seats number c visits.after old visits.between new at own seated visits.goes in
+    let rest = goes-acts visits.came visits.any seats number at c visits.after old visits.between new is own seated visits.goes in
     record { seats' = rest.seats'; serves = serves-then served rest.serves; seated = rest.seated }
 
 stays-acts : (seats : List (Option ℕ)) (old new : Floor) → AreSeated seats old.places → Stays old new → VisitActs seats old.sequencer new.places new.sequencer
@@ -146,26 +155,43 @@ stays-acts seats old new seated stays = record {
   seated = λ k connection here. seated k connection (sym (stays.places k) ∙ here);
 }
 
-visit-acts : (seats : List (Option ℕ)) (number : ℕ) (old new : Floor) → AreSeated seats old.places → Visits number old new → VisitActs seats old.sequencer new.places new.sequencer
-visit-acts seats number old new seated visits = by (connection_at old.places number) refl visits
+visit-acts : (seats : List (Option ℕ)) (share number at : ℕ) (old new : Floor) (passed : Bool) → AreSeated seats old.places → Visits share number at old new passed
+    → VisitActs seats old.sequencer new.places new.sequencer
+visit-acts seats share number at old new passed seated visits = by (connection_at old.places number) refl visits
   where
-    by : (place : Option OpenConnection) → connection_at old.places number ≡ place → VisitsPlace place number old new → VisitActs seats old.sequencer new.places new.sequencer
-    by None is stays = stays-acts seats old new seated stays
-    by (Some connection) is one = let sits = seated number connection is in one-acts seats number sits.1 connection old new sits.2 seated one
+    by : (place : Option OpenConnection) → connection_at old.places number ≡ place → VisitsPlace place share number at old new passed → VisitActs seats old.sequencer new.places new.sequencer
+    by None is stays = stays-acts seats (without at old) new seated stays.0
+    by (Some connection) is one = let sits = seated number connection is in one-acts seats share number at sits.1 connection old new passed sits.2 seated one
 
 visit-then : {seats : List (Option ℕ)} {old between : Sequencing} {places at : List (Option OpenConnection)} {new : Sequencing} → (first : VisitActs seats old at between) → VisitActs first.seats' between places new
     → VisitActs seats old places new
 visit-then first second = record { seats' = second.seats'; serves = serves-then first.serves second.serves; seated = second.seated }
 
-each-acts : (seats : List (Option ℕ)) (numbers : List ℕ) (old new : Floor) → AreSeated seats old.places → VisitsEach numbers old new → VisitActs seats old.sequencer new.places new.sequencer
-each-acts seats [] old new seated same = subst (λ (floor : Floor). VisitActs seats old.sequencer floor.places floor.sequencer) (sym same) (record { seats' = seats; serves = serves-none seats old.sequencer; seated = seated })
-each-acts seats (number ∷ numbers) old new seated (rest, first, between, visits, others) =
-    let one = visit-acts seats number (record old { again = rest }) between seated visits in
-    visit-then one (each-acts one.seats' numbers between new one.seated others)
+same-acts : (seats : List (Option ℕ)) (old new : Floor) → AreSeated seats old.places → new ≡ old → VisitActs seats old.sequencer new.places new.sequencer
+same-acts seats old new seated same =
+    subst (λ (floor : Floor). VisitActs seats old.sequencer floor.places floor.sequencer) (sym same) (record { seats' = seats; serves = serves-none seats old.sequencer; seated = seated })
+
+each-acts : (seats : List (Option ℕ)) (left at : ℕ) (old new : Floor) → AreSeated seats old.places → VisitsFrom left at old new → VisitActs seats old.sequencer new.places new.sequencer
+each-acts seats zero at old new seated same = same-acts seats old new seated same
+each-acts seats (suc left) at old new seated (inl full) = same-acts seats old new seated full.1
+each-acts seats (suc left) at old new seated (inr (inl nobody)) = same-acts seats old new seated nobody.1
+each-acts seats (suc left) at old new seated (inr (inr (number, passed, between, stands, visits, others))) =
+    let one = visit-acts seats _ number at old between passed seated visits in
+    visit-then one (each-acts one.seats' left (if passed then at + 1 else at) between new one.seated others)
+
+listed-acts : (seats : List (Option ℕ)) (number : ℕ) (connection : OpenConnection) (old new : Floor) → AreSeated seats old.places → connection_at old.places number ≡ Some connection
+    → IsListed connection number old new → VisitActs seats old.sequencer new.places new.sequencer
+listed-acts seats number connection old new seated is listed =
+    let sits = seated number connection is in
+    stay-acts seats number sits.1 (record connection { is_again = listed.put.0 }) old.places old.sequencer new sits.0 sits.2 seated listed.put.1 listed.sequencer
 
 heed-acts : (seats : List (Option ℕ)) (number : ℕ) (old new : Floor) → AreSeated seats old.places → Heeds number old new → VisitActs seats old.sequencer new.places new.sequencer
-heed-acts seats number old new seated (inl again) = stays-acts seats old new seated again.1
-heed-acts seats number old new seated (inr visits) = visit-acts seats number old new seated visits
+heed-acts seats number old new seated heeds = by (connection_at old.places number) refl heeds
+  where
+    by : (place : Option OpenConnection) → connection_at old.places number ≡ place → HeedsPlace place number old new → VisitActs seats old.sequencer new.places new.sequencer
+    by None is stays = stays-acts seats old new seated stays
+    by (Some connection) is (inl again) = stays-acts seats old new seated again.1
+    by (Some connection) is (inr lists) = listed-acts seats number connection old new seated is lists.1
 
 heeds-acts : (seats : List (Option ℕ)) (numbers : List ℕ) (old new : Floor) → AreSeated seats old.places → HeedsEach numbers old new → VisitActs seats old.sequencer new.places new.sequencer
 heeds-acts seats [] old new seated same = subst (λ (floor : Floor). VisitActs seats old.sequencer floor.places floor.sequencer) (sym same) (record { seats' = seats; serves = serves-none seats old.sequencer; seated = seated })
@@ -197,13 +223,14 @@ admits-acts seats c old new seated admits unseated free =
         (λ k connection here. let was = seated k connection here in
         (was.0, was.1, seated-keeps seats c seat was.1 k (λ same. unseated k (subst (λ d. HasSeat seats d k) same was.2)) was.2))
 
-pub serves-acts : (seats : List (Option ℕ)) (c : ℕ) (before after : OpenConnections) (old new : Sequencing) → AreSeated seats before.places.connections.items → (round : ServesRound before after old new)
+pub serves-acts : (seats : List (Option ℕ)) (c : ℕ) (closed : ℕ) (before after : OpenConnections) (old new : Sequencing) → AreSeated seats before.places.connections.items → (round : ServesRound closed before after old new)
     → ((other : ℕ) → ¬ HasSeat seats c other) → ((admits : Admits (floor_of before old) round.admitted) (d : ℕ) → ¬ HasSeat seats d admits.connection.arrival.seat)
     → VisitActs seats old after.places.connections.items new
-serves-acts seats c before after old new seated round unseated free =
+serves-acts seats c closed before after old new seated round unseated free =
     let first = by round.admits in
-    let second = each-acts first.seats' round.admitted.again (record round.admitted { is_short = false }) round.visited first.seated round.visits in
-    let third = heeds-acts second.seats' round.heeds.numbers round.visited (floor_of after new) second.seated round.heeds.heeds in
+    let second = heeds-acts first.seats' round.heeds.numbers round.admitted round.called first.seated round.heeds.heeds in
+    let start : Floor = record round.called { is_short = false; filling = closed_at round.called.filling closed } in
+    let third = each-acts second.seats' (length round.called.again) 0 start (floor_of after new) second.seated round.visits in
     visit-then first (visit-then second third)
   where
     by : Admits (floor_of before old) round.admitted ⊎ Stays (floor_of before old) round.admitted → VisitActs seats old round.admitted.places round.admitted.sequencer

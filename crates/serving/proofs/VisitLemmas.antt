@@ -1,13 +1,17 @@
 -- Connections that are visited, one after the other.
-use Rattle.std.proofs.Common.{◌≡◌, ◌≢◌, ◌⊎◌, ℕ, ◌+◌, Bool, true, false, List, [], ◌∷◌, ◌++◌, length, map, Option, Some, None, refl, sym, ap, subst, ◌∙◌, inl, inr, IfNone, append-nil, append_assoc, length-append, option_to_list, arith}
+use Rattle.std.proofs.Common.{◌≡◌, ℕ, suc, ◌+◌, ◌-◌, ◌≤◌, Bool, true, false, true≢false, if◌then◌else◌, List, [], ◌∷◌, ◌++◌, length, map, Option, Some, None, refl, sym, ap, subst, ◌∙◌, inl, inr, append-nil, append_assoc, length-append, arith}
+use Rattle.std.proofs.lemmas.Bool.{cases_eq}
+use Rattle.std.specs.List.{remove}
 use Rattle.redis_core.specs.Sequencing.{MovesSeat, Sequencing}
 use Rattle.wakes.specs.declared.seat_number.SeatNumber.{SeatNumber}
-use Rattle.serving.specs.Again.{Lists, number_of}
+use Rattle.serving.specs.Again.{Lists, StandsAt}
 use Rattle.serving.specs.Callers.{answer_of}
 use Rattle.serving.specs.Ending.{EndTurns}
-use Rattle.serving.specs.Places.{PutsAt, connection_at}
+use Rattle.serving.specs.Places.{PutsAt, connection_at, is_again}
+use Rattle.serving.specs.Roomed.{TurnsByNeed}
 use Rattle.serving.specs.Turns.{TakesTurns}
-use Rattle.serving.specs.Visiting.{Floor, Goes, Heeds, HeedsCalls, HeedsEach, StaysListed, Visits, VisitsEach, VisitsPlace}
+use Rattle.serving.specs.Visiting.{Floor, Goes, Heeds, HeedsCalls, HeedsEach, HeedsPlace, Stays, StaysListed, Visits, VisitsFrom, VisitsPlace, is_passed, share_at, without}
+use Rattle.serving.specs.declared.filling.Filling.{Filling}
 use Rattle.serving.specs.declared.open_connection.OpenConnection.{OpenConnection}
 use Rattle.serving.specs.declared.open_connections.TheConstants.{MOST_CALLS}
 use Rattle.serving.specs.declared.turns.Served.{Served}
@@ -29,161 +33,141 @@ lists-back : (n m : ℕ) (before between after : List ℕ) (did : Bool) → betw
 lists-back n m before between after did is same lists =
     subst (λ (xs : List ℕ). Lists n xs after did) is (subst (λ (k : ℕ). Lists k between after did) same lists)
 
--- The connection of this seat was taken out of its place, and got its turns.
-pub record Turned (number : ℕ) (old : Floor) (lifted : List (Option OpenConnection)) (between : Sequencing) (after : OpenConnection) (came : Served) : Type 0 where
+stays-still : (floor : Floor) → Stays floor floor
+stays-still floor = record { places = λ k. refl; again = refl; is_short = refl; filling = refl; sequencer = refl }
+
+-- to take nobody out of a place changes nothing
+nobody-stays : (number : ℕ) (old new : Floor) → connection_at old.places number ≡ None → PutsAt number None old.places new.places → new.again ≡ old.again → new.is_short ≡ old.is_short
+    → new.filling ≡ old.filling → new.sequencer ≡ old.sequencer → Stays old new
+nobody-stays number old new is lifts again short fill same = record {
+  places = λ k. elim (cases_eq k number) [
+    | inl here ↦ ap (connection_at new.places) here ∙ lifts.here ∙ sym is ∙ ap (connection_at old.places) (sym here)
+    | inr apart ↦ lifts.others k apart
+  ];
+  again = again;
+  is_short = short;
+  filling = fill;
+  sequencer = same;
+}
+
+-- nobody was at the place of a seat, which has left the list
+pub visit-nobody : (share number at : ℕ) (old new : Floor) → connection_at old.places number ≡ None → PutsAt number None old.places new.places → new.again ≡ remove old.again at
+    → new.is_short ≡ old.is_short → new.filling ≡ old.filling → new.sequencer ≡ old.sequencer → Visits share number at old new false
+visit-nobody share number at old new is lifts again short fill same =
+    subst (λ (p : Option OpenConnection). VisitsPlace p share number at old new false) (sym is)
+    (nobody-stays number (without at old) new is lifts again short fill same, refl)
+
+-- The connection of this seat was taken out of its place, and got its turns, of which this is left to be in the next group.
+pub record Turned (share number : ℕ) (old : Floor) (filling : Filling) (lifted : List (Option OpenConnection)) (between : Sequencing) (after : OpenConnection) (any : Bool) (came : Served) : Type 0 where
   pub connection : OpenConnection
-  pub any : Bool
   pub is : connection_at old.places number ≡ Some connection
   pub of_seat : connection.arrival.seat ≡ number
   pub lifts : PutsAt number None old.places lifted
   pub turns : TakesTurns old.sequencer connection any between after
-  pub ends : EndTurns old.is_short old.sequencer connection any between after came
+  pub is_working : Bool
+  pub needs : TurnsByNeed is_working old.is_short old.sequencer connection old.filling after filling
+  pub few : between.position ≤ old.sequencer.position + share
+  pub ends : EndTurns share filling old.is_short old.sequencer connection any between after came
 
-visited : (number : ℕ) (old new : Floor) (lifted : List (Option OpenConnection)) (between : Sequencing) (after : OpenConnection) (came is : Served) → Turned number old lifted between after came
-    → came ≡ is → Goes is after number old between new → Visits number old new
-visited number old new lifted between after came is turned same goes =
-    subst (λ (p : Option OpenConnection). VisitsPlace p number old new) (sym turned.is) (record {
+visited : (share number at : ℕ) (old new : Floor) (lifted : List (Option OpenConnection)) (between : Sequencing) (after : OpenConnection) (any : Bool) (came is : Served) (filling : Filling) (passed : Bool)
+    → Turned share number old filling lifted between after any came → came ≡ is → new.filling ≡ filling → Goes is any after number at old between new → passed ≡ is_passed is any
+    → Visits share number at old new passed
+visited share number at old new lifted between after any came is filling passed turned same fill goes passes =
+    subst (λ (p : Option OpenConnection). VisitsPlace p share number at old new passed) (sym turned.is) (record {
       of_seat = turned.of_seat;
       between = between;
       after = after;
-      any = turned.any;
+      any = any;
       came = came;
       turns = turned.turns;
-      ends = turned.ends;
-      goes = subst (λ (c : Served). Goes c after number old between new) (sym same) goes;
+      is_working = turned.is_working;
+      needs = subst (λ (f : Filling). TurnsByNeed turned.is_working old.is_short old.sequencer turned.connection old.filling after f) (sym fill) turned.needs;
+      few = turned.few;
+      ends = subst (λ (f : Filling). EndTurns share f old.is_short old.sequencer turned.connection any between after came) (sym fill) turned.ends;
+      goes = subst (λ (c : Served). Goes c any after number at old between new) (sym same) goes;
+      passed_is = passes ∙ ap (λ (c : Served). is_passed c any) (sym same);
     })
 
 -- one that is over has left its place
-pub visit-over : (number : ℕ) (old new : Floor) (lifted : List (Option OpenConnection)) (between : Sequencing) (after : OpenConnection) (came : Served) → Turned number old lifted between after came
-    → came ≡ ended.Over → new.places ≡ lifted → new.again ≡ old.again → MovesSeat between after.arrival.seat None new.sequencer → Visits number old new
-visit-over number old new lifted between after came turned over places again moves =
-    visited number old new lifted between after came ended.Over turned over (subst (λ (ps : List (Option OpenConnection)). PutsAt number None old.places ps) (sym places) turned.lifts, again, moves)
+pub visit-over : (share number at : ℕ) (old new : Floor) (lifted : List (Option OpenConnection)) (between : Sequencing) (after : OpenConnection) (any : Bool) (came : Served) (filling : Filling)
+    → Turned share number old filling lifted between after any came → came ≡ ended.Over → new.filling ≡ filling → new.places ≡ lifted → new.again ≡ remove old.again at
+    → MovesSeat between after.arrival.seat None new.sequencer → Visits share number at old new false
+visit-over share number at old new lifted between after any came filling turned over fill places again moves =
+    visited share number at old new lifted between after any came ended.Over filling false turned over fill
+    (subst (λ (ps : List (Option OpenConnection)). PutsAt number None old.places ps) (sym places) turned.lifts, again, moves) refl
 
 -- one with nothing to be done is back at its place
-pub visit-idle : (number : ℕ) (old new : Floor) (lifted waked : List (Option OpenConnection)) (between : Sequencing) (after : OpenConnection) (came : Served) → Turned number old lifted between after came
-    → came ≡ ended.Idle → waked ≡ lifted → PutsAt after.arrival.seat (Some (record after { is_again = false })) waked new.places → new.again ≡ old.again → new.sequencer ≡ between → Visits number old new
-visit-idle number old new lifted waked between after came turned idle places puts again same =
-    visited number old new lifted between after came ended.Idle turned idle
-    (puts-back number after.arrival.seat _ old.places lifted waked new.places turned.lifts places (turned.turns.0 ∙ turned.of_seat) puts, again, same)
+pub visit-idle : (share number at : ℕ) (old new : Floor) (lifted waked : List (Option OpenConnection)) (between : Sequencing) (after : OpenConnection) (any : Bool) (came : Served) (filling : Filling)
+    → Turned share number old filling lifted between after any came → came ≡ ended.Idle → new.filling ≡ filling → waked ≡ lifted
+    → PutsAt after.arrival.seat (Some (record after { is_again = false })) waked new.places → new.again ≡ remove old.again at → new.sequencer ≡ between → Visits share number at old new false
+visit-idle share number at old new lifted waked between after any came filling turned idle fill places puts again same =
+    visited share number at old new lifted between after any came ended.Idle filling false turned idle fill
+    (puts-back number after.arrival.seat _ old.places lifted waked new.places turned.lifts places (turned.turns.0 ∙ turned.of_seat) puts, again, same) refl
 
-listed-back : (number : ℕ) (old waked new : Floor) (lifted : List (Option OpenConnection)) (between : Sequencing) (after : OpenConnection) (came : Served) → Turned number old lifted between after came
-    → waked.places ≡ lifted → waked.again ≡ old.again → StaysListed after after.arrival.seat waked new → StaysListed after number old new
-listed-back number old waked new lifted between after came turned places again stays =
-    let same = turned.turns.0 ∙ turned.of_seat in (
-      stays.0,
-      puts-back number after.arrival.seat _ old.places lifted waked.places new.places turned.lifts places same stays.1,
-      lists-back number after.arrival.seat old.again waked.again new.again stays.0 again same stays.2,
-    )
+-- one that waits and was answered nothing is back at its place, and keeps where it stands
+pub visit-passed : (share number at : ℕ) (old new : Floor) (lifted waked : List (Option OpenConnection)) (between : Sequencing) (after : OpenConnection) (any : Bool) (came : Served) (filling : Filling)
+    → Turned share number old filling lifted between after any came → came ≡ ended.Waits → any ≡ false → new.filling ≡ filling → waked ≡ lifted
+    → PutsAt after.arrival.seat (Some after) waked new.places → new.again ≡ old.again → new.sequencer ≡ between → Visits share number at old new true
+visit-passed share number at old new lifted waked between after any came filling turned waits nothing fill places puts again same =
+    let back = puts-back number after.arrival.seat _ old.places lifted waked new.places turned.lifts places (turned.turns.0 ∙ turned.of_seat) puts in
+    visited share number at old new lifted between after any came ended.Waits filling true turned waits fill
+    (subst (λ (b : Bool). Goes ended.Waits b after number at old between new) (sym nothing) (back, again, same))
+    (ap (λ (b : Bool). is_passed ended.Waits b) (sym nothing))
 
--- one that took most turns is served again, and so is one that waits
-pub visit-busy : (number : ℕ) (old waked new : Floor) (lifted : List (Option OpenConnection)) (between : Sequencing) (after : OpenConnection) (came : Served) → Turned number old lifted between after came
-    → came ≡ ended.Busy → waked.places ≡ lifted → waked.again ≡ old.again → StaysListed after after.arrival.seat waked new → new.sequencer ≡ between → Visits number old new
-visit-busy number old waked new lifted between after came turned busy places again stays same =
-    visited number old new lifted between after came ended.Busy turned busy (listed-back number old waked new lifted between after came turned places again stays, same)
+listed-back : (number at : ℕ) (old waked new : Floor) (lifted : List (Option OpenConnection)) (after : OpenConnection) → PutsAt number None old.places lifted → after.arrival.seat ≡ number
+    → waked.places ≡ lifted → waked.again ≡ old.again → StaysListed after after.arrival.seat (without at waked) new → StaysListed after number (without at old) new
+listed-back number at old waked new lifted after lifts same places again stays = (
+  stays.0,
+  puts-back number after.arrival.seat _ old.places lifted waked.places new.places lifts places same stays.1,
+  lists-back number after.arrival.seat (remove old.again at) (remove waked.again at) new.again stays.0 (ap (λ (xs : List ℕ). remove xs at) again) same stays.2,
+)
 
-pub visit-waits : (number : ℕ) (old waked new : Floor) (lifted : List (Option OpenConnection)) (between : Sequencing) (after : OpenConnection) (came : Served) → Turned number old lifted between after came
-    → came ≡ ended.Waits → waked.places ≡ lifted → waked.again ≡ old.again → StaysListed after after.arrival.seat waked new → new.sequencer ≡ between → Visits number old new
-visit-waits number old waked new lifted between after came turned waits places again stays same =
-    visited number old new lifted between after came ended.Waits turned waits (listed-back number old waked new lifted between after came turned places again stays, same)
+-- one that took its turns is served again, behind all others
+pub visit-busy : (share number at : ℕ) (old waked new : Floor) (lifted : List (Option OpenConnection)) (between : Sequencing) (after : OpenConnection) (any : Bool) (came : Served) (filling : Filling)
+    → Turned share number old filling lifted between after any came → came ≡ ended.Busy → new.filling ≡ filling → waked.places ≡ lifted → waked.again ≡ old.again
+    → StaysListed after after.arrival.seat (without at waked) new → new.sequencer ≡ between → Visits share number at old new false
+visit-busy share number at old waked new lifted between after any came filling turned busy fill places again stays same =
+    visited share number at old new lifted between after any came ended.Busy filling false turned busy fill
+    (listed-back number at old waked new lifted after turned.lifts (turned.turns.0 ∙ turned.of_seat) places again stays, same) refl
 
--- ---- who is served again
-
--- a visit takes nobody out of the list
-abbrev Behind : List ℕ → List ℕ → Type 0
-Behind before after = (added : List ℕ) × (after ≡ before ++ added)
-
-listed-behind : (number : ℕ) (before after : List ℕ) (did : Bool) → Lists number before after did → Behind before after
-listed-behind number before after true lists = (number ∷ [], lists)
-listed-behind number before after false lists = ([], lists.0 ∙ sym (append-nil before))
-
-goes-behind : (came : Served) (connection : OpenConnection) (number : ℕ) (old new : Floor) (between : Sequencing) → Goes came connection number old between new → Behind old.again new.again
-goes-behind ended.Over connection number old new between goes = ([], goes.1 ∙ sym (append-nil old.again))
-goes-behind ended.Idle connection number old new between goes = ([], goes.1 ∙ sym (append-nil old.again))
-goes-behind ended.Busy connection number old new between goes = listed-behind number old.again new.again goes.0.0 goes.0.2
-goes-behind ended.Waits connection number old new between goes = listed-behind number old.again new.again goes.0.0 goes.0.2
-
-place-behind : (place : Option OpenConnection) (number : ℕ) (old new : Floor) → VisitsPlace place number old new → Behind old.again new.again
-place-behind None number old new stays = ([], stays.again ∙ sym (append-nil old.again))
-place-behind (Some connection) number old new visits = goes-behind visits.came visits.after number old new visits.between visits.goes
-
-visits-more : (numbers : List ℕ) (number : ℕ) (rest : List ℕ) (old between new : Floor) → VisitsEach numbers old between → between.again ≡ number ∷ rest
-    → Visits number (record between { again = rest }) new → VisitsEach (numbers ++ number ∷ []) old new
-visits-more [] number rest old between new are first visits =
-    let from : Floor → Type 0 = λ f. (more : List ℕ) × (f.again ≡ number ∷ more) × (next : Floor) × Visits number (record f { again = more }) next × (new ≡ next) in
-    subst from are (rest, first, new, visits, refl)
-visits-more (other ∷ numbers) number rest old between new are first visits =
-    (are.0, are.1, are.2, are.3, visits-more numbers number rest are.2 between new are.4 first visits)
-
--- Of those who were to be served again the first were visited, in order; the others wait still, and who is to be served again comes behind them.
-pub record Along (all : List ℕ) (count : ℕ) (old now : Floor) : Type 0 where
-  pub done : List ℕ
-  pub left : List ℕ
-  pub added : List ℕ
-  pub are : all ≡ done ++ left
-  pub many : length done ≡ count
-  pub waits : now.again ≡ left ++ added
-  pub visits : VisitsEach done old now
-
-pub along-none : (old : Floor) → Along old.again 0 old old
-along-none old = record { done = []; left = old.again; added = []; are = refl; many = refl; waits = sym (append-nil old.again); visits = refl }
-
-head-is : (left added rest : List ℕ) (number : ℕ) → left ++ added ≡ number ∷ rest → length left ≢ 0 → (more : List ℕ) × (left ≡ number ∷ more) × (rest ≡ more ++ added)
-head-is [] added rest number is some = absurd (some refl)
-head-is (first ∷ more) added rest number is some =
-    let front : List ℕ → ℕ = λ xs. head_or xs in let behind : List ℕ → List ℕ = λ xs. tail_of xs in (more, ap (λ n. n ∷ more) (ap front is), sym (ap behind is))
-  where
-    head_or : List ℕ → ℕ
-    head_or [] = 0
-    head_or (x ∷ xs) = x
-
-    tail_of : List ℕ → List ℕ
-    tail_of [] = []
-    tail_of (x ∷ xs) = xs
-
-pub along-more : (all : List ℕ) (count : ℕ) (old now new : Floor) (number : ℕ) (rest : List ℕ) → Along all count old now → count ≢ length all → now.again ≡ number ∷ rest
-    → Visits number (record now { again = rest }) new → Along all (count + 1) old new
-along-more all count old now new number rest along more first visits =
-    let some : length along.left ≢ 0 = λ none. more (sym along.many ∙ omega (arith, none, length-append along.done along.left, ap length along.are)) in
-    let head = head-is along.left along.added rest number (sym along.waits ∙ first) some in
-    let behind = place-behind (connection_at now.places number) number (record now { again = rest }) new visits in
-    record {
-      done = along.done ++ number ∷ [];
-      left = head.0;
-      added = along.added ++ behind.0;
-      are = along.are ∙ ap (λ xs. along.done ++ xs) head.1 ∙ sym (append_assoc along.done (number ∷ []) head.0);
-      many = length-append along.done (number ∷ []) ∙ ap (λ n. n + 1) along.many;
-      waits = behind.1 ∙ ap (λ xs. xs ++ behind.0) head.2 ∙ append_assoc head.0 along.added behind.0;
-      visits = visits-more along.done number rest old now new along.visits first visits;
-    }
-
--- all were
-pub along-all : (all : List ℕ) (count : ℕ) (old now : Floor) → Along all count old now → count ≡ length all → VisitsEach all old now
-along-all all count old now along is = from along.left along.are
-  where
-    from : (left : List ℕ) → all ≡ along.done ++ left → VisitsEach all old now
-    from [] are = subst (λ xs. VisitsEach xs old now) (sym (are ∙ append-nil along.done)) along.visits
-    from (first ∷ left) are = absurd (omega (arith, along.many, is, length-append along.done (first ∷ left), ap length are))
-
--- none is left where nobody waits
-pub along-ends : (all : List ℕ) (count : ℕ) (old now : Floor) → Along all count old now → now.again ≡ [] → VisitsEach all old now
-along-ends all count old now along none = along-all all (length all) old now (record {
-  done = along.done;
-  left = along.left;
-  added = along.added;
-  are = along.are;
-  many = omega (arith, length-append along.done along.left, ap length along.are, length-append along.left along.added, ap length (sym along.waits ∙ none));
-  waits = along.waits;
-  visits = along.visits;
-}) refl
-
--- where the next was asked for and there was none, all were
-pub along-stops : (all : List ℕ) (count : ℕ) (old now : Floor) (rest : List ℕ) (next : Option SeatNumber) → Along all count old now → ((seat : SeatNumber) → next ≡ Some seat → ⊥)
-    → now.again ≡ map number_of (option_to_list next) ++ rest → IfNone next (now.again ≡ []) → VisitsEach all old (record now { again = rest })
-along-stops all count old now rest None along never first none =
-    subst (λ (xs : List ℕ). VisitsEach all old (record now { again = xs })) first (along-ends all count old now along none)
-along-stops all count old now rest (Some seat) along never first none = absurd (never seat refl)
+-- and so is one that waits, if it was answered something
+pub visit-waits : (share number at : ℕ) (old waked new : Floor) (lifted : List (Option OpenConnection)) (between : Sequencing) (after : OpenConnection) (any : Bool) (came : Served) (filling : Filling)
+    → Turned share number old filling lifted between after any came → came ≡ ended.Waits → any ≡ true → new.filling ≡ filling → waked.places ≡ lifted → waked.again ≡ old.again
+    → StaysListed after after.arrival.seat (without at waked) new → new.sequencer ≡ between → Visits share number at old new false
+visit-waits share number at old waked new lifted between after any came filling turned waits something fill places again stays same =
+    let back = listed-back number at old waked new lifted after turned.lifts (turned.turns.0 ∙ turned.of_seat) places again stays in
+    visited share number at old new lifted between after any came ended.Waits filling false turned waits fill
+    (subst (λ (b : Bool). Goes ended.Waits b after number at old between new) (sym something) (back, same))
+    (ap (λ (b : Bool). is_passed ended.Waits b) (sym something))
 
 -- ---- who was called
+
+-- one that was called and is listed already is left alone
+pub heeds-listed : (number : ℕ) (old : Floor) (place : Option OpenConnection) → connection_at old.places number ≡ place → is_again place ≡ true → Heeds number old old
+heeds-listed number old None is listed = absurd (true≢false (sym listed))
+heeds-listed number old (Some connection) is listed =
+    subst (λ (p : Option OpenConnection). HeedsPlace p number old old) (sym is) (inl (listed, stays-still old))
+
+-- one that is not comes last
+pub heeds-lists : (number : ℕ) (old new : Floor) (lifted : List (Option OpenConnection)) (connection : OpenConnection) → connection_at old.places number ≡ Some connection
+    → connection.arrival.seat ≡ number → is_again (connection_at old.places number) ≡ false → PutsAt number None old.places lifted
+    → StaysListed connection connection.arrival.seat (record old { places = lifted }) new → new.is_short ≡ old.is_short → new.filling ≡ old.filling → new.sequencer ≡ old.sequencer
+    → Heeds number old new
+heeds-lists number old new lifted connection is at unlisted lifts stays short fill same =
+    subst (λ (p : Option OpenConnection). HeedsPlace p number old new) (sym is) (inr (
+      ap is_again (sym is) ∙ unlisted,
+      record {
+        put = (stays.0, puts-then number connection.arrival.seat None _ old.places lifted new.places lifts at stays.1, lists-back number connection.arrival.seat old.again old.again new.again stays.0 refl at stays.2);
+        is_short = short;
+        filling = fill;
+        sequencer = same;
+      },
+    ))
+
+-- where nobody is, nothing is done
+pub heeds-nobody : (number : ℕ) (old new : Floor) → connection_at old.places number ≡ None → PutsAt number None old.places new.places → new.again ≡ old.again → new.is_short ≡ old.is_short
+    → new.filling ≡ old.filling → new.sequencer ≡ old.sequencer → Heeds number old new
+heeds-nobody number old new is lifts again short fill same = subst (λ (p : Option OpenConnection). HeedsPlace p number old new) (sym is) (nobody-stays number old new is lifts again short fill same)
 
 pub answer-none : (next : Option SeatNumber) → ((seat : SeatNumber) → next ≡ Some seat → ⊥) → answer_of next ≡ None
 answer-none None never = refl
@@ -229,3 +213,35 @@ heeding-ends asked between asked' count old now so_far asks = record {
 -- most were
 pub heeding-most : (asked asked' : List (Option ℕ)) (count : ℕ) (old now : Floor) → Heeding asked asked' count old now → count ≡ MOST_CALLS → HeedsCalls asked asked' old now
 heeding-most asked asked' count old now so_far most = record { numbers = so_far.numbers; heeds = so_far.heeds; asks = inl (so_far.asks, so_far.many ∙ most) }
+
+-- ---- those that are left
+
+-- one more of those that are left was visited
+pub from-more : (left rest at at' share number : ℕ) (old between last : Floor) (passed : Bool) → left ≡ suc rest → share ≡ share_at old left → StandsAt old.again at (Some number)
+    → Visits share number at old between passed → at' ≡ (if passed then at + 1 else at) → VisitsFrom rest at' between last → VisitsFrom left at old last
+from-more left rest at at' share number old between last passed is share_is stands visits at_is others =
+    let shared : share ≡ share_at old (suc rest) = share_is ∙ ap (λ n. share_at old n) is in
+    subst (λ n. VisitsFrom n at old last) (sym is)
+    (inr (inr (number, passed, between, stands, subst (λ n. Visits n number at old between passed) shared visits, subst (λ n. VisitsFrom rest n between last) at_is others)))
+
+-- nothing is free of the group
+pub from-full : (left rest at share : ℕ) (old : Floor) → left ≡ suc rest → share ≡ share_at old left → share ≡ 0 → VisitsFrom left at old old
+from-full left rest at share old is share_is none =
+    subst (λ n. VisitsFrom n at old old) (sym is) (inl (sym (share_is ∙ ap (λ n. share_at old n) is) ∙ none, refl))
+
+-- nobody is left
+pub from-nobody : (left rest at : ℕ) (old : Floor) → left ≡ suc rest → StandsAt old.again at None → VisitsFrom left at old old
+from-nobody left rest at old is nobody = subst (λ n. VisitsFrom n at old old) (sym is) (inr (inl (nobody, refl)))
+
+-- all were visited
+pub from-all : (left at : ℕ) (old : Floor) → left ≡ 0 → VisitsFrom left at old old
+from-all left at old is = subst (λ n. VisitsFrom n at old old) (sym is) refl
+
+-- how many were passed over, where one more was or was not
+pub passed-on : (at at' : ℕ) (passed : Bool) → at' ≡ at + (if passed then 1 else 0) → at' ≡ (if passed then at + 1 else at)
+passed-on at at' true is = is
+passed-on at at' false is = omega (arith, is)
+
+-- none was visited yet
+pub from-start : (all at : ℕ) (old last : Floor) → VisitsFrom (all - 0) at old last → VisitsFrom all at old last
+from-start all at old last visits = subst (λ n. VisitsFrom n at old last) (omega arith) visits

@@ -4,6 +4,7 @@ use Rattle.std.specs.List.{flat_map}
 use Rattle.pmem.specs.Device.{State}
 use Rattle.kv_types.specs.declared.refusal.Refusal.TheVariants as refusal
 use Rattle.lending.specs.declared.view.EndView.{EndView}
+use Rattle.marks.specs.declared.view.MarkView.{MarkView}
 use Rattle.model.specs.declared.group.Group.{Group}
 use Rattle.model.specs.Group.{Contents}
 use Rattle.pipes.specs.declared.ring_pipe.RingOutlet.{RingOutlet}
@@ -74,8 +75,8 @@ module _ {E : Type 0} (device : E → State) (contents : E → Contents) (is_fau
   abbrev pub DoesOrVain : List (Option ℕ) → Sequencing → CommitJob E → List (Option ℕ) → Sequencing → CommitJob E → Type 0
   DoesOrVain seats old job seats' new job' = DoesActs seats old job seats' new job' ⊎ SetsAsideInVain job'
 
-  module _ (known : ℕ) (connections : OpenConnections) (gathering : Gathering) (home : Option (CommitJob E)) (lender : EndView (CommitJob E)) (old : Sequencing)
-      (read : ℕ) (connections' : OpenConnections) (noted : Gathering) (home' : Option (CommitJob E)) (lender' : EndView (CommitJob E)) (new : Sequencing) (is_busy : Bool)
+  module _ (known : MarkView) (connections : OpenConnections) (gathering : Gathering) (home : Option (CommitJob E)) (lender : EndView (CommitJob E)) (old : Sequencing)
+      (read : MarkView) (connections' : OpenConnections) (noted : Gathering) (home' : Option (CommitJob E)) (lender' : EndView (CommitJob E)) (new : Sequencing) (is_busy : Bool)
       (round : TakesRound device contents is_faulted known connections gathering home lender old read connections' noted home' lender' new is_busy) where
     -- the job as the round found it, as it left it before the connections were served, or as it left it
     abbrev pub IsOfRound : CommitJob E → Type 0
@@ -92,8 +93,8 @@ module _ {E : Type 0} (device : E → State) (contents : E → Contents) (is_fau
   -- A round of the node's thread is a list of acts. Who was admitted in it is this connection of the machine, if it has no seat and nobody else has the one that it got.
   abbrev pub RoundsAreActs : Type 0
   RoundsAreActs =
-      (seats : List (Option ℕ)) (c : ℕ) (known : ℕ) (connections : OpenConnections) (gathering : Gathering) (home : Option (CommitJob E)) (lender : EndView (CommitJob E)) (old : Sequencing)
-      (read : ℕ) (connections' : OpenConnections) (noted : Gathering) (home' : Option (CommitJob E)) (lender' : EndView (CommitJob E)) (new : Sequencing) (is_busy : Bool) (job : CommitJob E)
+      (seats : List (Option ℕ)) (c : ℕ) (known : MarkView) (connections : OpenConnections) (gathering : Gathering) (home : Option (CommitJob E)) (lender : EndView (CommitJob E)) (old : Sequencing)
+      (read : MarkView) (connections' : OpenConnections) (noted : Gathering) (home' : Option (CommitJob E)) (lender' : EndView (CommitJob E)) (new : Sequencing) (is_busy : Bool) (job : CommitJob E)
       → (round : TakesRound device contents is_faulted known connections gathering home lender old read connections' noted home' lender' new is_busy)
       → ClosesAll round.before → ClosesAll round.after → IsJob home lender job → AreSeated seats connections.places.connections.items
       → ((other : ℕ) → ¬ HasSeat seats c other) → ((admits : Admits (floor_of connections round.tended) round.visits.admitted) (d : ℕ) → ¬ HasSeat seats d admits.connection.arrival.seat)

@@ -1,5 +1,5 @@
 -- The seats that are served again in the next round.
-use Rattle.std.specs.Prelude.{◌≡◌, ℕ, ◌≤◌, ◌++◌, ◌∷◌, [], Bool, true, false, List, length}
+use Rattle.std.specs.Prelude.{◌≡◌, ℕ, ◌<◌, ◌≤◌, ◌++◌, ◌∷◌, [], Bool, true, false, List, length, Option, Some, None, slice_index_or}
 use Rattle.pipes.specs.declared.limits.TheConstants.{MAX_SEATS}
 use Rattle.wakes.specs.declared.seat_number.SeatNumber.{SeatNumber}
 
@@ -10,3 +10,8 @@ number_of seat = seat.number
 abbrev pub Lists : ℕ → List ℕ → List ℕ → Bool → Type 0
 Lists number old new true = new ≡ old ++ number ∷ []
 Lists number old new false = (new ≡ old) × (MAX_SEATS ≤ length old)
+
+-- who stands in a list behind so many, or that nobody does
+abbrev pub StandsAt : List ℕ → ℕ → Option ℕ → Type 0
+StandsAt listed at (Some number) = (at < length listed) × (slice_index_or listed at number ≡ number)
+StandsAt listed at None = length listed ≤ at

@@ -4,6 +4,7 @@ pub mod Callers
 pub mod Closing
 pub mod CommitJob
 pub mod Ending
+pub mod Filling
 pub mod Roomed
 pub mod Gathering
 pub mod Keeping

@@ -23,9 +23,9 @@ pub record Serves (old new : Sequencing) : Type 0 where
   pub rises : old.position ≤ new.position
   pub goes_on : GoesOn old new
 
--- no less is known of either mark
+-- no less is known of either mark, nor of whether the standby was heard
 abbrev pub HasRead : MarkView → MarkView → Type 0
-HasRead old new = (old.local ≤ new.local) × (old.remote ≤ new.remote)
+HasRead old new = (old.local ≤ new.local) × (old.remote ≤ new.remote) × (old.heard ≡ 1 → new.heard ≡ 1)
 
 -- Where somebody waits for room, the committer has something in hand, or something waits to be closed.
 abbrev pub WaitsOnlyFor : Bool → Bool → Sequencing → Type 0

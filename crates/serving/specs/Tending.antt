@@ -1,10 +1,11 @@
 -- What a round of the node's thread does with the committer's job: it looks for it, closes what is due, and has the steps taken that are due then.
-use Rattle.std.specs.Prelude.{◌≡◌, ◌≢◌, ℕ, ◌+◌, ◌≤◌, Bool, true, false, ◌||◌, nat_lt, Option, Some, None, Ok, Err, Result}
+use Rattle.std.specs.Prelude.{◌≡◌, ◌≢◌, ℕ, ◌+◌, ◌≤◌, Bool, true, false, ◌&&◌, ◌||◌, nat_eq, nat_lt, Option, Some, None, Ok, Err, Result}
 use Rattle.pmem.specs.Device.{State}
 use Rattle.kv_types.specs.declared.refusal.Refusal.{Refusal}
 use Rattle.kv_types.specs.declared.refusal.Refusal.TheVariants as refusal
 use Rattle.lending.specs.declared.desk.TheConstants.{RETURNED}
 use Rattle.lending.specs.declared.view.EndView.{EndView}
+use Rattle.marks.specs.declared.view.MarkView.{MarkView}
 use Rattle.model.specs.declared.work.Work.{Work}
 use Rattle.model.specs.Group.{Contents}
 use Rattle.pipes.specs.Waiting.{Waiting}
@@ -69,50 +70,51 @@ module _ {E : Type 0} (device : E → State) (contents : E → Contents) (is_fau
       (home ≡ None) × (lent : CommitJob E) × (job : CommitJob E) × (lender.value ≡ Some lent) × (home' ≡ Some job)
       × (lender' ≡ record lender { value = None; asked = lender.asked + 1; found = RETURNED }) × ComesBack lent job old new did
 
-  -- whether a step of the job is due, by its remote mark
-  abbrev pub is_due : CommitJob E → Bool
-  is_due job =
+  -- whether a step of the job is due, by its remote mark: none is before the standby was heard, whose word is 1 from then on
+  abbrev pub is_due : ℕ → CommitJob E → Bool
+  is_due heard job =
       let has_room = nat_lt 0 (known_free job.groups.producer) in
-      does_step has_room (due_now contents job.back.committer job.back.work has_room job.remote)
+      nat_eq heard 1 && does_step has_room (due_now contents job.back.committer job.back.work has_room job.remote)
 
   -- Where a step of the job is due it is lent, if steps took long, or else its steps are taken here. Otherwise it rests here.
-  abbrev pub HasStepsTaken : CommitJob E → EndView (CommitJob E) → Sequencing → Option (CommitJob E) → EndView (CommitJob E) → Sequencing → JobCame → Type 0
-  HasStepsTaken job lender old home' lender' new came.Away = ⊥
-  HasStepsTaken job lender old home' lender' new came.Rests = (is_due job ≡ false) × (home' ≡ Some job) × (lender' ≡ lender) × (new ≡ old)
-  HasStepsTaken job lender old home' lender' new came.Lent =
-      (is_due job ≡ true) × (job.step_time.is_long ≡ true) × (home' ≡ None) × (lender' ≡ record lender { value = Some job }) × (new ≡ old)
-  HasStepsTaken job lender old home' lender' new (came.Stepped did) =
-      (is_due job ≡ true) × (job.step_time.is_long ≡ false) × (job' : CommitJob E) × (home' ≡ Some job') × (lender' ≡ lender) × ComesBack job job' old new did
+  abbrev pub HasStepsTaken : ℕ → CommitJob E → EndView (CommitJob E) → Sequencing → Option (CommitJob E) → EndView (CommitJob E) → Sequencing → JobCame → Type 0
+  HasStepsTaken heard job lender old home' lender' new came.Away = ⊥
+  HasStepsTaken heard job lender old home' lender' new came.Rests = (is_due heard job ≡ false) × (home' ≡ Some job) × (lender' ≡ lender) × (new ≡ old)
+  HasStepsTaken heard job lender old home' lender' new came.Lent =
+      (is_due heard job ≡ true) × (job.step_time.is_long ≡ true) × (home' ≡ None) × (lender' ≡ record lender { value = Some job }) × (new ≡ old)
+  HasStepsTaken heard job lender old home' lender' new (came.Stepped did) =
+      (is_due heard job ≡ true) × (job.step_time.is_long ≡ false) × (job' : CommitJob E) × (home' ≡ Some job') × (lender' ≡ lender) × ComesBack job job' old new did
 
-  -- What is due is closed, and then the job, which goes by this remote mark, is lent, or has its steps taken, or rests.
-  pub record TendsJob (remote : ℕ) (is_short : Bool) (gathering noted : Gathering) (job : CommitJob E) (lender : EndView (CommitJob E)) (old : Sequencing)
+  -- What is due is closed, and then the job, which goes by the remote mark as it was read, is lent, or has its steps taken, or rests: always where the standby was
+  -- not heard in this opening. So nothing is made durable before.
+  pub record TendsJob (read : MarkView) (is_short : Bool) (gathering noted : Gathering) (job : CommitJob E) (lender : EndView (CommitJob E)) (old : Sequencing)
       (home' : Option (CommitJob E)) (lender' : EndView (CommitJob E)) (new : Sequencing) (tended : Tended) : Type 0 where
     -- once what is due is closed
     pub ready : CommitJob E
     pub between : Sequencing
-    pub closes : ClosesOrLacks gathering remote is_short old job.back.work between ready.back.work noted tended.closed
+    pub closes : ClosesOrLacks gathering read.remote is_short old job.back.work between ready.back.work noted tended.closed
     pub committer : ready.back.committer ≡ job.back.committer
-    pub by : ready.remote ≡ remote
+    pub by : ready.remote ≡ read.remote
     pub offered : offered_at ready.groups ≡ offered_at job.groups
     pub times : ready.step_time ≡ job.step_time
-    pub steps : HasStepsTaken ready lender between home' lender' new tended.job
+    pub steps : HasStepsTaken read.heard ready lender between home' lender' new tended.job
 
   -- While the job is away nothing is closed.
-  abbrev pub Tends : ℕ → Bool → Gathering → Gathering → Option (CommitJob E) → EndView (CommitJob E) → Sequencing → Option (CommitJob E) → EndView (CommitJob E) → Sequencing → Tended → Type 0
-  Tends remote is_short gathering noted (Some job) lender old home' lender' new tended = TendsJob remote is_short gathering noted job lender old home' lender' new tended
-  Tends remote is_short gathering noted None lender old home' lender' new tended =
+  abbrev pub Tends : MarkView → Bool → Gathering → Gathering → Option (CommitJob E) → EndView (CommitJob E) → Sequencing → Option (CommitJob E) → EndView (CommitJob E) → Sequencing → Tended → Type 0
+  Tends read is_short gathering noted (Some job) lender old home' lender' new tended = TendsJob read is_short gathering noted job lender old home' lender' new tended
+  Tends read is_short gathering noted None lender old home' lender' new tended =
       (tended ≡ record { closed = Ok false; job = came.Away }) × (noted ≡ gathering) × (home' ≡ None) × (lender' ≡ lender) × (new ≡ old)
 
-  -- A round of the node's thread: it looks for the job, tends it by the remote mark as it is then, serves connections, and tends it once more. `is_busy` is
-  -- whether anything was done.
-  pub record TakesRound (known : ℕ) (connections : OpenConnections) (gathering : Gathering) (home : Option (CommitJob E)) (lender : EndView (CommitJob E)) (old : Sequencing)
-      (read : ℕ) (connections' : OpenConnections) (noted : Gathering) (home' : Option (CommitJob E)) (lender' : EndView (CommitJob E)) (new : Sequencing) (is_busy : Bool) : Type 0 where
+  -- A round of the node's thread: it looks for the job, tends it by the marks as they are then, serves connections, and tends it once more. `is_busy` is whether
+  -- anything was done.
+  pub record TakesRound (known : MarkView) (connections : OpenConnections) (gathering : Gathering) (home : Option (CommitJob E)) (lender : EndView (CommitJob E)) (old : Sequencing)
+      (read : MarkView) (connections' : OpenConnections) (noted : Gathering) (home' : Option (CommitJob E)) (lender' : EndView (CommitJob E)) (new : Sequencing) (is_busy : Bool) : Type 0 where
     pub fetched : Fetched
     pub home1 : Option (CommitJob E)
     pub lender1 : EndView (CommitJob E)
     pub told : Sequencing
     pub fetches : Fetches home lender old home1 lender1 told fetched
-    pub mark : ℕ
+    pub mark : MarkView
     pub before : Tended
     pub noted1 : Gathering
     pub home2 : Option (CommitJob E)
@@ -122,8 +124,8 @@ module _ {E : Type 0} (device : E → State) (contents : E → Contents) (is_fau
     pub has_served : Bool
     pub served : Sequencing
     pub serves : Serves tended served
-    pub visits : ServesRound connections connections' tended served
+    pub visits : ServesRound noted1.closed connections connections' tended served
     pub after : Tended
     pub tends_again : Tends read connections'.is_short noted1 noted home2 lender2 served home' lender' new after
-    pub rises : (known ≤ mark) × (mark ≤ read)
+    pub rises : (known.remote ≤ mark.remote) × (mark.remote ≤ read.remote) × (known.heard ≡ 1 → mark.heard ≡ 1) × (mark.heard ≡ 1 → read.heard ≡ 1)
     pub is_busy_is : is_busy ≡ (((did_fetch fetched || did_tend before) || has_served) || did_tend after)

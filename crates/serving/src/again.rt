@@ -1,6 +1,7 @@
-//! The seats that are served again in the next round.
-ghost use Rattle.std.specs.Prelude.{◌≡◌, ◌++◌, [], IfNone, IfOk, length, option_to_list, map};
-ghost use Rattle.serving.specs.Again.{Lists, number_of};
+//! The seats that wait to be served.
+ghost use Rattle.std.specs.Prelude.{◌≡◌, [], Some, None, IfNone, IfOk, IfSome, length};
+ghost use Rattle.std.specs.List.{remove};
+ghost use Rattle.serving.specs.Again.{Lists, StandsAt};
 
 use pipes::MAX_SEATS;
 use std::alloc::{AllocError, Global};
@@ -8,7 +9,7 @@ use std::collections::VecDeque;
 use std::marker::Model;
 use wakes::SeatNumber;
 
-/// The seats that are served again in the next round, who has waited longest first. A clause sees their numbers.
+/// The seats that wait to be served, each once, who has waited longest first. A clause sees their numbers.
 #[derive(Drop)]
 pub(crate) struct Again {
     numbers: VecDeque<SeatNumber>,
@@ -48,12 +49,19 @@ impl Again {
         self.numbers.len()
     }
 
-    /// Takes out the one that has waited longest.
-    pub(crate) fn next(&mut self) -> Option<SeatNumber>
-        ensures first { self.old ≡ map number_of (option_to_list result) ++ self.new }
-        ensures none { IfNone result (self.old ≡ []) }
+    /// Who stands behind so many.
+    pub(crate) fn at(&self, index: usize) -> Option<SeatNumber>
+        ensures someone { IfSome result (λ seat. StandsAt self.now index (Some seat.number)) }
+        ensures nobody { IfNone result (StandsAt self.now index None) }
     {
-        self.numbers.pop_front()
+        self.numbers.get(index).copied()
+    }
+
+    /// Takes out who stands behind so many, if somebody does.
+    pub(crate) fn take_out(&mut self, index: usize)
+        ensures { self.new ≡ remove self.old index }
+    {
+        self.numbers.remove(index);
     }
 
     /// Puts a seat last. Answers whether there was room for it: there is, where fewer than 1,024 are listed.

@@ -1,5 +1,5 @@
 //! The committer's steps.
-ghost use Rattle.std.specs.Prelude.{◌≡◌, ◌≤◌, List, [], nat_lt, true, Result, IfOk, OnOk};
+ghost use Rattle.std.specs.Prelude.{◌≡◌, ◌≤◌, List, [], nat_lt, ◌&&◌, true, Result, IfOk, OnOk};
 ghost use Rattle.kv_types.specs.declared.refusal.Refusal.{Refusal as Cause};
 ghost use Rattle.group_commit.specs.Due.{due_now};
 ghost use Rattle.group_commit.specs.declared.stage.Done.{Done as Came};
@@ -31,7 +31,7 @@ pub(crate) struct Stepped {
 }
 
 /// Whether a step of the committer is due that does something: a group that was told of is handed on only where the link has room.
-pub(crate) fn is_step_due<E: Durable, O: Outlet<Item = Group>>(
+fn is_step_due<E: Durable, O: Outlet<Item = Group>>(
     back: &Back<E>,
     groups: &mut O,
     remote: u64,
@@ -45,6 +45,20 @@ pub(crate) fn is_step_due<E: Durable, O: Outlet<Item = Group>>(
         Due::Hand => has_room,
         Due::Commit | Due::Raise | Due::Free | Due::Clear => true,
     }
+}
+
+/// The same, once the standby was heard; before, none is due.
+pub(crate) fn is_due<E: Durable, O: Outlet<Item = Group>>(
+    back: &Back<E>,
+    groups: &mut O,
+    remote: u64,
+    is_heard: bool,
+) -> bool
+    ensures due { let has_room = nat_lt 0 (O.known_room groups.new) in result ≡ (is_heard && does_step has_room (due_now E.contents back.now.committer back.now.work has_room remote)) }
+    ensures offered { O.offered groups.new ≡ O.offered groups.old }
+{
+    let is_step_due = is_step_due(back, groups, remote);
+    is_heard && is_step_due
 }
 
 /// Takes steps until nothing is to be done, some are taken, or one gives something back. The local mark is where the engine is, before and after.

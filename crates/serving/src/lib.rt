@@ -8,6 +8,7 @@ mod closing;
 mod commit_job;
 mod committing;
 mod crossing;
+mod filling;
 mod gathering;
 mod laws;
 mod link_ends;
@@ -24,6 +25,7 @@ mod step_time;
 mod stop;
 mod tended;
 mod turns;
+mod visited;
 mod watching;
 
 pub use accepting::Acceptor;

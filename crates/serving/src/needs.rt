@@ -3,6 +3,7 @@ ghost use Rattle.std.specs.Prelude.{◌≡◌, ◌+◌, ◌++◌, ◌<◌, ◌^�
 ghost use Rattle.kv_types.specs.declared.change.Change.{Change as KeyChange};
 ghost use Rattle.kv_types.specs.Keyspace.{Keyspace};
 ghost use Rattle.cmd_table.specs.Request.{outcome_of_words};
+ghost use Rattle.serving.specs.Filling.{all_lines};
 ghost use Rattle.serving.specs.Need as spec;
 
 use cmd_table::most_puts;
@@ -39,6 +40,13 @@ pub(crate) struct Queued {
 impl Need {
     /// No room.
     pub(crate) const NONE: Need = Need { count: 0, lines: 1 };
+
+    /// The lines of all these versions.
+    pub(crate) fn all_lines(&self) -> u64
+        ensures { result ≡ all_lines self.now }
+    {
+        self.count.saturating_mul(self.lines.max(1))
+    }
 
     /// Room for both: enough for the changes of one behind those of the other, as far as 64 bits count them.
     fn and(self, other: Need) -> Need

@@ -1,5 +1,6 @@
 //! The node's thread: it serves the connections, and has committed what they changed and freed what has ended.
-ghost use Rattle.std.specs.Prelude.{◌≡◌, ◌≤◌, ◌↔◌, max, None, false, true, IfOk, IsSome, OnOk};
+ghost use Rattle.std.specs.Prelude.{◌≡◌, ◌≤◌, ◌↔◌, max, None, false, true, IfOk, IsSome, OnOk, if◌then◌else◌};
+ghost use Rattle.marks.specs.declared.view.MarkView.{MarkView};
 ghost use Rattle.placing.specs.Fill.{fill_of};
 ghost use Rattle.primary.specs.Settled.{HasNothingOpen};
 ghost use Rattle.primary.specs.Standing.{Stands};
@@ -11,7 +12,7 @@ ghost use Rattle.serving.specs.Visiting.{ServesRound};
 
 use crate::closing::close_due;
 use crate::commit_job::{CommitJob, Committing, run_job, settle};
-use crate::committing::{Stepped, is_step_due};
+use crate::committing::{Stepped, is_due};
 use crate::gathering::Gathering;
 use crate::open_connections::OpenConnections;
 use crate::step_time::StepTime;
@@ -163,8 +164,8 @@ fn take_round<R: Wait + Clock, E: Durable + Drop, K: Keyspace>(
     ensures stands { OnOk result (IsHereOrLent E.device E.contents state.new.home state.new.lender.value state.new.front.sequencer) }
     ensures remote { OnOk result ((remote_of state.new.home ≤ state.new.marks.remote) × (remote_of state.new.lender.value ≤ state.new.marks.remote)) }
     ensures read { HasRead state.old.marks state.new.marks }
-    ensures round { IfOk result (TakesRound E.device E.contents E.is_faulted state.old.marks.remote state.old.connections state.old.gathering
-        state.old.home state.old.lender state.old.front.sequencer state.new.marks.remote state.new.connections state.new.gathering
+    ensures round { IfOk result (TakesRound E.device E.contents E.is_faulted state.old.marks state.old.connections state.old.gathering
+        state.old.home state.old.lender state.old.front.sequencer state.new.marks state.new.connections state.new.gathering
         state.new.home state.new.lender state.new.front.sequencer) }
     // the past that was kept goes on, where the standby has passed the remote mark
     ensures past { OnOk result (PastGoesOn E.device E.contents E.is_faulted state.new.marks.remote (job_of state.old.home state.old.lender.value) state.old.front.sequencer
@@ -192,13 +193,18 @@ fn serve_connections<R: Wait, E: Durable + Drop, K: Keyspace>(
     ensures home { state.new.home ≡ state.old.home }
     ensures lender { state.new.lender ≡ state.old.lender }
     ensures gathering { state.new.gathering ≡ state.old.gathering }
-    ensures visits { ServesRound state.old.connections state.new.connections state.old.front.sequencer state.new.front.sequencer }
+    ensures visits { ServesRound state.old.gathering.closed state.old.connections state.new.connections state.old.front.sequencer state.new.front.sequencer }
 {
     let is_working = is_room_coming(&state.home);
     let admitted = state.connections.admit(rt, alloc, &mut state.front);
-    let served = state
-        .connections
-        .serve(rt, alloc, &mut state.front, is_working, &mut state.marks);
+    let served = state.connections.serve(
+        rt,
+        alloc,
+        &mut state.front,
+        is_working,
+        &mut state.marks,
+        state.gathering.closed,
+    );
     admitted | served
 }
 
@@ -213,13 +219,14 @@ fn commit_due<R: Clock, E: Durable + Drop, K: Keyspace>(
     ensures stands { OnOk result (IsHereOrLent E.device E.contents state.new.home state.new.lender.value state.new.front.sequencer) }
     ensures remote { OnOk result ((remote_of state.new.home ≤ state.new.marks.remote) × (remote_of state.new.lender.value ≤ state.new.marks.remote)) }
     ensures read { HasRead state.old.marks state.new.marks }
-    ensures tends { IfOk result (Tends E.device E.contents E.is_faulted state.new.marks.remote state.old.connections.is_short state.old.gathering
+    ensures tends { IfOk result (Tends E.device E.contents E.is_faulted state.new.marks state.old.connections.is_short state.old.gathering
         state.new.gathering state.old.home state.old.lender state.old.front.sequencer state.new.home state.new.lender state.new.front.sequencer) }
     ensures connections { state.new.connections ≡ state.old.connections }
     ensures past { OnOk result (JobKeepsThrough E.device E.contents E.is_faulted state.new.marks.remote (job_of state.old.home state.old.lender.value) state.old.front.sequencer
         (job_of state.new.home state.new.lender.value) state.new.front.sequencer) }
 {
     let remote = state.marks.read_remote();
+    let is_heard = state.marks.has_heard();
     let is_short = state.connections.is_short();
     commit(
         rt,
@@ -230,6 +237,7 @@ fn commit_due<R: Clock, E: Durable + Drop, K: Keyspace>(
         &mut state.home,
         &mut state.gathering,
         remote,
+        is_heard,
         is_short,
     )
 }
@@ -294,7 +302,8 @@ fn fetch<E: Durable + Drop, K: Keyspace>(
     Ok(Fetched::Back(did?))
 }
 
-/// Closes what is due. Where a step is due then, and steps take long, the job is lent; otherwise its steps are taken here. Answers what was done.
+/// Closes what is due. Where a step is due then, and steps take long, the job is lent; otherwise its steps are taken here. Before the standby was heard in this
+/// opening (`is_heard`) no step is taken: so a copy of an older image, which the standby is ahead of, stays behind it for good. Answers what was done.
 ///
 /// # Errors
 ///
@@ -308,6 +317,7 @@ fn commit<R: Clock, E: Durable + Drop, K: Keyspace>(
     home: &mut Option<CommitJob<E>>,
     gathering: &mut Gathering,
     remote: u64,
+    is_heard: bool,
     is_short: bool,
 ) -> Result<Tended, Refusal>
     requires stands { IsHereOrLent E.device E.contents home.old lender.old.value front.old.sequencer }
@@ -316,8 +326,8 @@ fn commit<R: Clock, E: Durable + Drop, K: Keyspace>(
     // a job that was here goes by this remote mark, and one that was lent by an earlier one
     ensures goes_by { IsSome home.old → OnOk result (GoesBy remote home.new × GoesBy remote lender.new.value) }
     ensures remote { OnOk result ((remote_of home.new ≤ remote) × (remote_of lender.new.value ≤ remote)) }
-    ensures tends { IfOk result (Tends E.device E.contents E.is_faulted remote is_short gathering.old gathering.new home.old lender.old front.old.sequencer
-        home.new lender.new front.new.sequencer) }
+    ensures tends { (read : MarkView) → read.remote ≡ remote → read.heard ≡ (if is_heard then 1 else 0) → IfOk result (Tends E.device E.contents E.is_faulted read is_short
+        gathering.old gathering.new home.old lender.old front.old.sequencer home.new lender.new front.new.sequencer) }
     ensures past { OnOk result (JobKeepsThrough E.device E.contents E.is_faulted remote (job_of home.old lender.old.value) front.old.sequencer
         (job_of home.new lender.new.value) front.new.sequencer) }
 {
@@ -327,7 +337,7 @@ fn commit<R: Clock, E: Durable + Drop, K: Keyspace>(
     let mut job = job;
     job.remote = remote;
     let closed = close_due(alloc, front, &mut job.back, gathering, remote, is_short);
-    if !is_step_due(&job.back, &mut job.groups, remote) {
+    if !is_due(&job.back, &mut job.groups, remote, is_heard) {
         drop(home.replace(job));
         return Ok(Tended {
             closed,

@@ -1,5 +1,5 @@
 //! A connection that is open, as the node's thread has it.
-ghost use Rattle.std.specs.Prelude.{◌≡◌, Some, None, IfOk, IfErr, OnOk};
+ghost use Rattle.std.specs.Prelude.{◌≡◌, Some, None, IfOk, IfErr, OnOk, is_some};
 ghost use Rattle.multi_watch.specs.Session.{idle_session};
 ghost use Rattle.redis_core.specs.Sequencing.{MovesSeat};
 ghost use Rattle.serving.specs.Need as spec;
@@ -95,6 +95,13 @@ impl OpenConnection {
             Some(item) => asked_by(item),
             None => Asked::AtMost(Need::NONE),
         }
+    }
+
+    /// Whether a request waits, once it was looked for.
+    pub(crate) fn has_next(&self) -> bool
+        ensures { result ≡ is_some (self.now).arrival.requests.items.next }
+    {
+        self.arrival.requests.items.next().is_some()
     }
 
     /// Takes one turn. Where there is no room for its reply, the writer is told that somebody waits, and the turn is tried once more.

@@ -1,9 +1,10 @@
-use Rattle.std.proofs.Common.{◌≡◌, None, Some, rules, refl, sym, subst, ap, le_refl, ◌∙◌}
+use Rattle.std.proofs.Common.{◌≡◌, ℕ, None, Some, rules, refl, sym, subst, ap, le_refl, ◌∙◌}
 use Rattle.serving.specs.CommitJob.{IsHereOrLent}
 use Rattle.serving.specs.Keeping.{job_of}
 use Rattle.serving.specs.declared.commit_job.CommitJob.{CommitJob}
 use Rattle.serving.proofs.KeepingLemmas.{job-over, job-stands, job-through-then, through-as, through-closed, through-same, through-steps}
-use Rattle.serving.proofs.TendingLemmas.{closes-or-lacks, tends-home}
+use Rattle.serving.specs.Tending.{ClosesOrLacks}
+use Rattle.serving.proofs.TendingLemmas.{closes-or-lacks, due-by, tends-home}
 use Rattle.serving.proofs.node.commit.Goals as goal
 
 pub settle-did-requires-clause-stands : goal.settle-did-requires-clause-stands
@@ -15,59 +16,62 @@ returns-then-job-clause-stands g c =
     subst (λ home. IsHereOrLent E.device E.contents home c.lend.new.self.value c.close_due-closed.new.front.sequencer) (sym c.take.ensures.after)
     (_, ap (λ end. end.value) c.lend.ensures, c.close_due-closed.ensures.stands)
 
-pub returns-then-not-is_step_due-clause-tends : goal.returns-then-not-is_step_due-clause-tends
-returns-then-not-is_step_due-clause-tends g c =
+pub returns-then-not-is_due-clause-tends : goal.returns-then-not-is_due-clause-tends
+returns-then-not-is_due-clause-tends g c read is_remote is_heard =
     let E = g.E.Durable in
     let job = c.in-Some.job in
     let closed = c.close_due-closed in
-    tends-home E.device E.contents E.is_faulted c.args.remote c.args.is_short c.args.gathering.now closed.new.gathering c.args.home.now job c.args.lender.now c.args.front.now.sequencer
+    tends-home E.device E.contents E.is_faulted read c.args.is_short c.args.gathering.now closed.new.gathering c.args.home.now job c.args.lender.now c.args.front.now.sequencer
     c.replace.new.self c.args.lender.now closed.new.front.sequencer _ (sym c.take.ensures.value ∙ c.in-Some.is) (record {
-      ready = record { back = closed.new.back; marks = job.marks; groups = c.is_step_due.new.groups; link = job.link; remote = c.args.remote; came = job.came; step_time = job.step_time };
+      ready = record { back = closed.new.back; marks = job.marks; groups = c.is_due.new.groups; link = job.link; remote = c.args.remote; came = job.came; step_time = job.step_time };
       between = closed.new.front.sequencer;
-      closes = closes-or-lacks c.args.gathering.now closed.new.gathering c.args.remote c.args.is_short c.args.front.now.sequencer closed.new.front.sequencer job.back.work closed.new.back.work closed.result
-          closed.ensures.closes closed.ensures.cause closed.ensures.lacks;
+      closes = subst (λ (mark : ℕ). ClosesOrLacks c.args.gathering.now mark c.args.is_short c.args.front.now.sequencer job.back.work closed.new.front.sequencer closed.new.back.work closed.new.gathering closed.result) (sym is_remote)
+          (closes-or-lacks c.args.gathering.now closed.new.gathering c.args.remote c.args.is_short c.args.front.now.sequencer closed.new.front.sequencer job.back.work closed.new.back.work closed.result
+          closed.ensures.closes closed.ensures.cause closed.ensures.lacks);
       committer = closed.ensures.committer;
-      by = refl;
-      offered = c.is_step_due.ensures.offered;
+      by = sym is_remote;
+      offered = c.is_due.ensures.offered;
       times = refl;
-      steps = (sym c.is_step_due.ensures.due ∙ search rules, c.replace.ensures.after, refl, refl);
+      steps = (due-by read.heard c.args.is_heard _ _ _ is_heard (sym c.is_due.ensures.due) (search rules), c.replace.ensures.after, refl, refl);
     })
 
 pub returns-then-job-clause-tends : goal.returns-then-job-clause-tends
-returns-then-job-clause-tends g c =
+returns-then-job-clause-tends g c read is_remote is_heard =
     let E = g.E.Durable in
     let job = c.in-Some.job in
     let closed = c.close_due-closed in
-    tends-home E.device E.contents E.is_faulted c.args.remote c.args.is_short c.args.gathering.now closed.new.gathering c.args.home.now job c.args.lender.now c.args.front.now.sequencer
+    tends-home E.device E.contents E.is_faulted read c.args.is_short c.args.gathering.now closed.new.gathering c.args.home.now job c.args.lender.now c.args.front.now.sequencer
     c.take.new.self c.lend.new.self closed.new.front.sequencer _ (sym c.take.ensures.value ∙ c.in-Some.is) (record {
-      ready = record { back = closed.new.back; marks = job.marks; groups = c.is_step_due.new.groups; link = job.link; remote = c.args.remote; came = job.came; step_time = job.step_time };
+      ready = record { back = closed.new.back; marks = job.marks; groups = c.is_due.new.groups; link = job.link; remote = c.args.remote; came = job.came; step_time = job.step_time };
       between = closed.new.front.sequencer;
-      closes = closes-or-lacks c.args.gathering.now closed.new.gathering c.args.remote c.args.is_short c.args.front.now.sequencer closed.new.front.sequencer job.back.work closed.new.back.work closed.result
-          closed.ensures.closes closed.ensures.cause closed.ensures.lacks;
+      closes = subst (λ (mark : ℕ). ClosesOrLacks c.args.gathering.now mark c.args.is_short c.args.front.now.sequencer job.back.work closed.new.front.sequencer closed.new.back.work closed.new.gathering closed.result) (sym is_remote)
+          (closes-or-lacks c.args.gathering.now closed.new.gathering c.args.remote c.args.is_short c.args.front.now.sequencer closed.new.front.sequencer job.back.work closed.new.back.work closed.result
+          closed.ensures.closes closed.ensures.cause closed.ensures.lacks);
       committer = closed.ensures.committer;
-      by = refl;
-      offered = c.is_step_due.ensures.offered;
+      by = sym is_remote;
+      offered = c.is_due.ensures.offered;
       times = refl;
-      steps = (sym c.is_step_due.ensures.due ∙ search rules, c.if-job.true, c.take.ensures.after, c.lend.ensures, refl);
+      steps = (due-by read.heard c.args.is_heard _ _ _ is_heard (sym c.is_due.ensures.due) (search rules), c.if-job.true, c.take.ensures.after, c.lend.ensures, refl);
     })
 
 pub returns-clause-tends : goal.returns-clause-tends
-returns-clause-tends g c =
+returns-clause-tends g c read is_remote is_heard =
     let E = g.E.Durable in
     let job = c.in-Some.job in
     let closed = c.close_due-closed in
     let told = c.in_ok-did.ensures.told in
-    tends-home E.device E.contents E.is_faulted c.args.remote c.args.is_short c.args.gathering.now closed.new.gathering c.args.home.now job c.args.lender.now c.args.front.now.sequencer
+    tends-home E.device E.contents E.is_faulted read c.args.is_short c.args.gathering.now closed.new.gathering c.args.home.now job c.args.lender.now c.args.front.now.sequencer
     c.replace-2.new.self c.args.lender.now c.settle-did.new.front.sequencer _ (sym c.take.ensures.value ∙ c.in-Some.is) (record {
-      ready = record { back = closed.new.back; marks = job.marks; groups = c.is_step_due.new.groups; link = job.link; remote = c.args.remote; came = job.came; step_time = job.step_time };
+      ready = record { back = closed.new.back; marks = job.marks; groups = c.is_due.new.groups; link = job.link; remote = c.args.remote; came = job.came; step_time = job.step_time };
       between = closed.new.front.sequencer;
-      closes = closes-or-lacks c.args.gathering.now closed.new.gathering c.args.remote c.args.is_short c.args.front.now.sequencer closed.new.front.sequencer job.back.work closed.new.back.work closed.result
-          closed.ensures.closes closed.ensures.cause closed.ensures.lacks;
+      closes = subst (λ (mark : ℕ). ClosesOrLacks c.args.gathering.now mark c.args.is_short c.args.front.now.sequencer job.back.work closed.new.front.sequencer closed.new.back.work closed.new.gathering closed.result) (sym is_remote)
+          (closes-or-lacks c.args.gathering.now closed.new.gathering c.args.remote c.args.is_short c.args.front.now.sequencer closed.new.front.sequencer job.back.work closed.new.back.work closed.result
+          closed.ensures.closes closed.ensures.cause closed.ensures.lacks);
       committer = closed.ensures.committer;
-      by = refl;
-      offered = c.is_step_due.ensures.offered;
+      by = sym is_remote;
+      offered = c.is_due.ensures.offered;
       times = refl;
-      steps = (sym c.is_step_due.ensures.due ∙ search rules, c.if-job.false, c.run_job-job.result, c.replace-2.ensures.after, refl, (c.run_job-job.ensures, told.0, told.1, told.2, told.3));
+      steps = (due-by read.heard c.args.is_heard _ _ _ is_heard (sym c.is_due.ensures.due) (search rules), c.if-job.false, c.run_job-job.result, c.replace-2.ensures.after, refl, (c.run_job-job.ensures, told.0, told.1, told.2, told.3));
     })
 
 -- ---- the past
@@ -82,8 +86,8 @@ returns-in_default-clause-past g c =
     (through-same E.device E.contents E.is_faulted _ _ _ (job-stands E.device E.contents E.is_faulted c.args.home.now c.args.lender.now.value c.args.front.now.sequencer c.requires.stands))
 
 -- what is due was closed
-pub returns-then-not-is_step_due-clause-past : goal.returns-then-not-is_step_due-clause-past
-returns-then-not-is_step_due-clause-past g c =
+pub returns-then-not-is_due-clause-past : goal.returns-then-not-is_due-clause-past
+returns-then-not-is_due-clause-past g c =
     let E = g.E.Durable in
     let job = c.in-Some.job in
     let closed = c.close_due-closed in
@@ -112,7 +116,7 @@ returns-clause-past g c =
     let closed = c.close_due-closed in
     let home = sym c.take.ensures.value ∙ c.in-Some.is in
     let told = c.in_ok-did.ensures.told in
-    let ready : CommitJob g.row.E.Denot = record { back = closed.new.back; marks = job.marks; groups = c.is_step_due.new.groups; link = job.link; remote = c.args.remote; came = job.came; step_time = job.step_time } in
+    let ready : CommitJob g.row.E.Denot = record { back = closed.new.back; marks = job.marks; groups = c.is_due.new.groups; link = job.link; remote = c.args.remote; came = job.came; step_time = job.step_time } in
     through-as E.device E.contents E.is_faulted _ _ (Some job) _ (Some c.run_job-job.result) _ _ (ap (λ home. job_of home c.args.lender.now.value) home)
     (ap (λ home. job_of home c.args.lender.now.value) c.replace-2.ensures.after)
     (job-through-then E.device E.contents E.is_faulted c.args.remote (Some job) (Some ready) (Some c.run_job-job.result) _ closed.new.front.sequencer _

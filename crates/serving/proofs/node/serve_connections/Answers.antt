@@ -1,4 +1,4 @@
-use Rattle.std.proofs.Common.{sym, subst, ◌∙◌, ap}
+use Rattle.std.proofs.Common.{subst, ◌∙◌, ap}
 use Rattle.serving.specs.Callers.{answers_of}
 use Rattle.serving.specs.Visiting.{HeedsCalls, floor_of}
 use Rattle.serving.specs.declared.callers.Answers.{Answers}
@@ -19,8 +19,8 @@ returns-clause-visits g c =
         asks = ap answers_of c.serve-served.ensures.arrivals ∙ c.admit-admitted.ensures.asks.asks;
         nobody = c.admit-admitted.ensures.asks.nobody;
       };
-      visited = visits.0;
-      visits = visits.1;
-      heeds = subst (λ (answers : Answers). HeedsCalls (answers_of answers) (answers_of c.serve-served.new.self.callers.answers) visits.0
-          (floor_of c.serve-served.new.self c.serve-served.new.front.sequencer)) c.admit-admitted.ensures.callers visits.2;
+      called = visits.0;
+      heeds = subst (λ (answers : Answers). HeedsCalls (answers_of answers) (answers_of c.serve-served.new.self.callers.answers)
+          (floor_of c.admit-admitted.new.self c.admit-admitted.new.front.sequencer) visits.0) c.admit-admitted.ensures.callers visits.1;
+      visits = visits.2;
     }

@@ -34,7 +34,7 @@ returns-clause-round g c =
       lender1 = c.fetch.new.lender;
       told = c.fetch.new.front.sequencer;
       fetches = c.in_ok-fetched.ensures.fetches;
-      mark = tended.marks.remote;
+      mark = tended.marks;
       before = c.in_ok-before.before;
       noted1 = tended.gathering;
       home2 = tended.home;
@@ -44,13 +44,13 @@ returns-clause-round g c =
       has_served = c.serve_connections-served.result;
       served = served.front.sequencer;
       serves = serving.serves;
-      visits = subst (λ (after : OpenConnections). ServesRound c.args.state.now.connections after tended.front.sequencer served.front.sequencer) (sym still)
-          (subst (λ (before : OpenConnections). ServesRound before served.connections tended.front.sequencer served.front.sequencer) c.commit_due.ensures.connections serving.visits);
+      visits = subst (λ (after : OpenConnections). ServesRound tended.gathering.closed c.args.state.now.connections after tended.front.sequencer served.front.sequencer) (sym still)
+          (subst (λ (before : OpenConnections). ServesRound tended.gathering.closed before served.connections tended.front.sequencer served.front.sequencer) c.commit_due.ensures.connections serving.visits);
       after = c.in_ok-after.after;
-      tends_again = tends-same E.device E.contents E.is_faulted last.marks.remote served.connections.is_short last.connections.is_short served.gathering tended.gathering last.gathering
+      tends_again = tends-same E.device E.contents E.is_faulted last.marks served.connections.is_short last.connections.is_short served.gathering tended.gathering last.gathering
           served.home tended.home served.lender tended.lender served.front.sequencer last.home last.lender last.front.sequencer c.in_ok-after.after
           (ap (λ (connections : OpenConnections). connections.is_short) (sym still)) serving.gathering serving.home serving.lender c.in_ok-after.ensures.tends;
-      rises = (first_read.1, omega (arith, serving.read.1, last_read.1));
+      rises = (first_read.1, omega (arith, serving.read.1, last_read.1), first_read.2, λ heard. last_read.2 (serving.read.2 heard));
       is_busy_is = cc;
     }
 

@@ -1,4 +1,3 @@
-use Rattle.std.proofs.Common.{sym, subst, ◌∙◌, ap}
 use Rattle.serving.proofs.LinkingLemmas.{link-of}
 use Rattle.serving.proofs.starting.run.Goals as goal
 

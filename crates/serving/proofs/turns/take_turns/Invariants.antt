@@ -1,4 +1,4 @@
-use Rattle.std.proofs.Common.{◌≡◌, ◌+◌}
+use Rattle.std.proofs.Common.{◌≡◌, ◌+◌, ◌≤◌}
 use Rattle.serving.specs.Roomed.{ServesByNeed}
 use Rattle.serving.specs.Serving.{Serves, WaitsOnlyFor}
 use Rattle.serving.specs.Turns.{TakesTurns}
@@ -12,4 +12,5 @@ invariant-loop g l =
     × WaitsOnlyFor l.is_short l.is_working l.front.sequencer
     × (l.is_short ≡ l.fn.is_short)
     × (count_of l.connection ≡ count_of l.fn.connection + l.counter)
-    × ServesByNeed l.is_working l.fn.is_short l.fn.front.sequencer l.fn.connection l.front.sequencer l.connection
+    × ServesByNeed l.is_working l.fn.is_short l.fn.front.sequencer l.fn.connection l.fn.filling l.front.sequencer l.connection l.filling
+    × (l.front.sequencer.position ≤ l.fn.front.sequencer.position + l.share)

@@ -7,4 +7,5 @@ returns-in-Ok-clause-admits g c = inl (record {
   opened = rw c.in-Ok.ensures.connection c.in-Ok.ensures.opened;
   put = c.serve_again.ensures.listed c.open.new.front.sequencer;
   is_short = c.serve_again.ensures.short;
+  filling = c.serve_again.ensures.filling;
 })

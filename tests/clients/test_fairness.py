@@ -1,0 +1,53 @@
+"""Clients that pipeline without pause, and one that asks one request at a time beside them. It catches a round that begins with the same connection each
+time, one connection that takes a whole group while others wait, and a group of long values for which all wait.
+
+How long one waits is told by a counter that all raise: by how many others were answered between two of its own."""
+
+import contextlib
+import statistics
+import time
+
+from pair import PairCases
+from pipelines import pipelines
+
+PROGRAMS = ["server"]
+IS_SLOW = True
+IS_ALONE = True
+
+# How long the pipelines last, how often the other one asks, and how many pipelines there are.
+SECONDS, ASKED, PIPELINES = 6, 15, (1, 3, 20)
+# By the bytes of a value: how many others are answered at most, in the median, while one waits. A round of a few groups is some hundred of them, and of
+# long values some ten; what the machine does beside it may be ten times as much. One that waits for a pipeline waits for all that is sent meanwhile, which is
+# without end here.
+MOST = {0: 30_000, 4_096: 10_000, 65_536: 2_000, 1_048_576: 200}
+
+
+class Fairness(PairCases):
+    @contextlib.contextmanager
+    def beside(self, count, length):
+        """A pair with so many clients that pipeline, which have begun to be answered."""
+        nodes = self.pair(lines=1_048_576 if length >= 65_536 else 262_144)
+        with contextlib.closing(nodes), pipelines(nodes.door.number, count, length) as made:
+            time.sleep(0.5)
+            yield nodes, made
+
+    def between(self, nodes):
+        """How many others were answered between two answers of one that asks one request at a time."""
+        client, ends, counts = nodes.client(), time.monotonic() + SECONDS, []
+        while len(counts) <= ASKED and (time.monotonic() < ends or len(counts) < 2):
+            counts.append(int(client.ask("INCR", "count")[1:-2]))
+        return [after - before - 1 for before, after in zip(counts, counts[1:])]
+
+    def test_one_that_asks_waits_for_no_pipeline(self):
+        for length, most in MOST.items():
+            for count in PIPELINES:
+                with self.case("beside pipelines", length=length, count=count), self.beside(count, length) as (nodes, _):
+                    found = self.between(nodes)
+                    self.assertLessEqual(statistics.median(found), most, found)
+
+    def test_pipelines_get_on_alike(self):
+        with self.beside(3, 0) as (_, made):
+            before = made.answered()
+            time.sleep(2)
+            counts = [after - first for first, after in zip(before, made.answered())]
+            self.assertGreater(4 * min(counts), max(counts), counts)
