@@ -1,5 +1,5 @@
 -- Replies that are taken one after another from bytes that come in pieces.
-use Rattle.std.proofs.Common.{◌≡◌, ◌⊎◌, ℕ, ◌+◌, List, [], ◌∷◌, ◌++◌, length, map, flat_map, Option, Some, None, IfSome, inl, inr, refl, sym, ap, ap₂, subst, ◌∙◌, append_assoc, append-nil, length-append}
+use Rattle.std.proofs.Common.{◌≡◌, ◌⊎◌, ℕ, ◌+◌, List, [], ◌∷◌, ◌++◌, length, map, flat_map, Bool, true, false, ◌||◌, Option, Some, None, IfSome, inl, inr, refl, sym, ap, ap₂, subst, ◌∙◌, append_assoc, append-nil, length-append}
 use Rattle.std.proofs.lemmas.List.Concat.{flat_map-append}
 use Rattle.std.proofs.KnownBytes.{Appends-nil, Appends-trans, Consumes-nil, Consumes-trans}
 use Rattle.std.specs.Io.KnownBytes.{Appends, Consumes, IsAtEnd, Keeps}
@@ -17,7 +17,7 @@ use Rattle.resp_codec.specs.ReplyReading.{replies_at}
 use Rattle.resp_codec.proofs.Pieces.{fed-fed, fed-nothing}
 use Rattle.resp_codec.proofs.ReplyHolds.{HoldsReplies-replies_at}
 use Rattle.resp_codec.proofs.ReplyItems.{read_numbers, replies_at-again}
-use Rattle.client.specs.Exchange.{AreAsked, Holds, IsNeeded, IsNoReply, EndsShort, Takes, Talks}
+use Rattle.client.specs.Exchange.{AreAsked, Holds, IsNeeded, IsNoReply, EndsShort, Takes, Talks, any_error, is_error}
 use Rattle.client.specs.Asked.{requests_of}
 use Rattle.client.specs.Printed.{printed_reply}
 use Rattle.client.specs.Told.{PrintsReplies}
@@ -124,10 +124,23 @@ take_front held next front bytes reply holds gives =
 
 -- ---- requests, one after another
 
-pub talks-none : (sent left held printed : Option (List ℕ)) → Talks [] sent sent left left held held printed printed
+or-false : (b : Bool) → (b || false) ≡ b
+or-false true = refl
+or-false false = refl
+
+or-assoc : (a b c : Bool) → (a || (b || c)) ≡ ((a || b) || c)
+or-assoc true b c = refl
+or-assoc false b c = refl
+
+any_error-append : (xs ys : List Reply) → any_error (xs ++ ys) ≡ (any_error xs || any_error ys)
+any_error-append [] ys = refl
+any_error-append (x ∷ xs) ys = ap (λ b. is_error x || b) (any_error-append xs ys) ∙ or-assoc (is_error x) (any_error xs) (any_error ys)
+
+pub talks-none : (sent left held printed : Option (List ℕ)) → Talks [] false sent sent left left held held printed printed
 talks-none sent left held printed = record {
   replies = [];
   each = refl;
+  errors = refl;
   asked = Appends-nil sent;
   bytes = [];
   came = Consumes-nil left;
@@ -135,11 +148,12 @@ talks-none sent left held printed = record {
   told = Appends-nil printed;
 }
 
-pub talks-one : (words : List (List ℕ)) (sent sent' left left' held held' printed printed' : Option (List ℕ)) (reply : Reply) → Appends sent sent' (spelling words) → Takes left left' held held' reply
-    → Appends printed printed' (printed_reply reply) → Talks (words ∷ []) sent sent' left left' held held' printed printed'
-talks-one words sent sent' left left' held held' printed printed' reply asked takes told = record {
+pub talks-one : (words : List (List ℕ)) (sent sent' left left' held held' printed printed' : Option (List ℕ)) (reply : Reply) (failed : Bool) → failed ≡ is_error reply → Appends sent sent' (spelling words) → Takes left left' held held' reply
+    → Appends printed printed' (printed_reply reply) → Talks (words ∷ []) failed sent sent' left left' held held' printed printed'
+talks-one words sent sent' left left' held held' printed printed' reply failed is asked takes told = record {
   replies = reply ∷ [];
   each = refl;
+  errors = is ∙ sym (or-false (is_error reply));
   asked = subst (Appends sent sent') (sym (append-nil (spelling words))) asked;
   bytes = takes.bytes;
   came = takes.read;
@@ -149,11 +163,12 @@ talks-one words sent sent' left left' held held' printed printed' reply asked ta
   told = subst (Appends printed printed') (sym (append-nil (printed_reply reply))) told;
 }
 
-pub talks-then : (requests more : List (List (List ℕ))) (s s' s'' l l' l'' h h' h'' p p' p'' : Option (List ℕ)) → Talks requests s s' l l' h h' p p' → Talks more s' s'' l' l'' h' h'' p' p''
-    → Talks (requests ++ more) s s'' l l'' h h'' p p''
-talks-then requests more s s' s'' l l' l'' h h' h'' p p' p'' a b = record {
+pub talks-then : (requests more : List (List (List ℕ))) (f f' f'' : Bool) (s s' s'' l l' l'' h h' h'' p p' p'' : Option (List ℕ)) → f'' ≡ (f || f') → Talks requests f s s' l l' h h' p p' → Talks more f' s' s'' l' l'' h' h'' p' p''
+    → Talks (requests ++ more) f'' s s'' l l'' h h'' p p''
+talks-then requests more f f' f'' s s' s'' l l' l'' h h' h'' p p' p'' either a b = record {
   replies = a.replies ++ b.replies;
   each = length-append a.replies b.replies ∙ ap₂ (λ m n. m + n) a.each b.each ∙ sym (length-append requests more);
+  errors = either ∙ ap₂ (λ a b. a || b) a.errors b.errors ∙ sym (any_error-append a.replies b.replies);
   asked = subst (Appends s s'') (sym (flat_map-append spelling requests more)) (Appends-trans s s' s'' (flat_map spelling requests) (flat_map spelling more) a.asked b.asked);
   bytes = a.bytes ++ b.bytes;
   came = Consumes-trans l l' l'' a.bytes b.bytes a.came b.came;
@@ -178,7 +193,7 @@ prints-each (word ∷ words) input requests count asked counted = inl (counted �
 prints-each [] None requests count asked counted = inr tt
 prints-each [] (Some text) requests count asked counted = inr (counted ∙ ap length asked)
 
-pub talks-prints : (words : List (List ℕ)) (input : Option (List ℕ)) (requests : List (List (List ℕ))) (sent sent' left left' held held' printed printed' : Option (List ℕ)) → AreAsked words input requests
-    → Talks requests sent sent' left left' held held' printed printed' → PrintsReplies input printed printed'
-talks-prints words input requests sent sent' left left' held held' printed printed' asked talks =
-    record { replies = talks.replies; each = prints-each words input requests (length talks.replies) asked talks.each; told = talks.told }
+pub talks-prints : (words : List (List ℕ)) (input : Option (List ℕ)) (requests : List (List (List ℕ))) (failed : Bool) (sent sent' left left' held held' printed printed' : Option (List ℕ)) → AreAsked words input requests
+    → Talks requests failed sent sent' left left' held held' printed printed' → PrintsReplies failed input printed printed'
+talks-prints words input requests failed sent sent' left left' held held' printed printed' asked talks =
+    record { replies = talks.replies; each = prints-each words input requests (length talks.replies) asked talks.each; errors = talks.errors; told = talks.told }

@@ -1,8 +1,8 @@
 -- What goes over a connection.
-use Rattle.std.specs.Prelude.{◌≡◌, ◌⊎◌, ℕ, List, [], ◌∷◌, ◌++◌, length, Option, Some, IfSome, ⊤}
+use Rattle.std.specs.Prelude.{◌≡◌, ◌⊎◌, ℕ, Bool, true, false, ◌||◌, List, [], ◌∷◌, ◌++◌, length, Option, Some, IfSome, ⊤}
 use Rattle.std.specs.List.{flat_map}
 use Rattle.std.specs.Io.KnownBytes.{Appends, Consumes, IsAtEnd}
-use Rattle.kv_types.specs.declared.reply.Reply.{Reply}
+use Rattle.kv_types.specs.declared.reply.Reply.{Reply, Simple, Error, Int, Bulk, NullBulk, Array', NullArray}
 use Rattle.kv_types.specs.Reply.{text_of}
 use Rattle.kv_types.specs.Request.{spelling}
 use Rattle.resp_codec.specs.declared.reply_item.ReplyItem.TheVariants as item
@@ -58,10 +58,26 @@ IsCause Memory left left' held = ⊤
 abbrev pub Holds : (held : Option (List ℕ)) (bytes : List ℕ) → Type 0
 Holds held bytes = (more : List ℕ) → replies_ahead (fed held more) ≡ replies_at REPLY_LIMITS (bytes ++ more)
 
--- Requests were sent over a connection, and a reply to each came and was printed.
-pub record Talks (requests : List (List (List ℕ))) (sent sent' left left' held held' printed printed' : Option (List ℕ)) : Type 0 where
+-- whether a reply is an error
+abbrev pub is_error : Reply → Bool
+is_error (Simple text) = false
+is_error (Error text) = true
+is_error (Int n) = false
+is_error (Bulk bytes) = false
+is_error NullBulk = false
+is_error (Array' shape replies) = false
+is_error NullArray = false
+
+-- whether one of these replies is
+abbrev pub any_error : List Reply → Bool
+any_error [] = false
+any_error (reply ∷ replies) = is_error reply || any_error replies
+
+-- Requests were sent over a connection, and a reply to each came and was printed. It says whether one of them was an error.
+pub record Talks (requests : List (List (List ℕ))) (failed : Bool) (sent sent' left left' held held' printed printed' : Option (List ℕ)) : Type 0 where
   pub replies : List Reply
   pub each : length replies ≡ length requests
+  pub errors : failed ≡ any_error replies
   pub asked : Appends sent sent' (flat_map spelling requests)
   -- the bytes that came
   pub bytes : List ℕ

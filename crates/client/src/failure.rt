@@ -1,7 +1,7 @@
 //! Why the program did not do what it was asked, and what it tells of that.
 ghost use Rattle.std.specs.Prelude.{OnOk};
 ghost use Rattle.std.specs.Io.KnownBytes.{Appends};
-ghost use Rattle.client.specs.Told.{refusal_line};
+ghost use Rattle.client.specs.Told.{refusal_line, unreached_line};
 
 use crate::exchange;
 use clap::error::ErrorKind;
@@ -9,25 +9,43 @@ use kv_types::Refusal;
 use std::alloc::AllocError;
 use std::io::{self, Write};
 
-/// The status where not every reply came, or not every one was printed.
-const FAILED: u8 = 1;
+/// The status where a reply was an error, or no reply came and none will by the same words, or not every one was printed.
+pub const FAILED: u8 = 1;
 
-/// The status if the command line is not understood, or asks for help.
+/// The status if the command line is not understood.
 const MISUSED: u8 = 2;
+
+/// The status where no reply came, and one may if it is asked for again: `EX_TEMPFAIL` of `sysexits.h`.
+const PASSING: u8 = 75;
 
 /// Why the program did not do what it was asked.
 #[derive(Debug, Drop)]
 pub enum Failure {
-    /// The command line is none of this program's, or asks for help. Nothing was done.
+    /// The command line is none of this program's. Nothing was done.
     Misused(clap::Error),
-    /// There was no connection, or it broke, or what came over it is no reply.
+    /// There was no connection.
+    Unreached(Unreached),
+    /// The connection broke.
     Broken,
+    /// What came over it is no reply.
+    NoReply,
     /// Memory was refused.
     Memory,
     /// Standard input could not be read.
     Read(io::Error),
     /// Standard output could not be written.
     Write(io::Error),
+}
+
+/// Why there was no connection.
+#[derive(Clone, Copy, Debug, PartialEq, Eq)]
+pub enum Unreached {
+    /// Nobody takes one there.
+    Nobody,
+    /// The name of the host leads to no address, or not now.
+    Name,
+    /// This process, or the system, has no descriptor left.
+    Descriptor,
 }
 
 impl From<clap::Error> for Failure {
@@ -55,7 +73,8 @@ impl From<exchange::Broken> for Failure {
     fn from(broken: exchange::Broken) -> Failure {
         match broken {
             exchange::Broken::Memory => Failure::Memory,
-            _ => Failure::Broken,
+            exchange::Broken::NoReply => Failure::NoReply,
+            exchange::Broken::Failed(_) | exchange::Broken::Closed => Failure::Broken,
         }
     }
 }
@@ -63,17 +82,18 @@ impl From<exchange::Broken> for Failure {
 impl Failure {
     ghost use Rattle.std.specs.Prelude.{◌≡◌, ◌<◌, ◌≤◌, IfSome, OnOk};
     ghost use Rattle.std.specs.Io.KnownBytes.{Appends};
-    ghost use Rattle.client.specs.Told.{status_after, told_of};
+    ghost use Rattle.client.specs.Told.{IsStatus, status_after, told_of};
 
     /// The status that the program ends with.
     pub fn status(&self) -> u8
         ensures status { result ≡ status_after self.now }
         ensures failed { 0 < result }
-        ensures known { result ≤ 2 }
+        ensures known { IsStatus result }
     {
         match self {
             Failure::Misused(_) => MISUSED,
-            Failure::Broken | Failure::Memory | Failure::Read(_) | Failure::Write(_) => FAILED,
+            Failure::Unreached(_) | Failure::Broken | Failure::Memory => PASSING,
+            Failure::NoReply | Failure::Read(_) | Failure::Write(_) => FAILED,
         }
     }
 
@@ -84,11 +104,27 @@ impl Failure {
         match self {
             // (its text ends its last line itself)
             Failure::Misused(error) => write!(errors, "{error}"),
+            Failure::Unreached(why) => tell_unreached(*why, errors),
             Failure::Broken => writeln!(errors, "broken connection"),
+            Failure::NoReply => writeln!(errors, "what came is no reply"),
             Failure::Memory => tell_refusal(Refusal::Memory, errors),
             Failure::Read(error) => writeln!(errors, "reading failed: {error}"),
             Failure::Write(error) => writeln!(errors, "writing failed: {error}"),
         }
+    }
+}
+
+/// Tells why there was no connection.
+fn tell_unreached<E: Write>(why: Unreached, errors: &mut E) -> io::Result<()>
+    ensures { OnOk result (Appends (E.contents errors.old) (E.contents errors.new) (unreached_line why)) }
+{
+    match why {
+        Unreached::Nobody => writeln!(errors, "no connection: nobody takes one there"),
+        Unreached::Name => writeln!(
+            errors,
+            "no connection: the name of the host does not resolve"
+        ),
+        Unreached::Descriptor => writeln!(errors, "no connection: no descriptor is left"),
     }
 }
 

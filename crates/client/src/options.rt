@@ -1,4 +1,5 @@
 //! What the words of the command line ask for.
+use addresses::is_address;
 use bytes::Bytes;
 use clap::Error;
 use clap::builder::{Arg, ArgAction, Command};
@@ -12,6 +13,8 @@ pub const PROGRAM: &str = "wbl-cli";
 const CONNECT: &str = "connect";
 
 const WORD: &str = "word";
+
+const NO_ADDRESS: &str = "'--connect <A>' takes a host and a port, as 127.0.0.1:7000";
 
 /// What the program is asked to do.
 #[derive(Drop)]
@@ -32,6 +35,9 @@ pub fn options<'a>(alloc: Global, words: &'a [String]) -> Result<Task<'a>, Error
     let matches = command.try_get_matches_from_mut(words)?;
     let given = matches.get_strs(WORD).unwrap_or(&[]);
     match matches.get_str(CONNECT) {
+        Some(address) if !is_address(address) => {
+            Err(command.error(ErrorKind::ValueValidation, NO_ADDRESS)?)
+        }
         Some(address) => Ok(Task {
             address,
             words: copied(alloc, given)?,

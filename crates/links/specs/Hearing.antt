@@ -16,6 +16,7 @@ pub record Takes (old : AckReceiver) (ack : Ack) (new : AckReceiver) : Type 0 wh
   pub own : counts old.epoch ack ≡ true
   pub within : ack.position ≤ new.marks.local
   pub raised : new.marks.remote ≡ max old.marks.remote ack.position
+  pub heard : new.marks.heard ≡ 1
   pub was_behind : old.standing ≡ Behind
   pub behind : new.standing ≡ Behind
   pub epoch : new.epoch ≡ old.epoch
@@ -24,7 +25,7 @@ pub record Takes (old : AckReceiver) (ack : Ack) (new : AckReceiver) : Type 0 wh
 -- The receiver refused this acknowledgement, and the remote mark stayed: it does not count, or the standby was ahead before, or it is above the local mark as
 -- it was read before. By one that counts the standby is ahead from then on; any other says nothing of that. No writer was called.
 pub record RefusesAck (old : AckReceiver) (ack : Ack) (new : AckReceiver) : Type 0 where
-  pub stays : new.marks.remote ≡ old.marks.remote
+  pub stays : (new.marks.remote ≡ old.marks.remote) × (new.marks.heard ≡ old.marks.heard)
   pub epoch : new.epoch ≡ old.epoch
   pub why : (counts old.epoch ack ≡ false) ⊎ ((old.standing ≡ Ahead) ⊎ (new.marks.local < ack.position))
   pub ahead : counts old.epoch ack ≡ true → new.standing ≡ Ahead

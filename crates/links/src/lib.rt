@@ -2,6 +2,7 @@
 #![tactic(auto)]
 
 mod acknowledging;
+mod dialing;
 mod fill_gauges;
 mod filling;
 mod following;

@@ -27,6 +27,10 @@ const NO_ROOM: &str =
 /// What there is to do about an image that fills.
 const LARGER: &str = "see \"A larger image\" in docs/operating.md";
 
+/// Why a node that has used up its descriptors has no link.
+const NO_DESCRIPTOR: &str =
+    "no descriptor is left for a connection: see \"A connection that cannot be taken\" in docs/server.md";
+
 /// What follows where a standby does not take what is sent.
 const NOT_TAKEN: &str =
     ": its own standard error says by which refusal; where that is \"refusal 5: full\", see \"A standby without room\" in docs/server.md";
@@ -136,6 +140,10 @@ pub enum News<'a> {
 pub enum Lost {
     /// Nobody takes a connection there.
     Unreachable,
+    /// The name of the host leads to no address, or not now.
+    Unresolved,
+    /// This process, or the system, has no descriptor left for a connection.
+    NoDescriptor,
     /// Nobody said there where a standby is.
     Silent,
     /// Where the standby is, or one of its acknowledgements, or a step of this side was refused so.
@@ -151,7 +159,11 @@ impl Lost {
     pub(crate) fn is_by_peer(self) -> bool {
         match self {
             Lost::Ended | Lost::Unwritten => true,
-            Lost::Unreachable | Lost::Silent | Lost::Refused(_) => false,
+            Lost::Unreachable
+            | Lost::Unresolved
+            | Lost::NoDescriptor
+            | Lost::Silent
+            | Lost::Refused(_) => false,
         }
     }
 }
@@ -282,6 +294,8 @@ impl fmt::Display for Lost {
     fn fmt<W: fmt::Write>(&self, f: &mut fmt::Formatter<W>) -> fmt::Result {
         match self {
             Lost::Unreachable => f.write_str("nobody takes a connection"),
+            Lost::Unresolved => f.write_str("the name of the host does not resolve"),
+            Lost::NoDescriptor => f.write_str(NO_DESCRIPTOR),
             Lost::Silent => f.write_str("no standby says where it is"),
             Lost::Refused(refusal) => {
                 let number = refusal.number();

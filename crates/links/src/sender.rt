@@ -8,6 +8,7 @@ ghost use Rattle.links.specs.Marking.{StaysFinal};
 ghost use Rattle.links.specs.Opening.{HearsLink, Opens, SaysFirst};
 ghost use Rattle.links.specs.declared.standing.Standing.TheVariants.{Behind};
 
+use crate::dialing::{dial, why_not};
 use crate::log::{Log, Lost, News};
 use crate::opening::open_link;
 use crate::receiver::AckReceiver;
@@ -42,9 +43,6 @@ const PAUSE_MILLISECONDS: u64 = 100;
 const FIRST_TELLING_PAUSES: u32 = 10;
 
 const MOST_TELLING_PAUSES: u32 = 6_000;
-
-/// How long the standby may take to say where it is, and to take some of what is written, in seconds.
-const PATIENCE_SECONDS: u64 = 5;
 
 /// What the link's sender owns.
 #[derive(Drop)]
@@ -325,8 +323,10 @@ impl LinkSender {
         // it is open where no memory was left to share the connection
         ensures left { OnErr result (KeepsAll self.old self.new ⊎ ((ack : Told) × Opens ack receiver.old receiver.new self.old.outgoing self.new.outgoing)) }
     {
-        let Ok(stream) = dial(rt, &self.address) else {
-            return Err(Lost::Unreachable);
+        let dialed = dial(rt, &self.address);
+        let why = why_not(&dialed);
+        let Ok(stream) = dialed else {
+            return Err(why);
         };
         let opened = open_link(alloc, &mut self.outgoing, receiver, &mut &stream);
         let (position, decoder) = match opened {
@@ -355,15 +355,6 @@ fn pause<R: Clock>(rt: &R, pauses: u32) {
     for _ in 0..pauses {
         thread::sleep(rt, Duration::from_millis(PAUSE_MILLISECONDS));
     }
-}
-
-/// Connects to the standby. Neither side is waited for without end.
-fn dial<R: Net<Stream = TcpStream>>(rt: &R, address: &String) -> io::Result<TcpStream> {
-    let stream = TcpStream::connect(rt, address.as_str())?;
-    stream.set_nodelay(true)?;
-    stream.set_read_timeout(Some(Duration::from_secs(PATIENCE_SECONDS)))?;
-    stream.set_write_timeout(Some(Duration::from_secs(PATIENCE_SECONDS)))?;
-    Ok(stream)
 }
 
 /// The connection for two threads. An acknowledgement may come at any time from now on.

@@ -1,32 +1,28 @@
 //! What the program does for the words of its command line.
-ghost use Rattle.std.specs.Prelude.{◌≡◌, ◌<◌, ◌≤◌, OnOk, length};
+ghost use Rattle.std.specs.Prelude.{◌≡◌, ◌≤◌, IfOk, OnOk, length};
 ghost use Rattle.server.specs.Served.{IsServed};
-ghost use Rattle.server.specs.Told.{status_after};
+ghost use Rattle.server.specs.Told.{IsStatus};
 
 use crate::causes::{tell_cause, tell_cause_of_making};
-use crate::failure::Failure;
+use crate::failure::{DONE, Failure, tell};
 use crate::formatting::format;
 use crate::images::Images;
 use crate::inspecting::inspect;
 use crate::migrating::migrate;
+use crate::nodes::run_node;
 use crate::options::{PROGRAM, Task, options};
 use crate::promoting::promote;
 use crate::serve::{ServeError, serve};
-use crate::serving_clients::serve_clients;
-use crate::standing_by::stand_by;
 use crate::status::status;
 use pmem::Pmem;
 use std::alloc::Global;
-use std::io::{Read, Write};
+use std::io::{self, Read, Write};
 use std::net::{Net, TcpListener, TcpStream};
 use std::random::RandomSource;
 use std::sync::Wait;
 use std::thread::Threads;
 use std::time::Clock;
 use version::VERSION;
-
-/// The status where all was done.
-const DONE: u8 = 0;
 
 /// Does what the words ask for, the first of which is the program's name, and returns the exit status. Without any further word, serves one
 /// connection over the reader and the writer. What went wrong is told to `errors`, and so is what a node does. With `is_asked` the reader is a terminal,
@@ -55,28 +51,18 @@ pub fn command<
     writer: &mut W,
     errors: E,
 ) -> u8
-    ensures status { result ≤ 3 }
+    ensures status { IsStatus result }
     ensures served { length words.now ≤ 1 → result ≡ 0
         → IsServed (R.remaining reader.old) (R.remaining reader.new) (W.contents writer.old) (W.contents writer.new) }
 {
     let mut errors = errors;
     match run(rt, alloc, words, images, is_asked, reader, writer, errors) {
-        Ok(()) => DONE,
+        Ok(status) => status,
         Err(failure) => tell(alloc, &failure, &mut errors),
     }
 }
 
-/// Tells what went wrong, and returns the exit status. Where even that cannot be written, the status has to do.
-pub fn tell<E: Write>(alloc: Global, failure: &Failure, errors: &mut E) -> u8
-    ensures status { result ≡ status_after failure.now }
-    ensures failed { 0 < result }
-    ensures known { result ≤ 3 }
-{
-    let _ = failure.tell_at_once(alloc, errors);
-    failure.status()
-}
-
-/// Does what the words ask for.
+/// Does what the words ask for, and returns the exit status.
 fn run<
     S: RandomSource
         + Threads
@@ -100,14 +86,35 @@ fn run<
     reader: &mut R,
     writer: &mut W,
     errors: E,
-) -> Result<(), Failure>
-    ensures { length words.now ≤ 1 → OnOk result (IsServed (R.remaining reader.old) (R.remaining reader.new) (W.contents writer.old) (W.contents writer.new)) }
+) -> Result<u8, Failure>
+    ensures status { IfOk result IsStatus }
+    ensures served { length words.now ≤ 1 → OnOk result (IsServed (R.remaining reader.old) (R.remaining reader.new) (W.contents writer.old) (W.contents writer.new)) }
 {
-    let mut errors = errors;
     if words.len() <= 1 {
-        return Ok(serve(rt, alloc, reader, writer)?);
+        serve(rt, alloc, reader, writer)?;
+        return Ok(DONE);
     }
     match options(alloc, words)? {
+        Task::Run(node) => Ok(run_node(rt, alloc, images, node, errors)),
+        task => {
+            let mut errors = errors;
+            work(alloc, task, images, is_asked, reader, writer, &mut errors)?;
+            Ok(DONE)
+        }
+    }
+}
+
+/// Does what is asked of an image, or prints what the program says of itself. No node is run.
+fn work<I: Images, R: Read, W: Write, E: Write>(
+    alloc: Global,
+    task: Task<'_>,
+    images: &I,
+    is_asked: bool,
+    reader: &mut R,
+    writer: &mut W,
+    errors: &mut E,
+) -> Result<(), Failure> {
+    match task {
         Task::Format {
             image,
             lines,
@@ -115,33 +122,20 @@ fn run<
             is_new,
         } => {
             let done = format(
-                alloc,
-                images,
-                image,
-                lines,
-                role,
-                is_new,
-                is_asked,
-                reader,
-                writer,
-                &mut errors,
+                alloc, images, image, lines, role, is_new, is_asked, reader, writer, errors,
             );
-            tell_cause_of_making(alloc, images, image, &done, &mut errors);
-            done
+            let is_held = tell_cause_of_making(alloc, images, image, lines, &done, errors);
+            while_held(done, is_held)
         }
         Task::Migrate { image } => {
             let done = migrate(alloc, images, image, writer);
-            tell_cause(alloc, images, image, &done, &mut errors);
-            done
+            told(alloc, images, image, done, errors)
         }
         Task::Inspect { image } => {
             let done = inspect(alloc, images, image, writer);
-            tell_cause(alloc, images, image, &done, &mut errors);
-            done
+            told(alloc, images, image, done, errors)
         }
-        Task::Status { image, behind } => {
-            status(alloc, images, image, behind, writer, &mut errors)
-        }
+        Task::Status { image, behind } => status(alloc, images, image, behind, writer, errors),
         Task::Promote {
             image,
             old_primary_stopped,
@@ -156,31 +150,39 @@ fn run<
                 is_asked,
                 reader,
                 writer,
-                &mut errors,
+                errors,
             );
-            tell_cause(alloc, images, image, &done, &mut errors);
-            done
+            told(alloc, images, image, done, errors)
         }
-        Task::Standby {
-            image,
-            listen,
-            from,
-            report,
-        } => stand_by(rt, alloc, images, image, listen, from, report, errors),
-        Task::Primary {
-            image,
-            listen,
-            link,
-            report,
-            idle,
-        } => serve_clients(rt, alloc, images, image, listen, link, report, idle, errors),
-        Task::Version => print_version(writer),
+        Task::Version => printed(writeln!(writer, "{PROGRAM} {VERSION}")),
+        Task::Help(text) => printed(write!(writer, "{text}")),
+        Task::Run(_) => Ok(()),
     }
 }
 
-/// Prints which program this is.
-fn print_version<W: Write>(writer: &mut W) -> Result<(), Failure> {
-    match writeln!(writer, "{PROGRAM} {VERSION}") {
+/// What came of a call over the image of this name. Where it was refused the cause is told.
+fn told<I: Images, E: Write>(
+    alloc: Global,
+    images: &I,
+    name: &str,
+    done: Result<(), Failure>,
+    errors: &mut E,
+) -> Result<(), Failure> {
+    let is_held = tell_cause(alloc, images, name, &done, errors);
+    while_held(done, is_held)
+}
+
+/// The same, of an image that another process has open, if it has.
+fn while_held(done: Result<(), Failure>, is_held: bool) -> Result<(), Failure> {
+    match done {
+        Ok(()) => Ok(()),
+        Err(failure) => Err(failure.while_held(is_held)),
+    }
+}
+
+/// What came of printing.
+fn printed(done: io::Result<()>) -> Result<(), Failure> {
+    match done {
         Ok(()) => Ok(()),
         Err(error) => Err(Failure::Stopped(ServeError::Write(error))),
     }

@@ -1,5 +1,6 @@
 //! Listening at an address, with the cause where that cannot be done.
 use crate::bound::BoundSocket;
+use crate::failure::Failure;
 use std::alloc::Global;
 use std::io::{self, ErrorKind, Write};
 use std::net::{Net, TcpListener, TcpStream, ToSocketAddrs};
@@ -11,47 +12,50 @@ const TRIES: u32 = 20;
 
 const PAUSE_MILLISECONDS: u64 = 100;
 
-/// Binds this address, at which nobody can connect yet. Where another holds it, that is waited for up to two seconds. `None` where nobody can be listened to
-/// there: the cause is told in a line.
+/// Binds this address, at which nobody can connect yet. Where another holds it, or its name does not resolve, that is waited for up to two seconds.
+///
+/// # Errors
+///
+/// `CannotListen` where nobody can be listened to there: the cause is told in a line.
 pub fn bind<N: Clock + Net<Listener = TcpListener, Stream = TcpStream>, E: Write>(
     rt: &N,
     alloc: Global,
     address: &str,
     errors: &mut E,
-) -> Option<BoundSocket> {
+) -> Result<BoundSocket, Failure> {
     match bind_patiently(rt, address) {
-        Ok(bound) => Some(bound),
-        Err(error) => {
-            tell(alloc, address, &error, errors);
-            None
-        }
+        Ok(bound) => Ok(bound),
+        Err(error) => Err(refused(alloc, address, &error, errors)),
     }
 }
 
-/// Listens at this address, which was bound. Where another listens there, which had bound it too, that is waited for as well. `None` where nobody can be
-/// listened to there: the cause is told in a line.
+/// Listens at this address, which was bound. Where another listens there, which had bound it too, that is waited for as well.
+///
+/// # Errors
+///
+/// As at `bind`.
 pub fn listen<C: Clock, E: Write>(
     rt: &C,
     alloc: Global,
     bound: BoundSocket,
     address: &str,
     errors: &mut E,
-) -> Option<TcpListener> {
+) -> Result<TcpListener, Failure> {
     match listen_patiently(rt, &bound) {
-        Ok(()) => Some(bound.into_listener()),
-        Err(error) => {
-            tell(alloc, address, &error, errors);
-            None
-        }
+        Ok(()) => Ok(bound.into_listener()),
+        Err(error) => Err(refused(alloc, address, &error, errors)),
     }
 }
 
-/// Tells why nobody can be listened to at this address. Where memory is refused it is let go.
-fn tell<E: Write>(alloc: Global, address: &str, error: &io::Error, errors: &mut E) {
+/// Tells why nobody can be listened to at this address, and answers whether that may pass. Where memory is refused the line is let go.
+fn refused<E: Write>(alloc: Global, address: &str, error: &io::Error, errors: &mut E) -> Failure {
     let mut line = Vec::new(alloc);
-    let cause = cause_of(address, error);
+    let cause = cause_of(error);
     if writeln!(line, "cannot listen at {address}: {cause}").is_ok() {
         let _ = errors.write_all(&line);
+    }
+    Failure::CannotListen {
+        may_pass: may_pass(error),
     }
 }
 
@@ -68,14 +72,14 @@ fn listen_patiently<C: Clock>(rt: &C, bound: &BoundSocket) -> io::Result<()> {
     bound.listen()
 }
 
-/// Binds this address, again and again where it is in use.
+/// Binds this address, again and again where it is in use or its name does not resolve.
 fn bind_patiently<N: Clock + Net<Listener = TcpListener, Stream = TcpStream>>(
     rt: &N,
     address: &str,
 ) -> io::Result<BoundSocket> {
     for _ in 0..TRIES {
         match bind_first(rt, address) {
-            Err(error) if error.kind() == ErrorKind::AddrInUse => {
+            Err(error) if error.kind() == ErrorKind::AddrInUse || is_of_name(&error) => {
                 thread::sleep(rt, Duration::from_millis(PAUSE_MILLISECONDS));
             }
             bound => return bound,
@@ -99,22 +103,26 @@ fn bind_first<N: Net<Listener = TcpListener, Stream = TcpStream>>(
     Err(fault)
 }
 
-/// Why nobody can be listened to at this address.
-fn cause_of(address: &str, error: &io::Error) -> &'static str {
+/// Why nobody can be listened to at an address that was refused so.
+fn cause_of(error: &io::Error) -> &'static str {
     match error.kind() {
         ErrorKind::AddrInUse => "address in use",
         ErrorKind::AddrNotAvailable => "no address of this machine",
         ErrorKind::PermissionDenied => "this user may not listen there",
-        ErrorKind::InvalidInput => fault_of(address),
+        _ if is_of_name(error) => "the name of the host does not resolve",
         _ => "the system refuses it",
     }
 }
 
-/// What is wrong with a text that is no address.
-fn fault_of(address: &str) -> &'static str {
-    match address.rsplit_once(':') {
-        None => "no port",
-        Some((_, port)) if port.parse::<u16>().is_err() => "the port is no number up to 65535",
-        Some(_) => "no IP address",
+/// Whether an error is of the name of a host. One of the system has a number.
+fn is_of_name(error: &io::Error) -> bool {
+    error.raw_os_error().is_none()
+}
+
+/// Whether the same may be done another time: the address is free by then, its name resolves, or there are descriptors and memory again.
+fn may_pass(error: &io::Error) -> bool {
+    match error.kind() {
+        ErrorKind::AddrNotAvailable | ErrorKind::PermissionDenied => false,
+        _ => true,
     }
 }

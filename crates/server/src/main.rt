@@ -16,6 +16,7 @@ mod link_listener;
 mod listening;
 mod losing;
 mod migrating;
+mod nodes;
 mod options;
 mod pair;
 mod promoting;
@@ -25,8 +26,8 @@ mod simulated;
 mod standing_by;
 mod status;
 
-use crate::command::{command, tell};
-use crate::failure::Failure;
+use crate::command::command;
+use crate::failure::{Failure, tell};
 use crate::images::Files;
 use crate::options::not_text;
 use descriptors::hold_closed;

@@ -1,4 +1,5 @@
 //! What the words of the command line ask for.
+use addresses::is_address;
 use clap::builder::{Arg, ArgAction, Command};
 use clap::error::ErrorKind;
 use clap::{ArgMatches, Error, value_parser};
@@ -35,13 +36,22 @@ const REPORT: &str = "report";
 /// The option by which a primary closes connections on which nothing comes.
 const IDLE: &str = "idle";
 
+/// The options that name where a node listens, and where it connects.
+const LISTEN: &str = "listen";
+
+const LINK: &str = "link";
+
 const NO_HOST: &str = "'--from <HOST>' takes an IP address, without a port";
+
+const NO_LISTEN: &str = "'--listen <ADDRESS>' takes a host and a port, as 127.0.0.1:7000";
+
+const NO_LINK: &str = "'--link <ADDRESS>' takes a host and a port, as 127.0.0.1:7100";
 
 /// The roles that an image is formatted for.
 static ROLES: [&str; 2] = [PRIMARY, STANDBY];
 
 /// What the program is asked to do. Names of images and addresses are as they were written.
-#[derive(Clone, Copy)]
+#[derive(Drop)]
 pub enum Task<'a> {
     /// To write a new image of so many lines for this role, into a new file alone if that is asked for.
     Format {
@@ -50,22 +60,8 @@ pub enum Task<'a> {
         role: Role,
         is_new: bool,
     },
-    /// To serve clients at one address, and send to the standby at the other. With a report it is told each so many seconds how far both nodes are; with an
-    /// idle time a connection on which nothing came for so many seconds is closed.
-    Primary {
-        image: &'a str,
-        listen: &'a str,
-        link: &'a str,
-        report: Option<u64>,
-        idle: Option<u64>,
-    },
-    /// To follow a primary that dials this address, from this host alone if one is told. With a report it is told each so many seconds how far it is.
-    Standby {
-        image: &'a str,
-        listen: &'a str,
-        from: Option<IpAddr>,
-        report: Option<u64>,
-    },
+    /// To run a node.
+    Run(Node<'a>),
     /// To make the image of a stopped standby a primary's, if the operator says that the old primary is stopped, and if it is at this position or above.
     Promote {
         image: &'a str,
@@ -87,26 +83,54 @@ pub enum Task<'a> {
     },
     /// To print which program this is.
     Version,
+    /// To print this help.
+    Help(Error),
+}
+
+/// A node that is to be run.
+#[derive(Clone, Copy)]
+pub enum Node<'a> {
+    /// To serve clients at one address, and send to the standby at the other. With a report it is told each so many seconds how far both nodes are; with an
+    /// idle time a connection on which nothing came for so many seconds is closed.
+    Primary {
+        image: &'a str,
+        listen: &'a str,
+        link: &'a str,
+        report: Option<u64>,
+        idle: Option<u64>,
+    },
+    /// To follow a primary that dials this address, from this host alone if one is told. With a report it is told each so many seconds how far it is.
+    Standby {
+        image: &'a str,
+        listen: &'a str,
+        from: Option<IpAddr>,
+        report: Option<u64>,
+    },
 }
 
 /// What the words ask for, the first of which is the program's name.
 ///
 /// # Errors
 ///
-/// The text for whoever wrote the command line: what is wrong with it, or the help that was asked for. `OutOfMemory` where memory was refused.
+/// The text for whoever wrote the command line, of what is wrong with it. `OutOfMemory` where memory was refused.
 pub fn options<'a>(alloc: Global, words: &'a [String]) -> Result<Task<'a>, Error> {
     let mut command = grammar(alloc)?;
     let matches = match command.try_get_matches_from_mut(words) {
         Ok(matches) => matches,
         Err(error) if error.kind() == ErrorKind::DisplayVersion => return Ok(Task::Version),
+        Err(error) if error.kind() == ErrorKind::DisplayHelp => return Ok(Task::Help(error)),
         Err(error) => return Err(error),
     };
     match asked(&matches) {
         Ok(Some(task)) => Ok(task),
         Ok(None) => Err(command.error(ErrorKind::MissingSubcommand, "a subcommand is missing")?),
-        Err(_) => Err(command.error(ErrorKind::ValueValidation, NO_HOST)?),
+        Err(BadValue(what)) => Err(command.error(ErrorKind::ValueValidation, what)?),
     }
 }
+
+/// The value of an option is none that it takes. What it takes.
+#[derive(Clone, Copy)]
+struct BadValue(&'static str);
 
 /// The text for a command line of which some word is no text.
 pub fn not_text(alloc: Global) -> Error {
@@ -168,8 +192,8 @@ fn primary_command<'a>(alloc: Global) -> Result<Command<'a>, Error> {
     let command = Command::new(alloc, PRIMARY)
         .about("Serves clients, and sends to the standby")
         .arg(image(alloc))?
-        .arg(option(alloc, "listen", "ADDRESS", "Where clients connect"))?
-        .arg(option(alloc, "link", "ADDRESS", "Where the standby listens"))?
+        .arg(option(alloc, LISTEN, "ADDRESS", "Where clients connect"))?
+        .arg(option(alloc, LINK, "ADDRESS", "Where the standby listens"))?
         .arg(report(alloc))?
         .arg(seconds(
             alloc,
@@ -190,7 +214,7 @@ fn standby_command<'a>(alloc: Global) -> Result<Command<'a>, Error> {
     let command = Command::new(alloc, STANDBY)
         .about("Follows a primary")
         .arg(image(alloc))?
-        .arg(option(alloc, "listen", "ADDRESS", "Where the primary connects"))?
+        .arg(option(alloc, LISTEN, "ADDRESS", "Where the primary connects"))?
         .arg(from)?
         .arg(report(alloc))?;
     Ok(command)
@@ -271,17 +295,62 @@ fn flag<'a>(alloc: Global, name: &'a str, help: &'a str) -> Arg<'a> {
         .action(ArgAction::SetTrue)
 }
 
-/// What was asked for, if each option of the subcommand has its value. An error where the host is no IP address.
-fn asked<'a>(matches: &ArgMatches<'a>) -> Result<Option<Task<'a>>, AddrParseError> {
+/// What was asked for, if each option of the subcommand has its value.
+fn asked<'a>(matches: &ArgMatches<'a>) -> Result<Option<Task<'a>>, BadValue> {
     let Some((name, found)) = matches.subcommand() else {
         return Ok(None);
     };
-    let from = if name == STANDBY {
-        host_of(found)?
-    } else {
-        None
+    match name {
+        PRIMARY => primary_of(found),
+        STANDBY => standby_of(found),
+        name => Ok(task_of(name, found)),
+    }
+}
+
+/// The primary that was asked for.
+fn primary_of<'a>(found: &ArgMatches<'a>) -> Result<Option<Task<'a>>, BadValue> {
+    let (Some(image), Some(listen), Some(link)) = (
+        found.get_str("image"),
+        found.get_str(LISTEN),
+        found.get_str(LINK),
+    ) else {
+        return Ok(None);
     };
-    Ok(task_of(name, found, from))
+    check(listen, NO_LISTEN)?;
+    check(link, NO_LINK)?;
+    Ok(Some(Task::Run(Node::Primary {
+        image,
+        listen,
+        link,
+        report: found.get_one(REPORT),
+        idle: found.get_one(IDLE),
+    })))
+}
+
+/// The standby that was asked for.
+fn standby_of<'a>(found: &ArgMatches<'a>) -> Result<Option<Task<'a>>, BadValue> {
+    let (Some(image), Some(listen)) = (found.get_str("image"), found.get_str(LISTEN)) else {
+        return Ok(None);
+    };
+    check(listen, NO_LISTEN)?;
+    let Ok(from) = host_of(found) else {
+        return Err(BadValue(NO_HOST));
+    };
+    Ok(Some(Task::Run(Node::Standby {
+        image,
+        listen,
+        from,
+        report: found.get_one(REPORT),
+    })))
+}
+
+/// Sees that the value of an option is an address.
+fn check(value: &str, what: &'static str) -> Result<(), BadValue> {
+    if is_address(value) {
+        Ok(())
+    } else {
+        Err(BadValue(what))
+    }
 }
 
 /// The host that links are taken from alone, if one was told.
@@ -292,8 +361,8 @@ fn host_of<'a>(found: &ArgMatches<'a>) -> Result<Option<IpAddr>, AddrParseError>
     }
 }
 
-/// What this subcommand asks for, if each of its options has its value.
-fn task_of<'a>(name: &str, found: &ArgMatches<'a>, from: Option<IpAddr>) -> Option<Task<'a>> {
+/// What this subcommand over an image asks for, if each of its options has its value.
+fn task_of<'a>(name: &str, found: &ArgMatches<'a>) -> Option<Task<'a>> {
     let image = found.get_str("image")?;
     match name {
         "format" => Some(Task::Format {
@@ -301,19 +370,6 @@ fn task_of<'a>(name: &str, found: &ArgMatches<'a>, from: Option<IpAddr>) -> Opti
             lines: found.get_one("lines")?,
             role: role_named(found.get_str("role")?),
             is_new: found.get_flag(NEW),
-        }),
-        PRIMARY => Some(Task::Primary {
-            image,
-            listen: found.get_str("listen")?,
-            link: found.get_str("link")?,
-            report: found.get_one(REPORT),
-            idle: found.get_one(IDLE),
-        }),
-        STANDBY => Some(Task::Standby {
-            image,
-            listen: found.get_str("listen")?,
-            from,
-            report: found.get_one(REPORT),
         }),
         "promote" => Some(Task::Promote {
             image,

@@ -17,17 +17,17 @@ use primary::{Opened, open};
 use serving::{Setup, Stop, Watch, run};
 use std::alloc::Global;
 use std::hash::RandomState;
-use std::io::Write;
 use std::net::{Net, TcpListener, TcpStream};
 use std::random::RandomSource;
 use std::sync::Wait;
 use std::thread::Threads;
 use std::time::{Clock, Duration};
+use telling::Lines;
 use version::VERSION;
 use wbl_engine::{Durable, WblEngine};
 
 /// Opens the image of this name as a primary's, and serves clients at the address `listen`, with the standby at the address `link`, until the engine
-/// refuses a step, or the address cannot be listened at, or no longer. It does not return otherwise. What it does is told to `errors`, a line at a time.
+/// refuses a step, or the address cannot be listened at, or no longer. It does not return otherwise. What it does is told there, a line at a time.
 pub fn serve_clients<
     N: RandomSource
         + Threads
@@ -39,7 +39,6 @@ pub fn serve_clients<
         + 'static,
     D: Pmem + Drop + Send + 'static,
     I: Images<Device = D>,
-    E: Write + Copy + Send + Drop + 'static,
 >(
     rt: &N,
     alloc: Global,
@@ -49,10 +48,10 @@ pub fn serve_clients<
     link: &str,
     report: Option<u64>,
     idle: Option<u64>,
-    errors: E,
+    lines: &Lines<N>,
 ) -> Result<(), Failure> {
-    let mut errors = errors;
-    let mut log = Log::new(alloc, errors);
+    let mut errors = lines.another()?;
+    let mut log = Log::new(alloc, lines.another()?);
     log.say(News::Begun {
         program: PROGRAM,
         version: VERSION,
@@ -60,27 +59,25 @@ pub fn serve_clients<
     // (who connects before the image is open is refused)
     let bound = bind(rt, alloc, listen, &mut errors);
     let done = open_node(rt, alloc, images, name);
-    tell_cause(alloc, images, name, &done, &mut errors);
-    let (opened, lines): (Opened<WblEngine<D>, MvKeyspace>, u64) = done?;
+    let is_held = tell_cause(alloc, images, name, &done, &mut errors);
+    let (opened, room): (Opened<WblEngine<D>, MvKeyspace>, u64) = match done {
+        Ok(node) => node,
+        Err(failure) => return Err(failure.while_held(is_held)),
+    };
     log.say(News::Opened {
         position: opened.position,
         epoch: opened.epoch,
         keys: opened.keys,
     });
-    let Some(bound) = bound else {
-        return Err(Failure::CannotListen);
-    };
-    let Some(listener) = listening::listen(rt, alloc, bound, listen, &mut errors) else {
-        return Err(Failure::CannotListen);
-    };
+    let listener = listening::listen(rt, alloc, bound?, listen, &mut errors)?;
     log.say(News::Listening { address: listen });
     let address = String::from_str(alloc, link)?;
     let setup = Setup {
-        link: Log::new(alloc, errors),
+        link: Log::new(alloc, lines.another()?),
         watch: Some(Watch {
             log: Log::new(alloc, errors),
             report_seconds: report,
-            capacity: Capacity::of_image(LAYOUT, lines),
+            capacity: Capacity::of_image(LAYOUT, room),
         }),
         idle: idle.map(Duration::from_secs),
     };
@@ -89,7 +86,7 @@ pub fn serve_clients<
             log.say(News::Stopped { why });
             Err(Failure::from(why))
         }
-        Stop::ListenerClosed => Err(Failure::CannotListen),
+        Stop::ListenerClosed => Err(Failure::CannotListen { may_pass: false }),
     }
 }
 

@@ -18,12 +18,12 @@ use std::sync::{Arc, Wait};
 use std::thread;
 use std::thread::Threads;
 use std::time::Clock;
+use telling::Lines;
 use version::VERSION;
 use wbl_engine::{Durable, WblEngine};
 
 /// Opens the image of this name as a standby's, and takes one link at a time at this address until one stops the node, or the address cannot be
-/// listened at, or no longer. With a host it takes links from there alone. It does not return otherwise. What it does is told to `errors`, a line at a
-/// time.
+/// listened at, or no longer. With a host it takes links from there alone. It does not return otherwise. What it does is told there, a line at a time.
 pub fn stand_by<
     N: Threads
         + Wait
@@ -33,7 +33,6 @@ pub fn stand_by<
         + Send
         + 'static,
     I: Images,
-    E: Write + Copy + Send + Drop + 'static,
 >(
     rt: &N,
     alloc: Global,
@@ -42,10 +41,10 @@ pub fn stand_by<
     listen: &str,
     host: Option<IpAddr>,
     report: Option<u64>,
-    errors: E,
+    lines: &Lines<N>,
 ) -> Result<(), Failure> {
-    let mut errors = errors;
-    let mut log = Log::new(alloc, errors);
+    let mut errors = lines.another()?;
+    let mut log = Log::new(alloc, lines.another()?);
     log.say(News::Begun {
         program: PROGRAM,
         version: VERSION,
@@ -53,15 +52,13 @@ pub fn stand_by<
     // (who connects before the image is open is refused)
     let bound = bind(rt, alloc, listen, &mut errors);
     let done = open_node(alloc, images, name);
-    tell_cause(alloc, images, name, &done, &mut errors);
-    let mut node = done?;
+    let is_held = tell_cause(alloc, images, name, &done, &mut errors);
+    let mut node = match done {
+        Ok(node) => node,
+        Err(failure) => return Err(failure.while_held(is_held)),
+    };
     log.say(opened(&node));
-    let Some(bound) = bound else {
-        return Err(Failure::CannotListen);
-    };
-    let Some(listener) = listening::listen(rt, alloc, bound, listen, &mut errors) else {
-        return Err(Failure::CannotListen);
-    };
+    let listener = listening::listen(rt, alloc, bound?, listen, &mut errors)?;
     log.say(News::Listening { address: listen });
     let (progress, mut shown, watcher) = new_watcher(alloc, &node)?;
     start_watcher(*rt, watcher, Log::new(alloc, errors), report)?;
@@ -71,7 +68,7 @@ pub fn stand_by<
             log.say(News::Stopped { why });
             Err(Failure::from(why))
         }
-        Err(_) => Err(Failure::CannotListen),
+        Err(_) => Err(Failure::CannotListen { may_pass: false }),
     }
 }
 

@@ -43,11 +43,14 @@ pub fn status<I: Images, W: Write, E: Write>(
     writer: &mut W,
     errors: &mut E,
 ) -> Result<(), Failure> {
-    let first = status_of(alloc, images, name, writer, errors)?;
     let Some(other) = other else {
+        status_of(alloc, images, name, writer, errors)?;
         return Ok(());
     };
-    let second = status_of(alloc, images, other, writer, errors)?;
+    // (which is behind at any moment, so it is read first: read last it might seem ahead)
+    let later = read_patiently(alloc, images, other);
+    let first = status_of(alloc, images, name, writer, errors)?;
+    let second = tell_status(alloc, images, other, later, writer, errors)?;
     match print_distance(first, second, writer) {
         Ok(()) => Ok(()),
         Err(error) => Err(Failure::Stopped(ServeError::Write(error))),
@@ -63,8 +66,23 @@ fn status_of<I: Images, W: Write, E: Write>(
     errors: &mut E,
 ) -> Result<u64, Failure> {
     let read = read_patiently(alloc, images, name);
-    tell_cause(alloc, images, name, &read, errors);
-    told(read?, writer)
+    tell_status(alloc, images, name, read, writer, errors)
+}
+
+/// The same of one that was read.
+fn tell_status<I: Images, W: Write, E: Write>(
+    alloc: Global,
+    images: &I,
+    name: &str,
+    read: Result<Reading, Failure>,
+    writer: &mut W,
+    errors: &mut E,
+) -> Result<u64, Failure> {
+    let is_held = tell_cause(alloc, images, name, &read, errors);
+    match read {
+        Ok(reading) => told(reading, writer),
+        Err(failure) => Err(failure.while_held(is_held)),
+    }
 }
 
 /// Reads the image of this name, again and again where another process changes it meanwhile.

@@ -1,4 +1,4 @@
-use Rattle.std.proofs.Common.{◌≡◌, ℕ, List, [], sym, subst, ◌∙◌}
+use Rattle.std.proofs.Common.{◌≡◌, ℕ, List, [], false, sym, subst, ◌∙◌}
 use Rattle.std.proofs.lemmas.Bool.{eqb-true}
 use Rattle.std.proofs.lemmas.List.{nil_from_length}
 use Rattle.client.specs.Asked.{one_request, words_of}
@@ -14,4 +14,4 @@ returns-then-is_empty g c =
     let left = g.R.Read.remaining c.args.connection.now.reader in
     let held = c.args.connection.now.parser in
     let printed = g.O.Write.contents c.args.out.now in
-    subst (λ (words : List (List ℕ)). Talks (one_request words) sent sent left left held held printed printed) (sym none) (talks-none sent left held printed)
+    subst (λ (words : List (List ℕ)). Talks (one_request words) false sent sent left left held held printed printed) (sym none) (talks-none sent left held printed)

@@ -22,5 +22,5 @@ loop-line-preserved g c =
       so_far =
           so_far-more _ _ _ inv.requests line inv.so_far
           (subst (λ (l : List ℕ). IfSome (g.I.Read.remaining c.loop-line.input) (λ text. l ≡ first_piece 10 text)) (sym c.deref.ensures.value) c.in-Ok-true.ensures.line) c.in-Ok-true.ensures.rest;
-      talks = talks-then inv.requests (one_request (words_of line)) _ _ _ _ _ _ _ _ _ _ _ _ inv.talks c.in_ok-ask_line-in-Ok-true.ensures;
+      talks = talks-then inv.requests (one_request (words_of line)) _ _ _ _ _ _ _ _ _ _ _ _ _ _ _ c.either-failed.ensures inv.talks c.in_ok-ask_line-in-Ok-true.ensures;
     }
