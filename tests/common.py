@@ -36,7 +36,6 @@ PROGRAMS = {
     "server": ("WBL_SERVER", "wbl-server", "bin/wbl-server < /dev/null"),
     "client": ("WBL_CLI", "wbl-cli", "bin/wbl-cli < /dev/null"),
     "simulator": ("WBL_SIM", "wbl-sim", "bin/wbl-sim < /dev/null"),
-    "bench": ("WBL_BENCH", None, "cd crates/bench && rt run"),
 }
 
 # Each limit in seconds is that of a machine with a core for each process that runs; one that is busier has so many times as long, ten times at most.
@@ -48,7 +47,9 @@ SECONDS = 300 * BUSY
 IS_LONG = False
 SHORT_SHARE = 20
 
-# What a node tells while it runs (docs/server.md, "What a node tells").
+# What stands before each line that a node tells (docs/server.md, "What a node tells"): the time in UTC, to the millisecond.
+TIME = re.compile(rb"(?m)^\d{4}-\d\d-\d\dT\d\d:\d\d:\d\d\.\d{3}Z ")
+# What a node tells while it runs, behind its time.
 NEWS = re.compile(
     rb"(?:wbl-server \d+ \(logic [0-9a-f]{16}\)|opened at position \d+, epoch \d+, with \d+ keys|listening on \S+|link open to \S+ at position \d+"
     rb"|(?:link to \S+ lost|no link to \S+|link ended|left the link|standby ahead|closed a connection from \S+|stopped|cannot listen at \S*): [^\n]+"
@@ -61,7 +62,8 @@ NEWS = re.compile(
 # What stands before a refusal on an image: the file, and why it is refused (docs/server.md, "How it ends").
 CAUSE = re.compile(
     rb"(?P<file>[^\n]*?) (?P<cause>is not there|is held by another process|may not be opened by this user, or is no file|could not be made, read, written or synced"
-    rb"|could not be made: its folder is not there|could not be made: this user may not write to its folder, or there is no room"
+    rb"|could not be made: (?:its folder is not there|this user may not write to its folder|its file system is read-only|no file can have this name"
+    rb"|its file system has no room for it|no file may be as large, there or for this process)"
     rb"|does not begin as an image|is an image of another version; wbl-server migrate brings one of version 1 to version 2"
     rb"|has no place for a version that has to move|has not as many lines as an image, or as were asked for|has come to the end of a counter"
     rb"|is in use by another process, and changed while it was read|breaks a rule of an image|is an image of the other role)\n"
@@ -84,7 +86,7 @@ def program(crate):
     variable, name, build = PROGRAMS[crate]
     named = os.environ.get(variable)
     path = pathlib.Path(named) if named else ROOT / "crates" / crate / "out" / crate
-    if not named and not path.exists() and name:
+    if not named and not path.exists():
         path = pathlib.Path(released(crate, name) or path)
     if not os.access(path, os.X_OK) or path.is_dir():
         raise MissingProgram(f"no program at {path}: build it with `{build}`, or name another by {variable}")
@@ -113,13 +115,29 @@ def run_program(crate, words=(), stdin=b"", seconds=SECONDS, **options):
     options.setdefault("stdout", subprocess.PIPE)
     options.setdefault("stderr", subprocess.PIPE)
     ended = subprocess.run([program(crate), *words], timeout=seconds, **source, **options)
-    return Finished(ended.returncode, ended.stdout or b"", ended.stderr or b"")
+    return Finished(ended.returncode, ended.stdout or b"", without_times(ended.stderr or b""))
+
+
+def without_times(told):
+    """What a node told, without the time of each line."""
+    return TIME.sub(b"", told)
+
+
+class ToldFile(type(pathlib.Path())):
+    """The file of what a node tells. It is read without the time of each line."""
+
+    def read_bytes(self):
+        return without_times(super().read_bytes())
+
+    def read_text(self, encoding="utf-8", errors=None):
+        return self.read_bytes().decode(encoding, errors or "strict")
 
 
 def without_news(errors):
     """What a node wrote to standard error but for what it told while it ran: why it ended. That an image was refused is told in two lines, of which the
     first names the file."""
-    return without_cause(b"".join(line for line in errors.splitlines(keepends=True) if not NEWS.fullmatch(line)))
+    lines = without_times(errors).splitlines(keepends=True)
+    return without_cause(b"".join(line for line in lines if not NEWS.fullmatch(line)))
 
 
 def without_cause(errors):

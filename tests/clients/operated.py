@@ -1,18 +1,21 @@
 """The pair of docs/operating.md, which a shell starts by the blocks of the page as they stand."""
 
+import os
 import re
+import signal
 import typing
 
 import common
 from load import WRITERS
 from page_shell import PageShell, blocks_below
-from pair import Client, PairCases
+from pair import Client, PairCases, wait_until
 
-PAGE, README = common.ROOT / "docs" / "operating.md", common.ROOT / "README.md"
+PAGE = common.ROOT / "docs" / "operating.md"
 # What each writer is answered, on the average, before a procedure and after it.
 ANSWERS = 10
 FIRST, SECOND = 7001, 7002
 PROMOTED = re.compile(r"\S+ is a primary's now, at position [1-9]\d*, with \d+ keys")
+NODES = common.script("stop-node")
 
 
 class Door(typing.NamedTuple):
@@ -52,13 +55,35 @@ class Operated(PairCases):
 
     def assert_without_errors(self):
         """Nothing was told on standard error, but by the shell of what was ended, and what a promoted image holds."""
-        told = self.shell.errors.read_text().splitlines()
+        told = self.shell.errors.read_bytes().decode().splitlines()
         self.assertEqual([line for line in told if line not in ("Terminated", "Killed") and not PROMOTED.fullmatch(line)], [])
+
+    def process(self, image):
+        """The number of the process that runs this image."""
+        return int(NODES.holder_of(self.shell.folder / image).name)
+
+    def kill(self, *images):
+        """Kills the nodes that run these images, and those that wait for one to end."""
+        for path in (self.shell.folder / image for image in images):
+            wait_until(lambda held=path: not self._kill_holder(held), "a node that was killed")
+
+    def _kill_holder(self, path):
+        """Kills the node that runs this image, if one does. Whether one did."""
+        process = NODES.holder_of(path)
+        if process:
+            os.kill(int(process.name), signal.SIGKILL)
+        return NODES.is_held(path)
+
+    def lose(self, *images):
+        """Kills the nodes that run these images, which are gone too."""
+        self.kill(*images)
+        for image in images:
+            (self.shell.folder / image).unlink()
 
     def log(self, name):
         """What a node told on standard error so far, in the file that the page names for it."""
         path = self.shell.folder / f"{name}.log"
-        return path.read_bytes() if path.exists() else b""
+        return common.without_times(path.read_bytes()) if path.exists() else b""
 
     def client(self, port=FIRST):
         client = Client(self.shell.port(port))

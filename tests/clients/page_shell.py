@@ -33,20 +33,29 @@ def blocks_below(page, heading):
 
 
 class PageShell:
-    """One shell in a folder of its own, with the commands that pages name in bin/ below it. `ports` are by the number on the page those in its place."""
+    """One shell in a folder of its own, with the commands that pages name in bin/ below it, or in that of another one. `ports` are by the number on the page
+    those in its place."""
 
-    def __init__(self, folder=None):
+    def __init__(self, folder=None, beside=None):
         self.parts = contextlib.ExitStack()
-        self.ports = {}
-        self.folder = pathlib.Path(self.parts.enter_context(tempfile.TemporaryDirectory(prefix="wbl-page-", dir=folder)))
-        self._make_commands()
-        self.errors = self.folder / "errors.txt"
+        if beside:
+            self.ports, self.folder = beside.ports, beside.folder
+        else:
+            self.ports = {}
+            self.parts.callback(self._close_ports)
+            self.folder = pathlib.Path(self.parts.enter_context(tempfile.TemporaryDirectory(prefix="wbl-page-", dir=folder)))
+            self._make_commands()
+        self.errors = common.ToldFile(self.folder / ("others.txt" if beside else "errors.txt"))
         self.come = b""
         with open(self.errors, "wb") as errors:
             words = ["/bin/sh"]
             first = [sys.executable, "-ISc", LAUNCH, str(os.getpid()), str(DESCRIPTORS)]
             how = {"stdin": subprocess.PIPE, "stdout": subprocess.PIPE, "stderr": errors, "cwd": self.folder}
             self.process = subprocess.Popen([*first, *words], **how)
+
+    def _close_ports(self):
+        for port in self.ports.values():
+            port.close()
 
     def _make_commands(self):
         (self.folder / "bin").mkdir()
@@ -57,7 +66,7 @@ class PageShell:
             program = os.path.abspath(common.program(crate)) if crate in ("server", "client") else "/bin/false"
             starter.write_text(STARTER.format(python=sys.executable, launch=launcher, descriptors=DESCRIPTORS, program=program), encoding="ascii")
             starter.chmod(0o755)
-        for script in ("wbl-status", "fail-over"):
+        for script in ("wbl-status", "fail-over", "pair", "stop-node", "wait-for-write"):
             shutil.copy(common.ROOT / "bin" / script, self.folder / "bin")
 
     def close(self):
@@ -66,8 +75,6 @@ class PageShell:
         self.process.wait()
         for pipe in (self.process.stdin, self.process.stdout):
             pipe.close()
-        for port in self.ports.values():
-            port.close()
         self.parts.close()
 
     def port(self, number):

@@ -213,7 +213,7 @@ class Node:
     def __init__(self, role, image, port, *options):
         self.role, self.image, self.port = role, image, port
         self.words = [role, "--image", str(image), "--listen", port.address(), *options]
-        self.output, self.errors = image.with_suffix(f".{role}.out"), image.with_suffix(f".{role}.err")
+        self.output, self.errors = image.with_suffix(f".{role}.out"), common.ToldFile(image.with_suffix(f".{role}.err"))
         # the words of what starts the program, where something does
         self.before = []
         # how much was told before its process was started
@@ -227,7 +227,7 @@ class Node:
     def start(self, descriptors=DESCRIPTORS):
         """Starts the process over the image as it is."""
         with open(self.output, "ab") as output, open(self.errors, "ab") as errors:
-            self.began = errors.tell()
+            self.began = len(self.errors.read_bytes())
             self.process = launch([*self.before, common.program("server"), *self.words], descriptors, stdout=output, stderr=errors)
 
     def is_running(self):

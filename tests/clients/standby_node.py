@@ -15,7 +15,7 @@ from plain_wire import Group
 from test_images import FAILED, LINES, ROLES, Images, image_bytes, words_of
 
 LIMIT = 2**62
-NOWHERE = "127.0.0.1:99999"
+NOWHERE = "192.0.2.1:7000"
 CANNOT_LISTEN = b"cannot listen\n"
 ACK_BYTES = 17
 KEYS, FIELDS = [b"a", b"b", b"c", b"ab"], [b"", b"f", b"g"]

@@ -18,6 +18,7 @@ from spelling import spell
 
 PROGRAMS = ["server"]
 IS_SLOW = True
+IS_ALONE = True
 QUICK = ["Tables"]
 
 SAID = common.script("bench-pair")

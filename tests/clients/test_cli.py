@@ -1,4 +1,4 @@
-"""The client program (docs/client.md) over a server that answers stored replies: what it sends, what it prints of each form of reply however
+"""The client program (docs/clients.md) over a server that answers stored replies: what it sends, what it prints of each form of reply however
 the bytes are cut, requests by lines, and how it ends."""
 
 import os
@@ -15,10 +15,13 @@ from stored_server import StoredServer, cut
 
 PROGRAMS = ["client"]
 
-DONE, FAILED, MISUSED = 0, 1, 2
+DONE, FAILED, MISUSED, PASSING = 0, 1, 2, 75
 
 USAGE = b"wbl-cli --connect A [word ..]\n"
 BROKEN = b"broken connection\n"
+NOBODY = b"no connection: nobody takes one there\n"
+NO_NAME = b"no connection: the name of the host does not resolve\n"
+NO_REPLY = b"what came is no reply\n"
 
 # Nested arrays are read up to this depth: an array within eight others must be empty.
 DEPTH = 8
@@ -80,8 +83,15 @@ class Client(Cases):
         self.assertEqual(server.rest, b"")
 
     def assert_failed(self, finished, printed=b"", errors=BROKEN):
+        """Such a failure passes where it is of the connection."""
         self.assert_bytes(finished.output, printed)
-        self.assertEqual((finished.status, finished.errors), (FAILED, errors))
+        passes = errors in (BROKEN, NOBODY, NO_NAME)
+        self.assertEqual((finished.status, finished.errors), (PASSING if passes else FAILED, errors))
+
+    def assert_printed(self, finished, reply, printed):
+        """All was printed, and the status says whether the reply is an error."""
+        self.assert_bytes(finished.output, printed)
+        self.assertEqual((finished.status, finished.errors), (FAILED if reply.startswith(b"-") else DONE, b""))
 
 
 class Replies(Client):
@@ -89,14 +99,14 @@ class Replies(Client):
         for name, reply, printed in FORMS:
             with self.case("form", form=name):
                 finished, server = self.run_client([(spell("GET", "a"), [reply])], ["GET", "a"])
-                self.assert_written(finished, printed)
+                self.assert_printed(finished, reply, printed)
                 self.assert_asked(server, [["GET", "a"]])
 
     def test_each_form_in_single_bytes(self):
         for name, reply, printed in FORMS:
             with self.case("form", form=name):
                 finished, _ = self.run_client([(spell("GET", "a"), cut(reply, 1))], ["GET", "a"])
-                self.assert_written(finished, printed)
+                self.assert_printed(finished, reply, printed)
 
     def test_every_byte(self):
         data = bytes(range(256))
@@ -107,7 +117,7 @@ class Replies(Client):
         finished, _ = self.run_client([(spell("x"), [nested(DEPTH, array([]))])], ["x"])
         self.assert_written(finished, b"".join(b"  " * depth + b"(array 1)\n" for depth in range(DEPTH)) + b"  " * DEPTH + b"(array 0)\n")
         finished, _ = self.run_client([(spell("x"), [nested(DEPTH, array([integer(1)]))])], ["x"])
-        self.assert_failed(finished)
+        self.assert_failed(finished, errors=NO_REPLY)
 
     def test_replies_above_1_mib(self):
         value = b"v" * 3_000_000
@@ -203,12 +213,39 @@ class Endings(Client):
             bound.bind(("127.0.0.1", 0))
             address = "%s:%d" % bound.getsockname()
             for words in (["PING"], []):
-                self.assert_failed(run_program("client", ["--connect", address, *words]))
+                self.assert_failed(run_program("client", ["--connect", address, *words]), errors=NOBODY)
 
     def test_addresses_that_are_none(self):
-        for address in ("", "x", "127.0.0.1", "127.0.0.1:", "127.0.0.1:99999", ":7000x"):
+        for address in ("", "x", "7000", "127.0.0.1", "127.0.0.1:", "127.0.0.1:99999", ":7000", "a b:7000", "127.0.0.1:-1"):
             with self.case("address", address=address):
-                self.assert_failed(run_program("client", ["--connect", address, "PING"]))
+                finished = run_program("client", ["--connect", address, "PING"])
+                self.assertEqual((finished.status, finished.output), (MISUSED, b""))
+                self.assertIn(b"'--connect <A>' takes a host and a port", finished.errors)
+
+    def test_a_name_that_does_not_resolve(self):
+        self.assert_failed(run_program("client", ["--connect", "no-such-host.invalid:7000", "PING"]), errors=NO_NAME)
+
+    def test_an_error_among_the_replies(self):
+        """The other lines are asked all the same. One within an array is none of the request's."""
+        refused, within = error("ERR x"), array([error("ERR x")])
+        for replies, status in [([OK, refused, OK], FAILED), ([refused], FAILED), ([OK, refused], FAILED), ([OK, OK], DONE), ([within], DONE)]:
+            with self.case("replies", replies=replies):
+                exchanges = [(spell("x"), [reply]) for reply in replies]
+                finished, server = self.run_client(exchanges, stdin=len(replies) * b"x\n")
+                self.assertEqual((finished.status, finished.errors), (status, b""))
+                self.assert_asked(server, len(replies) * [["x"]])
+
+    def test_help(self):
+        for words in (["--help"], ["-h"], ["--connect", "127.0.0.1:1", "--help"]):
+            with self.case("words", words=words):
+                finished = run_program("client", words)
+                self.assertEqual((finished.status, finished.errors), (DONE, b""))
+                self.assertIn(b"Usage: wbl-cli", finished.output)
+        with open("/dev/full", "wb") as full:
+            self.assertEqual(run_program("client", ["--help"], stdout=full).status, FAILED)
+        # (behind `--` it is a word as any other)
+        finished, server = self.run_client([(spell("GET", "--help"), [NULL_BULK])], ["--", "GET", "--help"])
+        self.assert_written(finished, b"(nil)\n")
 
     def test_broken_in_the_middle(self):
         for name, reply, _ in FORMS:
@@ -236,12 +273,10 @@ class Endings(Client):
             with self.case("reply", reply=reply):
                 # (the server goes on waiting: a fault is told without the end of the connection)
                 finished, _ = self.run_client([(spell("y"), [OK]), (spell("x"), [reply])], stdin=b"y\nx\nz\n")
-                self.assert_failed(finished, b"OK\n")
+                self.assert_failed(finished, b"OK\n", NO_REPLY)
 
     def test_bad_command_lines(self):
         some = [
-            ["--help"],
-            ["-h"],
             ["PING"],
             ["--connect"],
             ["--connect", "127.0.0.1:1", "--connect", "127.0.0.1:1"],
@@ -294,7 +329,7 @@ class Endings(Client):
 
 
 class Page(Client):
-    """The session that docs/client.md shows."""
+    """The session that docs/clients.md shows."""
 
     REPLIES = {
         ("HSET", "h", "f", "1"): integer(1),
@@ -309,7 +344,7 @@ class Page(Client):
 
     def test_session(self):
         shown = 0
-        for line, lines in pages.blocks(ROOT / "docs" / "client.md"):
+        for line, lines in pages.blocks(ROOT / "docs" / "clients.md"):
             for command, input_lines, output in sessions(lines):
                 with self.case("command", line=line, command=command):
                     shown += 1

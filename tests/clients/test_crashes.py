@@ -128,7 +128,7 @@ class Crashes(PairCases):
 
     def test_promotions(self):
         """The primary is lost, the standby's image is promoted and goes on with a new standby behind it."""
-        if b"promote" not in common.run_program("server", ["--help"]).errors:
+        if b"promote" not in common.run_program("server", ["--help"]).output:
             print("test_crashes: no round of promotion, since wbl-server has no such subcommand", flush=True)
             return
         self.run_rounds(self.fail_over)

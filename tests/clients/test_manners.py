@@ -247,8 +247,9 @@ class Ends(ServingCases):
                     self.assertEqual(client.ask("GET", "n"), bulk(b"%d" % position))
 
     def assert_refused(self, words, text):
+        """It is refused for now: another process has the image, or the address."""
         finished = common.run_program("server", words, seconds=PATIENCE)
-        self.assertEqual(finished._replace(errors=common.without_news(finished.errors)), (1, b"", text))
+        self.assertEqual(finished._replace(errors=common.without_news(finished.errors)), (75, b"", text))
 
     def test_a_second_process_on_the_same_image(self):
         fault = b"refusal 1: device fault\n"

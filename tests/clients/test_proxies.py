@@ -1,4 +1,4 @@
-"""What docs/operating.md says of a supervisor and of proxies in front of a pair: its unit file and its configurations as they stand."""
+"""What docs/operating.md says of a supervisor and of proxies in front of a pair: the files of docs/examples/ as they stand."""
 
 import contextlib
 import shutil
@@ -14,14 +14,19 @@ from plain_replies import OK, bulk, integer
 PROGRAMS = ["server", "client"]
 IS_SLOW = True
 
+EXAMPLES = common.ROOT / "docs" / "examples"
+
+
+def example(name):
+    """The lines of a file that the page names."""
+    return (EXAMPLES / name).read_text(encoding="ascii").splitlines()
+
 
 class Supervised(common.Cases):
     """The unit file."""
 
     def test_the_unit(self):
-        lines = blocks_below(PAGE, "Supervision")[0]
-        name = lines[0].removeprefix("# ")
-        self.assertEqual(name, "wbl-primary@.service")
+        lines = example("wbl-primary@.service")
         if not shutil.which("systemd-analyze"):
             print(f"{self.id()}: skipped, since there is no systemd-analyze", flush=True)
             return
@@ -44,7 +49,7 @@ class Proxied(Operated):
 
     def setUp(self):
         super().setUp()
-        (self.configuration,) = blocks_below(PAGE, "HAProxy")
+        self.configuration = example("haproxy.cfg")
 
     def proxy(self, shell, port):
         """HAProxy in front of the pair of this shell, once it passes a write on."""
@@ -76,7 +81,8 @@ class Proxied(Operated):
         self.proxy(self.shell, 7000)
         load = Load(Page(self.shell, 7000))
         self.started(load)
-        self.shell.run("kill -9 $primary; wait $primary; cp a.img old.img")
+        self.kill("a.img")
+        self.shell.run("cp a.img old.img")
         load.end()
         self.do("A lost primary")
         self.check_behind(load, "behind HAProxy")
@@ -101,9 +107,9 @@ class Proxied(Operated):
                 except (ConnectionError, Ended):
                     return True
 
-        self.shell.run("kill -9 $standby; wait $standby")
+        self.kill("a.img")
         wait_until(is_turned_away, "a node that counts as down")
-        self.shell.run(next(line for line in blocks_below(PAGE, "A lost primary")[0] if " standby " in line and " & " in line))
+        self.shell.run(next(line for line in blocks_below(PAGE, "A lost primary")[0] if " standby " in line and line.endswith(" &")))
         self.wait_to_serve(self.shell, 7000)
 
     def test_twemproxy(self):
@@ -114,9 +120,8 @@ class Proxied(Operated):
         other.run(*blocks_below(PAGE, "A pair")[0])
         self.proxy(self.shell, 7000)
         self.proxy(other, 7000)
-        (lines,) = blocks_below(PAGE, "twemproxy")
         self.shell.ports[7010] = other.ports[7000]
-        path = self.shell.write("nutcracker.yml", lines)
+        path = self.shell.write("nutcracker.yml", example("nutcracker.yml"))
         self.addCleanup(self.shell.ports.pop, 7010)
         self.shell.launch(shutil.which("nutcracker"), "-c", str(path), "-s", str(self.shell.port(7201)))
         self.wait_to_serve(self.shell, 7200)

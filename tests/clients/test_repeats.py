@@ -83,6 +83,8 @@ ASKED = {
     "redis-cli, `INCR n`": (["redis-tools"], b"INCR", ["/bin/sh", "-c", "exec redis-cli -p $0 INCR n"]),
     "wbl-cli, `INCR n`": ([], b"INCR", ["/bin/sh", "-c", "exec $WBL_CLI --connect 127.0.0.1:$0 INCR n"]),
 }
+# Those that have no timeout.
+NEVER_LATE = ["redis-cli, `INCR n`", "wbl-cli, `INCR n`"]
 # A client of a language that asks for a value of so many bytes, and then for another; and what it prints.
 LARGE = {
     "redis-py": (["python3-redis"], python("""
@@ -115,12 +117,14 @@ class Repeats(OverClients):
         self.nodes = self.pair()
 
     def rows(self):
-        rows = pages.rows(PAGE, "A reply that does not come")
-        self.assertEqual([row[0] for row in rows], list(ASKED))
-        for name, lost, late in rows:
-            needed, word, words = ASKED[name]
+        *rows, (others, *same) = pages.rows(PAGE, "A reply that does not come")
+        self.assertEqual(others, "all others")
+        told = {name: cells for name, *cells in rows}
+        self.assertEqual([name for name in ASKED if name in told], list(told))
+        for name, (needed, word, words) in ASKED.items():
+            lost, late = told.get(name, same)
             if self.have(*needed):
-                yield name, lost, late, word, words
+                yield name, lost, "" if name in NEVER_LATE else late, word, words
 
     def ended(self, words, port, seconds):
         """What a program left: whether it was told of an error, and the number there."""

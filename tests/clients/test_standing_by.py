@@ -14,7 +14,7 @@ from plain_keyspace import DropKey, Put
 from plain_wire import Acknowledgement, Group, read_stream, text
 from plain_writer import Writer
 from standby_node import ACK_BYTES, LIMIT, Node, StandingBy, crashed, cut_short, drawn_change, drawn_frames, take
-from test_images import FAILED, LINE_BYTES, LINES, limited, refusal, words_of
+from test_images import FAILED, LINE_BYTES, LINES, PASSING, limited, refusal, words_of
 from worked_cases import DELTA
 
 PROGRAMS = ["server"]
@@ -273,7 +273,7 @@ class Following(StandingBy):
         with self.folder() as folder:
             path = self.made(folder, Writer(LINES, STANDBY).words)
             with Node(path):
-                self.assert_refused(self.opening_words(path), 1)
+                self.assert_refused(self.opening_words(path), 1, status=PASSING)
                 # (which only reads it)
                 self.assertEqual(self.inspect(path).status, 0)
 

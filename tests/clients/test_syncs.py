@@ -331,9 +331,11 @@ class Formatting(NotedCases):
                 self.assertEqual((ran.returncode, ran.stdout, common.without_cause(ran.stderr)), (1, b"", FAULT))
                 # (what is held at the file, and why it could not be made, is looked for by opening it)
                 calls = [call for call in noting.calls() if call.word != "open"]
-                self.assertEqual([at for at, call in enumerate(calls) if call.failed], [len(calls) - 1])
-                self.assertIn(calls[-1].word, ("sync", "data"))
+                (at,) = (at for at, call in enumerate(calls) if call.failed)
+                self.assertIn(calls[at].word, ("sync", "data"))
                 self.assertEqual(image.exists(), fails > 3)
+                # (one that was taken away is made once more, for the cause, and taken away again)
+                self.assertEqual([call.word for call in calls[at + 1:] if call.word != "write"], [] if fails > 3 else ["made", "length", "sync"])
 
     def test_what_is_read_is_durable(self):
         """An image of which a sync failed, so that the system has in memory what the disk has not, is opened again: then all of it is durable."""

@@ -6,6 +6,7 @@ import select
 import socket
 import threading
 
+import common
 from damaged_frames import SET_A
 from pair import HOST, LINES, PATIENCE, Client, PairCases, Port, ServingCases, wait_until
 from plain_image import STANDBY
@@ -119,8 +120,9 @@ class FakeStandby(PairCases):
         wait_until(nodes.primary.is_listening, "a primary that listens")
         client = nodes.client()
         client.send(2 * SET_REQUEST)
+        # (it commits nothing before it was told where its standby is)
+        first.sendall(text(Acknowledgement(1, 0)))
         wait_until(lambda: nodes.primary.read_image().record.position == 2, "a primary that holds both")
-        # (the primary waits for the first words of a link a short time only)
         first.close()
         second = self.accepted(listener)
         second.sendall(text(Acknowledgement(1, 0)) + text(Acknowledgement(1, 2)))
@@ -190,7 +192,7 @@ class WrongFrames(StandingBy):
         """A new standby, and the file of what it tells."""
         with self.folder() as folder:
             path = self.made(folder, Writer(IMAGE_LINES, STANDBY).words)
-            errors = folder / "errors"
+            errors = common.ToldFile(folder / "errors")
             with open(errors, "ab") as told, Node(path, *words, stderr=told) as node:
                 yield node, errors
 
@@ -265,6 +267,6 @@ class WrongFrames(StandingBy):
         for host in ("nobody", "127.0.0.1:1", ""):
             with self.case("host", host=host), self.folder() as folder:
                 path = self.made(folder, Writer(IMAGE_LINES, STANDBY).words)
-                status, output, errors = self.run_words(["standby", "--image", str(path), "--listen", "127.0.0.1:99999", "--from", host])
+                status, output, errors = self.run_words(["standby", "--image", str(path), "--listen", "192.0.2.1:7000", "--from", host])
                 self.assertEqual((status, output), (2, b""))
                 self.assertIn(b"--from", errors)

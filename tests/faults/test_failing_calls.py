@@ -8,7 +8,8 @@ import os
 import threading
 
 from common import Cases, drawn, run_program, tell
-from faulty_pair import FAILED, FAULT, NO_MEMORY, FaultyPair, map_of, told
+from faulty_pair import FAILED, FAULT, NO_MEMORY, FaultyPair, map_of, status_after, told
+from faulty_pair import PASSING as PASSING_STATUS
 from pair import LINES, PATIENCE, Ended, TakesTooLong, wait_until
 from plain_starved import Settled
 from refused_calls import FOR_EVER, SHORT, FaultyCases
@@ -29,7 +30,7 @@ PASSING = {"send": [errno.EINTR, SHORT], "recv": [errno.EINTR, SHORT], "read": [
 OF_IMAGES = {"pwrite": [errno.EIO, errno.ENOSPC], "fdatasync": [errno.EIO, errno.ENOSPC], "fsync": [errno.EIO], "pread": [errno.EIO]}
 PASSING_OF_IMAGES = {"pwrite": [errno.EINTR, SHORT], "pread": [errno.EINTR, SHORT], "fdatasync": [errno.EINTR], "fsync": [errno.EINTR]}
 # What the client program says of a stream that fails; of its connection it says another thing.
-WHY = {"read": b"reading failed: ", "write": b"writing failed: "}
+WHY = {"read": b"reading failed: ", "write": b"writing failed: ", "connect": b"no connection: "}
 
 
 def name_of(how):
@@ -213,7 +214,7 @@ class Programs(FaultyCases, Cases):
                     if how in PASSING.get(kind, []) or not faults.refused(kind):
                         self.assertEqual(found, whole)
                     else:
-                        self.assertEqual(found.status, FAILED)
+                        self.assertEqual(found.status, status_after(found.errors))
                         self.assertTrue(found.errors.startswith(WHY.get(kind, b"broken connection\n")) and found.errors.count(b"\n") == 1, found.errors)
                         self.assertTrue(whole.output.startswith(found.output), found.output)
                 faults.end(kind)
@@ -233,7 +234,7 @@ class Programs(FaultyCases, Cases):
                     found = run()
                     if found != whole:
                         self.assertNotIn(how, PASSING.get(kind, []))
-                        self.assertEqual((found.status, found.errors.count(b"\n")), (FAILED, 1))
+                        self.assertEqual((found.status, found.errors.count(b"\n")), (PASSING_STATUS if found.errors == NO_MEMORY else FAILED, 1))
                         self.assertTrue(how == errno.ENOMEM or found.errors != NO_MEMORY)
                         self.assertTrue(whole.output.startswith(found.output), found.output)
                     what = "ended" if found.status else "made good"

@@ -8,7 +8,7 @@ import time
 
 import common
 from common import drawn, run_program, tell
-from faulty_pair import FAILED, FAULT, NO_MEMORY, FaultyPair, map_of
+from faulty_pair import FAILED, FAULT, NO_MEMORY, FaultyPair, map_of, status_after
 from pair import PATIENCE, Client, Ended
 from plain_image import MORE_LINES, PRIMARY, STANDBY
 from plain_replies import bulk
@@ -97,7 +97,7 @@ class Promotions(Steps):
                     self.assertEqual((found.output, found.errors), (b"promoted to epoch 2\n", b""))
                     self.assertFalse(self.has_told and ways_of_lasting(WAYS_OF_IMAGES, kind, how), "what failed for good is passed over")
                 else:
-                    self.assertEqual(found.status, FAILED)
+                    self.assertEqual(found.status, status_after(found.errors))
                     self.assertTrue(b"promoted to epoch 2\n".startswith(found.output) if kind == "write" else not found.output, found.output)
                     self.assert_says(kind, how, WAYS_OF_IMAGES, found.errors)
                 self.count(counted, "done" if found.status == DONE else self.left())
@@ -210,7 +210,7 @@ class Openings(Steps):
     def start_once_ended(self, nodes, node, kind, how):
         """A node ends and says why, and is started again."""
         status, errors = self.ended(node)
-        self.assertEqual(status, FAILED)
+        self.assertEqual(status, status_after(errors))
         self.assert_says(kind, how, WAYS_OF_NODES, errors)
         node.start(nodes.descriptors)
         self.wait_for(node)

@@ -19,7 +19,7 @@ from standby_node import CANNOT_LISTEN, Node, StandingBy
 from test_images import FAILED, LINES
 from worked_cases import SET_A as SET_A_REQUEST
 
-PROGRAMS = ["server"]
+PROGRAMS = ["server", "client"]
 
 PONG = b"+PONG\r\n"
 
@@ -90,6 +90,34 @@ class Connections(Refused):
             with self.case("error", error=errno.errorcode[number]):
                 self.refused.refuse("accept", 1, 4 if wanted[0] == 0 else FOR_EVER, how=number)
                 self.assertEqual(run_program("server", stdin=SET_A_REQUEST, env=self.settings()), wanted)
+
+
+class Dials(Refused):
+    """A connection to somebody else that cannot be made: the cause is told, and it is tried again."""
+
+    CAUSES = [
+        (errno.EMFILE, b'no descriptor is left for a connection: see "A connection that cannot be taken" in docs/server.md'),
+        (errno.ENFILE, b'no descriptor is left for a connection: see "A connection that cannot be taken" in docs/server.md'),
+        (errno.ENOMEM, b"refusal 14: out of memory"),
+        (errno.ECONNREFUSED, b"nobody takes a connection"),
+    ]
+
+    def test_a_primary_that_dials_its_standby(self):
+        nodes = self.pair(lines=LINES)
+        for number, cause in self.CAUSES:
+            with self.case("error", error=errno.errorcode[number]):
+                self.restart(nodes, "connect", 1, 3, how=number)
+                with Client(nodes.door.number) as client:
+                    self.assertEqual(client.ask("SET", "a", "1"), OK)
+                line = b"no link to %s: %s\n" % (nodes.link.address().encode(), cause)
+                self.assertEqual(nodes.primary.errors.read_bytes().count(line), 1, nodes.primary.errors.read_bytes())
+
+    def test_the_client_program(self):
+        for number, told in [(errno.EMFILE, b"no descriptor is left"), (errno.ENFILE, b"no descriptor is left"), (errno.ECONNREFUSED, b"nobody takes one there")]:
+            with self.case("error", error=errno.errorcode[number]):
+                self.refused.refuse("connect", 1, how=number)
+                finished = run_program("client", ["--connect", "127.0.0.1:1", "PING"], env=self.settings())
+                self.assertEqual(finished, (75, b"", b"no connection: %s\n" % told))
 
 
 class Links(Refused, StandingBy):

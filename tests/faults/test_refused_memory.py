@@ -25,7 +25,7 @@ from worked_cases import SET_A, TRANSACTIONS
 
 PROGRAMS = ["server", "client", "simulator"]
 
-DONE, FAILED = 0, 1
+DONE, FAILED, PASSING = 0, 1, 75
 IN_A_ROW = 3
 TRANSACTION = TRANSACTIONS["an_error_among_others"].input()
 # The fourth finds no room beside the three large values before it, and the sixth does, once one of them is gone.
@@ -187,8 +187,9 @@ class Served(FaultyCases, Cases):
         """What became of the run, which was as it may be."""
         replies, _ = replies_in(found.output)
         wanted = b"".join(answers(items, replies))
-        if found.status == FAILED:
+        if found.status in (FAILED, PASSING):
             self.assertIn(found.errors, (NO_MEMORY, STARVED, BROKEN))
+            self.assertEqual(found.status == PASSING, found.errors == NO_MEMORY)
             self.assertTrue(wanted.startswith(found.output), found.output[-200:])
             return "lost a connection" if found.errors == BROKEN else "ended"
         self.assert_written(found, wanted)
@@ -253,7 +254,7 @@ class Subcommands(FaultyCases, Images):
                         # (what is told of it beside may lack)
                         self.assertTrue(whole.errors.startswith(found.errors), found.errors)
                     else:
-                        self.assertEqual((found.status, found.output, common.without_cause(found.errors)), (FAILED, b"", NO_MEMORY))
+                        self.assertEqual((found.status, found.output, common.without_cause(found.errors)), (PASSING, b"", NO_MEMORY))
                         self.assert_stays(left, before)
                     kind = "made good" if found.status == DONE else "ended"
                     counted[kind] = counted.get(kind, 0) + 1
@@ -306,8 +307,8 @@ class Client(FaultyCases, Cases):
                 if found.status == DONE:
                     self.assertEqual(found, whole)
                 else:
-                    self.assertEqual(found.status, FAILED)
                     self.assertIn(found.errors, (NO_MEMORY, b"reading failed: out of memory\n"))
+                    self.assertEqual(found.status, PASSING if found.errors == NO_MEMORY else FAILED)
                     self.assertTrue(whole.output.startswith(found.output), found.output)
                 kind = "made good" if found.status == DONE else "ended"
                 counted[kind] = counted.get(kind, 0) + 1

@@ -5,6 +5,7 @@ import contextlib
 import os
 import pathlib
 import subprocess
+import time
 import tempfile
 
 from common import Cases, program, run_program
@@ -116,6 +117,8 @@ class Server(ClosedStreams):
                 with wait_until(lambda: connected(port, child), "a node that listens") as client:
                     client.send(asked)
                     self.assertEqual(client.read(len(wanted)), wanted)
+                # (what it tells is written by a thread of its own, which may come to it later)
+                time.sleep(0.2)
             finally:
                 child.kill()
                 port.close()
@@ -131,7 +134,7 @@ class Server(ClosedStreams):
                 self.assert_ended(run_closed("server", [], streams, SET_A), streams, DONE if is_done else FAILED, OK if is_done else b"")
 
     def test_command_lines_that_are_none(self):
-        for words in (["--help"], ["serve"]):
+        for words in (["serve"], ["primary"]):
             for streams in STREAMS:
                 with self.closed(streams, words=words):
                     finished = run_closed("server", words, streams)

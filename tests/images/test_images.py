@@ -24,8 +24,7 @@ PROGRAMS = ["server"]
 LINE_BYTES = 64
 LINES = 4_096
 ROLES = {PRIMARY: "primary", STANDBY: "standby"}
-DONE, FAILED, MISUSED = 0, 1, 2
-NOT_MADE = b"could not be made: this user may not write to its folder, or there is no room"
+DONE, FAILED, MISUSED, PASSING = 0, 1, 2, 75
 
 # "Refusals" of docs/replication.md, those of images and their files.
 TEXTS = {
@@ -84,11 +83,11 @@ class Images(Cases):
     def run_words(self, words, **options):
         return run_program("server", words, **options)
 
-    def assert_refused(self, words, number, cause=None, **options):
+    def assert_refused(self, words, number, cause=None, status=FAILED, **options):
         """It is refused so, in the line after one that names the file and the cause, which is this one where one is said."""
         finished = self.run_words(words, **options)
         first, last = [line for line in finished.errors.splitlines(keepends=True) if not NEWS.fullmatch(line)]
-        self.assertEqual((finished.status, finished.output, last), (FAILED, b"", refusal(number)))
+        self.assertEqual((finished.status, finished.output, last), (status, b"", refusal(number)))
         found = CAUSE.fullmatch(first)
         self.assertEqual(found["file"], os.fsencode(words[words.index("--image") + 1]))
         self.assertIn(cause, (None, found["cause"]))
@@ -136,11 +135,14 @@ class Formatting(Images):
 
     def test_files_that_cannot_be_made(self):
         with self.folder() as folder:
+            (folder / "file").write_bytes(b"")
             for path, cause in [
                 (folder, b"may not be opened by this user, or is no file"),
                 (folder / "none" / "p.img", b"could not be made: its folder is not there"),
                 ("none/p.img", b"could not be made: its folder is not there"),
-                ("", NOT_MADE),
+                (folder / "file" / "p.img", b"could not be made: its folder is not there"),
+                ("", b"could not be made: no file can have this name"),
+                (folder / ("n" * 300), b"could not be made: no file can have this name"),
             ]:
                 with self.case("path", path=str(path)):
                     self.assert_refused(format_words(path), 1, cause=cause)
@@ -150,7 +152,7 @@ class Formatting(Images):
             for size in (0, 64, LINES * LINE_BYTES // 2, LINES * LINE_BYTES - 1):
                 with self.case("size", size=size):
                     path = folder / f"{size}.img"
-                    self.assert_refused(format_words(path), 1, cause=NOT_MADE, preexec_fn=limited(size))
+                    self.assert_refused(format_words(path), 1, cause=b"could not be made: no file may be as large, there or for this process", preexec_fn=limited(size))
                     self.assertFalse(path.exists())
 
     def test_a_full_disk(self):
@@ -166,6 +168,7 @@ class Formatting(Images):
                     ran = subprocess.run(words, capture_output=True, check=False)
                     wanted = (DONE, b"formatted 4096 lines, 494 entries\np.img\n", b"") if lines == LINES else (FAILED, b"", refusal(1))
                     self.assertEqual((ran.returncode, ran.stdout, without_cause(ran.stderr)), wanted)
+                    self.assertEqual(b": its file system has no room for it\n" in ran.stderr, lines != LINES)
 
     def test_output_that_fails(self):
         with self.folder() as folder, open("/dev/full", "wb") as full:
@@ -312,7 +315,7 @@ class Refusals(Images):
             path.write_bytes(data)
             with open(path, "r+b") as held:
                 fcntl.flock(held, fcntl.LOCK_EX | fcntl.LOCK_NB)
-                self.assert_refused(format_words(path), 1)
+                self.assert_refused(format_words(path), 1, cause=b"is held by another process", status=PASSING)
                 self.assert_written(self.inspect(path), told(BASE.record, len(plain_image.read_image(Words(LINES, BASE.words)).map)))
             self.assert_bytes(path.read_bytes(), data)
 
@@ -325,13 +328,19 @@ class Refusals(Images):
 
 
 class CommandLines(Images):
-    """A command line that is none, or asks for help, is answered on standard error with status 2, before any file is touched."""
+    """A command line that is none is answered on standard error with status 2, one that asks for help on standard output with 0, before any file is touched."""
 
     def assert_misused(self, words, naming):
         finished = self.run_words(words)
         self.assertEqual((finished.status, finished.output), (MISUSED, b""))
         self.assertIn(naming, finished.errors)
         self.assertTrue(finished.errors.endswith(b"\n"))
+
+    def assert_helped(self, words, *naming):
+        finished = self.run_words(words)
+        self.assertEqual((finished.status, finished.errors), (DONE, b""))
+        for name in naming:
+            self.assertIn(name, finished.output)
 
     def test_words_that_are_no_command_line(self):
         with self.folder() as folder:
@@ -368,12 +377,10 @@ class CommandLines(Images):
     def test_help(self):
         for words in (["help"], ["--help"], ["-h"]):
             with self.case("help", words=words):
-                for naming in (b"format", b"inspect", b"primary", b"standby"):
-                    self.assert_misused(words, naming)
+                self.assert_helped(words, b"format", b"inspect", b"primary", b"standby")
         for words in (["help", "format"], ["format", "--help"], ["format", "--lines", "4096", "-h"]):
             with self.case("help of a subcommand", words=words):
-                for naming in (b"--image", b"--lines", b"--role", b"standby"):
-                    self.assert_misused(words, naming)
+                self.assert_helped(words, b"--image", b"--lines", b"--role", b"standby")
 
     def test_faults_of_the_command_line_come_first(self):
         with self.folder() as folder:

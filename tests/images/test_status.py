@@ -1,7 +1,10 @@
 """The subcommand `status` and `bin/wbl-status` over images of the plain writer: what they tell is what the plain reader finds."""
 
+import contextlib
 import copy
 import fcntl
+import io
+import itertools
 import pathlib
 import random
 import struct
@@ -23,7 +26,9 @@ LINES = 4_096
 ROOT = LAYOUT.root_word
 
 
-class Status(common.Cases):
+class Looking(common.Cases):
+    """Tests over images in a folder of their own."""
+
     def setUp(self):
         folder = tempfile.TemporaryDirectory()
         self.addCleanup(folder.cleanup)
@@ -40,6 +45,8 @@ class Status(common.Cases):
         ran = subprocess.run([common.ROOT / "bin" / "wbl-status", *words], cwd=self.folder, capture_output=True, text=True, timeout=common.SECONDS, check=False)
         return ran.returncode, ran.stdout, ran.stderr
 
+
+class Status(Looking):
     def told(self, name, words):
         """What is to be told of an image, by the plain reader."""
         device = Words(LINES, words)
@@ -78,6 +85,18 @@ class Status(common.Cases):
         names = [self.made(name, it.words) for name, it in (("one.img", first), ("two.img", second))]
         told = self.told("one.img", first.words) + self.told("two.img", second.words)
         self.assertEqual(self.run_words(*names), (0, f"{told}behind: 2\n", ""))
+        told = self.told("two.img", second.words) + self.told("one.img", first.words)
+        self.assertEqual(self.run_words(*names[::-1]), (0, f"{told}ahead: 2\n", ""))
+
+    def test_a_pair_that_writes_meanwhile(self):
+        """Each image is written to after it was read. The second, which is behind at any moment, does not seem ahead."""
+        script = common.script("wbl-status")
+        at = itertools.count(5)
+        script.read_status = lambda path: script.Status("primary", 1, next(at), 0, 494, 0, 0, 3_576, 0)
+        told = io.StringIO()
+        with contextlib.redirect_stdout(told):
+            self.assertEqual(script.tell(["one.img", "two.img"], 101, None, None), 0)
+        self.assertEqual(told.getvalue().splitlines()[-1], "behind: 1")
 
     def test_a_share(self):
         """Of 494 versions 445 are 90 per cent, by the whole number below; of lines too."""
@@ -105,6 +124,75 @@ class Status(common.Cases):
         for name, why in [("later", "it is of another version"), ("text", "it does not begin as one"), ("none", "No such file or directory"), ("cut", "it ends too early"), ("torn", "its record is not that of its root")]:
             with self.case(name):
                 self.assertEqual(self.run_words(name), (2, "", f"{name}: no image that can be read: {why}\n"))
+
+
+class Kept(Looking):
+    """What `bin/wbl-status --least` keeps for a fail over, and `--role`."""
+
+    def images(self, primary, standby, epoch=1):
+        """The images of a pair at these positions, the primary's of this epoch."""
+        for name, role, count in (("a.img", PRIMARY, primary), ("b.img", STANDBY, standby)):
+            writer = Writer(LINES, role)
+            for at in range(count):
+                writer.commit([[Put((b"%d" % at,), b"v")]])
+            if role == PRIMARY:
+                writer._put_record(writer.record._replace(epoch=epoch))
+            self.made(name, writer.words)
+
+    def keep(self, *names):
+        """The status of keeping what these images have in common, what was told of it, and what is kept then."""
+        status, _, told = self.run_words("--least", "least", *names)
+        path = self.folder / "least"
+        self.assertFalse((self.folder / "least.new").exists())
+        return status, told, path.read_text(encoding="ascii") if path.exists() else None
+
+    def test_what_both_have(self):
+        """Of two images what both have come to, of a standby's alone what it has; it only rises."""
+        self.images(5, 3)
+        self.assertEqual(self.keep("a.img", "b.img"), (0, "", "3\n"))
+        self.images(7, 6)
+        self.assertEqual(self.keep("b.img"), (0, "", "6\n"))
+        self.images(7, 7)
+        self.assertEqual(self.keep("b.img", "a.img"), (0, "", "7\n"))
+        self.assertEqual(self.keep("a.img", "b.img"), (0, "", "7\n"))
+
+    def test_an_image_that_lacks_something(self):
+        """Told, whichever it is, and the file stays."""
+        (self.folder / "least").write_text("5\n", encoding="ascii")
+        for primary, standby in ((4, 6), (6, 4), (4, 4), (6, 0)):
+            with self.case("positions", primary=primary, standby=standby):
+                self.images(primary, standby)
+                told = f"least says that what was answered came to position 5, and an image is at {min(primary, standby)} alone\n"
+                self.assertEqual(self.keep("a.img", "b.img"), (3, told, "5\n"))
+
+    def test_a_primary_alone(self):
+        """It is only looked whether it lacks something: it may hold what its standby never will."""
+        self.images(5, 5)
+        self.assertEqual(self.keep("a.img"), (0, "", None))
+        (self.folder / "least").write_text("5\n", encoding="ascii")
+        self.assertEqual(self.keep("a.img"), (0, "", "5\n"))
+        self.images(4, 5)
+        self.assertEqual(self.keep("a.img"), (3, "least says that what was answered came to position 5, and an image is at 4 alone\n", "5\n"))
+
+    def test_what_tells_nothing(self):
+        """Two primaries, a pair of two epochs, a standby that holds nothing: nothing is kept, and what is there stays."""
+        nobody, empty = "these are not the images of a pair, or of a standby", "no standby holds anything yet"
+        for name, counts, images, told in [
+            ("two primaries", (5, 5, 1), ["a.img", "a.img"], nobody),
+            ("two epochs", (5, 5, 2), ["a.img", "b.img"], nobody),
+            ("an empty standby", (5, 0, 1), ["a.img", "b.img"], empty),
+            ("an empty standby of an older epoch", (5, 0, 2), ["a.img", "b.img"], empty),
+        ]:
+            with self.case(name):
+                self.images(*counts)
+                self.assertEqual(self.keep(*images), (1, f"least stays: {told}\n", None))
+
+    def test_roles(self):
+        self.images(2, 2)
+        self.assertEqual(self.run_words("--role", "primary", "a.img")[::2], (0, ""))
+        self.assertEqual(self.run_words("--role", "standby", "a.img")[::2], (1, "a.img is no standby's image\n"))
+        self.assertEqual(self.run_words("--role", "primary", "a.img", "b.img")[::2], (1, "b.img is no primary's image\n"))
+        self.assertEqual(self.run_words("--role", "primary", "none.img")[0], 2)
 
 
 class OfTheServer(Status):
@@ -159,7 +247,7 @@ class OfTheServer(Status):
             held.seek(8 * 3)
             held.write(b"\1")
             held.flush()
-            self.assertEqual(self.run_words(name), (1, "", "in use\n"))
+            self.assertEqual(self.run_words(name), (75, "", "in use\n"))
         self.assertEqual(self.run_words(name), (1, "", f"{name} breaks a rule of an image\nrefusal 7: damaged image\n"))
 
     def test_an_image_of_version_1(self):

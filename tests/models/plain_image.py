@@ -59,7 +59,7 @@ LAYOUTS = {layout.version: layout for layout in (VERSION_1, VERSION_2, HALFWAY)}
 # That of new images, and of those that are served.
 LAYOUT = VERSION_2
 
-# "Room for a frame" of docs/replication.md: a standby keeps its last lines free, as many as the longest version has. With so many lines more than its primary
+# "The way of a group" of docs/replication.md: a standby keeps its last lines free, as many as the longest version has. With so many lines more than its primary
 # it always makes room: seven of eight of them are lines of extents, and at least as many as the spare place has.
 SPARE_LINES = (2 * MOST_KEY_BYTES + MOST_VALUE_BYTES) // 64
 MORE_LINES = 18_744

@@ -1,4 +1,4 @@
-"""A plain keyspace, from docs/commands.md ("Rules for all commands", "Changes"): what its keys hold, and the changes that are played on
+"""A plain keyspace, from docs/commands.md ("Rules for all commands") and docs/replication.md ("Frames"): what its keys hold, and the changes that are played on
 it."""
 
 import dataclasses

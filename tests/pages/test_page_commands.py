@@ -13,9 +13,11 @@ import sources
 PROGRAMS = ["server", "client", "simulator"]
 
 README = common.ROOT / "README.md"
-# Pages whose blocks have tests of their own (tests/clients/test_operating.py).
-OPERATED = [README, common.ROOT / "docs" / "operating.md"]
+# Pages whose blocks have tests of their own (tests/clients/test_pair_command.py and test_operating.py).
+OPERATED = [README, *(common.ROOT / "docs" / f"{name}.md" for name in ("architecture", "operating"))]
 SIMULATOR, SESSIONS = (common.ROOT / "docs" / f"{name}.md" for name in ("simulator", "sessions"))
+# The sessions of that page: events, and below them as comments the command that plays them, after a `$ `, with what it prints.
+PLAYED = common.ROOT / "tests" / "pages" / "sessions"
 
 
 def lines_of(block):
@@ -31,7 +33,8 @@ class Commands(common.Cases):
         cls.addClassCleanup(folder.cleanup)
         cls.root = pathlib.Path(folder.name)
         (cls.root / "bin").mkdir()
-        (cls.root / "crates").symlink_to(sources.CRATES)
+        for folder in ("crates", "tests"):
+            (cls.root / folder).symlink_to(common.ROOT / folder)
         for starter, crate in pages.STARTERS.items():
             (cls.root / "bin" / starter).symlink_to(os.path.abspath(common.program(crate)))
 
@@ -57,21 +60,36 @@ class Commands(common.Cases):
                         self.assertNotEqual(self.run_command(lines[0]), "")
 
     def test_sessions(self):
-        found = {page: self.sessions(page) for page in (SESSIONS, SIMULATOR)}
-        self.assertEqual([len(sessions) for sessions in found.values()], [5, 5])
-        for page, ((first, events), command, (_, output)) in [(page, each) for page, sessions in found.items() for each in sessions]:
-            with self.case("session", page=pages.name_of(page), line=first):
+        """The blocks of the simulator's page, and the files that the page of sessions names."""
+        shown = self.sessions(SIMULATOR)
+        self.assertEqual(len(shown), 1)
+        for (first, events), command, (_, output) in shown:
+            with self.case("session", line=first):
                 self.assertEqual(self.run_command(command, lines_of(events)), lines_of(output).decode())
+        files = sorted(PLAYED.iterdir())
+        self.assertEqual([f"sessions/{it.name}" for it in files], sorted(path for path in pages.paths(SESSIONS) if path.startswith("sessions/")))
+        self.assertEqual(len(files), 7)
+        for file in files:
+            with self.case("session", file=file.name):
+                _, command, output = self.played(file.stem)
+                self.assertGreater(len(output), 3)
+                self.assertEqual(self.run_command(command, file.read_bytes()), lines_of(output).decode())
 
     def test_what_is_said_of_the_sessions(self):
-        # the second with another crash, and the third with the lines that let the standby catch up
-        _, ((_, failing), fails, (_, left)), ((_, lagging), lags, _), *_ = self.sessions(SESSIONS)
-        other, added = [lines for _, lines in pages.blocks(SESSIONS) if lines[0].startswith(("primary:", "open-link"))]
-        found = self.run_command(fails, lines_of(failing).replace(b"crash primary 0", b"crash primary 1"))
-        self.assertEqual(found.splitlines(), [*left[:2], other[0], left[3], other[1], *left[4:]])
+        # the first is what the simulator is started with, the second is played with another crash, and the third with lines that let the standby catch up
+        first, failing, other, lagging, caught_up = (
+            self.played(name)[0] for name in ("first_set", "failing_fence", "failing_fence_kept", "lagging_standby", "lagging_standby_caught_up"))
+        self.assertEqual(lines_of(first), (sources.CRATES / "simulator" / "stdin").read_bytes())
+        self.assertEqual((failing[:-1], failing[-1], other[-1]), (other[:-1], "crash primary 0", "crash primary 1"))
         place = next(place for place, line in enumerate(lagging) if line.startswith("# what"))
-        found = self.run_command(lags, lines_of([*lagging[:place], *added, *lagging[place:]]))
-        self.assertIn('connection 0: released "+OK\\r\\n+OK\\r\\n"\n', found)
+        self.assertEqual((caught_up[:place], caught_up[place - len(lagging):]), (lagging[:place], lagging[place:]))
+        self.assertIn('connection 0: released "+OK\\r\\n+OK\\r\\n"', self.played("lagging_standby_caught_up")[2])
+
+    def played(self, name):
+        """The events of a session's file, its command, and what that prints."""
+        lines = (PLAYED / f"{name}.txt").read_text(encoding="ascii").splitlines()
+        place = next(place for place, line in enumerate(lines) if line.startswith("# $ "))
+        return lines[:place], lines[place].removeprefix("# $ "), [line.removeprefix("# ") for line in lines[place + 1:]]
 
     def sessions(self, page):
         """The events of each session of a page, its command, and its output. The blocks above and below a command are the two."""

@@ -14,7 +14,7 @@ import worked_cases as worked
 sys.path.insert(0, str(common.ROOT / "bin"))
 import wrong_bodies  # noqa: E402
 
-README, CRATES = (common.ROOT / name for name in ("README.md", "docs/crates.md"))
+README, CRATES = (common.ROOT / name for name in ("README.md", "docs/architecture.md"))
 CASES = common.ROOT / "docs" / "worked-cases.md"
 
 
@@ -27,16 +27,16 @@ NUMBER = re.compile(r"(\d{1,3}(?:,\d{3})+|\d+)(?:\^(\d+))?")
 LATER = ["IsFenced", "raise_round", "rejoin"]
 OUTSIDE = {
     "DBSIZE", "FLUSHDB", "QUIT", "HELLO", "Clone", "Copy", "bytes::BufMut", "io::Write", "slab", "indexmap", "clap", "crossbeam_utils", "KEY", "WBLIMG01",
-    "dmesg", "smartctl",
+    "dmesg", "smartctl", "MALLOC_MMAP_THRESHOLD_", "MALLOC_TRIM_THRESHOLD_",
 }
 
 # By crate and constant the pages that state it: README, a page of docs/ or the README of a crate.
 LIMITS = [
-    ("kv_types", "REQUEST_LIMITS.words", "README protocol commands"),
+    ("kv_types", "REQUEST_LIMITS.words", "README protocol"),
     ("kv_types", "REQUEST_LIMITS.word_bytes", "README protocol commands"),
     ("kv_types", "MAX_KEY_BYTES", "README protocol commands replication"),
     ("kv_types", "MAX_VALUE_BYTES", "README protocol commands replication"),
-    ("model", "MAX_CHANGE_TEXT_BYTES", "README protocol commands worked-cases"),
+    ("model", "MAX_CHANGE_TEXT_BYTES", "README protocol worked-cases"),
     ("model", "MAX_PARTS", "promises architecture image replication simulator crates/redis_core"),
     ("model", "MIN_LINES", "README image replication worked-cases crates/pmem_file crates/server"),
     ("model", "MAX_LINES", "README image replication crates/pmem_file"),
@@ -44,10 +44,10 @@ LIMITS = [
     ("model", "MAGIC", "image"),
     ("model", "MAX_GAPS", "image"),
     ("model", "STAMP_WINDOW", "image"),
-    ("multi_watch", "MAX_QUEUED_REQUESTS", "README protocol commands"),
+    ("multi_watch", "MAX_QUEUED_REQUESTS", "README protocol"),
     ("machine", "OPEN_CHANGES", "README promises simulator"),
     ("machine", "KEPT_GROUPS", "promises replication simulator"),
-    ("pipes", "MAX_SEATS", "README protocol commands promises replication simulator crates/lobby crates/pipes"),
+    ("pipes", "MAX_SEATS", "README protocol promises replication simulator crates/lobby crates/pipes"),
     ("pipes", "PIPE_ITEMS", "promises replication simulator crates/pipes"),
     ("pmem_file", "LINES_A_WRITE", "crates/pmem_file"),
     ("simulator", "USUAL_LINES", "simulator"),
@@ -203,7 +203,7 @@ class Names(common.Cases):
 
 
 class Crates(common.Cases):
-    """The tables of docs/crates.md."""
+    """The table of crates in docs/architecture.md."""
 
     def test_each_crate_has_its_row(self):
         self.assertEqual([row[0] for row in pages.rows(CRATES, "What each crate proves")], list(sources.crates()))

@@ -1,12 +1,15 @@
-"""The page of refusals: each clause that it names stands in the contract of its call, and each call answers the numbers of its rows and no other."""
+"""The clauses of refusals (refusal_clauses.txt): each stands in the contract of its call, and each call answers the numbers of its rows and no other. And
+the page of refusals, which has each with its number, name and text."""
 
 import functools
 import re
 
 import common
+import pages
 import sources
 
 PAGE = common.ROOT / "docs" / "refusals.md"
+CLAUSES = common.ROOT / "tests" / "pages" / "refusal_clauses.txt"
 
 # The calls of which each refusal has its clauses: those that the bytes of clients, frames and images reach.
 REACHED = [
@@ -28,9 +31,9 @@ DEFINITION = re.compile(r"(?m)^( *)(?:abbrev pub|pub record|pub data) ([\w'-]+)\
 
 
 def rows():
-    """Of each row of both tables its crate, its call, its numbers, and the cells of its cause and of its state."""
+    """Of each row of both tables of clauses its crate, its call, its numbers, and the cells of its cause and of its state."""
     found, last = [], None
-    for line in PAGE.read_text(encoding="utf-8").splitlines():
+    for line in CLAUSES.read_text(encoding="utf-8").splitlines():
         cells = [cell.strip() for cell in line.strip("|").split("|")] if line.startswith("| ") else []
         if len(cells) == 4 and cells[0] != "Call":
             call = CALL.fullmatch(cells[0])
@@ -107,6 +110,11 @@ def numbers_of():
     return {name: int(number) for name, number in re.findall(r"(?m)^refusal_number (\w+) = (\d+)$", sources.definitions("kv_types"))}
 
 
+def texts_by_name():
+    """By the name of each refusal what a program prints of it."""
+    return dict(re.findall(r'(?m)^refusal_text (\w+) = codes "([^"]*)"$', sources.definitions("kv_types")))
+
+
 def clause(contract, name):
     """The text of a clause."""
     return contract.partition(f"ensures {name} {{")[2].partition("ensures ")[0]
@@ -116,6 +124,14 @@ class Refusals(common.Cases):
     def setUp(self):
         super().setUp()
         self.rows = rows()
+
+    def test_the_page(self):
+        rows = pages.rows(PAGE, "Refusals")
+        numbers, texts = numbers_of(), texts_by_name()
+        self.assertEqual([row[:2] for row in rows], [[str(numbers[name]), f"{name}, `{texts[name]}`"] for name in sorted(numbers, key=numbers.get)])
+        for row in rows:
+            with self.case("page", number=row[0]):
+                self.assertTrue(len(row) == 5 and all(row), row)
 
     def test_the_calls_and_the_numbers(self):
         calls = list(dict.fromkeys(call for _, call, *_ in self.rows))
@@ -145,7 +161,7 @@ class Refusals(common.Cases):
                 with self.case("cell", crate=crate, call=call, numbers=numbers, cell=cell):
                     self.assertTrue(NAME.search(cell) or cell.startswith(SAYING), cell)
                     if "open" in cell:
-                        self.assertIn(f"`{call}`", PAGE.read_text(encoding="utf-8").partition("## What is open")[2])
+                        self.assertIn(f"`{call}`", CLAUSES.read_text(encoding="utf-8").partition("# What is open")[2])
 
     def test_each_call_answers_these_numbers_alone(self):
         """Where a clause of its contract names all that it answers, these are the numbers of its rows."""

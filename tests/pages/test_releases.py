@@ -211,6 +211,18 @@ class Releases(common.Cases):
         self.release()
         self.assert_checked("1 passed, 0 failed")
 
+    def test_a_machine_of_another_type_is_told_so(self):
+        """Nothing is unpacked or built there."""
+        self.release()
+        self.it.forget()
+        with tempfile.TemporaryDirectory() as folder:
+            uname = pathlib.Path(folder, "uname")
+            uname.write_text("#!/bin/sh\necho aarch64\n", encoding="ascii")
+            uname.chmod(0o755)
+            path = os.pathsep.join([folder, os.environ["PATH"]])
+            told = "wbl-server: runs on a machine of type x86-64, and this one is aarch64\n"
+            self.assertEqual(self.it.serve(variables={"PATH": path}), (1, "", told))
+
     def test_another_machine_builds(self):
         self.release()
         self.it.forget()

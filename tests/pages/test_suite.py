@@ -10,6 +10,8 @@ import tempfile
 
 import common
 
+sys.path.insert(0, str(common.ROOT / "bin"))
+
 PROGRAMS = []
 
 # A module of tests over these programs.
@@ -41,7 +43,7 @@ class Suite(common.Cases):
             (self.root / "tests" / room.name).mkdir()
         self.starter("[ \"$*\" = '--where server wbl-server' ] && echo /bin/true || exit 1")
         self.module("clients", "test_pairs", ["server"])
-        self.module("runs", "test_measures", ["server", "bench"])
+        self.module("runs", "test_events", ["server", "simulator"])
 
     def starter(self, text):
         path = self.root / "bin" / "run-program"
@@ -64,24 +66,22 @@ class Suite(common.Cases):
         return status, [line for line in lines if not line.endswith(" s")]
 
     def lacking(self):
-        return f"no program at {self.root.resolve()}/crates/bench/out/bench: build it with `cd crates/bench && rt run`, or name another by WBL_BENCH"
+        return f"no program at {self.root.resolve()}/crates/simulator/out/simulator: build it with `bin/wbl-sim < /dev/null`, or name another by WBL_SIM"
 
-    def test_what_is_not_released_is_left_out(self):
-        self.assertEqual(self.run_tests(), (0, [f"test_measures is left out: {self.lacking()}", "2 passed, 0 failed"]))
-
-    def test_the_whole_leaves_nothing_out(self):
-        self.assertEqual(self.run_tests("--whole"), (1, [self.lacking(), "0 passed, 1 failed"]))
-
-    def test_what_is_named_is_not_left_out(self):
-        self.assertEqual(self.run_tests("test_measures"), (1, [self.lacking(), "0 passed, 1 failed"]))
+    def test_a_program_is_lacking(self):
+        """Nothing is tested where a test has no program, and what needs none of that is."""
+        for words in ([], ["--quick"], ["test_events"], ["test_events", "test_pairs"]):
+            with self.case("words", words=words):
+                self.assertEqual(self.run_tests(*words), (1, [self.lacking(), "0 passed, 1 failed"]))
+        self.assertEqual(self.run_tests("test_pairs"), (0, ["2 passed, 0 failed"]))
 
     def test_what_was_built(self):
-        for crate in ("server", "bench"):
+        for crate in ("server", "simulator"):
             built = self.root / "crates" / crate / "out" / crate
             built.parent.mkdir(parents=True)
             shutil.copy("/bin/true", built)
         self.starter("exit 1")
-        self.assertEqual(self.run_tests("--whole"), (0, ["4 passed, 0 failed"]))
+        self.assertEqual(self.run_tests(), (0, ["4 passed, 0 failed"]))
 
     def test_no_release_and_nothing_built(self):
         self.starter("exit 1")
@@ -90,12 +90,13 @@ class Suite(common.Cases):
         self.assertRegex(lines[0], r"\Ano program at .*/crates/server/out/server: build it with `bin/wbl-server < /dev/null`")
 
     def test_quick(self):
+        self.starter("echo /bin/true")
         more = "class More(common.Cases):\n    def test_third(self):\n        pass\n"
         self.module("clients", "test_pairs", ["server"], SLOW + more, "False")
         self.module("images", "test_others", [])
-        self.assertEqual(self.run_tests("--quick"), (0, [f"test_measures is left out: {self.lacking()}", "4 passed, 0 failed"]))
+        self.assertEqual(self.run_tests("--quick"), (0, ["6 passed, 0 failed"]))
         status, lines = self.run_tests()
-        self.assertEqual((status, lines[-1]), (1, "4 passed, 1 failed"))
+        self.assertEqual((status, lines[-1]), (1, "6 passed, 1 failed"))
 
     def test_what_is_named_as_quick_is_there(self):
         """In the modules of this repository: a class, or a test of one."""
@@ -123,3 +124,32 @@ class Suite(common.Cases):
         status, lines, told = self.run_words("bin/test")
         self.assertEqual((status, lines), (1, []))
         self.assertRegex(told, r"\Abin/test needs the toolchain's command rt on the path .*\n\Z")
+
+
+class Costs(common.Cases):
+    """What `bin/test --release` keeps of the processor seconds by crate."""
+
+    def setUp(self):
+        folder = tempfile.TemporaryDirectory()
+        self.addCleanup(folder.cleanup)
+        self.said = common.script("test")
+        self.said.ROOT, self.said.COSTS = pathlib.Path(folder.name), pathlib.Path(folder.name, "costs.txt")
+
+    def note(self, crates, rows, gate_lines=(), edit_lines=()):
+        """The rows that are kept after this run."""
+        (self.said.ROOT / "crates.txt").write_text("".join(f"{it}:\n" for it in crates), encoding="ascii")
+        self.said.note_costs(rows, gate_lines, edit_lines)
+        text = self.said.COSTS.read_text(encoding="utf-8")
+        self.assertTrue(text.startswith(self.said.COSTS_HEAD))
+        return text.removeprefix(self.said.COSTS_HEAD).splitlines()
+
+    def test_what_is_kept(self):
+        head, low, top = "crate  proof  tests  edits  all", ["low", 100, 2, 30, 132], ["top", 40, 1, 5, 46]
+        proved, tried = ["fn low::put: proved in 1 s", "fn top::shelf::Shelf::take: proved"], ["edits of low: 3 of 3 refused, 30 processor seconds"]
+        self.assertEqual(self.note(["low", "top"], [low, top], proved, tried), [head, "low      100      2     30  132", "top       40      1      0   41", "all      140      3     30  173"])
+        # (what was taken from an earlier run costs next to nothing, and stays as it was; a crate that is gone goes)
+        again = [["low", 1, 0, 7, 8], ["top", 50, 3, 6, 59]]
+        tried = ["edits of top: 1 of 1 refused, 6 processor seconds"]
+        self.assertEqual(self.note(["low", "top"], again, proved[1:], tried), [head, "low      100      2     30  132", "top       50      3      6   59", "all      150      5     36  191"])
+        self.assertEqual(self.note(["top"], []), [head, "top       50      3      6   59", "all       50      3      6   59"])
+        self.assertEqual(self.note(["new"], []), ["crate  proof  tests  edits  all", "all        0      0      0    0"])

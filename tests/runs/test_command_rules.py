@@ -80,10 +80,30 @@ class Refused(Commands):
         names = ["NOSUCH", "SELECT", "KEYS", "COMMAND", ""]
         self.show_requests(((name.encode(), *count * [b"h"]), UNKNOWN) for name in names for count in range(6))
 
+    # Commands of Redis 7, by what they are on. All of lists, sets and the like are unknown too.
+    UNKNOWN_COMMANDS = {
+        "strings": "GETEX GETRANGE GETSET INCRBYFLOAT LCS PSETEX SETEX SETRANGE SUBSTR",
+        "bits of strings": "BITCOUNT BITFIELD BITFIELD_RO BITOP BITPOS GETBIT SETBIT",
+        "hashes": "HINCRBYFLOAT HMSET HRANDFIELD HSCAN",
+        "hashes, from Redis 7.4 on": "HEXPIRE HEXPIREAT HEXPIRETIME HPERSIST HPEXPIRE HPEXPIREAT HPEXPIRETIME HPTTL HTTL",
+        "keys of any type":
+            "COPY DUMP KEYS MIGRATE MOVE OBJECT RANDOMKEY RENAME RENAMENX RESTORE SCAN SORT SORT_RO TOUCH UNLINK WAIT "
+            "WAITAOF",
+        "their expiry": "EXPIRE EXPIREAT EXPIRETIME PERSIST PEXPIRE PEXPIREAT PEXPIRETIME PTTL TTL",
+        "connections": "AUTH CLIENT HELLO RESET SELECT",
+        "the server":
+            "ACL BGREWRITEAOF BGSAVE COMMAND CONFIG DEBUG FAILOVER FLUSHALL INFO LASTSAVE LATENCY LOLWUT MEMORY MODULE "
+            "MONITOR PSYNC REPLCONF REPLICAOF ROLE SAVE SHUTDOWN SLAVEOF SLOWLOG SWAPDB SYNC TIME",
+    }
+
     def test_commands_of_redis_that_are_unknown_here(self):
-        names = [name for _, cell in pages.rows(PAGE, "Unknown commands") for name in cell.split(", ")]
-        self.assertEqual(len(names), len(set(names)))
-        self.assertLessEqual({"HMSET", "GETSET", "UNLINK", "SETBIT", "TTL", "RESET", "FLUSHALL"}, set(names))
+        """Those that the page names among them."""
+        names = [name for group in self.UNKNOWN_COMMANDS.values() for name in group.split()]
+        self.assertEqual((len(names), len(set(names))), (86, 86))
+        _, _, rest = pages.text_of(PAGE).partition(" are unknown, such as ")
+        named = re.findall(r"\b[A-Z]{3,}\b", rest.partition("\n\n")[0])
+        self.assertGreater(len(named), 10)
+        self.assertLessEqual(set(named), set(names))
         self.show_requests(((name.encode(), *count * [b"h"]), UNKNOWN) for name in names for count in range(4))
 
     # The words after each name: k is a key or a field, v is none.
@@ -97,7 +117,7 @@ class Refused(Commands):
 
     def test_keys_of_512_and_of_513_bytes(self):
         table, empty = [], plain_keyspace.Keyspace()
-        self.assertEqual(list(self.SHAPES), self.names)
+        self.assertEqual(sorted(self.SHAPES), sorted(self.names))
         for name, shape in self.SHAPES.items():
             short = [LONGEST_KEY if kind == "k" else b"1" for kind in shape]
             asked = (name.encode(), *short)
@@ -130,23 +150,24 @@ class Refused(Commands):
             ((b"HINCRBY", b"s", b"f", b"1"), WRONG_TYPE),
         ])
 
-    # By its cause on the page, a request that is answered this text.
-    CAUSES = {
-        "unknown name": "NOSUCH",
-        "number of words (the name in lower case)": "GeT",
-        "key or field above 512 bytes": (b"GET", LONG_KEY),
-        "options": "SET s 1 EX",
-        "integer text of a string or an argument": "INCR s",
-        "integer text of a field": "HINCRBY h t 1",
-        "result out of range": (b"INCRBY", b"n", GREATEST),
-        "DECRBY with -9223372036854775808": (b"DECRBY", b"n", LEAST),
-        "type": "GET h",
-        "APPEND past the limit": (b"APPEND", b"s", 1_048_576 * b"v"),
+    # By the error text a request that is answered so.
+    ERRORS = {
+        "ERR unknown command": "NOSUCH",
+        "ERR wrong number of arguments for 'get' command": "GeT",
+        "ERR key or field is longer than 512 bytes": (b"GET", LONG_KEY),
+        "ERR syntax error": "SET s 1 EX",
+        "ERR value is not an integer or out of range": "INCR s",
+        "ERR hash value is not an integer": "HINCRBY h t 1",
+        "ERR increment or decrement would overflow": (b"INCRBY", b"n", GREATEST),
+        "ERR decrement would overflow": (b"DECRBY", b"n", LEAST),
+        "WRONGTYPE Operation against a key holding the wrong kind of value": "GET h",
+        "ERR string is longer than 1048576 bytes": (b"APPEND", b"s", 1_048_576 * b"v"),
     }
 
     def test_error_texts(self):
-        texts = {cause: pages.CODE.search(text)[1] for cause, text in pages.rows(PAGE, "Error texts")}
-        self.show_requests((asked, error(texts[cause])) for cause, asked in self.CAUSES.items())
+        section = pages.text_of(PAGE).partition("## Error texts\n")[2].partition("\n## ")[0]
+        self.assertEqual(pages.CODE.findall(section), list(self.ERRORS))
+        self.show_requests((asked, error(text)) for text, asked in self.ERRORS.items())
 
 
 class Served(Commands):

@@ -9,7 +9,7 @@ from worked_cases import OK, SET_A, SHORTEST, UNKNOWN
 
 PROGRAMS = ["server"]
 
-FAILED, MISUSED = 1, 2
+FAILED, MISUSED, PASSING = 1, 2, 75
 
 # The messages where memory is refused: to a call, to the simulated device, or to one end of a connection between the threads.
 NO_MEMORY = b"refusal 14: out of memory\n"
@@ -29,7 +29,7 @@ class Messages(Cases):
         self.assertRegex(finished.errors, rb"\A[^\n]+\n\Z")
 
     def test_words_that_are_no_subcommand(self):
-        some = [["x"], [""], [b"\xff\xfe"], ["--help"], ["-"], ["--"], ["", ""], ["serve", "now"], ["x" * 100_000]]
+        some = [["x"], [""], [b"\xff\xfe"], ["-"], ["--"], ["", ""], ["serve", "now"], ["x" * 100_000]]
         for words in some:
             with self.case("words", words=[word[:20] for word in words]):
                 finished = run_program("server", words, SET_A)
@@ -108,8 +108,9 @@ class Memory(Cases):
 
     def assert_told(self, finished):
         """Either nothing was written and the cause is told, or each request has its reply or was refused memory."""
-        if finished.status == FAILED:
+        if finished.status in (FAILED, PASSING):
             self.assertIn(finished.errors, (NO_MEMORY, STARVED, BROKEN))
+            self.assertEqual(finished.status == PASSING, finished.errors == NO_MEMORY)
             self.assertEqual(finished.output, b"")
             return finished.errors
         self.assertEqual((finished.status, finished.errors), (0, b""))
@@ -123,7 +124,7 @@ class Memory(Cases):
         """Which thread finds how much left differs from run to run, so the limits go from the least with which the program begins to one
         that is ample."""
         last = self.AMPLE // PAGE
-        first = least(lambda pages: serve_within(pages * PAGE, b"").status in (0, FAILED), 0, last)
+        first = least(lambda pages: serve_within(pages * PAGE, b"").status in (0, FAILED, PASSING), 0, last)
         told = set()
         for step in range(60):
             pages = int(first * (last / first) ** (step / 60))

@@ -13,14 +13,14 @@ from pair import MEMORY, inspected
 from plain_image import BOUND, DAMAGED, GAPS_WORD, HALFWAY, PRIMARY, STAMPS_BETWEEN_RECORDS, VERSION_1, VERSION_2, WORDS_OF_LINE, Words
 from plain_keyspace import Put
 from plain_writer import Writer
-from test_images import FAILED, LINE_BYTES, MISUSED, ROLES, Images, image_bytes, limited, words_of
+from test_images import FAILED, LINE_BYTES, MISUSED, PASSING, ROLES, Images, image_bytes, limited, words_of
 
 PROGRAMS = ["server"]
 
 MIGRATED = b"migrated to version 2, 494 entries\n"
 OTHER_VERSION = b"is an image of another version; wbl-server migrate brings one of version 1 to version 2"
 NO_PLACE = b"has no place for a version that has to move"
-NOWHERE = "127.0.0.1:99999"
+NOWHERE = "192.0.2.1:7000"
 
 
 def migrate_words(path):
@@ -143,7 +143,7 @@ class Upgrades(Migrating):
     def test_command_lines(self):
         self.write(with_gaps().words)
         before = self.path.read_bytes()
-        for words in (["migrate"], [*migrate_words(self.path), "--lines", "4096"], [*migrate_words(self.path), "now"], ["help", "migrate"]):
+        for words in (["migrate"], [*migrate_words(self.path), "--lines", "4096"], [*migrate_words(self.path), "now"]):
             with self.case("words", words=words):
                 self.assertEqual(run_program("server", words)[:2], (MISUSED, b""))
         self.assert_bytes(self.path.read_bytes(), before)
@@ -258,7 +258,7 @@ class Refusals(Migrating):
         self.write(with_gaps().words)
         with open(self.path, "r+b") as other:
             fcntl.flock(other, fcntl.LOCK_EX | fcntl.LOCK_NB)
-            self.assert_unchanged(migrate_words(self.path), 1, b"is held by another process")
+            self.assert_unchanged(migrate_words(self.path), 1, b"is held by another process", status=PASSING)
 
     def test_one_that_may_not_be_written(self):
         self.write(with_gaps().words)

@@ -1,13 +1,10 @@
 """The simulator itself: its words and lines, what it says of bad ones, and the order and form of what it prints."""
 
-import pages
-from common import ROOT, Cases, run_program
+from common import Cases, run_program
 from simulation import NODES, Schedule, Trace, simulate
 from worked_cases import GET_A, SET_A
 
 PROGRAMS = ["simulator"]
-
-PAGE = ROOT / "docs" / "simulator.md"
 
 FAILED, MISUSED = 1, 2
 MOST_EVENTS = 16_777_216
@@ -63,7 +60,7 @@ BAD_LINES = [
     "fail-fence primary 1 2", "fail_fence primary 1", "reopen", "reopen third", "reopen primary 0", "reopen 0", "repeat 2 reopen",
 ]
 
-# By its text on the page, lines of which the last is told so.
+# By its text lines of which the last is told so.
 TEXTS_OF_BAD_LINES = {
     "unknown event": ["nonsense", "nonsense 0 x", "repeat 2 fail primary 1", "\xff"],
     "a word is missing": ["offer", "feed 0", "read 0", "crash primary", "crash primary apply 1", "repeat 2", "fail primary", "fail-fence primary"],
@@ -236,7 +233,6 @@ class Misuse(Cases):
                 self.assert_bad_line(b"# a bad line comes\n\n" + line.encode() + b"\nenter\n", 3)
 
     def test_texts_of_bad_lines(self):
-        self.assertEqual([pages.CODE.fullmatch(text)[1] for text, _ in pages.rows(PAGE, "Lines that are not understood")], list(TEXTS_OF_BAD_LINES))
         for text, given in TEXTS_OF_BAD_LINES.items():
             for lines in given:
                 with self.case("text", text=text, lines=lines):
