@@ -15,6 +15,7 @@ from plain_replies import OK, bulk
 
 PROGRAMS = ["server"]
 IS_SLOW = True
+IS_ALONE = True
 QUICK = ["Signals.test_an_ordinary_process", "Signals.test_under_a_first_process"]
 
 # A first process of a few lines, as `docker run --init` and tini are one: it starts the program, and passes signals on.

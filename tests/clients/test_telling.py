@@ -274,7 +274,9 @@ class FirstLine(ServingCases):
         told = common.run_program("server", ["--version"])
         self.assertEqual((told.status, told.errors), (0, b""))
         for node in (self.nodes.primary, self.nodes.standby):
-            first, second, *_ = node.errors.read_bytes().splitlines(keepends=True)
+            lines = lambda node=node: node.errors.read_bytes().splitlines(keepends=True)
+            wait_until(lambda: len(lines()) >= 2, "two lines that are told")
+            first, second, *_ = lines()
             self.assertEqual(first, told.output)
             self.assertTrue(second.startswith(b"opened at position "), second)
 

@@ -12,6 +12,7 @@ from worked_cases import NO_STAR
 
 PROGRAMS = ["server"]
 IS_SLOW = True
+IS_ALONE = True
 
 # A reply takes 5 to 60 ms on a machine that is busy. Where a wake is lost, it takes up to a second.
 SECONDS = 0.1

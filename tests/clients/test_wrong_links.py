@@ -107,7 +107,7 @@ class FakeStandby(PairCases):
             with contextlib.suppress(TimeoutError):
                 nodes.client(1).send(requests)
         self.accepted(listener)
-        self.assertIn(b"lost: a write failed", nodes.primary.errors.read_bytes())
+        wait_until(lambda: b"lost: a write failed" in nodes.primary.errors.read_bytes(), "a write that failed, and is told")
 
     def test_what_comes_behind_the_first_acknowledgement(self):
         """A standby says where it is, and nothing more until a frame came: who says more in that piece is none, and none of it counts."""

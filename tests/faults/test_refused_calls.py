@@ -110,6 +110,7 @@ class Dials(Refused):
                 with Client(nodes.door.number) as client:
                     self.assertEqual(client.ask("SET", "a", "1"), OK)
                 line = b"no link to %s: %s\n" % (nodes.link.address().encode(), cause)
+                wait_until(lambda line=line: line in nodes.primary.errors.read_bytes(), "the cause")
                 self.assertEqual(nodes.primary.errors.read_bytes().count(line), 1, nodes.primary.errors.read_bytes())
 
     def test_the_client_program(self):
@@ -171,6 +172,7 @@ class Reads(Refused):
                 with Client(nodes.door.number) as client:
                     for turn in range(20):
                         self.assertEqual(client.ask("SET", "a", b"%d" % turn), OK)
+                wait_until(lambda: b"link open to " in nodes.primary.errors.read_bytes(), "a link that is told")
                 told = nodes.primary.errors.read_bytes()
                 self.assertEqual((told.count(b"link open to "), told.count(b" lost: "), told.count(b"no link to ")), (1, 0, 0), told)
 
