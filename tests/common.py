@@ -70,6 +70,14 @@ CAUSE = re.compile(
 )
 
 
+class TakesTooLong(Exception):
+    """What was waited for did not come in time."""
+
+
+# What a test fails with that a busy machine may have made too late. Such a test is tried once more, alone.
+LATE = (TakesTooLong, TimeoutError, subprocess.TimeoutExpired)
+
+
 class MissingProgram(Exception):
     """A program that was not built. The text says how to build it."""
 
@@ -221,6 +229,11 @@ class Cases(unittest.TestCase):
         """One case: the others go on where it fails."""
         with self.subTest(name, **details):
             yield
+
+    def assert_in_time(self, seconds, most):
+        """It took less than that."""
+        if seconds >= most:
+            raise TakesTooLong(f"{seconds} seconds, and {most} at most")
 
     def assert_bytes(self, found, wanted):
         """Both are the same bytes; else the message shows them around the first byte where they differ."""

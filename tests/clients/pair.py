@@ -17,6 +17,7 @@ import time
 
 import common
 import plain_image
+from common import TakesTooLong
 from spelling import spell
 
 LINES = 65_536
@@ -52,10 +53,6 @@ def allow_descriptors(count):
             resource.setrlimit(resource.RLIMIT_NOFILE, (min(count, hard) if hard != resource.RLIM_INFINITY else count, hard))
     soft, _ = resource.getrlimit(resource.RLIMIT_NOFILE)
     return soft == resource.RLIM_INFINITY or soft >= count
-
-
-class TakesTooLong(Exception):
-    """What was waited for did not come."""
 
 
 def wait_until(holds, what, seconds=PATIENCE):

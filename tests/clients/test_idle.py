@@ -40,7 +40,7 @@ class Idle(ServingCases):
                     client.ask(*request)
                 self.assertEqual(client.socket.recv(1), b"")
                 self.assertGreaterEqual(time.monotonic() - began, SECONDS - 0.1)
-                self.assertLess(time.monotonic() - began, SECONDS + LATE)
+                self.assert_in_time(time.monotonic() - began, SECONDS + LATE)
         self.assert_serves()
 
     def test_one_that_asks_now_and_then(self):

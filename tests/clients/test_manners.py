@@ -273,7 +273,7 @@ class Ends(ServingCases):
         """Waits until these are the lines that a node told last."""
         end = time.monotonic() + PATIENCE
         while not node.errors.read_bytes().endswith(lines):
-            self.assertLess(time.monotonic(), end, node.errors.read_bytes())
+            self.assert_in_time(time.monotonic(), end)
             time.sleep(0.02)
 
     def test_what_a_node_tells(self):

@@ -72,7 +72,7 @@ class Signals(PairCases):
         began = time.monotonic()
         process.send_signal(number)
         self.assertEqual(process.wait(PATIENCE), status)
-        self.assertLess(time.monotonic() - began, 2 * common.BUSY)
+        self.assert_in_time(time.monotonic() - began, 2 * common.BUSY)
 
     def test_an_ordinary_process(self):
         for number in (signal.SIGTERM, signal.SIGINT):
@@ -95,7 +95,7 @@ class Signals(PairCases):
                     first, began = self.first_of(node), time.monotonic()
                     subprocess.run(["kill", f"-{number.value}", str(first)], check=True)
                     self.assertEqual(node.process.wait(PATIENCE), 128 + number)
-                    self.assertLess(time.monotonic() - began, 2 * common.BUSY)
+                    self.assert_in_time(time.monotonic() - began, 2 * common.BUSY)
                 self.assert_kept(nodes)
 
     @unittest.skipUnless(can_be_apart(), "no container can be made here")

@@ -145,4 +145,4 @@ class Hoarded(PairCases):
     def assert_served(self, client, value):
         began = time.monotonic()
         self.assertEqual(client.ask("SET", "other", f"{value}"), OK)
-        self.assertLess(time.monotonic() - began, 5 * BUSY)
+        self.assert_in_time(time.monotonic() - began, 5 * BUSY)

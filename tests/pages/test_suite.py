@@ -120,6 +120,34 @@ class Suite(common.Cases):
         self.assertEqual((status, lines[-1]), (1, "3 passed, 1 failed"))
         self.assertEqual(told, "1 of 4 tests, 1 failed\n2 of 4 tests, 1 failed\n3 of 4 tests, 1 failed\n4 of 4 tests, 1 failed\n")
 
+    def test_one_that_is_too_late(self):
+        """It is tried once more, and counts as it ends then. One that fails otherwise as well is not."""
+        tried = self.root / "tried"
+        late = f'''
+    def test_late(self):
+        with open({str(tried)!r}, "a") as file:
+            file.write("x")
+        with self.case("first"):
+            self.assert_in_time(2, 1)
+        with self.case("second"):
+            self.assertTrue(len(open({str(tried)!r}).read()) LIMIT)
+'''
+        for limit, status, last, count in ((">= 1", 1, "3 passed, 1 failed", 2), (">= 2", 1, "2 passed, 2 failed", 1)):
+            with self.case("limit", limit=limit):
+                tried.unlink(missing_ok=True)
+                self.module("images", "test_others", [])
+                path = self.root / "tests" / "images" / "test_others.py"
+                path.write_text(path.read_text(encoding="ascii") + late.replace("LIMIT", limit), encoding="ascii")
+                found, lines = self.run_tests("test_others")
+                self.assertEqual((found, lines[-1], len(tried.read_text(encoding="ascii"))), (status, last, count))
+
+    def test_one_that_was_held_up(self):
+        tried = self.root / "tried"
+        first = f"open({str(tried)!r}, 'a').write('x') and self.assert_in_time(3 - len(open({str(tried)!r}).read()), 2) is None"
+        self.module("images", "test_others", [], "", first)
+        status, lines = self.run_tests("test_others")
+        self.assertEqual((status, lines[0], lines[-1]), (0, "TOO LATE test_others.Some.test_first ", "2 passed, 0 failed"))
+
     def test_a_check_without_the_toolchain(self):
         status, lines, told = self.run_words("bin/test")
         self.assertEqual((status, lines), (1, []))
