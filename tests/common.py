@@ -54,7 +54,7 @@ NEWS = re.compile(
     rb"(?:wbl-server \d+ \(logic [0-9a-f]{16}\)|opened at position \d+, epoch \d+, with \d+ keys|listening on \S+|link open to \S+ at position \d+"
     rb"|(?:link to \S+ lost|no link to \S+|link ended|left the link|standby ahead|closed a connection from \S+|stopped|cannot listen at \S*): [^\n]+"
     rb"|\S+: the standby is new: [^\n]+|\S+ at position \d+ ended \d+ links in a row [^\n]+"
-    rb"|waiting for the standby since \d+ seconds|the standby has answered after \d+ seconds"
+    rb"|waiting for the standby since \d+ seconds|the standby has answered after \d+ seconds|taking a frame since \d+ seconds: [^\n]+"
     rb"|at position \d+, (?:standby at \d+, )?\d+ keys, \d+ of \d+ versions and \d+ of \d+ lines,"
     rb" (?:\d+ of 1024 clients, \d+ requests a second, longest wait \d+ ms|\d+ frames a second)"
     rb"|(?:9 of 10|99 of 100) (?:versions|lines) are taken, \d+ of \d+: [^\n]+)\n"

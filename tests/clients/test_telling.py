@@ -7,8 +7,10 @@ import socket
 import subprocess
 import time
 import typing
+import unittest
 
 import common
+import held_syncs
 from pair import ServingCases, wait_until
 from plain_replies import OK, bulk
 from spelling import spell
@@ -23,6 +25,7 @@ USED = rb"(\d+) keys, (\d+) of (\d+) versions and (\d+) of (\d+) lines"
 PRIMARY = re.compile(rb"at position (\d+), standby at (\d+), " + USED + rb", (\d+) of 1024 clients, (\d+) requests a second, longest wait (\d+) ms")
 STANDBY = re.compile(rb"at position (\d+), " + USED + rb", (\d+) frames a second")
 FILLING = re.compile(rb'(9|99) of (?:10|100) (?:(versions)|lines) are taken, (\d+) of (\d+): see "A larger image" in docs/operating\.md')
+TAKING = re.compile(rb"taking a frame since (\d+) seconds: its disk is slow, or it moves versions to make room")
 VERSION = re.compile(rb"wbl-server \d+ \(logic [0-9a-f]{16}\)")
 # After how many seconds a wait is told.
 TOLD = [1, 2, 3, 4, 5, 10, 20, 30, 60, 120]
@@ -121,6 +124,34 @@ class Waiting(ServingCases):
         self.nodes.standby.start()
         self.assertEqual(client.reply(), bulk(b"1"))
         wait_until(lambda: found_in(self.nodes.primary, ANSWERED), "that the standby has answered")
+
+
+class Taking(ServingCases):
+    def told(self):
+        return [seconds for (seconds,) in found_in(self.nodes.standby, TAKING)]
+
+    @unittest.skipUnless(held_syncs.HAS_COMPILER, "there is no gcc")
+    def test_a_standby_whose_syncs_are_held(self):
+        """It says for how long it has been taking a frame, ever more seldom, and no more once it has."""
+        standby, file = self.nodes.standby, self.nodes.folder / "held"
+        standby.end()
+        held_syncs.hold(standby, file)
+        standby.start()
+        self.nodes.wait()
+        client = self.nodes.client()
+        self.assertEqual(client.ask("SET", "a", "1"), OK)
+        time.sleep(2)
+        before = len(self.told())
+        file.touch()
+        client.send(spell("SET", "a", "2"))
+        told = wait_until(lambda: len(self.told()) >= before + 3 and self.told()[before:], "a frame that is told of three times")
+        self.assertTrue(all(2 * before <= after for before, after in zip(told, told[1:])), told)
+        file.unlink()
+        self.assertEqual(client.reply(), OK)
+        time.sleep(1)
+        told = self.told()
+        time.sleep(3)
+        self.assertEqual(self.told(), told)
 
 
 class Reports(ServingCases):

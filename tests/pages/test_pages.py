@@ -218,6 +218,14 @@ class Crates(common.Cases):
                 with self.case("carried", crate=crate, name=name):
                     self.assertTrue(name in known, "the crate has no such contract")
 
+    def test_the_ten_lines(self):
+        """They stand so in the source."""
+        source = (common.ROOT / "crates" / "example" / "src" / "main.rt").read_text(encoding="utf-8")
+        shown = CRATES.read_text(encoding="utf-8").partition("## The crates in ten lines\n")[2].partition("\n## ")[0]
+        lines = [line.removeprefix("    ") for line in shown.splitlines() if line.startswith("    ")]
+        self.assertGreater(len(lines), 10)
+        self.assertIn("\n" + "\n".join(lines) + "\n", source)
+
     def test_public_names_are_found(self):
         # otherwise the tests of names would check nothing
         for crate in sources.crates():

@@ -21,7 +21,7 @@ use crate::link_error::{LinkError, ends_by, refusal_of_ack, refusal_of_head};
 use crate::link_reader::LinkReader;
 use crate::link_writer::{LinkWriter, limit_writes};
 use crate::log::Log;
-use crate::progress::Progress;
+use crate::progress::{Progress, end_turn};
 use frames::{Ack, Frame};
 use kv_types::Refusal;
 use mv_keyspace::Keyspace;
@@ -94,9 +94,10 @@ fn serve_next<C: Clock, E: Durable, K: Keyspace, W: Write>(
 {
     limit_writes(stream);
     let written = Cell::new(0);
-    let mut from = LinkReader::new(stream, acceptor, &written);
+    let mut from = LinkReader::new(stream, acceptor, &written, progress);
     let mut to = LinkWriter::new(stream, &written, progress);
     let served = serve_link(alloc, node, &mut from, &mut to, shown);
+    end_turn(progress);
     let stopped = stop_of(served);
     let newer = from.into_newer();
     if let Err(end) = served {

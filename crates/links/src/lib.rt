@@ -6,6 +6,7 @@ mod dialing;
 mod fill_gauges;
 mod filling;
 mod following;
+mod frame_watch;
 mod link_acceptor;
 mod link_error;
 mod link_reader;

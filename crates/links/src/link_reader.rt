@@ -2,9 +2,11 @@
 ghost use Rattle.std.specs.Prelude.{◌≡◌};
 
 use crate::link_acceptor::LinkAcceptor;
+use crate::progress::{Progress, end_turn};
 use std::cell::Cell;
 use std::io::{self, ErrorKind, Read, Write};
 use std::net::TcpStream;
+use std::sync::Arc;
 use std::time::{Clock, Duration, Instant};
 
 /// In how many seconds something has to come of what comes on a link, or the node looks for a newer connection.
@@ -23,6 +25,8 @@ pub(crate) struct LinkReader<'a, 'b, S, C, W> {
     newer: Option<TcpStream>,
     /// How many acknowledgements were written.
     written: &'a Cell<u64>,
+    /// Where the node shows whether it takes what came.
+    progress: &'a Option<Arc<Progress>>,
     /// When the link began to be looked at, what was written then, and how many bytes came since.
     since: Option<Instant>,
     written_then: u64,
@@ -30,11 +34,12 @@ pub(crate) struct LinkReader<'a, 'b, S, C, W> {
 }
 
 impl<'a, 'b, S, C: Clock, W: Write> LinkReader<'a, 'b, S, C, W> {
-    /// What comes on this link, with what accepts the others.
+    /// What comes on this link, with what accepts the others, and where it is shown that something came and is being taken.
     pub(crate) fn new(
         stream: S,
         acceptor: &'a mut LinkAcceptor<'b, C, W>,
         written: &'a Cell<u64>,
+        progress: &'a Option<Arc<Progress>>,
     ) -> LinkReader<'a, 'b, S, C, W>
         ensures { result.stream ≡ stream }
     {
@@ -43,6 +48,7 @@ impl<'a, 'b, S, C: Clock, W: Write> LinkReader<'a, 'b, S, C, W> {
             acceptor,
             newer: None,
             written,
+            progress,
             since: None,
             written_then: 0,
             bytes: 0,
@@ -105,6 +111,7 @@ impl<S: Read, C: Clock, W: Write> Read for LinkReader<'_, '_, S, C, W> {
     ghost remaining = { λ reader. S.remaining reader.stream };
 
     fn read(&mut self, buf: &mut [u8]) -> io::Result<usize> {
+        end_turn(self.progress);
         if self.makes_no_way() && self.finds_newer() {
             return Err(io::Error::from(ErrorKind::TimedOut));
         }
@@ -116,6 +123,9 @@ impl<S: Read, C: Clock, W: Write> Read for LinkReader<'_, '_, S, C, W> {
                 Err(error) if error.kind() == ErrorKind::Interrupted => {}
                 Ok(count) => {
                     self.bytes = self.bytes.saturating_add(count as u64);
+                    if let Some(progress) = self.progress {
+                        progress.begin_turn();
+                    }
                     return Ok(count);
                 }
                 other => return other,

@@ -27,6 +27,9 @@ const NO_ROOM: &str =
 /// What there is to do about an image that fills.
 const LARGER: &str = "see \"A larger image\" in docs/operating.md";
 
+/// Why a standby may need long for a frame.
+const SLOW: &str = "its disk is slow, or it moves versions to make room";
+
 /// Why a node that has used up its descriptors has no link.
 const NO_DESCRIPTOR: &str =
     "no descriptor is left for a connection: see \"A connection that cannot be taken\" in docs/server.md";
@@ -122,6 +125,10 @@ pub enum News<'a> {
         position: u64,
         usage: Usage,
         frames: u64,
+    },
+    /// A standby has been taking what came for so long.
+    Taking {
+        seconds: u64,
     },
     /// Of the versions or the lines of an image at least so many of 100 are taken.
     Filling {
@@ -273,6 +280,9 @@ impl<'a> fmt::Display for News<'a> {
                     f,
                     "at position {position}, {usage}, {frames} frames a second"
                 )
+            }
+            News::Taking { seconds } => {
+                write!(f, "taking a frame since {seconds} seconds: {SLOW}")
             }
             News::Filling {
                 what,

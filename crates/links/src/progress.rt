@@ -1,10 +1,11 @@
 //! How far a standby is, as it shows whoever tells of it.
 use crate::filling::Filling;
+use crate::frame_watch::FrameWatch;
 use crate::log::{Log, News};
 use crate::rate::Rate;
 use frames::Ack;
 use std::io::Write;
-use std::sync::atomic::{AtomicU64, Ordering};
+use std::sync::atomic::{AtomicBool, AtomicU64, Ordering};
 use std::sync::{Arc, Wait};
 use std::thread;
 use std::time::{Clock, Duration, Instant};
@@ -20,6 +21,9 @@ const LOOK_SECONDS: u64 = 1;
 pub struct Progress {
     position: AtomicU64,
     frames: AtomicU64,
+    /// How often it began to take what came, modulo 2^64, and whether it does so now.
+    turns: AtomicU64,
+    is_at_work: AtomicBool,
 }
 
 impl Progress {
@@ -28,7 +32,21 @@ impl Progress {
         Progress {
             position: AtomicU64::new(position),
             frames: AtomicU64::new(0),
+            turns: AtomicU64::new(0),
+            is_at_work: AtomicBool::new(false),
         }
+    }
+
+    /// Something came, and the node takes it from now on.
+    pub(crate) fn begin_turn(&self) {
+        let turns = self.turns.load(Ordering::SeqCst).wrapping_add(1);
+        self.turns.store(turns, Ordering::SeqCst);
+        self.is_at_work.store(true, Ordering::SeqCst);
+    }
+
+    /// The node has taken what came, or left its link.
+    pub(crate) fn end_turn(&self) {
+        self.is_at_work.store(false, Ordering::SeqCst);
     }
 
     /// These bytes of an acknowledgement went out, of where the standby is, or of a frame that it took.
@@ -41,6 +59,13 @@ impl Progress {
             let frames = self.frames.load(Ordering::SeqCst).wrapping_add(1);
             self.frames.store(frames, Ordering::SeqCst);
         }
+    }
+}
+
+/// Where a node shows how far it is, it shows that it has taken what came, or left its link.
+pub(crate) fn end_turn(progress: &Option<Arc<Progress>>) {
+    if let Some(progress) = progress {
+        progress.end_turn();
     }
 }
 
@@ -57,7 +82,7 @@ impl StandbyWatcher {
         StandbyWatcher { progress, filling }
     }
 
-    /// Looks and tells for ever: of an image that fills and, with a number of seconds, each time that so many have passed, how far the standby is.
+    /// Looks and tells for ever: of an image that fills, of a frame that takes long and, with a number of seconds, each time that so many have passed, how far the standby is.
     pub fn run<R: Wait + Clock, W: Write + Drop>(
         self,
         rt: &R,
@@ -67,11 +92,22 @@ impl StandbyWatcher {
         let mut watcher = self;
         let mut log = log;
         let mut rate = Rate::new();
+        let mut frame = FrameWatch::new();
         for _ in rt.forever() {
             thread::sleep(rt, Duration::from_secs(LOOK_SECONDS));
             if let Ok(now) = Instant::now(rt) {
+                watcher.look_at_frame(&mut frame, now, &mut log);
                 watcher.look(&mut rate, now, report_seconds, &mut log);
             }
+        }
+    }
+
+    /// Tells for how long the standby has been taking what came, where that is long.
+    fn look_at_frame<W: Write>(&self, frame: &mut FrameWatch, now: Instant, log: &mut Log<W>) {
+        let turn = self.progress.turns.load(Ordering::SeqCst);
+        let is_at_work = self.progress.is_at_work.load(Ordering::SeqCst);
+        if let Some(seconds) = frame.look(now, turn, is_at_work) {
+            log.say(News::Taking { seconds });
         }
     }
 
