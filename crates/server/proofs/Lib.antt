@@ -1,4 +1,2 @@
 pub mod AnsweringLemmas
 pub mod ServingLemmas
-pub mod PrintedLemmas
-pub mod StatusLemmas

@@ -2,8 +2,8 @@
 use Rattle.std.proofs.Common.{◌≡◌, ℕ, List, ◌++◌, Option, Some, None, refl, append-nil, sym, ap, subst, ◌∙◌}
 use Rattle.std.specs.Io.KnownBytes.{Appends, Consumes, IsAtEnd, Keeps}
 use Rattle.server.specs.Served.{EachHasReply, IsEarly, IsServed, IsServedUpTo, asked_by, replies_in}
-use Rattle.server.specs.declared.serve.ServeError.{ServeError}
-use Rattle.server.specs.declared.serve.ServeError.TheVariants.{Broken, Random, Read, Refused, Socket, Write}
+use Rattle.images.specs.declared.serve_error.ServeError.{ServeError}
+use Rattle.images.specs.declared.serve_error.ServeError.TheVariants.{Broken, Random, Read, Refused, Socket, Write}
 
 -- a reader at its end has returned all the bytes that it had
 pub served-whole : (input rest before after : Option (List ℕ)) (bytes answer : List ℕ) → Consumes input rest bytes → IsAtEnd rest → EachHasReply (asked_by bytes) (replies_in answer) → Appends before after answer

@@ -1,5 +1,1 @@
 pub mod Served
-pub mod Printed
-pub mod Told
-pub mod Asked
-pub mod Status

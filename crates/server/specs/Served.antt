@@ -9,8 +9,8 @@ use Rattle.resp_codec.specs.declared.reply_item.ReplyItem.{ReplyItem}
 use Rattle.resp_codec.specs.declared.reply_item.ReplyItem.TheVariants.{Fault, Reply}
 use Rattle.resp_codec.specs.declared.reply_limits.TheConstants.{REPLY_LIMITS}
 use Rattle.resp_codec.specs.ReplyReading.{replies_at}
-use Rattle.server.specs.declared.serve.ServeError.{ServeError}
-use Rattle.server.specs.declared.serve.ServeError.TheVariants.{Broken, Random, Read, Refused, Socket, Write}
+use Rattle.images.specs.declared.serve_error.ServeError.{ServeError}
+use Rattle.images.specs.declared.serve_error.ServeError.TheVariants.{Broken, Random, Read, Refused, Socket, Write}
 use Rattle.server.specs.declared.client.PairEnd.{PairEnd}
 use Rattle.server.specs.declared.client.PairEnd.TheVariants.{Refused as RefusedNode, Broken as BrokenPair}
 

@@ -2,7 +2,7 @@
 ghost use Rattle.std.specs.Prelude.{◌≡◌};
 ghost use Rattle.server.specs.Served.{IsEarly, ended_by};
 
-use crate::serve::ServeError;
+use images::ServeError;
 use kv_types::Refusal;
 use std::alloc::Global;
 use std::net::{Net, Shutdown, SocketAddr, TcpStream};

@@ -1,19 +1,15 @@
 //! What the program does for the words of its command line.
 ghost use Rattle.std.specs.Prelude.{◌≡◌, ◌≤◌, IfOk, OnOk, length};
+ghost use Rattle.images.specs.Told.{IsStatus};
 ghost use Rattle.server.specs.Served.{IsServed};
-ghost use Rattle.server.specs.Told.{IsStatus};
 
-use crate::causes::{tell_cause, tell_cause_of_making};
-use crate::failure::{DONE, Failure, tell};
-use crate::formatting::format;
-use crate::images::Images;
-use crate::inspecting::inspect;
-use crate::migrating::migrate;
 use crate::nodes::run_node;
 use crate::options::{PROGRAM, Task, options};
-use crate::promoting::promote;
-use crate::serve::{ServeError, serve};
-use crate::status::status;
+use crate::serve::serve;
+use images::{
+    DONE, Failure, Images, ServeError, format, inspect, migrate, promote, status, tell, tell_cause,
+    tell_cause_of_making,
+};
 use pmem::Pmem;
 use std::alloc::Global;
 use std::io::{self, Read, Write};

@@ -3,12 +3,12 @@ ghost use Rattle.std.specs.Prelude.{◌≡◌, ◌↔◌, OnOk, IfErr, IfOk};
 ghost use Rattle.std.specs.Io.KnownBytes.{Consumes, IsAtEnd};
 ghost use Rattle.std.specs.IoError.{error_kind};
 ghost use Rattle.kv_types.specs.declared.refusal.Refusal.TheVariants.{Memory};
-ghost use Rattle.server.specs.declared.serve.ServeError.TheVariants.{Refused};
+ghost use Rattle.images.specs.declared.serve_error.ServeError.TheVariants.{Refused};
 ghost use Rattle.server.specs.Served.{IsEarly};
 
 use crate::client::Client;
-use crate::serve::ServeError;
 use bytes::Bytes;
+use images::ServeError;
 use kv_types::Refusal;
 use std::alloc::Global;
 use std::io::{ErrorKind, Read, Write};

@@ -1,6 +1,6 @@
 //! Listening at an address, with the cause where that cannot be done.
 use crate::bound::BoundSocket;
-use crate::failure::Failure;
+use images::Failure;
 use std::alloc::Global;
 use std::io::{self, ErrorKind, Write};
 use std::net::{Net, TcpListener, TcpStream, ToSocketAddrs};

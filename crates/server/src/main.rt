@@ -2,35 +2,24 @@
 #![tactic(auto)]
 
 mod answering;
-mod asking;
 mod bound;
-mod causes;
 mod client;
 mod command;
 mod conversation;
-mod failure;
-mod formatting;
-mod images;
-mod inspecting;
 mod link_listener;
 mod listening;
-mod losing;
-mod migrating;
 mod nodes;
 mod options;
 mod pair;
-mod promoting;
 mod serve;
 mod serving_clients;
 mod simulated;
 mod standing_by;
-mod status;
 
 use crate::command::command;
-use crate::failure::{Failure, tell};
-use crate::images::Files;
 use crate::options::not_text;
 use descriptors::hold_closed;
+use images::{Failure, Files, tell};
 use kv_types::Refusal;
 use std::alloc::Global;
 use std::env;

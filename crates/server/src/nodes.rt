@@ -1,11 +1,10 @@
 //! The subcommands that run a node: all that it tells goes by way of a thread of its own.
-ghost use Rattle.server.specs.Told.{IsStatus};
+ghost use Rattle.images.specs.Told.{IsStatus};
 
-use crate::failure::{DONE, Failure, tell};
-use crate::images::Images;
 use crate::options::Node;
 use crate::serving_clients::serve_clients;
 use crate::standing_by::stand_by;
+use images::{DONE, Failure, Images, tell};
 use pmem::Pmem;
 use std::alloc::Global;
 use std::io::Write;

@@ -6,8 +6,8 @@ ghost use Rattle.server.specs.Served.{IsEarly};
 
 use crate::client::{Client, PairEnd};
 use crate::link_listener::{LinkListener, StandbyListener};
-use crate::serve::ServeError;
 use crate::simulated::new_image;
+use images::ServeError;
 use kv_types::Refusal;
 use links::{Log, follow, new_fill};
 use mv_keyspace::MvKeyspace;

@@ -3,12 +3,9 @@ ghost use Rattle.std.specs.Prelude.{IfOk};
 ghost use Rattle.primary.specs.Resuming.{IsOpened};
 ghost use Rattle.primary.specs.Standing.{Stands};
 
-use crate::causes::tell_cause;
-use crate::failure::Failure;
-use crate::images::Images;
 use crate::listening::{self, bind};
 use crate::options::PROGRAM;
-use crate::serve::ServeError;
+use images::{Failure, Images, ServeError, tell_cause};
 use links::{Capacity, Log, News};
 use model::LAYOUT;
 use mv_keyspace::MvKeyspace;

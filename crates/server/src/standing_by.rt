@@ -2,11 +2,9 @@
 ghost use Rattle.std.specs.Prelude.{IfOk};
 ghost use Rattle.standby.specs.Taking.{Stands};
 
-use crate::causes::tell_cause;
-use crate::failure::Failure;
-use crate::images::Images;
 use crate::listening::{self, bind};
 use crate::options::PROGRAM;
+use images::{Failure, Images, tell_cause};
 use kv_types::Refusal;
 use links::{Capacity, FillSetter, Filling, Log, News, Progress, StandbyWatcher, follow, new_fill};
 use mv_keyspace::{Keyspace, MvKeyspace};

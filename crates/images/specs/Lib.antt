@@ -1,0 +1,4 @@
+pub mod Printed
+pub mod Told
+pub mod Asked
+pub mod Status

@@ -1,0 +1,112 @@
+//! The subcommand `format`.
+ghost use Rattle.std.specs.Prelude.{◌≡◌, ◌⊎◌, ◌<◌, true, Err, Some, OnOk, IfOk, IfErr};
+ghost use Rattle.std.specs.Io.KnownBytes.{Appends, Consumes};
+ghost use Rattle.kv_types.specs.declared.refusal.Refusal.TheVariants.{WrongSize};
+ghost use Rattle.model.specs.declared.image.TheConstants.{MIN_LINES, MAX_LINES};
+ghost use Rattle.wbl_engine.specs.Contents.{IsDurable, IsNew};
+ghost use Rattle.images.specs.Asked.{yes_line};
+ghost use Rattle.images.specs.Printed.{formatted_text};
+ghost use Rattle.images.specs.declared.failure.Failure.TheVariants as failure;
+ghost use Rattle.images.specs.declared.failure.Kept.{Kept as WhyKept};
+ghost use Rattle.images.specs.declared.failure.Kept.TheVariants.{NotConfirmed};
+ghost use Rattle.images.specs.declared.losing.Loss.{Loss as Lost};
+
+use crate::asking::may_lose;
+use crate::failure::{Failure, Kept};
+use crate::images::Images;
+use crate::losing::{Loss, loss_of};
+use crate::serve_error::ServeError;
+use kv_types::Refusal;
+use model::LAYOUT;
+use std::alloc::Global;
+use std::io::{Read, Write};
+use wbl_engine::{Durable, Role, WblEngine};
+
+/// Writes a new image of so many lines under this name, and says so. With `is_new` a file that is there is kept. Where `is_asked` says so, the reader has to
+/// say `yes` first to what is lost. That is told to `errors`.
+pub fn format<I: Images, R: Read, W: Write, E: Write>(
+    alloc: Global,
+    images: &I,
+    name: &str,
+    lines: u64,
+    role: Role,
+    is_new: bool,
+    is_asked: bool,
+    reader: &mut R,
+    writer: &mut W,
+    errors: &mut E,
+) -> Result<(), Failure>
+    ensures told { OnOk result (Appends (W.contents writer.old) (W.contents writer.new) (formatted_text lines)) }
+    ensures kept { (why : WhyKept) → result ≡ Err (failure.Kept why) → writer.new ≡ writer.old }
+{
+    if is_new && images.is_there(name) {
+        return Err(Failure::Kept(Kept::IsThere));
+    }
+    let lost = loss_of(alloc, images, name, lines)?;
+    confirm_loss(name, &lost, is_asked, reader, errors)?;
+    let _engine = new_image(images, name, lines, role)?;
+    if let Some(loss) = lost {
+        let _ = writeln!(errors, "{name} held {loss}");
+    }
+    print_formatted(lines, writer)
+}
+
+/// Has a person say `yes` to what is lost, if something is and somebody is asked.
+///
+/// # Errors
+///
+/// Only `NotConfirmed`.
+fn confirm_loss<R: Read, E: Write>(
+    name: &str,
+    lost: &Option<Loss>,
+    is_asked: bool,
+    reader: &mut R,
+    errors: &mut E,
+) -> Result<(), Failure>
+    ensures asked { OnOk result (is_asked ≡ true → (loss : Lost) → lost.now ≡ Some loss
+        → Consumes (R.remaining reader.old) (R.remaining reader.new) yes_line) }
+    ensures cause { IfErr result (λ cause. cause ≡ failure.Kept NotConfirmed) }
+{
+    let Some(loss) = lost else {
+        return Ok(());
+    };
+    if is_asked {
+        let _ = writeln!(errors, "{name} holds {loss}, and format makes it empty");
+    }
+    if may_lose(is_asked, reader, errors) {
+        Ok(())
+    } else {
+        Err(Failure::Kept(Kept::NotConfirmed))
+    }
+}
+
+/// Says that an image of so many lines was formatted.
+fn print_formatted<W: Write>(lines: u64, writer: &mut W) -> Result<(), Failure>
+    ensures told { OnOk result (Appends (W.contents writer.old) (W.contents writer.new) (formatted_text lines)) }
+    ensures cause { (why : WhyKept) → ¬ (result ≡ Err (failure.Kept why)) }
+{
+    let entries = LAYOUT.entries_of_lines(lines);
+    match writeln!(writer, "formatted {lines} lines, {entries} entries") {
+        Ok(()) => Ok(()),
+        Err(error) => Err(Failure::Stopped(ServeError::Write(error))),
+    }
+}
+
+/// The engine over a new image. `WrongSize` where there cannot be so many lines; otherwise a refusal is that of the device.
+fn new_image<I: Images>(
+    images: &I,
+    name: &str,
+    lines: u64,
+    role: Role,
+) -> Result<WblEngine<I::Device>, Refusal>
+    ensures new { IfOk result (λ engine. IsNew lines role (⟦<WblEngine<I::Device> as Durable>⟧.contents engine)) }
+    ensures durable { IfOk result (λ engine.
+        IsDurable (⟦<WblEngine<I::Device> as Durable>⟧.device engine) (⟦<WblEngine<I::Device> as Durable>⟧.contents engine)) }
+    ensures unlawful { (lines < MIN_LINES) ⊎ (MAX_LINES < lines) → result ≡ Err WrongSize }
+{
+    let device = images.create(name, lines)?;
+    match WblEngine::format(device, role) {
+        Ok(engine) => Ok(engine),
+        Err((refusal, _device)) => Err(refusal),
+    }
+}

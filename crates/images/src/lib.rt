@@ -1,0 +1,24 @@
+//! The subcommands over images, and how the program ends.
+#![tactic(auto)]
+
+mod asking;
+mod causes;
+mod failure;
+mod formatting;
+mod images;
+mod inspecting;
+mod losing;
+mod migrating;
+mod promoting;
+mod reading;
+mod serve_error;
+
+pub use causes::{tell_cause, tell_cause_of_making};
+pub use failure::{DONE, Failure, Kept, tell};
+pub use formatting::format;
+pub use images::{Files, Images, Trouble};
+pub use inspecting::inspect;
+pub use migrating::migrate;
+pub use promoting::promote;
+pub use reading::status;
+pub use serve_error::ServeError;
