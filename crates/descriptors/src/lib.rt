@@ -1,6 +1,8 @@
-//! The numbers of the standard streams, for programs that may be started with some of them closed.
+//! The descriptors of a program: those of the standard streams, which it may be started without, and how many there are for clients.
 #![tactic(auto)]
 
 mod holding;
+mod limits;
 
 pub use holding::{Held, NoNullDevice, hold_closed};
+pub use limits::{Room, room_for_clients, room_under};
