@@ -47,6 +47,10 @@ breaks-before seen taken c0 c1 g0 p1 sends = record {
   sends = sends-more c0 c1 g0.pending p1 (take (covered_with seen g0 []) (waiting_with g0 [])) sends;
 }
 
+-- nothing was tried
+pub breaks-at-once : (seen : Seen) (taken : List Answer) (gate : Held) → BreaksOff seen taken taken None None gate
+breaks-at-once seen taken gate = breaks-before seen taken None None gate gate.pending (record { first = []; writes = tt; whole = refl })
+
 -- a reply could not be held
 pub breaks-holding : (seen : Seen) (t0 t1 : List Answer) (c0 c1 : Option (List ℕ)) (g0 g1 g2 : Held) → Sends c0 c1 g0.pending g1.pending → HoldsAllButLast t0 t1 g1 g2 → BreaksOff seen t0 t1 c0 c1 g0
 breaks-holding seen t0 t1 c0 c1 g0 g1 g2 sends held = record {

@@ -5,6 +5,7 @@ pub mod Places
 pub mod Reader
 pub mod ReplySide
 pub mod RequestSide
+pub mod Room
 pub mod Rounds
 pub mod Texts
 pub mod LookAhead

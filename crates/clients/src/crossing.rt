@@ -3,6 +3,7 @@ ghost use Rattle.clients.specs.contracts.driven.DrivenConnection as connection;
 ghost use Rattle.clients.specs.contracts.driver.Driver as driver;
 ghost use Rattle.clients.specs.contracts.intake.DriverEntrance as entrance;
 ghost use Rattle.clients.specs.contracts.intake.IdleLook as idle;
+ghost use Rattle.clients.specs.contracts.room.SocketRoom as room;
 ghost use Rattle.clients.specs.contracts.shown.Shown as shown;
 ghost use Rattle.lobby.specs.contracts.lobby.Lobby as lobby;
 ghost use Rattle.marks.specs.contracts.thread_marks.ThreadMarks as thread_marks;
@@ -11,6 +12,7 @@ ghost use denote.Param.Send.{IsSend, IsSync};
 
 use crate::driven::DrivenConnection;
 use crate::intake::IdleLook;
+use crate::room::SocketRoom;
 use crate::shown::Shown;
 use lobby::Lobby;
 use marks::ThreadMarks;
@@ -37,6 +39,7 @@ pub fn entrance_is_send()
     calls_are_sync();
     idle_is_send();
     idle_is_sync();
+    room_is_send();
 }
 
 fn connection_is_send()
@@ -91,6 +94,12 @@ fn idle_is_sync()
     ensures { IsSync idle.the_row }
 {
     is_sync::<IdleLook>();
+}
+
+fn room_is_send()
+    ensures { IsSend room.the_row }
+{
+    is_send::<SocketRoom>();
 }
 
 fn is_send<T: Send>()

@@ -1,5 +1,6 @@
 //! A connection, as its driver has it.
-ghost use Rattle.std.specs.Prelude.{◌≡◌};
+ghost use Rattle.std.specs.Prelude.{◌≡◌, ◌||◌, true};
+ghost use Rattle.mio.specs.Event.{is_error, is_write_closed};
 ghost use Rattle.clients.specs.declared.reply_side.WritingState.TheVariants as writing;
 ghost use Rattle.clients.specs.declared.request_side.ReadingState.TheVariants as reading;
 ghost use Rattle.clients.specs.Driven.{Hears, IsVisit};
@@ -72,6 +73,7 @@ impl DrivenConnection {
         ensures heard { Hears event.now self.new }
         ensures replies { StaysWritten self.old.replies self.new.replies }
         ensures requests { StaysRead self.old.requests self.new.requests }
+        ensures gone { self.new.replies.is_gone ≡ self.old.replies.is_gone || (is_write_closed event.now || is_error event.now) }
         ensures place { self.new.place ≡ self.old.place }
     {
         if event.is_readable() {
@@ -83,6 +85,8 @@ impl DrivenConnection {
         if event.is_writable() || event.is_write_closed() || event.is_error() {
             self.replies.is_writable();
         }
+        self.replies
+            .note_gone(event.is_write_closed() || event.is_error());
     }
 
     /// Goes on with all that it can do now, and notes how long a reply was waited for.
@@ -207,6 +211,32 @@ impl DrivenConnection {
             self.requests.ends();
         }
         is_idle
+    }
+
+    /// Somebody waits for a place: it ends where it has been idle for too long, and where its peer sends no more and waits for replies, it is taken for gone. Answers
+    /// whether either is so.
+    pub(crate) fn make_room(&mut self, look: &Look) -> bool
+        ensures requests { StaysRead self.old.requests self.new.requests }
+        ensures replies { StaysWritten self.old.replies self.new.replies }
+        ensures place { self.new.place ≡ self.old.place }
+        ensures noted { self.new.is_noted ≡ self.old.is_noted }
+    {
+        let is_left = self.note_if_left();
+        self.end_if_idle(look) | is_left
+    }
+
+    /// Where its peer sends no more and waits for replies, it is taken for gone: most such peers have given up. Answers whether it is.
+    fn note_if_left(&mut self) -> bool
+        ensures over { result ≡ true → self.old.requests.state ≡ reading.Over }
+        ensures gone { self.new.replies.is_gone ≡ self.old.replies.is_gone || result }
+        ensures requests { self.new.requests ≡ self.old.requests }
+        ensures replies { StaysWritten self.old.replies self.new.replies }
+        ensures place { self.new.place ≡ self.old.place }
+        ensures noted { self.new.is_noted ≡ self.old.is_noted }
+    {
+        let is_left = self.requests.is_over() && self.replies.has_peer();
+        self.replies.note_gone(is_left);
+        is_left
     }
 
     /// Whether nothing has come for too long, and nothing waits: each request has its reply, and each reply is written.

@@ -5,7 +5,7 @@ ghost use Rattle.std.specs.Prelude.{◌≡◌, ℕ, All, false};
 
 use crate::driven::{DrivenConnection, Look};
 use crate::intake::DriverEntrance;
-use crate::places::{note_all, note_called, note_idle, note_ready, put, visit_all};
+use crate::places::{make_room, note_all, note_called, note_ready, put, visit_all};
 use crate::shown::Shown;
 use crate::waits::Waits;
 use kv_types::Seen;
@@ -112,11 +112,11 @@ impl DrivenConnections {
             self.shown.show(&counted);
             self.waits = self.waits.over();
         }
-        self.end_idle();
+        self.make_room();
     }
 
-    /// Where somebody waits for a seat, those that have been idle for too long end at once.
-    fn end_idle(&mut self)
+    /// Where somebody waits for a seat or a place, those end at once that have been idle for too long, or whose peers send no more and wait.
+    fn make_room(&mut self)
         ensures notes { Notes self.old.places.items self.new.places.items }
     {
         if !self.entrance.is_asked_to_look() {
@@ -126,7 +126,7 @@ impl DrivenConnections {
             now: self.waits.now,
             idle: self.idle,
         };
-        let any = note_idle(&mut self.places, &look);
+        let any = make_room(&mut self.places, &look);
         self.entrance.has_looked(any);
     }
 

@@ -1,6 +1,7 @@
 //! A thread that drives connections.
 use crate::driven_connections::DrivenConnections;
 use crate::intake::DriverEntrance;
+use crate::room::SharedRoom;
 use crate::shown::Shown;
 use kv_types::Refusal;
 use marks::ThreadMarks;
@@ -24,8 +25,8 @@ pub struct Driver {
 }
 
 impl Driver {
-    /// A driver without connections, and its entrance. Once a second it shows what there is. Where a time is given, a connection on which nothing came for as
-    /// long, and for which nothing waits, is closed.
+    /// A driver without connections, and its entrance. It has as many at once as there is room for, which other drivers may take from too. Once a second it
+    /// shows what there is. Where a time is given, a connection on which nothing came for as long, and for which nothing waits, is closed.
     ///
     /// # Errors
     ///
@@ -36,6 +37,7 @@ impl Driver {
         marks: ThreadMarks,
         idle: Option<Duration>,
         shown: Arc<Shown>,
+        room: Arc<SharedRoom>,
     ) -> Result<(Driver, DriverEntrance), Refusal> {
         let Ok(poll) = Poll::new(rt) else {
             return Err(Refusal::Memory);
@@ -44,7 +46,7 @@ impl Driver {
             return Err(Refusal::Memory);
         };
         let calls = Arc::new(alloc, Calls::new(alloc, waker)?)?;
-        let entrance = DriverEntrance::new(alloc, calls)?;
+        let entrance = DriverEntrance::new(alloc, calls, room)?;
         let connections = DrivenConnections::new(alloc, poll, entrance.another()?, idle, shown)?;
         Ok((Driver { connections, marks }, entrance))
     }

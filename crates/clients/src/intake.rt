@@ -1,5 +1,6 @@
 //! How connections come to their driver.
 use crate::driven::DrivenConnection;
+use crate::room::{self, SharedRoom};
 use kv_types::Refusal;
 use lobby::Lobby;
 use pipes::{MAX_SEATS, Seat};
@@ -22,24 +23,29 @@ pub struct DriverEntrance {
     intake: Arc<Mutex<Intake>>,
     calls: Arc<Calls>,
     idle: Arc<IdleLook>,
+    room: Arc<SharedRoom>,
 }
 
-/// Whether the driver is to look now who has been idle for too long.
+/// Whether the driver is to look now who may end, so that there is room for somebody else.
 #[derive(Drop)]
 pub(crate) struct IdleLook {
-    /// Set by whoever waits for a seat, until the driver has looked.
+    /// Set by whoever waits for a seat or a place, until the driver has looked.
     is_asked: Flag,
     /// Whether it found one then.
     has_found: Flag,
 }
 
 impl DriverEntrance {
-    /// The entrance of a driver that is called so. It allocates all the memory that it will ever need.
+    /// The entrance of a driver that is called so, whose sockets need this room. It allocates all the memory that it will ever need.
     ///
     /// # Errors
     ///
     /// Only `Memory`.
-    pub(crate) fn new(alloc: Global, calls: Arc<Calls>) -> Result<DriverEntrance, Refusal> {
+    pub(crate) fn new(
+        alloc: Global,
+        calls: Arc<Calls>,
+        room: Arc<SharedRoom>,
+    ) -> Result<DriverEntrance, Refusal> {
         let intake = Intake {
             places: Lobby::new(alloc)?,
             newcomers: VecDeque::with_capacity(alloc, MAX_SEATS)?,
@@ -52,6 +58,7 @@ impl DriverEntrance {
             intake: Arc::new(alloc, Mutex::new(intake))?,
             calls,
             idle: Arc::new(alloc, idle)?,
+            room,
         })
     }
 
@@ -64,10 +71,12 @@ impl DriverEntrance {
         let intake = Arc::try_clone(&self.intake)?;
         let calls = Arc::try_clone(&self.calls)?;
         let idle = Arc::try_clone(&self.idle)?;
+        let room = Arc::try_clone(&self.room)?;
         Ok(DriverEntrance {
             intake,
             calls,
             idle,
+            room,
         })
     }
 
@@ -76,14 +85,18 @@ impl DriverEntrance {
         &self.calls
     }
 
-    /// A place, if one is free.
+    /// A place, if one is free and there is room for a socket.
     pub fn enter<R: Wait>(&self, rt: &R) -> Option<Seat> {
-        self.intake.lock(rt).places.enter().ok()
+        let mut room = self.room.lock(rt);
+        let mut intake = self.intake.lock(rt);
+        room::enter(&mut room, &mut intake.places)
     }
 
-    /// Gives a place back.
+    /// Gives a place back. Its socket is closed.
     pub fn leave<R: Wait>(&self, rt: &R, place: Seat) {
-        self.intake.lock(rt).places.leave(place);
+        let mut room = self.room.lock(rt);
+        let mut intake = self.intake.lock(rt);
+        room::leave(&mut room, &mut intake.places, place);
     }
 
     /// Hands a connection to the driver.
@@ -93,8 +106,8 @@ impl DriverEntrance {
         self.calls.wake();
     }
 
-    /// Has the driver look who has been idle for too long, and end those.
-    pub fn look_for_idle(&self) {
+    /// Has the driver end those that have been idle for too long, and let those go whose peers send no more and wait.
+    pub fn ask_for_room(&self) {
         self.idle.is_asked.set();
         self.calls.wake();
     }

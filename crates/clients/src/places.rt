@@ -100,23 +100,23 @@ fn look_at(place: &mut Option<DrivenConnection>, look: &Look, counted: &mut Coun
     }
 }
 
-/// Notes those that have been idle for too long, whose requests end. Answers whether there was one.
-pub(crate) fn note_idle(places: &mut Vec<Option<DrivenConnection>>, look: &Look) -> bool
+/// Somebody waits for a place: notes those that end for it. Answers whether there was one.
+pub(crate) fn make_room(places: &mut Vec<Option<DrivenConnection>>, look: &Look) -> bool
     ensures notes { Notes places.old.items places.new.items }
 {
     let mut any = false;
     for place in places.iter_mut() {
-        any |= end_if_idle(place, look);
+        any |= make_room_at(place, look);
     }
     any
 }
 
-fn end_if_idle(place: &mut Option<DrivenConnection>, look: &Look) -> bool
+fn make_room_at(place: &mut Option<DrivenConnection>, look: &Look) -> bool
     ensures notes { NotesPlace place.old place.new }
 {
     match place {
         Some(connection) => {
-            let ends = connection.end_if_idle(look);
+            let ends = connection.make_room(look);
             connection.is_noted |= ends;
             ends
         }

@@ -1,5 +1,6 @@
 //! The replies of a connection, as its driver has them.
-ghost use Rattle.std.specs.Prelude.{◌≡◌, ◌<◌, [], length, true, false};
+ghost use Rattle.std.specs.Prelude.{◌≡◌, ◌<◌, ◌||◌, [], length, true, false};
+ghost use Rattle.kv_types.specs.declared.seen.Seen.{Seen};
 ghost use Rattle.pipes.specs.Ring.{known_at};
 ghost use Rattle.clients.specs.ReplySide.{GoesOn, Says, Stands, StaysWritten, Writes};
 
@@ -45,6 +46,8 @@ pub struct ReplySide {
     state: WritingState,
     /// Whether the socket may take bytes.
     is_ready: bool,
+    /// Whether the peer is gone, or is taken for gone: no byte would come to it any more.
+    is_gone: bool,
 }
 
 impl ReplySide {
@@ -57,6 +60,7 @@ impl ReplySide {
             outbox,
             state: WritingState::Open,
             is_ready: true,
+            is_gone: false,
         }
     }
 
@@ -64,8 +68,23 @@ impl ReplySide {
     pub(crate) fn is_writable(&mut self)
         ensures ready { self.new.is_ready ≡ true }
         ensures kept { StaysWritten self.old self.new }
+        ensures gone { self.new.is_gone ≡ self.old.is_gone }
     {
         self.is_ready = true;
+    }
+
+    /// The peer is gone, where that is so.
+    pub(crate) fn note_gone(&mut self, is_gone: bool)
+        ensures gone { self.new.is_gone ≡ self.old.is_gone || is_gone }
+        ensures kept { StaysWritten self.old self.new }
+    {
+        self.is_ready |= is_gone;
+        self.is_gone |= is_gone;
+    }
+
+    /// Whether replies are still written to a peer that is not taken for gone.
+    pub(crate) fn has_peer(&self) -> bool {
+        self.state == WritingState::Open && !self.is_gone
     }
 
     /// Whether nothing more is written.
@@ -104,11 +123,13 @@ impl ReplySide {
         seen: &Seen,
         signals: &Signals,
     ) -> Written
-        ensures { GoesOn seen.now result self.old self.new }
+        ensures goes_on { GoesOn seen.now result self.old self.new }
+        ensures gone { self.old.state ≡ WritingState.Open → self.old.is_ready ≡ true → self.old.is_gone ≡ true → result ≡ Written.Fails }
     {
         // This is asked first: what was offered before the connection was over is taken then.
         let over = signals.was_over();
         match self.state {
+            WritingState::Open if self.is_ready && self.is_gone => self.lose(),
             WritingState::Open if self.is_ready => self.write(rt, stream, seen, over, signals),
             WritingState::Failed => self.let_go(rt, over, signals),
             _ => Written::Waits,
@@ -140,6 +161,18 @@ impl ReplySide {
             signals,
         );
         self.after(round)
+    }
+
+    /// The peer is gone: a round fails before it takes or writes anything.
+    fn lose(&mut self) -> Written
+        ensures fails { result ≡ Written.Fails }
+        ensures writes { (seen : Seen) → Writes seen Written.Fails self.old self.new }
+        ensures state { self.new.state ≡ WritingState.Failed }
+        ensures outbox { self.new.outbox ≡ self.old.outbox }
+        ensures ready { self.new.is_ready ≡ self.old.is_ready }
+    {
+        self.state = WritingState::Failed;
+        Written::Fails
     }
 
     /// What a round came to.

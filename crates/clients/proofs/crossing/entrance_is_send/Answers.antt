@@ -16,4 +16,4 @@ mutex_sync R s = search crosses
 pub returns : goal.returns
 returns c =
     let inside = declared_send intake.the_type (c.lobby_is_send.ensures, (Deque-send _ c.connection_is_send.ensures, tt)) in
-    declared_send entrance.the_type (Arc-send _ (mutex_send _ inside) (mutex_sync _ inside), (Arc-send _ c.calls_are_send.ensures c.calls_are_sync.ensures, (Arc-send _ c.idle_is_send.ensures c.idle_is_sync.ensures, tt)))
+    declared_send entrance.the_type (Arc-send _ (mutex_send _ inside) (mutex_sync _ inside), (Arc-send _ c.calls_are_send.ensures c.calls_are_sync.ensures, (Arc-send _ c.idle_is_send.ensures c.idle_is_sync.ensures, (Arc-send _ (mutex_send _ c.room_is_send.ensures) (mutex_sync _ c.room_is_send.ensures), tt))))
