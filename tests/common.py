@@ -51,7 +51,7 @@ SHORT_SHARE = 20
 TIME = re.compile(rb"(?m)^\d{4}-\d\d-\d\dT\d\d:\d\d:\d\d\.\d{3}Z ")
 # What a node tells while it runs, behind its time.
 NEWS = re.compile(
-    rb"(?:wbl-server \d+ \(logic [0-9a-f]{16}\)|opened at position \d+, epoch \d+, with \d+ keys|listening on \S+|link open to \S+ at position \d+"
+    rb"(?:wbl-server \d+ \(logic [0-9a-f]{16}\)|room for \d+ clients: [^\n]+|opened at position \d+, epoch \d+, with \d+ keys|listening on \S+|link open to \S+ at position \d+"
     rb"|(?:link to \S+ lost|no link to \S+|link ended|left the link|standby ahead|closed a connection from \S+|stopped|cannot listen at \S*): [^\n]+"
     rb"|\S+: the standby is new: [^\n]+|\S+ at position \d+ ended \d+ links in a row [^\n]+"
     rb"|waiting for the standby since \d+ seconds|the standby has answered after \d+ seconds|taking a frame since \d+ seconds: [^\n]+"

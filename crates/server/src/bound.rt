@@ -1,5 +1,6 @@
 //! A socket that is bound to its address before anybody can connect there.
 ghost use Rattle.std.specs.Prelude.{◌+◌, ◌≤◌, length, pos, ◌≤ℤ◌, ◌↔◌, IsOk};
+ghost use Rattle.libc.specs.Net.{SockOption};
 
 use libc::net as c;
 use os::FromRawFd;
@@ -10,6 +11,14 @@ use std::os::fd::{AsRawFd, OwnedFd};
 /// As many connections that were not accepted yet as the system allows: it cuts this to its own limit. std has room for 128; where more come at once before
 /// the acceptor has its turn, each further one waits a second.
 const BACKLOG: i32 = i32::MAX;
+
+/// After how many seconds without a byte a peer's system is asked whether the peer is still there, how many seconds later again where it does not answer, and
+/// how often in all. A peer that has closed its socket is denied by its system, a minute after it did where that is Linux.
+const PROBE_AFTER_SECONDS: i32 = 60;
+
+const PROBE_SECONDS: i32 = 20;
+
+const PROBES: i32 = 3;
 
 /// How many bytes C's `sockaddr_in` and `sockaddr_in6` have.
 const V4_BYTES: u32 = 16;
@@ -31,12 +40,23 @@ impl BoundSocket {
     pub fn bind(address: SocketAddr) -> io::Result<BoundSocket> {
         let socket = new_socket(address)?;
         let fd = socket.as_raw_fd();
-        let mut on = [0u8; 16];
-        on[..4].copy_from_slice(&1i32.to_ne_bytes());
-        check(unsafe { c::setsockopt(fd, c::SOL_SOCKET, c::SO_REUSEADDR, &on, 4) })?;
+        set(fd, c::SOL_SOCKET, c::SO_REUSEADDR, 1)?;
         let (raw, len) = encoded(address);
         check(unsafe { c::bind(fd, &raw, len) })?;
         Ok(BoundSocket { socket })
+    }
+
+    /// Has the system ask, on each connection that is taken there, whether its peer is still there when nothing comes: one whose peer is gone fails then.
+    ///
+    /// # Errors
+    ///
+    /// What the system says. It asks later then, or never.
+    pub fn probe_peers(&self) -> io::Result<()> {
+        let fd = self.socket.as_raw_fd();
+        set(fd, c::IPPROTO_TCP, c::TCP_KEEPIDLE, PROBE_AFTER_SECONDS)?;
+        set(fd, c::IPPROTO_TCP, c::TCP_KEEPINTVL, PROBE_SECONDS)?;
+        set(fd, c::IPPROTO_TCP, c::TCP_KEEPCNT, PROBES)?;
+        set(fd, c::SOL_SOCKET, c::SO_KEEPALIVE, 1)
     }
 
     /// Has the system take connections there from now on.
@@ -52,6 +72,15 @@ impl BoundSocket {
     pub fn into_listener(self) -> TcpListener {
         TcpListener::from(self.socket)
     }
+}
+
+/// Sets an option of a socket. Connections that a listener takes have it too.
+fn set(fd: i32, level: i32, name: i32, value: i32) -> io::Result<()>
+    requires { SockOption level name }
+{
+    let mut bytes = [0u8; 16];
+    bytes[..4].copy_from_slice(&value.to_ne_bytes());
+    check(unsafe { c::setsockopt(fd, level, name, &bytes, 4) })
 }
 
 /// The error of the call that has just answered this, if it is negative.

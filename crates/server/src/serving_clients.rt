@@ -5,15 +5,18 @@ ghost use Rattle.primary.specs.Standing.{Stands};
 
 use crate::listening::{self, bind};
 use crate::options::PROGRAM;
+use descriptors::{Room, room_for_clients};
 use images::{Failure, Images, ServeError, tell_cause};
 use links::{Capacity, Log, News};
 use model::LAYOUT;
 use mv_keyspace::MvKeyspace;
+use pipes::MAX_SEATS;
 use pmem::Pmem;
 use primary::{Opened, open};
-use serving::{Setup, Stop, Watch, run};
+use serving::{ClientLimits, Setup, Stop, Watch, run};
 use std::alloc::Global;
 use std::hash::RandomState;
+use std::io::Write;
 use std::net::{Net, TcpListener, TcpStream};
 use std::random::RandomSource;
 use std::sync::Wait;
@@ -22,6 +25,11 @@ use std::time::{Clock, Duration};
 use telling::Lines;
 use version::VERSION;
 use wbl_engine::{Durable, WblEngine};
+
+/// What leaves room for so few clients, and what there is to do about it.
+const LIMIT: &str = "the limit of open files is";
+
+const ADVICE: &str = "see \"A connection that cannot be taken\" in docs/server.md";
 
 /// Opens the image of this name as a primary's, and serves clients at the address `listen`, with the standby at the address `link`, until the engine
 /// refuses a step, or the address cannot be listened at, or no longer. It does not return otherwise. What it does is told there, a line at a time.
@@ -53,6 +61,8 @@ pub fn serve_clients<
         program: PROGRAM,
         version: VERSION,
     });
+    let sockets = room_for_clients(MAX_SEATS as u64);
+    tell_room(alloc, sockets, &mut errors);
     // (who connects before the image is open is refused)
     let bound = bind(rt, alloc, listen, &mut errors);
     let done = open_node(rt, alloc, images, name);
@@ -66,7 +76,9 @@ pub fn serve_clients<
         epoch: opened.epoch,
         keys: opened.keys,
     });
-    let listener = listening::listen(rt, alloc, bound?, listen, &mut errors)?;
+    let bound = bound?;
+    let _ = bound.probe_peers();
+    let listener = listening::listen(rt, alloc, bound, listen, &mut errors)?;
     log.say(News::Listening { address: listen });
     let address = String::from_str(alloc, link)?;
     let setup = Setup {
@@ -76,7 +88,10 @@ pub fn serve_clients<
             report_seconds: report,
             capacity: Capacity::of_image(LAYOUT, room),
         }),
-        idle: idle.map(Duration::from_secs),
+        clients: ClientLimits {
+            sockets: sockets.clients as usize,
+            idle: idle.map(Duration::from_secs),
+        },
     };
     match run(*rt, alloc, opened, listener, address, setup) {
         Stop::Refused(why) => {
@@ -84,6 +99,21 @@ pub fn serve_clients<
             Err(Failure::from(why))
         }
         Stop::ListenerClosed => Err(Failure::CannotListen { may_pass: false }),
+    }
+}
+
+/// Tells in a line where there is room for fewer clients than there are seats. Where memory is refused the line is let go.
+fn tell_room<E: Write>(alloc: Global, room: Room, errors: &mut E) {
+    let Room { limit, clients } = room;
+    let mut line = Vec::new(alloc);
+    if clients < MAX_SEATS as u64
+        && writeln!(
+            line,
+            "room for {clients} clients: {LIMIT} {limit}: {ADVICE}"
+        )
+        .is_ok()
+    {
+        let _ = errors.write_all(&line);
     }
 }
 

@@ -16,7 +16,7 @@ const NO_SEAT: &[u8] = b"-ERR max number of clients reached\r\n";
 /// How long it rests where a connection was refused it, as where there are no more descriptors, in milliseconds.
 const PAUSE_MILLISECONDS: u64 = 100;
 
-/// How often it looks for a seat where some are closed that are idle for too long, and after how many milliseconds each time.
+/// How often it looks for a seat where some may be closed for it, and after how many milliseconds each time.
 const SEAT_TRIES: u32 = 40;
 
 const SEAT_MILLISECONDS: u64 = 5;
@@ -28,8 +28,6 @@ pub struct Acceptor {
     drivers: Vec<DriverEntrance>,
     /// Which of them has its turn next.
     turn: usize,
-    /// Whether they close connections that are idle for too long.
-    closes_idle: bool,
     ready: Arc<ReadyList>,
     /// Set once no further connection is accepted.
     listener_closed: Arc<Flag>,
@@ -38,10 +36,9 @@ pub struct Acceptor {
 }
 
 impl Acceptor {
-    /// An acceptor that gives connections to these drivers in turn, which close those that are idle for too long, or do not. It sets the flag once it accepts no further connection.
+    /// An acceptor that gives connections to these drivers in turn. It sets the flag once it accepts no further connection.
     pub fn new(
         drivers: Vec<DriverEntrance>,
-        closes_idle: bool,
         ready: Arc<ReadyList>,
         listener_closed: Arc<Flag>,
         node: Waker,
@@ -49,15 +46,15 @@ impl Acceptor {
         Acceptor {
             drivers,
             turn: 0,
-            closes_idle,
             ready,
             listener_closed,
             node,
         }
     }
 
-    /// Accepts connections until the listener takes none any more, and then says so to the node's thread. A connection for which there is no seat, and for
-    /// which none is made by closing others that are idle for too long, is told so and closed; one for which memory is refused is closed.
+    /// Accepts connections until the listener takes none any more, and then says so to the node's thread. A connection for which there is no seat or no room for
+    /// its socket, and for which none is made by closing others that are idle for too long or whose peers send no more and wait, is told so and closed; one for
+    /// which memory is refused is closed.
     pub fn run<R: Wait + Clock>(
         self,
         rt: &R,
@@ -119,7 +116,7 @@ impl Acceptor {
         }
     }
 
-    /// A seat, and a place at this driver. Where there is none, those are closed that are idle for too long, if there are such.
+    /// A seat, and a place at this driver. Where there is none, the drivers close those that may be closed for it, if there are such.
     fn find_seat<R: Wait + Clock>(
         &self,
         rt: &R,
@@ -127,11 +124,11 @@ impl Acceptor {
         entrance: &Arc<SharedEntrance>,
     ) -> Option<Admission> {
         let found = admission(rt, driver, entrance);
-        if found.is_some() || !self.closes_idle {
+        if found.is_some() {
             return found;
         }
         for each in &self.drivers {
-            each.look_for_idle();
+            each.ask_for_room();
         }
         for _ in 0..SEAT_TRIES {
             thread::sleep(rt, Duration::from_millis(SEAT_MILLISECONDS));
@@ -143,7 +140,7 @@ impl Acceptor {
         None
     }
 
-    /// Whether all drivers have looked, and nobody is idle for too long.
+    /// Whether all drivers have looked, and nobody may be closed.
     fn has_found_none(&self) -> bool {
         self.drivers.iter().all(|each| each.has_found_none())
     }

@@ -32,7 +32,7 @@ pub use accepting::Acceptor;
 pub use laws::rounds_are_acts;
 pub use node::Node;
 pub use open_connections::OpenConnections;
-pub use setup::{Setup, Watch};
+pub use setup::{ClientLimits, Setup, Watch};
 pub use shared_entrance::SharedEntrance;
 pub use starting::run;
 pub use stop::Stop;

@@ -7,9 +7,10 @@ ghost use Rattle.links.specs.Ends.{Begin};
 use crate::accepting::Acceptor;
 use crate::node::Node;
 use crate::open_connections::OpenConnections;
+use crate::setup::ClientLimits;
 use crate::shared_entrance::SharedEntrance;
 use crate::watching::Watcher;
-use clients::{Driver, DriverEntrance, Shown};
+use clients::{Driver, DriverEntrance, Shown, SocketRoom};
 use kv_types::Refusal;
 use links::{AckReceiver, FillReader, FillSetter, LinkSender, new_fill};
 use lobby::Entrance;
@@ -21,7 +22,6 @@ use standby_stream::{Opening, Outgoing};
 use std::alloc::{AllocError, Global};
 use std::net::Net;
 use std::sync::{Arc, Mutex};
-use std::time::Duration;
 use wakes::{DueIn, DueOut, Flag, Idle, ReadyList, Sleeper, Waker, due_list, new_sleeper};
 use wbl_engine::Committed;
 
@@ -103,8 +103,7 @@ struct ClientEnds {
     node: Waker,
 }
 
-/// All that the threads of a primary own, over an image that is durable so far, and that holds so much. Where a time is given, connections are closed that are
-/// idle for so long.
+/// All that the threads of a primary own, over an image that is durable so far, and that holds so much, with clients that may take so much.
 ///
 /// # Errors
 ///
@@ -116,7 +115,7 @@ pub(crate) fn new_threading<R: Net>(
     opening: Opening,
     epoch: u64,
     address: String,
-    idle: Option<Duration>,
+    limits: ClientLimits,
     fill: &Fill,
 ) -> Result<Threading, Refusal>
     ensures marks { IfOk result (λ made. (made.node.committer_marks.raises_local ≡ true) × (made.node.committer_marks.local ≡ committed.now)) }
@@ -133,7 +132,7 @@ pub(crate) fn new_threading<R: Net>(
         watch,
         observer,
     } = new_seats(alloc, committed)?;
-    let client_ends = new_client_ends(rt, alloc, marks, root, due, idle)?;
+    let client_ends = new_client_ends(rt, alloc, marks, root, due, limits)?;
     let made = new_link(
         alloc,
         opening,
@@ -286,7 +285,7 @@ fn new_client_ends<R: Net>(
     marks: Arc<Marks>,
     root: MarkSeat,
     due: DueIn,
-    idle: Option<Duration>,
+    limits: ClientLimits,
 ) -> Result<ClientEnds, Refusal>
     requires { root.marks ≡ arc_value marks }
 {
@@ -294,14 +293,8 @@ fn new_client_ends<R: Net>(
     let ready = new_ready(alloc, &node)?;
     let listener_closed = shared(alloc, Flag::new())?;
     let entrance = new_entrance(alloc)?;
-    let (drivers, entrances, shown) = new_drivers(rt, alloc, marks, root, idle)?;
-    let acceptor = Acceptor::new(
-        entrances,
-        idle.is_some(),
-        ready.0,
-        listener_closed.0,
-        node.another()?,
-    );
+    let (drivers, entrances, shown) = new_drivers(rt, alloc, marks, root, limits)?;
+    let acceptor = Acceptor::new(entrances, ready.0, listener_closed.0, node.another()?);
     let connections = OpenConnections::new(alloc, entrance.0, ready.1, due)?;
     Ok(ClientEnds {
         connections,
@@ -315,17 +308,18 @@ fn new_client_ends<R: Net>(
     })
 }
 
-/// The drivers, each with a seat of the marks, their entrances, and what each shows.
+/// The drivers, which have the room for sockets together, each with a seat of the marks, their entrances, and what each shows.
 fn new_drivers<R: Net>(
     rt: &R,
     alloc: Global,
     marks: Arc<Marks>,
     root: MarkSeat,
-    idle: Option<Duration>,
+    limits: ClientLimits,
 ) -> Result<(Vec<Driver>, Vec<DriverEntrance>, Vec<Arc<Shown>>), Refusal>
     requires { root.marks ≡ arc_value marks }
 {
     let mut root = root;
+    let room = Arc::new(alloc, Mutex::new(SocketRoom::new(limits.sockets)))?;
     let mut drivers = Vec::with_capacity(alloc, DRIVERS)?;
     let mut entrances = Vec::with_capacity(alloc, DRIVERS)?;
     let mut all_shown = Vec::with_capacity(alloc, DRIVERS)?;
@@ -333,7 +327,8 @@ fn new_drivers<R: Net>(
         let seat = marks.split_seat::<Reader>(&mut root);
         let driver_marks = ThreadMarks::new(Arc::try_clone(&marks)?, seat);
         let (shown, theirs) = shared(alloc, Shown::new())?;
-        let (driver, entrance) = Driver::new(rt, alloc, driver_marks, idle, theirs)?;
+        let room = Arc::try_clone(&room)?;
+        let (driver, entrance) = Driver::new(rt, alloc, driver_marks, limits.idle, theirs, room)?;
         drivers.push(driver)?;
         entrances.push(entrance)?;
         all_shown.push(shown)?;

@@ -1,14 +1,24 @@
 //! What an operator may ask of a primary.
 use links::{Capacity, Log};
+use pipes::MAX_SEATS;
 use std::time::Duration;
 
-/// What a primary tells and where, and which connections it closes.
+/// What a primary tells and where, and what its clients may take.
 #[derive(Drop)]
 pub struct Setup<W> {
     /// Where it is told what becomes of the link.
     pub link: Log<W>,
     /// What is told of the node while it runs, if anything is.
     pub watch: Option<Watch<W>>,
+    /// What its clients may take.
+    pub clients: ClientLimits,
+}
+
+/// What the clients of a primary may take.
+#[derive(Clone, Copy)]
+pub struct ClientLimits {
+    /// For how many of their sockets there is room, so that descriptors are left for all else that the node opens.
+    pub sockets: usize,
     /// How long nothing may come on a connection for which nothing waits, before it is closed. Without it any time.
     pub idle: Option<Duration>,
 }
@@ -25,12 +35,15 @@ pub struct Watch<W> {
 }
 
 impl<W> Setup<W> {
-    /// Only what becomes of the link is told, and no connection is closed.
+    /// Only what becomes of the link is told, there is room for as many sockets as seats, and no connection is closed.
     pub fn quiet(link: Log<W>) -> Setup<W> {
         Setup {
             link,
             watch: None,
-            idle: None,
+            clients: ClientLimits {
+                sockets: MAX_SEATS,
+                idle: None,
+            },
         }
     }
 }

@@ -71,8 +71,9 @@ pub fn run<
     } = opened;
     let committed = primary.back.committed();
     let fill = primary.front.fill();
+    let limits = setup.clients;
     match new_threading(
-        &rt, alloc, &committed, opening, epoch, address, setup.idle, &fill,
+        &rt, alloc, &committed, opening, epoch, address, limits, &fill,
     ) {
         Ok(threading) => start(rt, alloc, threading, listener, primary, setup),
         Err(refusal) => {

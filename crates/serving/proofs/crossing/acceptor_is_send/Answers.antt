@@ -8,5 +8,5 @@ pub returns : goal.returns
 returns c =
     declared_send acceptor.the_type (
       Vec-send _ c.entrance_is_send.ensures,
-      (search sendable, (search sendable, (Arc-send _ c.ready_is_send.ensures c.ready_is_sync.ensures, (Arc-send _ c.flag_is_send.ensures c.flag_is_sync.ensures, (c.waker_is_send.ensures, tt))))),
+      (search sendable, (Arc-send _ c.ready_is_send.ensures c.ready_is_sync.ensures, (Arc-send _ c.flag_is_send.ensures c.flag_is_sync.ensures, (c.waker_is_send.ensures, tt)))),
     )
