@@ -57,7 +57,7 @@ fn play(
 
 /// A client's SET, from its first byte to the reply's last: it is called, durable on the primary, then on the standby, and then released.
 fn events(alloc: Global) -> Result<Vec<Event>, AllocError> {
-    vec![in alloc;
+    Ok(vec![in alloc;
         Event::Enter,
         Event::Feed(0, Bytes::from_static(SET)),
         Event::Offer(0),
@@ -76,5 +76,5 @@ fn events(alloc: Global) -> Result<Vec<Event>, AllocError> {
         Event::Read(0, Mark::Remote),
         Event::Release(0),
         Event::Write(0, 5),
-    ]
+    ]?)
 }

@@ -1,0 +1,27 @@
+use Rattle.std.proofs.Common.{◌≡◌, subst, [], List}
+use Rattle.connections.specs.Session.{released_of}
+use Rattle.machine.specs.declared.event.Event.{Event}
+use Rattle.pmem.specs.Device.{State}
+use Rattle.pmem.specs.declared.sim.SimPmem.{SimPmem}
+use Rattle.pmem.specs.Sim.{state_of, fresh}
+use Rattle.world.specs.declared.trace.Trace.{Trace}
+use Rattle.world.specs.Headline.{KeepsItsWord}
+use Rattle.example.proofs.play.Goals as goal
+
+-- a run over devices in these states, which leaves these, keeps its word
+abbrev KeepsFrom : List Event → Trace SimPmem → SimPmem → SimPmem → State → State → Type 0
+KeepsFrom events trace primary' standby' primary standby =
+    KeepsItsWord events trace.ended trace.done.items trace.history.transcript.calls.items (released_of trace.history.transcript) trace.history.frames.items
+    trace.history.acknowledgements.items primary standby (state_of primary') (state_of standby')
+
+pub returns : goal.returns
+returns c =
+    let trace = c.run.result in
+    let kept = c.run.ensures.kept c.in_ok-primary.primary c.in_ok-standby.standby [] c.in_ok-devices.ensures.items in
+    record {
+      primary = kept.0;
+      standby = kept.1;
+      devices = kept.2;
+      word = subst (λ (primary : State). KeepsFrom c.args.events.now trace kept.0 kept.1 primary (fresh 4096)) c.in_ok-primary.ensures
+      (subst (λ (standby : State). KeepsFrom c.args.events.now trace kept.0 kept.1 (state_of c.in_ok-primary.primary) standby) c.in_ok-standby.ensures kept.3);
+    }
