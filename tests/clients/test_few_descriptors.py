@@ -23,6 +23,7 @@ LIMITS = [64, 1_024]
 KEPT = 32
 NO_SEAT = b"-ERR max number of clients reached\r\n"
 NO_DESCRIPTOR = b"no descriptor is left"
+TOLD = re.compile(rb"(?m)^room for (\d+) clients: the limit of open files is (\d+): ")
 # For so long one waits for a client that may never be accepted.
 SOON = 5
 # More clients come than there can be.
@@ -70,8 +71,8 @@ class Few(FewDescriptors):
         """It is told at the start. So many clients are served, one more is told so, and one comes in where another left."""
 
         def work(pair, room):
-            told = re.search(rb"^room for (\d+) clients: the limit of open files is (\d+): ", pair.primary.errors.read_bytes(), re.M)
-            self.assertEqual(told and tuple(map(int, told.groups())), (room, room + KEPT))
+            told = wait_until(lambda: TOLD.search(pair.primary.errors.read_bytes()), "a line that tells of the room")
+            self.assertEqual(tuple(map(int, told.groups())), (room, room + KEPT))
             clients = [wait_until(lambda: self.enter(pair), "room") for _ in range(room)]
             with Client(pair.door.number, SOON) as one_more:
                 self.assertEqual(one_more.read_all(), NO_SEAT)
