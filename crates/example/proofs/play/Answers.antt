@@ -23,5 +23,5 @@ returns c =
       standby = kept.1;
       devices = kept.2;
       word = subst (λ (primary : State). KeepsFrom c.args.events.now trace kept.0 kept.1 primary (fresh 4096)) c.in_ok-primary.ensures
-      (subst (λ (standby : State). KeepsFrom c.args.events.now trace kept.0 kept.1 (state_of c.in_ok-primary.primary) standby) c.in_ok-standby.ensures kept.3);
+          (subst (λ (standby : State). KeepsFrom c.args.events.now trace kept.0 kept.1 (state_of c.in_ok-primary.primary) standby) c.in_ok-standby.ensures kept.3);
     }
