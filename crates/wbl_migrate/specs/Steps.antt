@@ -23,9 +23,9 @@ pub record KeepsOthers (old new : State) (IsWritten : ℕ → Type 0) : Type 0 w
 
 -- ---- the record of version 2
 
--- the record of version 2 that follows: the next number, no gap, and all else as it was
+-- the record of version 2 that follows: the next number, no gap, its position as the floor, and all else as it was
 abbrev pub renewed : Record → Record
-renewed r = record r { layout = Version2; number = r.number + 1; gaps = record { items = [] } }
+renewed r = record r { layout = Version2; number = r.number + 1; gaps = record { items = [] }; floor = r.position }
 
 -- halfway, with the record of version 2 written, which nothing reads yet
 pub record IsRenewed (lines : ℕ) (r : Record) (s : Keyspace) (image : Image) : Type 0 where

@@ -21,6 +21,7 @@ fn current() -> Record {
         epoch: 2,
         role: Role::Standby,
         gaps: ArrayVec::new(),
+        floor: 0,
     }
 }
 

@@ -140,5 +140,6 @@ fn copy_of(current: &Record) -> Record
         epoch: current.epoch,
         role: current.role,
         gaps: ArrayVec::new(),
+        floor: current.floor,
     }
 }
