@@ -24,7 +24,7 @@ impl Outgoing {
     ghost use Rattle.kv_types.specs.declared.refusal.Refusal.TheVariants.{Memory, PositionGap, StandbyAhead, WrongEpoch};
     ghost use Rattle.model.specs.declared.group.Group.{Group as Item};
     ghost use Rattle.frames.specs.declared.frame.Frame.{Frame as Kept};
-    ghost use Rattle.standby_stream.specs.Delta.{IsDelta};
+    ghost use Rattle.standby_stream.specs.Delta.{IsDelta, IsServed};
     ghost use Rattle.standby_stream.specs.Outgoing.{Notes};
     ghost use Rattle.standby_stream.specs.Sent.{MaySend};
     ghost use Rattle.standby_stream.specs.Stream.{IsDue, IsFull, Frames, TakesNext, counts, new_stream};
@@ -76,15 +76,17 @@ impl Outgoing {
     ///
     /// # Errors
     ///
-    /// `PositionGap` just where a delta is due and what it is made of is forgotten, as for a standby that was formatted since: it cannot follow. Else
-    /// only `Memory`. Nothing changed then.
+    /// `PositionGap` just where a delta is due and what it is made of is forgotten, as for a standby that was formatted since; or where it was freed perhaps,
+    /// as for a standby that was put back from a copy: it cannot follow. Else only `Memory`. Nothing changed then.
     pub fn open_at(&mut self, alloc: Global, position: u64) -> Result<(), Refusal>
         ensures behind { position < self.old.opening.position → (self.old.link).known < self.old.opening.position → OnOk result ((frame : Kept)
             × IsDelta (self.old.link).epoch self.old.opening position frame × (self.new.link ≡ record self.old.link { next = 0; delta = Some frame })) }
         ensures forgotten { position < self.old.opening.position → self.old.opening.position ≤ (self.old.link).known → result ≡ Err PositionGap }
+        ensures served { position < self.old.opening.position → OnOk result (IsServed self.old.opening.floor position) }
+        ensures freed { position < self.old.opening.position → ¬ IsServed self.old.opening.floor position → result ≡ Err PositionGap }
         ensures level { self.old.opening.position ≤ position → (result ≡ Ok tt) × (self.new.link ≡ record self.old.link { next = 0; delta = None }) }
         ensures refused { OnErr result (self.new.link ≡ self.old.link) }
-        ensures cause { (self.old.link).known < self.old.opening.position → IfErr result (λ refusal. refusal ≡ Memory) }
+        ensures cause { (self.old.link).known < self.old.opening.position → IsServed self.old.opening.floor position → IfErr result (λ refusal. refusal ≡ Memory) }
         ensures opening { self.new.opening ≡ self.old.opening }
         ensures epoch { (self.new.link).epoch ≡ (self.old.link).epoch }
     {
@@ -93,6 +95,9 @@ impl Outgoing {
             return Ok(());
         }
         if self.is_forgotten() {
+            return Err(Refusal::PositionGap);
+        }
+        if !self.opening.serves(position) {
             return Err(Refusal::PositionGap);
         }
         let frame = delta(alloc, self.link.epoch(), &self.opening, position)?;
