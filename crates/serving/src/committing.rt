@@ -80,7 +80,7 @@ pub(crate) fn take_steps<E: Durable>(
         → BackStands E.device E.contents back.new s (notices_of stepped.last)) }
     ensures shown { OnOk result (IsShown E.device E.contents back.new marks.new) }
     ensures steps { (all : List (Result Came Cause)) × AreSteps E.device E.contents E.is_faulted remote back.old groups.old all back.new groups.new × EndAs all result }
-    // what was kept of the past is, where the standby has passed the remote mark
+    // what was kept of the past is
     ensures past { KeepsThrough E.device E.contents E.is_faulted remote back.old result back.new }
 {
     let mut any = false;
