@@ -29,11 +29,12 @@ def migrate_words(path):
 
 def migrated_record(writer):
     """The record that a migration leaves: the image is opened again, its gaps are cleared, each live version in the last entries is moved under a stamp and a
-    record of its own, and the record of version 2 is written."""
+    record of its own, and the record of version 2 is written, by which all that has ended may have been freed."""
     opened = plain_image.reopened(writer.record)[-1]
     moved, cleared = writer.last_entries()[0], len(opened.gaps)
     cp = opened.cp + moved
-    return opened._replace(number=opened.number + cleared + moved + 1, cp=cp, cd=cp + STAMPS_BETWEEN_RECORDS, gaps=(), layout=VERSION_2)
+    number, cd = opened.number + cleared + moved + 1, cp + STAMPS_BETWEEN_RECORDS
+    return opened._replace(number=number, cp=cp, cd=cd, gaps=(), layout=VERSION_2, floor=opened.position)
 
 
 class Migrating(Images):
@@ -75,11 +76,11 @@ class Upgrades(Migrating):
         writer.reopen()
         writer.reopen()
         self.write(writer.words)
-        text_before = b"record 4\nposition 3\ncp 8197\ncd 12294\nepoch 1\nrole primary\ngaps 2\ngap 4 4099\ngap 4101 8196\nlive 3\n"
+        text_before = b"record 4\nposition 3\ncp 8197\ncd 12294\nepoch 1\nrole primary\nfloor 0\ngaps 2\ngap 4 4099\ngap 4101 8196\nlive 3\n"
         self.assert_written(self.inspect(self.path), b"version 1\n" + text_before)
         self.assert_migrates(writer.words)
         # it was opened again, three gaps were cleared, and the record of version 2 was written
-        self.assert_written(self.inspect(self.path), b"version 2\nrecord 9\nposition 3\ncp 12294\ncd 16391\nepoch 1\nrole primary\ngaps 0\nlive 3\n")
+        self.assert_written(self.inspect(self.path), b"version 2\nrecord 9\nposition 3\ncp 12294\ncd 16391\nepoch 1\nrole primary\nfloor 3\ngaps 0\nlive 3\n")
         migrated = self.path.read_bytes()
         self.assert_written(run_program("server", migrate_words(self.path)), MIGRATED)
         self.assert_bytes(self.path.read_bytes(), migrated)
@@ -170,7 +171,6 @@ def broken_images():
         ("a gap up to cp", DAMAGED, {slot + GAPS_WORD + 3: record.cp}),
         ("no role", DAMAGED, {slot + VERSION_1.role_word: 0}),
         ("a third role", DAMAGED, {slot + VERSION_1.role_word: 3}),
-        ("a word behind the role", DAMAGED, {slot + VERSION_1.role_word + 1: 1}),
         ("a begin at cd in the last entry", DAMAGED, entry(VERSION_1.entries(LINES) - 1, begin=record.cd)),
         ("an extent in the directory, of one of the last entries", DAMAGED, entry(first, line=100)),
         ("an extent of another, of one of the last entries", DAMAGED, entry(first, line=other.line)),
