@@ -203,7 +203,7 @@ class Machine(Crashes):
         reached = self._reached()
         if not reached:
             return False
-        self.notices.append(self.primary.image.free(reached[0].entries, reached[0].position))
+        self.notices.append(self.primary.image.free(reached[0].entries, self.remote))
         self.aside = reached[1:]
         if self._has_room():
             self.work = []

@@ -66,20 +66,20 @@ module _ {E : Type 0} (device : E → State) (contents : E → Contents) (is_fau
         → Commits device contents is_faulted remote old group result new
     commits-from remote group result new it = search rules
 
-    pub frees-from : (list : FreeList) (rest : List FreeList) (result : Result Done Refusal) (new : Committer E) → FreesFirst device contents is_faulted middle list rest result new
-        → FreesFirst device contents is_faulted old list rest result new
-    frees-from list rest result new it = search rules
+    pub frees-from : (remote : ℕ) (list : FreeList) (rest : List FreeList) (result : Result Done Refusal) (new : Committer E) → FreesFirst device contents is_faulted remote middle list rest result new
+        → FreesFirst device contents is_faulted remote old list rest result new
+    frees-from remote list rest result new it = search rules
 
     -- nothing was set aside
     pub lacks-room : (before after : Waiting Work) (result : Result Done Refusal) → result ≡ Err Memory → aside.items ≡ old.aside.items → after ≡ before
         → LacksRoom device contents is_faulted old before result middle after
     lacks-room before after result answer same queue = record { answer = answer; engine = refl; stage = refl; local = refl; aside = same; queue = queue }
 
-    pub freed-from : (before after : Waiting Work) (list : FreeList) (rest : List FreeList) (result : Result Done Refusal) (new : Committer E) → AllAside old.aside.items before.items aside.items after.items
+    pub freed-from : (remote : ℕ) (before after : Waiting Work) (list : FreeList) (rest : List FreeList) (result : Result Done Refusal) (new : Committer E) → AllAside old.aside.items before.items aside.items after.items
         → reached_by true old.aside.items before.items ≡ list ∷ rest
-        → ((list : FreeList) (rest : List FreeList) → aside.items ≡ list ∷ rest → FreesFirst device contents is_faulted middle list rest result new)
-        → (after.items ≡ left_by true before.items) × FreesFirst device contents is_faulted old list rest result new
-    freed-from before after list rest result new all reached frees = (all.left, frees-from list rest result new (frees list rest (sym all.reached ∙ reached)))
+        → ((list : FreeList) (rest : List FreeList) → aside.items ≡ list ∷ rest → FreesFirst device contents is_faulted remote middle list rest result new)
+        → (after.items ≡ left_by true before.items) × FreesFirst device contents is_faulted remote old list rest result new
+    freed-from remote before after list rest result new all reached frees = (all.left, frees-from remote list rest result new (frees list rest (sym all.reached ∙ reached)))
 
   -- ---- the step that is due
 

@@ -50,26 +50,26 @@ pub record SetsAside (aside : List FreeList) (before : List Work) (came : Option
 
 -- by what is known of an engine
 module _ {E : Type 0} (device : E → State) (contents : E → Contents) (is_faulted : E → Bool) where
-  -- The oldest list aside was freed, once the record's floor was at its position or above, or that came to this. The others stay aside.
-  pub record FreesFirst (old : Committer E) (list : FreeList) (rest : List FreeList) (result : Result Done Refusal) (new : Committer E) : Type 0 where
+  -- The oldest list aside was freed, once the record's floor was at this remote mark or above, or that came to this. The others stay aside.
+  pub record FreesFirst (remote : ℕ) (old : Committer E) (list : FreeList) (rest : List FreeList) (result : Result Done Refusal) (new : Committer E) : Type 0 where
     pub answer : IfOk result (λ done. (places : Places) × (done ≡ Freed places) × (places.entries.items ≡ list.entries.items)
         × (places.extents.items ≡ extents_of (contents old.engine).versions list.entries.items))
     pub aside : OnOk result (new.aside.items ≡ rest)
-    pub moved : OnOk result (Same (after_free list.entries.items (floor_raised list.position (contents old.engine))) (contents new.engine))
+    pub moved : OnOk result (Same (after_free list.entries.items (floor_raised remote (contents old.engine))) (contents new.engine))
     pub durable : OnOk result (IsDurable (device new.engine) (contents new.engine))
     pub sound : OnOk result ((is_faulted new.engine ≡ false) × ((device new.engine).failures ≡ (device old.engine).failures))
     pub causes : IfErr result (λ refusal. (refusal ≡ Fault) ⊎ ((refusal ≡ Exhausted) ⊎ (refusal ≡ Memory)))
     pub kept : OnErr result (new.aside.items ≡ list ∷ rest)
     pub memory : IsErrOf result Memory → new.engine ≡ old.engine
-    pub exhausted : IsErrOf result Exhausted → ExhaustsRaising list.position (contents old.engine).current × (new.engine ≡ old.engine)
-    pub exhausts : is_faulted old.engine ≡ false → ExhaustsRaising list.position (contents old.engine).current → result ≡ Err Exhausted
+    pub exhausted : IsErrOf result Exhausted → ExhaustsRaising remote (contents old.engine).current × (new.engine ≡ old.engine)
+    pub exhausts : is_faulted old.engine ≡ false → ExhaustsRaising remote (contents old.engine).current → result ≡ Err Exhausted
     pub fault : IsErrOf result Fault → (is_faulted old.engine ≡ true) ⊎ ((device old.engine).failures < (device new.engine).failures)
     pub stopped : IsErrOf result Fault → is_faulted new.engine ≡ true
     pub lines : (contents new.engine).lines ≡ (contents old.engine).lines
     pub stage : new.stage ≡ Ready
     pub local : new.local ≡ old.local
     pub moments : is_faulted old.engine ≡ false → LeavesOnly (device old.engine) (device new.engine)
-        (KeepsFreed list.entries.items (contents old.engine) (floor_raised list.position (contents old.engine)))
+        (KeepsFreed list.entries.items (contents old.engine) (floor_raised remote (contents old.engine)))
 
   -- The oldest gap of the record was cleared, or that came to this.
   pub record ClearsGap (old : Committer E) (result : Result Done Refusal) (new : Committer E) : Type 0 where
@@ -115,7 +115,7 @@ module _ {E : Type 0} (device : E → State) (contents : E → Contents) (is_fau
     pub reached : reached_by has_room old.aside.items before.items ≡ list ∷ rest
     pub passed : list.position ≤ remote
     pub left : after.items ≡ left_by has_room before.items
-    pub frees : FreesFirst old list rest result new
+    pub frees : FreesFirst remote old list rest result new
 
   -- the local mark was raised to the engine's position, to which the group in hand led
   pub record RaisesMark (old : Committer E) (result : Result Done Refusal) (new : Committer E) : Type 0 where

@@ -204,7 +204,7 @@ impl<E: Durable> Committer<E> {
         let has_room = link.room() > 0;
         match self.due(work, has_room, remote) {
             Due::Commit => self.commit_next(work, remote),
-            Due::Free => self.free_reached(alloc, work, has_room),
+            Due::Free => self.free_reached(alloc, work, has_room, remote),
             Due::Clear => self.clear_gap(alloc),
             Due::Raise | Due::Hand | Due::Nothing => Ok(Done::Idle),
         }
@@ -244,33 +244,34 @@ impl<E: Durable> Committer<E> {
         alloc: Global,
         work: &mut LocalPipe<Work>,
         has_room: bool,
+        remote: u64,
     ) -> Result<Done, Refusal>
         requires ready { self.old.stage ≡ Stage.Ready }
         requires lawful { IsLawful (E.contents self.old.engine) self.old.aside.items work.old.items }
         requires none { has_room ≡ true → has_group work.old.items ≡ false }
         ensures frees { (list : FreeList) (rest : List FreeList) → reached_by has_room self.old.aside.items work.old.items ≡ list ∷ rest
-            → ((work.new.items ≡ left_by has_room work.old.items) × FreesFirst E.device E.contents E.is_faulted self.old list rest result self.new)
+            → ((work.new.items ≡ left_by has_room work.old.items) × FreesFirst E.device E.contents E.is_faulted remote self.old list rest result self.new)
             ⊎ LacksRoom E.device E.contents E.is_faulted self.old work.old result self.new work.new }
         ensures asked_moment { (E.device self.new.engine).kept ≡ (E.device self.old.engine).kept }
     {
         if !has_room {
-            return self.free_first(alloc);
+            return self.free_first(alloc, remote);
         }
         set_aside(&mut self.aside, work)?;
-        self.free_first(alloc)
+        self.free_first(alloc, remote)
     }
 
-    /// Frees the oldest list aside.
-    fn free_first(&mut self, alloc: Global) -> Result<Done, Refusal>
+    /// Frees the oldest list aside, under a record whose floor is this remote mark or higher.
+    fn free_first(&mut self, alloc: Global, remote: u64) -> Result<Done, Refusal>
         requires ready { self.old.stage ≡ Stage.Ready }
         requires lawful { AreEnded (E.contents self.old.engine) (entries_of_lists self.old.aside.items) }
-        ensures frees { (list : FreeList) (rest : List FreeList) → self.old.aside.items ≡ list ∷ rest → FreesFirst E.device E.contents E.is_faulted self.old list rest result self.new }
+        ensures frees { (list : FreeList) (rest : List FreeList) → self.old.aside.items ≡ list ∷ rest → FreesFirst E.device E.contents E.is_faulted remote self.old list rest result self.new }
         ensures asked_moment { (E.device self.new.engine).kept ≡ (E.device self.old.engine).kept }
     {
         let Some(list) = self.aside.front() else {
             return Ok(Done::Idle);
         };
-        let freed = self.engine.free(alloc, &list.entries, list.position)?;
+        let freed = self.engine.free(alloc, &list.entries, remote)?;
         let _ = self.aside.pop_front();
         Ok(Done::Freed(freed))
     }

@@ -227,8 +227,8 @@ module _ {E : Type 0} (device : E → State) (contents : E → Contents) (is_fau
         let c = contents old.engine in
         let told = notices ++ frees.frees.answer.0 ∷ [] in
         let entries = frees.list.entries.items in
-        let moved : contents new.engine ≡ after_free entries (floor_raised frees.list.position c) =
-        Same-is (after_free entries (floor_raised frees.list.position c)) (contents new.engine) frees.frees.moved in
+        let moved : contents new.engine ≡ after_free entries (floor_raised remote c) =
+        Same-is (after_free entries (floor_raised remote c)) (contents new.engine) frees.frees.moved in
         let due_so = free-now contents old before room remote is in
         let ended : AreEnded c entries =
         reached-ended device contents is_faulted (past_of calls) s notices old new before after room remote (Ok came) due_so.none frees over keeps in
@@ -237,8 +237,8 @@ module _ {E : Type 0} (device : E → State) (contents : E → Contents) (is_fau
         let there : Arrives new after told (freed_first w) w.primary.link (w.primary.notices + 1) w.primary.gaps [] =
         record {
           engine = record {
-            lawful = same_lawful (after_free entries (floor_raised frees.list.position c)) (contents new.engine) frees.frees.moved
-                (lawful_raised frees.list.position (after_free entries c)
+            lawful = same_lawful (after_free entries (floor_raised remote c)) (contents new.engine) frees.frees.moved
+                (lawful_raised remote (after_free entries c)
                 (lawful_without c (λ i. is_listed i entries) (AllEnded-listed c entries ended) stands.engine.lawful)
                 (λ exhausts. ok_not_err came (frees.frees.exhausts stands.engine.sound exhausts)));
             role = ap (λ (d : Contents). d.current.role) moved;

@@ -125,20 +125,20 @@ module _ {E : Type 0} (device : E → State) (contents : E → Contents) (is_fau
     freed none it = LeavesOnly-weaken (ImageRecalls past) either (it.frees.moments sound)
       where
         raised : Contents
-        raised = floor_raised it.list.position c
+        raised = floor_raised remote c
 
         some : (image : Image) → KeepsWithoutSome it.list.entries.items raised image → ImageRecalls past image
         some image (gone, listed, held) =
             let ended = reached-ended device contents is_faulted past s notices old new before after has_room remote result none it over keeps in
             let remembers = raised-remembers device contents is_faulted past s notices old new before after has_room remote result none it over keeps raised.current.floor
-            (le-max_left c.current.floor it.list.position) in
+            (le-max_left c.current.floor remote) in
             let all : (i : ℕ) → IsTrue (gone i) → IsTrue (is_ended_version (c.versions i)) = λ i so. AllEnded-listed c it.list.entries.items ended i (listed i so) in
             recalls-of past (without gone raised) image
             (consistent_renumbered raised.current.number raised.current.floor (without gone c) (consistent_without c gone over.consistent))
             (IsMapOf-contents_without c gone (past c.current.position) all keeps.now)
             (λ p from below.
             recalls-more (without gone c).versions _ (λ i. Unit {0}) p (past p) (λ i held. tt)
-            (recalls-without raised.current.floor c.current.position past c after.items it.list it.rest s (le-max_right c.current.floor it.list.position) ended remembers gone listed p from below))
+            (recalls-without raised.current.floor c.current.position past c after.items it.list it.rest s (omega (arith, it.passed, le-max_right c.current.floor remote)) ended remembers gone listed p from below))
             held
 
         either : (image : Image) → KeepsFreed it.list.entries.items c raised image → ImageRecalls past image

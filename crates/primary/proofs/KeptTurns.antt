@@ -141,17 +141,17 @@ module _ {E : Type 0} (device : E → State) (contents : E → Contents) (is_fau
       → FreesReached device contents is_faulted has_room remote old before (Ok came) new after → Stood old before → Kept old before → Kept new after
   freed-keeps old new before after has_room remote came none it over keeps =
       let c = contents old.engine in
-      let r = raised_record it.list.position c.current in
+      let r = raised_record remote c.current in
       let entries = it.list.entries.items in
       let ended = reached-ended old new before after has_room remote (Ok came) none it over keeps in
-      let left = after_free entries (floor_raised it.list.position c) in
+      let left = after_free entries (floor_raised remote c) in
       let is = Same-is left (contents new.engine) it.frees.moved in
       let kept : KeepsPast r.floor past (after_free entries c) after.items it.rest s =
       record {
         now = IsMapOf-contents_without c (λ i. is_listed i entries) (past c.current.position) (AllEnded-listed c entries ended) keeps.now;
         follows = keeps.follows;
-        remembers = remembers-freed r.floor c.current.position past c after.items it.list it.rest s (le-max_right c.current.floor it.list.position) ended
-            (raised-remembers old new before after has_room remote (Ok came) none it over keeps r.floor (le-max_left c.current.floor it.list.position));
+        remembers = remembers-freed r.floor c.current.position past c after.items it.list it.rest s (omega (arith, it.passed, le-max_right c.current.floor remote)) ended
+            (raised-remembers old new before after has_room remote (Ok came) none it over keeps r.floor (le-max_left c.current.floor remote));
       } in
       subst (λ (c : Contents). KeepsPast c.current.floor past c after.items new.aside.items s) (sym is)
       (subst (λ (xs : List FreeList). KeepsPast left.current.floor past left after.items xs s) (sym it.frees.aside)

@@ -126,12 +126,12 @@ module _ {E : Type 0} (device : E → State) (contents : E → Contents) (is_fau
       let places = told.0 in
       let leads = subst (λ (xs : List FreeList). Leads c (left_by has_room before.items) xs s notices) it.reached (Leads-reached c has_room before.items old.aside.items s notices none over.leads) in
       let left = after_free entries c in
-      let r = raised_record it.list.position c.current in
-      let is = Same-is (after_free entries (floor_raised it.list.position c)) (contents new.engine) it.frees.moved in
+      let r = raised_record remote c.current in
+      let is = Same-is (after_free entries (floor_raised remote c)) (contents new.engine) it.frees.moved in
       subst (λ (d : Done). Over new after s (notices ++ notices_of d)) (sym told.1) (record {
         leads = subst (λ (c : Contents). Leads c after.items new.aside.items s (notices ++ places ∷ [])) (sym is)
-            (subst (λ (xs : List FreeList). Leads (after_free entries (floor_raised it.list.position c)) after.items xs s (notices ++ places ∷ [])) (sym it.frees.aside)
-            (subst (λ (xs : List Work). Leads (after_free entries (floor_raised it.list.position c)) xs it.rest s (notices ++ places ∷ [])) (sym it.left)
+            (subst (λ (xs : List FreeList). Leads (after_free entries (floor_raised remote c)) after.items xs s (notices ++ places ∷ [])) (sym it.frees.aside)
+            (subst (λ (xs : List Work). Leads (after_free entries (floor_raised remote c)) xs it.rest s (notices ++ places ∷ [])) (sym it.left)
             (leads_renumbered r.number r.floor left (left_by has_room before.items) it.rest s (notices ++ places ∷ [])
             (Leads-freed c (left_by has_room before.items) it.list it.rest s notices places over.consistent over.laid leads told.2 told.3))));
         consistent = subst IsConsistent (sym is) (consistent_renumbered r.number r.floor left (consistent_without c (λ i. is_listed i entries) over.consistent));

@@ -26,7 +26,7 @@ returns-clause-frees g c = λ list rest is.
     let new : Committer g.row.E.Denot = record old { engine = c.free.new.self; aside = c.pop_front.new.self } in
     let first_is : c.in-Some.list.now ≡ list = cc in
     let rest_is : drop 1 items ≡ rest = cc in
-    subst (λ (l : FreeList). FreesFirst E.device E.contents E.is_faulted old l rest (Ok (Freed c.in_ok-freed.freed)) new) first_is (record {
+    subst (λ (l : FreeList). FreesFirst E.device E.contents E.is_faulted c.args.remote old l rest (Ok (Freed c.in_ok-freed.freed)) new) first_is (record {
       answer = (c.in_ok-freed.freed, refl, engine.entries, engine.extents);
       aside = c.pop_front.ensures.rest ∙ rest_is;
       moved = engine.moved;

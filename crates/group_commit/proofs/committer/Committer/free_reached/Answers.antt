@@ -27,5 +27,5 @@ returns-clause-frees g c =
     let E = g.E.Durable in
     rw c.if-not-has_room.false
     (λ list rest reached.
-    inl (freed-from E.device E.contents E.is_faulted c.args.self.now c.set_aside.new.aside c.args.work.now c.set_aside.new.work list rest c.free_first-2.result c.free_first-2.new.self
+    inl (freed-from E.device E.contents E.is_faulted c.args.self.now c.set_aside.new.aside c.args.remote c.args.work.now c.set_aside.new.work list rest c.free_first-2.result c.free_first-2.new.self
     (all g (goal.at.returns-clause-frees g c).In_ok-set_aside) reached c.free_first-2.ensures.frees))
