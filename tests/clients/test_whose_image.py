@@ -8,7 +8,7 @@ import shutil
 import common
 from pair import Client, Ended, PairCases, wait_until
 from plain_image import BadImage
-from plain_replies import NULL_BULK, OK, bulk
+from plain_replies import NULL_BULK, OK, bulk, integer
 from spelling import spell
 
 PROGRAMS = ["server"]
@@ -100,3 +100,40 @@ class OlderPrimaries(Images):
         # (and its standby is the one to promote)
         self.nodes.fail_over()
         self.assertEqual([self.ask("GET", "order"), self.ask("GET", "late0")], [bulk(b"paid"), NULL_BULK])
+
+
+class OlderStandbys(Images):
+    """A standby over an image from before, of which the primary has freed what it lacks."""
+
+    def floor(self):
+        """That of the primary's record, which may write another while it is read."""
+        def read():
+            with contextlib.suppress(BadImage):
+                return [self.nodes.primary.read_image().record.floor]
+
+        return wait_until(read, "an image that can be read")[0]
+
+    def test_one_that_is_put_back(self):
+        """By a primary that runs and by one that is started again, each time; a new one takes its place."""
+        self.assertEqual(self.ask("SET", "gone", "yes"), OK)
+        self.nodes.standby.end()
+        copy = self.copied(self.nodes.standby, "old.img")
+        self.nodes.standby.start()
+        wait_until(self.nodes.standby.is_listening, "a standby that listens")
+        self.assertEqual([self.ask("DEL", "gone"), self.ask("GET", "gone")], [integer(1), NULL_BULK])
+        wait_until(lambda: self.floor() >= 2, "a floor at what has ended", TELLING)
+        self.put_back(self.nodes.standby, copy)
+        wanted = self.map_of(self.nodes.standby)
+        for _ in range(3):
+            wait_until(lambda: 12 in self.refused(self.nodes.primary), "the primary's word", TELLING)
+            self.assertEqual(self.asked("GET", "gone"), NO_ANSWER)
+            self.assertEqual([self.map_of(node) for node in (self.nodes.standby, self.nodes.primary)], [wanted, {}])
+            self.restart(self.nodes.primary)
+        self.nodes.standby.end()
+        self.nodes.standby.image.unlink()
+        self.nodes.standby.format(self.nodes.lines)
+        self.nodes.restart(self.nodes.standby, self.nodes.primary)
+        self.nodes.wait()
+        self.assertEqual(self.ask("GET", "gone"), NULL_BULK)
+        self.nodes.fail_over()
+        self.assertEqual(self.ask("GET", "gone"), NULL_BULK)
