@@ -30,7 +30,7 @@ use Rattle.wbl_engine.proofs.Staged.{EndsAt, IsCommitting, PutsAt, group_behind,
 use Rattle.wbl_engine.proofs.Storing.{AreBehind, IsStoredOver, partly_over, partly_recorded, staged_recorded, written_over}
 
 -- contents that say the same of each entry are one
-same_is : (old new : Contents) → Same old new → new ≡ old
+pub same_is : (old new : Contents) → Same old new → new ≡ old
 same_is old new same = grind arith
 
 -- none of the entries is freed yet

@@ -56,9 +56,9 @@ rises a b above =
 pub raised_either : (floor : ℕ) (r : Record) → IsRaised r (raised_record floor r)
 raised_either floor r =
     elim (cases_Bool (nat_lt r.floor floor)) [
-      | inl rises ↦
-          let number = cond-true (nat_lt r.floor floor) (r.number + 1) r.number rises in
-          let above : r.floor < max r.floor floor = rises_above r.floor floor (ltb-true r.floor floor rises) in
+      | inl up ↦
+          let number = cond-true (nat_lt r.floor floor) (r.number + 1) r.number up in
+          let above : r.floor < max r.floor floor = rises_above r.floor floor (ltb-true r.floor floor up) in
           inr (above, λ i. record r { number = number i; floor = max r.floor floor })
       | inr stays ↦
           let number = cond-false (nat_lt r.floor floor) (r.number + 1) r.number stays in
@@ -71,7 +71,7 @@ raised_either floor r =
     rises_above a b lt = let high = le-max_right a b in omega (arith, lt, high)
 
     not_below : (a b : ℕ) → nat_lt a b ≡ false → b ≤ a
-    not_below a b no = elim (cases_lt a b) [ inl lt ↦ absurd (both_ways (nat_lt a b) no (lt-ltb a b lt)) | inr le ↦ le ]
+    not_below a b is = elim (cases_lt a b) [ inl lt ↦ absurd (both_ways (nat_lt a b) is (lt-ltb a b lt)) | inr le ↦ le ]
 
 -- one of the same number is the same
 pub raised_same : (r next : Record) → IsRaised r next → next.number ≡ r.number → next ≡ r
@@ -139,7 +139,7 @@ ended_alike old new (entry ∷ entries) many versions ended = (
   ended_alike old new entries many versions ended.3,
 )
 
-module _ {r next : Record} {d b : State} {entries : List EntryNo} (raised : IsRaised r next) (rest : IsAtRest next b)
+module _ (r next : Record) (d b : State) (entries : List EntryNo) (raised : IsRaised r next) (rest : IsAtRest next b)
     (same : Same (under next (contents_of r d)) (contents_of next b)) (ended : AreEnded (contents_of r d) entries) where
   raised_ended : AreEnded (contents_of next b) entries
   raised_ended =
@@ -165,6 +165,7 @@ module _ {r next : Record} {d b : State} {entries : List EntryNo} (raised : IsRa
       → Same (after_free entries (contents_of r d)) (contents_of r c)
   raised_fault c newest lines = seen raised
     where
+      there : Same (after_free entries (under next (contents_of r d))) (contents_of next c)
       there = raised_freed c newest lines
 
       seen : IsRaised r next → Same (after_free entries (contents_of r d)) (contents_of r c)
@@ -186,9 +187,9 @@ module _ {r next : Record} {d b : State} {entries : List EntryNo} (raised : IsRa
       first_keeps image (inr new) = inr (keeps_yet entries (under next (contents_of r d)) image new)
 
 -- where the record was not written
-pub unraised_moments : {r next : Record} {d b : State} {entries : List EntryNo} → LeavesOnly d b (IsUnderEither r next d)
+pub unraised_moments : (r next : Record) (d b : State) (entries : List EntryNo) → LeavesOnly d b (IsUnderEither r next d)
     → LeavesOnly d b (KeepsFreed entries (contents_of r d) (under next (contents_of r d)))
-unraised_moments {r} {next} {d} {b} {entries} moments =
+unraised_moments r next d b entries moments =
     LeavesOnly-weaken (KeepsFreed entries (contents_of r d) (under next (contents_of r d))) keeps moments
   where
     keeps : (image : Image) → IsUnderEither r next d image → KeepsFreed entries (contents_of r d) (under next (contents_of r d)) image
@@ -198,8 +199,8 @@ unraised_moments {r} {next} {d} {b} {entries} moments =
 -- ---- the map
 
 -- what the raised record leaves has the map, and freeing leaves it
-pub raised_map : (floor : ℕ) {old new : Contents} {entries : List EntryNo} → AreEnded old entries → Same (after_free entries (floor_raised floor old)) new → KeepsMap old new
-raised_map floor {old} {new} {entries} ended same =
+pub raised_map : (floor : ℕ) (old new : Contents) (entries : List EntryNo) → AreEnded old entries → Same (after_free entries (floor_raised floor old)) new → KeepsMap old new
+raised_map floor old new entries ended same =
     freed_map (floor_raised floor old) new entries (ended_alike old (floor_raised floor old) entries refl (λ i. refl) ended) same
 
 -- ---- a floor that is reached

@@ -45,7 +45,7 @@ last_position-get before (part ∷ next ∷ parts) d some =
 
 -- ---- the floor of the record after a group
 
-module _ {r next : Record} {group : Group} {floor : ℕ} (is : next ≡ next_record (with_floor floor r) group) where
+module _ (r next : Record) (group : Group) (floor : ℕ) (is : next ≡ next_record (with_floor floor r) group) where
   pub floor_after : next.floor ≡ max r.floor floor
   floor_after = ap (λ (q : Record). q.floor) is
 

@@ -22,13 +22,13 @@ returns-in_default-clause-moments g c sound =
     (λ image is. inl (keeps_yet c.args.entries.now (contents_of r d) image (rest_keeps r d (c.args.self.now.at_rest sound) image is)))
 
 pub commit_and_erase-requires-clause-after : goal.commit_and_erase-requires-clause-after
-commit_and_erase-requires-clause-after g c = record_at_floor c.in-Some.ensures.next
+commit_and_erase-requires-clause-after g c = record_at_floor c.args.self.now.current c.in-Some.next c.args.group.now c.args.floor c.in-Some.ensures.next
 
 pub returns-in-Ok-clause-moved : goal.returns-in-Ok-clause-moved
 returns-in-Ok-clause-moved g c =
     let old = after_free c.args.entries.now (contents_of c.args.self.now.current (g.P.Pmem.state c.args.self.now.device)) in
     let new = contents_of c.in-Some.next (g.P.Pmem.state c.commit_and_erase.new.device) in
-    subst (λ (floor : ℕ). Same (after_group (under_floor floor old) c.args.group.now) new) (floor_after c.in-Some.ensures.next) c.in-Ok.ensures.moved
+    subst (λ (floor : ℕ). Same (after_group (under_floor floor old) c.args.group.now) new) (floor_after c.args.self.now.current c.in-Some.next c.args.group.now c.args.floor c.in-Some.ensures.next) c.in-Ok.ensures.moved
 
 pub returns-in-Ok-clause-durable : goal.returns-in-Ok-clause-durable
 returns-in-Ok-clause-durable g c = rest_keeps c.in-Some.next (g.P.Pmem.state c.commit_and_erase.new.device) c.in-Ok.ensures.rest
@@ -40,7 +40,7 @@ returns-in-Ok-clause-moments g c sound =
     subst
     (λ (floor : ℕ). LeavesOnly d (g.P.Pmem.state c.commit_and_erase.new.device)
     (KeepsFreedOr c.args.entries.now old (after_group (under_floor floor (after_free c.args.entries.now old)) c.args.group.now)))
-    (floor_after c.in-Some.ensures.next) c.commit_and_erase.ensures.moments
+    (floor_after c.args.self.now.current c.in-Some.next c.args.group.now c.args.floor c.in-Some.ensures.next) c.commit_and_erase.ensures.moments
 
 pub returns-in-Err-clause-moments : goal.returns-in-Err-clause-moments
 returns-in-Err-clause-moments g c sound =
@@ -49,4 +49,4 @@ returns-in-Err-clause-moments g c sound =
     subst
     (λ (floor : ℕ). LeavesOnly d (g.P.Pmem.state c.commit_and_erase.new.device)
     (KeepsFreedOr c.args.entries.now old (after_group (under_floor floor (after_free c.args.entries.now old)) c.args.group.now)))
-    (floor_after c.in-Some.ensures.next) c.commit_and_erase.ensures.moments
+    (floor_after c.args.self.now.current c.in-Some.next c.args.group.now c.args.floor c.in-Some.ensures.next) c.commit_and_erase.ensures.moments

@@ -43,7 +43,9 @@ returns-clause-moved g c =
     subst (λ (q : Record). Same (after_free c.args.entries.now (under q old)) new) c.in-Some.ensures.next c.in-Ok.ensures.moved
 
 pub returns-clause-map : goal.returns-clause-map
-returns-clause-map g c = raised_map c.args.floor c.requires (returns-clause-moved g c)
+returns-clause-map g c =
+    raised_map c.args.floor (contents_of c.args.self.now.current (g.P.Pmem.state c.args.self.now.device))
+    (contents_of c.in-Some.next (g.P.Pmem.state c.free_under.new.device)) c.args.entries.now c.requires (returns-clause-moved g c)
 
 pub returns-clause-durable : goal.returns-clause-durable
 returns-clause-durable g c = rest_keeps c.in-Some.next (g.P.Pmem.state c.free_under.new.device) c.in-Ok.ensures.rest
@@ -55,15 +57,15 @@ returns-clause-moments g c sound =
     subst (λ (q : Record). LeavesOnly d (g.P.Pmem.state c.free_under.new.device) (KeepsFreed c.args.entries.now old (under q old))) c.in-Some.ensures.next
     c.free_under.ensures.moments
 
-pub returns-in_default-clause-stays : goal.returns-in_default-clause-stays
-returns-in_default-clause-stays g c is_fault sound =
-    elim c.in_default.ensures.stays [
+pub returns-in_default-free_under-clause-stays : goal.returns-in_default-free_under-clause-stays
+returns-in_default-free_under-clause-stays g c is_fault sound =
+    elim c.in_default-free_under.ensures.stays [
       | inl before ↦ inl (rises c.args.self.now.current.floor c.args.floor (subst (λ (q : Record). c.args.self.now.current.floor < q.floor) c.in-Some.ensures.next before.0), before.1)
       | inr erased ↦ inr erased
     ]
 
-pub returns-in_default-in_default-clause-moments : goal.returns-in_default-in_default-clause-moments
-returns-in_default-in_default-clause-moments g c sound =
+pub returns-in_default-free_under-clause-moments : goal.returns-in_default-free_under-clause-moments
+returns-in_default-free_under-clause-moments g c sound =
     let d = g.P.Pmem.state c.args.self.now.device in
     let old = contents_of c.args.self.now.current d in
     subst (λ (q : Record). LeavesOnly d (g.P.Pmem.state c.free_under.new.device) (KeepsFreed c.args.entries.now old (under q old))) c.in-Some.ensures.next
