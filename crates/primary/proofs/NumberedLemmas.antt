@@ -104,6 +104,7 @@ numbered number (group ∷ groups) = numbered (number + 1) groups
 
 groups_renumbered : (number floor : ℕ) (c : Contents) (groups : List Group)
     → after_groups (renumbered number floor c) groups ≡ renumbered (numbered number groups) floor (after_groups c groups)
+unfolding numbered
 groups_renumbered number floor c [] = refl
 groups_renumbered number floor c (group ∷ groups) = groups_renumbered (number + 1) floor (after_group c group) groups
 
