@@ -1,7 +1,8 @@
 """Versions that have ended are freed in lists of many. What is caught is a request that waits for room which nobody gives back, one that is told that the
-store is full beside what has ended, and a node that keeps what has ended while nothing is asked of it."""
+store is full beside what has ended, and a node that keeps more of what has ended than its last commit left."""
 
 import contextlib
+import time
 
 import common
 import plain_image
@@ -16,6 +17,7 @@ IS_SLOW = True
 LINES = 65_536
 LONGEST = 65_536 * b"v"
 LIVE, REPLACED, MORE = 40, 5, 12
+REST = 0.05 * common.BUSY
 
 
 class Kept(PairCases):
@@ -39,13 +41,17 @@ class Kept(PairCases):
             self.assertEqual(client.ask_all(rows), [OK, *MORE * [QUEUED], array(MORE * [OK])])
             self.assertEqual(client.ask("DBSIZE"), integer(LIVE + MORE))
 
-    def test_an_idle_node_keeps_none(self):
+    def test_an_idle_node_keeps_what_its_last_commit_ended(self):
+        """That waits for the next commit, whose record bears the floor for it."""
         nodes = self.pair(lines=LINES)
         with nodes.client() as client:
             self.assertEqual(client.ask_all(100 * [("SET", "a", "1")]), 100 * [OK])
-            wait_until(lambda: self.ended(nodes.primary) == 0, "an image without ended versions")
-            # (and what waits for nothing is answered as before)
-            self.assertEqual(client.ask("SET", "a", "2"), OK)
+            wait_until(lambda: client.ask("SET", "a", "2") == OK and self.left_at_rest(nodes.primary) == 1, "an image with one ended version")
+
+    def left_at_rest(self, node):
+        """The same, once the node has had nothing to do for a moment."""
+        time.sleep(REST)
+        return self.ended(node)
 
     def test_a_standby_that_is_away_until_there_is_no_room(self):
         """3,000 SETs of one key into 2,048 entries, of which none is free again before the standby is back."""

@@ -171,8 +171,11 @@ class Reports(ServingCases):
             self.assertEqual(client.ask("SET", "a", f"{asked}"), OK)
             asked += 1
         reports = lambda: primary_reports(primary)
-        resting = lambda: [it for it in reports()[-1:] if (it.position, it.standby, it.keys, it.versions, it.lines, it.clients, it.requests) == (asked, asked, 1, 1, 1, 2, 0)]
+        resting = lambda: [it for it in reports()[-1:] if (it.position, it.standby, it.keys, it.clients, it.requests) == (asked, asked, 1, 2, 0)]
         (last,) = wait_until(resting, "a report of a primary that rests")
+        # (what has ended since the last list is there)
+        self.assertEqual(last.versions, last.lines)
+        self.assertLessEqual(last.versions, 1 + 1_024)
         following = lambda: [it for it in standby_reports(standby)[-1:] if (it.position, it.keys, it.versions, it.lines, it.frames) == (asked, 1, 1, 1, 0)]
         (other,) = wait_until(following, "a report of a standby that rests")
         for node, report in ((primary, last), (standby, other)):
@@ -285,9 +288,11 @@ class Filling(ServingCases):
         self.keep(454, 493)
         self.wait_for(9, 99)
         self.drop(300, 493)
-        # (what ended is free once both nodes have nothing to do)
+        # (what ended is listed once both nodes have nothing to do, and free with the next commit)
+        time.sleep(2 * common.BUSY)
+        self.keep(300, 301)
         time.sleep(5 * common.BUSY)
-        self.keep(300, 454)
+        self.keep(301, 454)
         self.wait_for(9, 99, 9)
 
     def test_lines(self):

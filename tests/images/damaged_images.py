@@ -11,7 +11,7 @@ ENTRIES, FIRST_LINE, ROOT = LAYOUT.entries(LINES), extents_begin(LINES), LAYOUT.
 LIMIT, MOST = 2**62, 2**64 - 1
 MAGIC_REFUSED, VERSION_REFUSED, SIZE_REFUSED, DAMAGED = 2, 3, 4, 7
 WORD = {name: number for number, name in enumerate(["begin", "end", "position", "line", "lines", "kind", "lengths", "value"])}
-FIELD_OF = {name: number for number, name in enumerate(["number", "position", "cp", "cd", "epoch", "count"])} | {"role": LAYOUT.role_word, "last": LAYOUT.role_word + 1}
+FIELD_OF = {name: number for number, name in enumerate(["number", "position", "cp", "cd", "epoch", "count"])} | {"role": LAYOUT.role_word, "floor": LAYOUT.role_word + 1}
 
 
 def base_writer():
@@ -96,7 +96,6 @@ RECORDS = [
     ("epoch at the limit", DAMAGED, field(epoch=LIMIT)),
     ("role 0", DAMAGED, field(role=0)),
     ("role 3", DAMAGED, field(role=3)),
-    ("last word", DAMAGED, field(last=1)),
     ("33 gaps", DAMAGED, gaps(*[(5 + 2 * k, 5 + 2 * k) for k in range(32)], count=33)),
     ("more gaps than fit a word", DAMAGED, gaps(GAP, count=MOST)),
     ("a gap beyond the count", DAMAGED, gaps(GAP, count=0)),
@@ -174,6 +173,7 @@ STRANGE = [
     ("a gap over all that was committed", gaps((1, CP - 1))),
     ("a standby", field(role=STANDBY)),
     ("another position and epoch", field(position=LIMIT - 1, epoch=LIMIT - 1)),
+    ("any floor", field(floor=MOST)),
     ("the extent of a version that does not count", whole_entry(9, GAP[0], 0, 1, FIRST_LINE, 1, 1, 1, 1)),
     ("a version of a live record that does not count", whole_entry(9, GAP[0], 0, 1, 600, 1, 1, 1, 1) | text(600, b"b9")),
     ("a string beside fields that ended", entry(2, end=4) | text(FIRST_LINE + 1, b"h2")),

@@ -52,7 +52,7 @@ def words_of(data):
 def told(record, live):
     """What `inspect` prints of a record with so many live entries."""
     lines = [f"version {record.layout.version}", f"record {record.number}", f"position {record.position}", f"cp {record.cp}", f"cd {record.cd}"]
-    lines += [f"epoch {record.epoch}", f"role {ROLES[record.role]}", f"gaps {len(record.gaps)}"]
+    lines += [f"epoch {record.epoch}", f"role {ROLES[record.role]}", f"floor {record.floor}", f"gaps {len(record.gaps)}"]
     lines += [f"gap {first} {last}" for first, last in record.gaps]
     return "".join(f"{line}\n" for line in [*lines, f"live {live}"]).encode()
 
@@ -192,16 +192,16 @@ class Inspecting(Images):
         """Three SETs as one group, before a reopening and after it."""
         writer = Writer(LINES, PRIMARY)
         writer.commit([[Put((key,), b"1")] for key in (b"a", b"b", b"c")])
-        self.assert_told(LINES, writer.words, b"version 2\nrecord 2\nposition 3\ncp 3\ncd 4100\nepoch 1\nrole primary\ngaps 0\nlive 3\n")
+        self.assert_told(LINES, writer.words, b"version 2\nrecord 2\nposition 3\ncp 3\ncd 4100\nepoch 1\nrole primary\nfloor 0\ngaps 0\nlive 3\n")
         writer.reopen()
-        text = b"version 2\nrecord 3\nposition 3\ncp 4100\ncd 8197\nepoch 1\nrole primary\ngaps 1\ngap 4 4099\nlive 3\n"
+        text = b"version 2\nrecord 3\nposition 3\ncp 4100\ncd 8197\nepoch 1\nrole primary\nfloor 0\ngaps 1\ngap 4 4099\nlive 3\n"
         self.assert_told(LINES, writer.words, text)
 
     def test_new_images(self):
         for lines, role in [(4_096, PRIMARY), (4_103, STANDBY), (40_000, STANDBY)]:
             with self.case("image", lines=lines, role=role):
                 name = ROLES[role].encode()
-                text = b"version 2\nrecord 1\nposition 0\ncp 0\ncd 4097\nepoch 1\nrole %s\ngaps 0\nlive 0\n" % name
+                text = b"version 2\nrecord 1\nposition 0\ncp 0\ncd 4097\nepoch 1\nrole %s\nfloor 0\ngaps 0\nlive 0\n" % name
                 self.assert_told(lines, Writer(lines, role).words, text)
 
     def test_versions_that_have_ended_are_not_live(self):

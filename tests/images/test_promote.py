@@ -50,10 +50,10 @@ class Standby(Writer):
         self._put_record()
 
     def promote(self):
-        """The record of the next epoch, of a primary, with the rest as before."""
+        """The record of the next epoch, of a primary, with its position as the floor and the rest as before."""
         self.reopen()
         record = self.record
-        self.record = record._replace(number=record.number + 1, epoch=record.epoch + 1, role=PRIMARY)
+        self.record = record._replace(number=record.number + 1, epoch=record.epoch + 1, role=PRIMARY, floor=record.position)
         self._put_record()
 
 
@@ -144,7 +144,7 @@ class Promoting(Promotions):
             path = folder / "s.img"
             self.assert_written(run_program("server", format_words(path, role="standby")), b"formatted 4096 lines, 494 entries\n")
             self.assert_promotes(self.promote(path, STOPPED), 2)
-            text = b"version 2\nrecord 3\nposition 0\ncp 4097\ncd 8194\nepoch 2\nrole primary\ngaps 1\ngap 1 4096\nlive 0\n"
+            text = b"version 2\nrecord 3\nposition 0\ncp 4097\ncd 8194\nepoch 2\nrole primary\nfloor 0\ngaps 1\ngap 1 4096\nlive 0\n"
             self.assert_inspected(path, text)
 
     def test_output_that_fails(self):

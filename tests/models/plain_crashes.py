@@ -66,7 +66,7 @@ class Crashes:
 
     def _cut_free(self):
         reached = self._reached()
-        return (lambda: self.primary.image.free(reached[0].entries)) if reached else None
+        return (lambda: self.primary.image.free(reached[0].entries, reached[0].position)) if reached else None
 
     def _cut_clear_gap(self):
         return self.primary.image.clear_gap if self._may_clear() else None

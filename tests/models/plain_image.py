@@ -43,7 +43,7 @@ class Layout(typing.NamedTuple):
 
     @property
     def role_word(self):
-        """The word of a record that has its role, behind the gaps. One that is zero follows, and no other."""
+        """The word of a record that has its role, behind the gaps. That of its floor follows, and no other."""
         return GAPS_WORD + 2 * self.most_gaps
 
     @property
@@ -87,6 +87,7 @@ class Record(typing.NamedTuple):
     gaps: tuple
     role: int
     layout: Layout = LAYOUT
+    floor: int = 0
 
     def told(self):
         """What of it does not depend on how room was made."""
@@ -216,7 +217,7 @@ def record_words(record):
     """The words of a record in its slot."""
     flat = [bound for gap in record.gaps for bound in gap]
     head = [record.number, record.position, record.cp, record.cd, record.epoch, len(record.gaps)]
-    return [*head, *flat, *[0] * (2 * record.layout.most_gaps - len(flat)), record.role, 0]
+    return [*head, *flat, *[0] * (2 * record.layout.most_gaps - len(flat)), record.role, record.floor]
 
 
 def record_in_place(lines, record):
@@ -248,19 +249,19 @@ def _read_record(device, layout):
     root = device.slice(layout.root_word, 1)[0]
     words = device.slice(layout.slot_word(device.lines, root), layout.record_words)
     number, position, cp, cd, epoch, count = words[:GAPS_WORD]
-    bounds, (role, last) = words[GAPS_WORD:layout.role_word], words[layout.role_word:]
+    bounds, (role, floor) = words[GAPS_WORD:layout.role_word], words[layout.role_word:]
     pairs = list(zip(bounds[::2], bounds[1::2]))
     _whole(number == root and 1 <= number < BOUND, "number of the record")
     _whole(position < BOUND, "position")
     _whole(cd == cp + STAMPS_BETWEEN_RECORDS and cd < BOUND, "cp and cd")
     _whole(1 <= epoch < BOUND, "epoch")
     _whole(count <= layout.most_gaps and not any(map(any, pairs[count:])), "number of gaps")
-    _whole(role in (PRIMARY, STANDBY) and last == 0, "role")
+    _whole(role in (PRIMARY, STANDBY), "role")
     before = 0
     for first, last in pairs[:count]:
         _whole(before < first <= last < cp, "gap")
         before = last
-    return Record(number, position, cp, cd, epoch, tuple(pairs[:count]), role, layout)
+    return Record(number, position, cp, cd, epoch, tuple(pairs[:count]), role, layout, floor)
 
 
 def _read_map(device, record, versions):

@@ -189,7 +189,7 @@ class Machine(Crashes):
         return True
 
     def _commit_group(self, group):
-        self.primary.image.commit_parts(self.parts[group.before:group.after], group.after - group.before)
+        self.primary.image.commit_parts(self.parts[group.before:group.after], group.after - group.before, floor=self.remote)
 
     def _reached(self):
         """The free lists that were reached, where nothing else is to be done and the standby has passed the first of them; otherwise none."""
@@ -203,7 +203,7 @@ class Machine(Crashes):
         reached = self._reached()
         if not reached:
             return False
-        self.notices.append(self.primary.image.free(reached[0].entries))
+        self.notices.append(self.primary.image.free(reached[0].entries, reached[0].position))
         self.aside = reached[1:]
         if self._has_room():
             self.work = []

@@ -109,10 +109,10 @@ class Writer:
             parts.append(self.part(changes))
         self.commit_parts(parts, len(parts))
 
-    def commit_parts(self, parts, positions, freed=()):
+    def commit_parts(self, parts, positions, freed=(), floor=0):
         """One group of parts that together move the image by so many positions; then the next record and the root. On a primary each part has its own
         stamp and position; on a standby all have one stamp and the position after the group. By the first fence these entries are freed, whose versions have
-        ended; gives their places, as `free` does."""
+        ended; gives their places, as `free` does. The record has this floor, if its own is lower."""
         self._erase(freed, 0)
         position, cp = self.record.position, self.record.cp
         stamps = len(parts) if self.role == PRIMARY else 1
@@ -124,11 +124,15 @@ class Writer:
                 stored += self._make(part, cp + 1, position + positions)
         self._fence([*map(line_of_entry, freed), *stored])
         number, position, cp = self.record.number + 1, position + positions, cp + stamps
-        self._put_record(self.record._replace(number=number, position=position, cp=cp, cd=cp + STAMPS_BETWEEN_RECORDS))
+        floor = max(self.record.floor, floor)
+        self._put_record(self.record._replace(number=number, position=position, cp=cp, cd=cp + STAMPS_BETWEEN_RECORDS, floor=floor))
         return self._forget(freed)
 
-    def free(self, entries):
-        """Frees entries whose versions have ended, and gives their places, which the room does not have yet."""
+    def free(self, entries, floor=0):
+        """Frees entries whose versions have ended, and gives their places, which the room does not have yet. If the record has a lower floor, one that has
+        this comes before."""
+        if self.record.floor < floor:
+            self._put_record(self.record._replace(number=self.record.number + 1, floor=floor))
         self._erase(entries, 0)
         self._fence(map(line_of_entry, entries))
         return self._forget(entries)
@@ -193,8 +197,9 @@ class Writer:
         self._put_record(reopened(self.record)[-1])
 
     def promote(self):
-        """It is a primary's, of the next epoch."""
-        self._put_record(self.record._replace(number=self.record.number + 1, epoch=self.record.epoch + 1, role=PRIMARY))
+        """It is a primary's, of the next epoch. All that has ended may have been freed."""
+        record = self.record
+        self._put_record(record._replace(number=record.number + 1, epoch=record.epoch + 1, role=PRIMARY, floor=record.position))
 
     def _make(self, part, stamp, position):
         """The versions that a part writes, and the ends of those that it replaces or removes. Gives the lines that it stored to."""

@@ -10,7 +10,7 @@ from common import run_program
 from damaged_images import entry, text, whole_entry
 from old_images import IMAGES, LINES, WITHOUT_ROOM, OldWriter, held, promoted, with_all_last_entries, with_gaps, with_nothing_last
 from pair import MEMORY, inspected
-from plain_image import BOUND, DAMAGED, GAPS_WORD, HALFWAY, PRIMARY, STAMPS_BETWEEN_RECORDS, VERSION_1, VERSION_2, WORDS_OF_LINE, Words
+from plain_image import BOUND, DAMAGED, GAPS_WORD, HALFWAY, PRIMARY, STAMPS_BETWEEN_RECORDS, VERSION_1, VERSION_2, WORDS_OF_LINE, Words, extents_begin
 from plain_keyspace import Put
 from plain_writer import Writer
 from test_images import FAILED, LINE_BYTES, MISUSED, PASSING, ROLES, Images, image_bytes, limited, words_of
@@ -29,11 +29,12 @@ def migrate_words(path):
 
 def migrated_record(writer):
     """The record that a migration leaves: the image is opened again, its gaps are cleared, each live version in the last entries is moved under a stamp and a
-    record of its own, and the record of version 2 is written."""
+    record of its own, and the record of version 2 is written, by which all that has ended may have been freed."""
     opened = plain_image.reopened(writer.record)[-1]
     moved, cleared = writer.last_entries()[0], len(opened.gaps)
     cp = opened.cp + moved
-    return opened._replace(number=opened.number + cleared + moved + 1, cp=cp, cd=cp + STAMPS_BETWEEN_RECORDS, gaps=(), layout=VERSION_2)
+    number, cd = opened.number + cleared + moved + 1, cp + STAMPS_BETWEEN_RECORDS
+    return opened._replace(number=number, cp=cp, cd=cd, gaps=(), layout=VERSION_2, floor=opened.position)
 
 
 class Migrating(Images):
@@ -75,11 +76,11 @@ class Upgrades(Migrating):
         writer.reopen()
         writer.reopen()
         self.write(writer.words)
-        text_before = b"record 4\nposition 3\ncp 8197\ncd 12294\nepoch 1\nrole primary\ngaps 2\ngap 4 4099\ngap 4101 8196\nlive 3\n"
+        text_before = b"record 4\nposition 3\ncp 8197\ncd 12294\nepoch 1\nrole primary\nfloor 0\ngaps 2\ngap 4 4099\ngap 4101 8196\nlive 3\n"
         self.assert_written(self.inspect(self.path), b"version 1\n" + text_before)
         self.assert_migrates(writer.words)
         # it was opened again, three gaps were cleared, and the record of version 2 was written
-        self.assert_written(self.inspect(self.path), b"version 2\nrecord 9\nposition 3\ncp 12294\ncd 16391\nepoch 1\nrole primary\ngaps 0\nlive 3\n")
+        self.assert_written(self.inspect(self.path), b"version 2\nrecord 9\nposition 3\ncp 12294\ncd 16391\nepoch 1\nrole primary\nfloor 3\ngaps 0\nlive 3\n")
         migrated = self.path.read_bytes()
         self.assert_written(run_program("server", migrate_words(self.path)), MIGRATED)
         self.assert_bytes(self.path.read_bytes(), migrated)
@@ -170,12 +171,31 @@ def broken_images():
         ("a gap up to cp", DAMAGED, {slot + GAPS_WORD + 3: record.cp}),
         ("no role", DAMAGED, {slot + VERSION_1.role_word: 0}),
         ("a third role", DAMAGED, {slot + VERSION_1.role_word: 3}),
-        ("a word behind the role", DAMAGED, {slot + VERSION_1.role_word + 1: 1}),
         ("a begin at cd in the last entry", DAMAGED, entry(VERSION_1.entries(LINES) - 1, begin=record.cd)),
         ("an extent in the directory, of one of the last entries", DAMAGED, entry(first, line=100)),
         ("an extent of another, of one of the last entries", DAMAGED, entry(first, line=other.line)),
         ("a value too long, of one of the last entries", DAMAGED, entry(first, value=2**20 + 1)),
         ("a key that is live twice, in the last entry too", DAMAGED, whole_entry(VERSION_1.entries(LINES) - 1, 1, 0, 1, 600, 1, 1, 1, 1) | text(600, b"b9")),
+    ]
+
+
+def broken_halfway():
+    """Images that are halfway with one rule of entries broken: of each its name, and the words that are others than those of `with_nothing_last`."""
+    writer = with_nothing_last()
+    record, first = writer.record, extents_begin(LINES)
+    return writer, [
+        ("a begin at cd", entry(100, begin=record.cd)),
+        ("an end at cd in a free entry", entry(VERSION_2.entries(LINES) - 1, end=record.cd)),
+        ("a position above the record's", entry(1, position=record.position + 1)),
+        ("an extent in the lines of the last entries", entry(1, line=first - 1)),
+        ("an extent of another, which has ended", entry(1, line=first)),
+        ("an extent behind the last line", entry(1, line=LINES)),
+        ("more lines than its lengths take", entry(1, lines=2)),
+        ("a third kind", entry(1, kind=3)),
+        ("a key too long", entry(1, lengths=513)),
+        ("a value too long", entry(1, value=2**20 + 1)),
+        ("a key that is live twice", whole_entry(VERSION_2.entries(LINES) - 1, 1, 0, 1, 600, 1, 1, 1, 1) | text(600, b"b9")),
+        ("a key that is a hash too", whole_entry(VERSION_2.entries(LINES) - 1, 1, 0, 1, 600, 1, 2, 65_537, 1) | text(600, b"bf9")),
     ]
 
 
@@ -203,6 +223,20 @@ class Refusals(Migrating):
                 self.assertEqual(refused.exception.number, number)
                 self.write(words)
                 self.assert_unchanged(migrate_words(self.path), number)
+
+    def test_halfway_images_that_break_a_rule(self):
+        """No migration leaves such a one, and none goes on from it."""
+        writer, table = broken_halfway()
+        halfway = writer.words | {1: HALFWAY.version}
+        plain_image.read_image(Words(LINES, halfway), HALFWAY)
+        for name, changes in table:
+            with self.case(name):
+                words = halfway | changes
+                with self.assertRaises(plain_image.BadImage) as refused:
+                    plain_image.read_image(Words(LINES, words), HALFWAY)
+                self.assertEqual(refused.exception.number, DAMAGED)
+                self.write(words)
+                self.assert_unchanged(migrate_words(self.path), DAMAGED)
 
     def test_one_that_is_halfway_with_a_gap(self):
         """No migration leaves such a one."""

@@ -62,8 +62,9 @@ module _ {E : Type 0} (device : E → State) (contents : E → Contents) (is_fau
     abbrev middle : Committer E
     middle = record old { aside = aside }
 
-    pub commits-from : (group : Group) (result : Result Done Refusal) (new : Committer E) → Commits device contents is_faulted middle group result new → Commits device contents is_faulted old group result new
-    commits-from group result new it = search rules
+    pub commits-from : (remote : ℕ) (group : Group) (result : Result Done Refusal) (new : Committer E) → Commits device contents is_faulted remote middle group result new
+        → Commits device contents is_faulted remote old group result new
+    commits-from remote group result new it = search rules
 
     pub frees-from : (list : FreeList) (rest : List FreeList) (result : Result Done Refusal) (new : Committer E) → FreesFirst device contents is_faulted middle list rest result new
         → FreesFirst device contents is_faulted old list rest result new

@@ -11,11 +11,13 @@ use Rattle.model.specs.declared.image.TheConstants.{COUNTER_LIMIT}
 use Rattle.model.specs.declared.work.FreeList.{FreeList}
 use Rattle.model.specs.declared.work.Work.{Work}
 use Rattle.model.specs.declared.work.Work.TheVariants as work
+use Rattle.model.specs.Floor.{floor_raised}
 use Rattle.model.specs.Group.{AreEnded, Contents, IsGroup}
 use Rattle.pipes.specs.Waiting.{Waiting}
 use Rattle.wbl_engine.specs.declared.freeing.Freed.{Freed as Places}
 use Rattle.wbl_engine.specs.Contents.{Keeps, IsDurable, Same}
-use Rattle.wbl_engine.specs.Freeing.{Clears, KeepsWithoutSome, after_free, cleared_contents, extents_of}
+use Rattle.wbl_engine.specs.Freeing.{Clears, KeepsFreed, after_free, cleared_contents, extents_of}
+use Rattle.wbl_engine.specs.Raising.{ExhaustsRaising}
 use Rattle.group_commit.specs.Committing.{Commits, raised, ready_again}
 use Rattle.group_commit.specs.Due.{left_by, reached_by}
 use Rattle.group_commit.specs.Group.{lists_before}
@@ -48,23 +50,26 @@ pub record SetsAside (aside : List FreeList) (before : List Work) (came : Option
 
 -- by what is known of an engine
 module _ {E : Type 0} (device : E → State) (contents : E → Contents) (is_faulted : E → Bool) where
-  -- The oldest list aside was freed, or that came to this. The others stay aside.
+  -- The oldest list aside was freed, once the record's floor was at its position or above, or that came to this. The others stay aside.
   pub record FreesFirst (old : Committer E) (list : FreeList) (rest : List FreeList) (result : Result Done Refusal) (new : Committer E) : Type 0 where
     pub answer : IfOk result (λ done. (places : Places) × (done ≡ Freed places) × (places.entries.items ≡ list.entries.items)
         × (places.extents.items ≡ extents_of (contents old.engine).versions list.entries.items))
     pub aside : OnOk result (new.aside.items ≡ rest)
-    pub moved : OnOk result (Same (after_free list.entries.items (contents old.engine)) (contents new.engine))
+    pub moved : OnOk result (Same (after_free list.entries.items (floor_raised list.position (contents old.engine))) (contents new.engine))
     pub durable : OnOk result (IsDurable (device new.engine) (contents new.engine))
     pub sound : OnOk result ((is_faulted new.engine ≡ false) × ((device new.engine).failures ≡ (device old.engine).failures))
-    pub causes : IfErr result (λ refusal. (refusal ≡ Fault) ⊎ (refusal ≡ Memory))
+    pub causes : IfErr result (λ refusal. (refusal ≡ Fault) ⊎ ((refusal ≡ Exhausted) ⊎ (refusal ≡ Memory)))
     pub kept : OnErr result (new.aside.items ≡ list ∷ rest)
     pub memory : IsErrOf result Memory → new.engine ≡ old.engine
+    pub exhausted : IsErrOf result Exhausted → ExhaustsRaising list.position (contents old.engine).current × (new.engine ≡ old.engine)
+    pub exhausts : is_faulted old.engine ≡ false → ExhaustsRaising list.position (contents old.engine).current → result ≡ Err Exhausted
     pub fault : IsErrOf result Fault → (is_faulted old.engine ≡ true) ⊎ ((device old.engine).failures < (device new.engine).failures)
     pub stopped : IsErrOf result Fault → is_faulted new.engine ≡ true
     pub lines : (contents new.engine).lines ≡ (contents old.engine).lines
     pub stage : new.stage ≡ Ready
     pub local : new.local ≡ old.local
-    pub moments : is_faulted old.engine ≡ false → LeavesOnly (device old.engine) (device new.engine) (KeepsWithoutSome list.entries.items (contents old.engine))
+    pub moments : is_faulted old.engine ≡ false → LeavesOnly (device old.engine) (device new.engine)
+        (KeepsFreed list.entries.items (contents old.engine) (floor_raised list.position (contents old.engine)))
 
   -- The oldest gap of the record was cleared, or that came to this.
   pub record ClearsGap (old : Committer E) (result : Result Done Refusal) (new : Committer E) : Type 0 where
@@ -94,13 +99,14 @@ module _ {E : Type 0} (device : E → State) (contents : E → Contents) (is_fau
     pub aside : new.aside.items ≡ old.aside.items
     pub queue : after ≡ before
 
-  -- The free lists that waited first were set aside, behind those that were, and the group behind them was taken; its commit came to that.
-  pub record TakesGroup (old : Committer E) (before : Waiting Work) (result : Result Done Refusal) (new : Committer E) (after : Waiting Work) : Type 0 where
+  -- The free lists that waited first were set aside, behind those that were, and the group behind them was taken; its commit, under a record with this remote
+  -- mark as its floor or a higher one, came to that.
+  pub record TakesGroup (remote : ℕ) (old : Committer E) (before : Waiting Work) (result : Result Done Refusal) (new : Committer E) (after : Waiting Work) : Type 0 where
     pub lists : List FreeList
     pub group : Group
     pub taken : before.items ≡ map work.Free lists ++ work.Commit group ∷ after.items
     pub set_aside : new.aside.items ≡ old.aside.items ++ lists
-    pub commits : Commits device contents is_faulted old group result new
+    pub commits : Commits device contents is_faulted remote old group result new
 
   -- What was reached was set aside, and the first of it was freed, which the standby has passed, or that came to this.
   pub record FreesReached (has_room : Bool) (remote : ℕ) (old : Committer E) (before : Waiting Work) (result : Result Done Refusal) (new : Committer E) (after : Waiting Work) : Type 0 where
@@ -135,7 +141,7 @@ module _ {E : Type 0} (device : E → State) (contents : E → Contents) (is_fau
     -- What a turn came to whose step was due, by whether the link had room, and by the remote mark: that step was taken, or refused, and no other.
     abbrev pub Takes : Due → Bool → ℕ → Committer E → Waiting Work → O → Result Done Refusal → Committer E → Waiting Work → O → Type 0
     Takes due.Commit has_room remote old before link result new after link' =
-        OffersNone link link' × (TakesGroup old before result new after ⊎ LacksRoom old before result new after)
+        OffersNone link link' × (TakesGroup remote old before result new after ⊎ LacksRoom old before result new after)
     Takes due.Free has_room remote old before link result new after link' =
         OffersNone link link' × (FreesReached has_room remote old before result new after ⊎ LacksRoom old before result new after)
     Takes due.Clear has_room remote old before link result new after link' = OffersNone link link' × (after ≡ before) × ClearsGap old result new

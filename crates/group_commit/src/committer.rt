@@ -91,6 +91,13 @@ impl<E: Durable> Committer<E> {
         self.engine.record().epoch
     }
 
+    /// The floor of the engine's record: the position up to which what has ended may have been freed.
+    pub fn floor(&self) -> u64
+        ensures { result ≡ (E.contents self.now.engine).current.floor }
+    {
+        self.engine.record().floor
+    }
+
     /// The local mark: the position up to which this node told that everything is durable.
     pub fn local(&self) -> u64
         ensures { result ≡ self.now.local }
@@ -196,7 +203,7 @@ impl<E: Durable> Committer<E> {
     {
         let has_room = link.room() > 0;
         match self.due(work, has_room, remote) {
-            Due::Commit => self.commit_next(work),
+            Due::Commit => self.commit_next(work, remote),
             Due::Free => self.free_reached(alloc, work, has_room),
             Due::Clear => self.clear_gap(alloc),
             Due::Raise | Due::Hand | Due::Nothing => Ok(Done::Idle),
@@ -204,29 +211,29 @@ impl<E: Durable> Committer<E> {
     }
 
     /// Takes the first group that waits and commits it. The free lists before it go aside.
-    fn commit_next(&mut self, work: &mut LocalPipe<Work>) -> Result<Done, Refusal>
+    fn commit_next(&mut self, work: &mut LocalPipe<Work>, remote: u64) -> Result<Done, Refusal>
         requires ready { self.old.stage ≡ Stage.Ready }
         requires lawful { IsLawful (E.contents self.old.engine) self.old.aside.items work.old.items }
         requires some { has_group work.old.items ≡ true }
-        ensures takes { TakesGroup E.device E.contents E.is_faulted self.old work.old result self.new work.new
+        ensures takes { TakesGroup E.device E.contents E.is_faulted remote self.old work.old result self.new work.new
             ⊎ LacksRoom E.device E.contents E.is_faulted self.old work.old result self.new work.new }
         ensures asked_moment { (E.device self.new.engine).kept ≡ (E.device self.old.engine).kept }
     {
         match set_aside(&mut self.aside, work)? {
-            Some(group) => self.commit(group),
+            Some(group) => self.commit(group, remote),
             None => Ok(Done::Idle),
         }
     }
 
-    /// Commits a group. It is in hand then.
-    fn commit(&mut self, group: Group) -> Result<Done, Refusal>
+    /// Commits a group, under a record whose floor is this remote mark or higher: the standby has passed what ended up to there. The group is in hand then.
+    fn commit(&mut self, group: Group, remote: u64) -> Result<Done, Refusal>
         requires ready { self.old.stage ≡ Stage.Ready }
         requires lawful { IsGroup (E.contents self.old.engine) group }
-        ensures commits { Commits E.device E.contents E.is_faulted self.old group result self.new }
+        ensures commits { Commits E.device E.contents E.is_faulted remote self.old group result self.new }
         ensures aside { self.new.aside ≡ self.old.aside }
         ensures asked_moment { (E.device self.new.engine).kept ≡ (E.device self.old.engine).kept }
     {
-        let committed = self.engine.commit(&group)?;
+        let committed = self.engine.commit(&group, remote)?;
         self.stage = Stage::Durable(group);
         Ok(Done::Committed(committed))
     }
@@ -253,7 +260,7 @@ impl<E: Durable> Committer<E> {
         self.free_first(alloc)
     }
 
-    /// Frees the oldest list aside.
+    /// Frees the oldest list aside, under a record whose floor is the list's position or higher: that of a commit since, or one for it alone.
     fn free_first(&mut self, alloc: Global) -> Result<Done, Refusal>
         requires ready { self.old.stage ≡ Stage.Ready }
         requires lawful { AreEnded (E.contents self.old.engine) (entries_of_lists self.old.aside.items) }
@@ -263,7 +270,7 @@ impl<E: Durable> Committer<E> {
         let Some(list) = self.aside.front() else {
             return Ok(Done::Idle);
         };
-        let freed = self.engine.free(alloc, &list.entries)?;
+        let freed = self.engine.free(alloc, &list.entries, list.position)?;
         let _ = self.aside.pop_front();
         Ok(Done::Freed(freed))
     }

@@ -58,6 +58,7 @@ image_text r live =
     ∷ number_line (codes "cd") r.cd
     ∷ number_line (codes "epoch") r.epoch
     ∷ role_line r.role
+    ∷ number_line (codes "floor") r.floor
     ∷ number_line (codes "gaps") (length r.gaps.items)
     ∷ gap_lines r.gaps.items
     ∷ number_line (codes "live") live

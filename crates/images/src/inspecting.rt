@@ -54,6 +54,7 @@ fn print<W: Write>(current: &Record, live: u64, writer: &mut W) -> io::Result<()
     print_number("cd", current.cd, writer)?;
     print_number("epoch", current.epoch, writer)?;
     print_role(current.role, writer)?;
+    print_number("floor", current.floor, writer)?;
     print_number("gaps", current.gaps.len() as u64, writer)?;
     print_gaps(&current.gaps, writer)?;
     print_number("live", live, writer)?;

@@ -1,5 +1,5 @@
 -- The standby's first acknowledgement, read in pieces, and the link that opens by it.
-use Rattle.std.proofs.Common.{◌≡◌, ◌⊎◌, inl, inr, ⊎_elim, ℕ, ◌<◌, ◌≤◌, List, [], ◌∷◌, ◌++◌, Option, None, Some, Result, Ok, Err, sym, subst}
+use Rattle.std.proofs.Common.{◌≡◌, ◌⊎◌, inl, inr, ⊎_elim, ℕ, ◌<◌, ◌≤◌, List, [], ◌∷◌, ◌++◌, Option, None, Some, Result, Ok, Err, sym, subst, arith}
 use Rattle.std.proofs.lemmas.Bool.{cases_lt}
 use Rattle.std.specs.Io.KnownBytes.{Consumes}
 use Rattle.kv_types.specs.declared.refusal.Refusal.{Refusal}
@@ -57,13 +57,14 @@ SaysFirst-read bytes between left unread held messages ack came reads one =
 pub Reopens-by : (done : Unit {0}) (position : ℕ) (old new : Outgoing)
     → (position < old.opening.position → old.link.known < old.opening.position
     → (frame : Frame) × IsDelta old.link.epoch old.opening position frame × (new.link ≡ record old.link { next = 0; delta = Some frame }))
-    → (position < old.opening.position → old.opening.position ≤ old.link.known → ◌≡◌ {A = Result (Unit {0}) Refusal} (Ok done) (Err PositionGap))
-    → (old.opening.position ≤ position → (◌≡◌ {A = Result (Unit {0}) Refusal} (Ok done) (Ok tt)) × (new.link ≡ record old.link { next = 0; delta = None }))
+    → (position < old.link.known → old.opening.position ≤ old.link.known → ◌≡◌ {A = Result (Unit {0}) Refusal} (Ok done) (Err PositionGap))
+    → (old.opening.position ≤ position → old.link.known ≤ position → (◌≡◌ {A = Result (Unit {0}) Refusal} (Ok done) (Ok tt)) × (new.link ≡ record old.link { next = 0; delta = None }))
     → new.opening ≡ old.opening → Reopens position old new
 Reopens-by done position old new behind forgotten level kept = record {
-  level = λ within. (level within).1;
+  level = λ within. ⊎_elim (λ (behind_it : position < old.link.known). let refused = forgotten behind_it (omega (arith, within, behind_it)) in absurd cc)
+      (λ (known : old.link.known ≤ position). (level within known).1) (cases_lt position old.link.known);
   behind = λ below. ⊎_elim (λ (unknown : old.link.known < old.opening.position). behind below unknown)
-      (λ (known : old.opening.position ≤ old.link.known). let refused = forgotten below known in absurd cc) (cases_lt old.link.known old.opening.position);
+      (λ (known : old.opening.position ≤ old.link.known). let refused = forgotten (omega (arith, below, known)) known in absurd cc) (cases_lt old.link.known old.opening.position);
   kept = kept;
 }
 

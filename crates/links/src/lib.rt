@@ -7,6 +7,7 @@ mod fill_gauges;
 mod filling;
 mod following;
 mod frame_watch;
+mod gap;
 mod link_acceptor;
 mod link_error;
 mod link_reader;

@@ -15,7 +15,8 @@ const STANDBY_AHEAD: &str =
     "standby ahead: this node takes no acknowledgement any more, and answers nothing that waits for one; it was not formatted with this standby, or was restored from an older copy: see \"A standby that is ahead\" in docs/server.md";
 
 /// What a node tells whose standby is another one than before, and empty.
-const STANDBY_NEW: &str = "the standby is new: start this primary again, so that it gets all";
+const STANDBY_BEHIND: &str =
+    "the standby lacks what this primary cannot send: start this primary again, and put a new standby in its place if this is told again";
 
 /// What a standby tells that takes the next link.
 const LINK_LEFT: &str = "left the link: nothing came on it, and another connection waits";
@@ -86,8 +87,8 @@ pub enum News<'a> {
         position: u64,
         links: u32,
     },
-    /// The standby at this address holds nothing, where this node knew of one that held more: it gets nothing until the node is started again.
-    StandbyNew {
+    /// The standby at this address is new, or older than it was, and lacks what this node cannot send.
+    StandbyBehind {
         address: &'a str,
     },
     /// A link from a primary has ended that the primary did not close.
@@ -242,7 +243,7 @@ impl<'a> fmt::Display for News<'a> {
                     "{address} at position {position} ended {links} links in a row and took nothing that was sent on them{NOT_TAKEN}"
                 )
             }
-            News::StandbyNew { address } => write!(f, "{address}: {STANDBY_NEW}"),
+            News::StandbyBehind { address } => write!(f, "{address}: {STANDBY_BEHIND}"),
             News::LinkEnded { why } => write!(f, "{} {why}", word_of(why)),
             News::LinkLeft => f.write_str(LINK_LEFT),
             News::Stranger { host } => {

@@ -9,6 +9,7 @@ ghost use Rattle.links.specs.Opening.{HearsLink, Opens, SaysFirst};
 ghost use Rattle.links.specs.declared.standing.Standing.TheVariants.{Behind};
 
 use crate::dialing::{dial, why_not};
+use crate::gap::tell_gap;
 use crate::log::{Log, Lost, News};
 use crate::opening::open_link;
 use crate::receiver::AckReceiver;
@@ -82,8 +83,8 @@ struct Telling<W> {
     refused: RefusedLinks,
     /// Why no link came up, as it was told since the last one was open.
     told: Option<Lost>,
-    /// How often it is told that the standby is new.
-    new: Throttle,
+    /// How often it is told that the standby is behind what it had acknowledged.
+    behind: Throttle,
 }
 
 impl<W: Write> Telling<W> {
@@ -93,20 +94,15 @@ impl<W: Write> Telling<W> {
         self.log.say(News::LinkOpen { address, position });
     }
 
-    /// That link is no more. If `is_new`, the standby holds nothing and took nothing, where this node knew of one that held more: it never will. That is told
+    /// No link comes up: that is told where the reason is another one than before. What is to be done where the standby lacks what this node cannot send is told
     /// at once, and then ever more seldom.
-    fn tell_lost<C: Clock>(&mut self, clock: &C, lost: News<'_>, is_new: bool, address: &str) {
-        self.log.say(lost);
-        if is_new && self.new.is_due(clock) {
-            self.log.say(News::StandbyNew { address });
-        }
-    }
-
-    /// No link comes up: that is told where the reason is another one than before.
-    fn tell_none(&mut self, address: &str, why: Lost) {
+    fn tell_none<C: Clock>(&mut self, clock: &C, address: &str, why: Lost) {
         if self.told != Some(why) {
             self.told = Some(why);
             self.log.say(News::NoLink { address, why });
+        }
+        if why == Lost::Refused(Refusal::PositionGap) && self.behind.is_due(clock) {
+            self.log.say(News::StandbyBehind { address });
         }
     }
 }
@@ -162,7 +158,7 @@ impl LinkSender {
             log,
             refused: RefusedLinks::new(),
             told: None,
-            new: Throttle::new(),
+            behind: Throttle::new(),
         };
         own.serve_links(&rt, alloc, receiver, &mut telling);
         stay_apart(&rt, &mut telling.log);
@@ -217,7 +213,7 @@ impl LinkSender {
                 (receiver, got_on)
             }
             Err(why) => {
-                telling.tell_none(self.address.as_str(), why);
+                telling.tell_none(rt, self.address.as_str(), why);
                 (receiver, false)
             }
         }
@@ -260,8 +256,7 @@ impl LinkSender {
                 let reached = self.outgoing.known();
                 let got_on = reached > known;
                 let is_refused = has_sent && !got_on && why.is_by_peer();
-                let is_new = is_refused && position == 0 && known > 0;
-                telling.tell_lost(rt, News::LinkLost { address, why }, is_new, address);
+                telling.log.say(News::LinkLost { address, why });
                 telling
                     .refused
                     .note(rt, &mut telling.log, address, reached, is_refused);
@@ -331,7 +326,12 @@ impl LinkSender {
         let opened = open_link(alloc, &mut self.outgoing, receiver, &mut &stream);
         let (position, decoder) = match opened {
             Ok(opened) => opened,
-            Err(why) => return Err(why),
+            Err(why) => {
+                if why == Lost::Refused(Refusal::PositionGap) {
+                    tell_gap(alloc, &self.outgoing, &mut &stream);
+                }
+                return Err(why);
+            }
         };
         match share(alloc, stream, decoder, position) {
             Ok(opened) => Ok(opened),

@@ -46,7 +46,7 @@ row CloseGroup = plain true
 row Commit = record { runners = runners.Primary; touches = Some node.Primary; asks_memory = true; may_fail = true; limit = Some EachPosition }
 row RaiseLocal = plain false
 row Hand = plain false
-row Free = record { runners = runners.Primary; touches = Some node.Primary; asks_memory = true; may_fail = true; limit = None }
+row Free = record { runners = runners.Primary; touches = Some node.Primary; asks_memory = true; may_fail = true; limit = Some EachPosition }
 row AcceptFreed = plain false
 row ClearGap = record { runners = runners.Primary; touches = Some node.Primary; asks_memory = true; may_fail = true; limit = Some EachPosition }
 row OpenLink = record (plain true) { runners = runners.Both }

@@ -104,7 +104,6 @@ record IsAt (image : Image) (number first : ℕ) (r : Record) : Type 0 where
   count : image (first + 5) ≡ length r.gaps.items
   unused : AreZero image (first + 6 + 2 * length r.gaps.items) (gap_room r.layout - 2 * length r.gaps.items)
   role : image (first + role_word r.layout) ≡ role_number r.role
-  last : image (first + (role_word r.layout + 1)) ≡ 0
 
 layout_sought : (layout : Layout) (lines : ℕ) (image : Image) (number first : ℕ) (r : Record) → IsSought layout lines image number first → IsRecordOf lines image r
     → layout ≡ r.layout
@@ -119,7 +118,7 @@ at_root lines image number first r sought is =
     (add-zero (slot_word r.layout lines r.number) ∙ ap (slot_word r.layout lines) number_is ∙ sym sought.slot) is.has_record.words in
     let pairs = flat_map gap_words r.gaps.items in
     let unused : List ℕ = replicate (room - 2 * length r.gaps.items) 0 in
-    let ending = role_number r.role ∷ 0 ∷ [] in
+    let ending = role_number r.role ∷ r.floor ∷ [] in
     let few : 2 * length r.gaps.items ≤ room = omega (arith, is.few) in
     let tail : HasWords image (first + 6) (gaps_words room r.gaps.items ++ ending) =
     HasWords-at image (first + 1 + 1 + 1 + 1 + 1 + 1) (first + 6) (gaps_words room r.gaps.items ++ ending) (omega arith) words.1.1.1.1.1.1 in
@@ -128,13 +127,11 @@ at_root lines image number first r sought is =
     let after : HasWords image (first + role_word r.layout) ending =
     HasWords-at image (first + 6 + length (gaps_words room r.gaps.items)) (first + role_word r.layout) ending (omega (arith, length-gaps_words room r.gaps.items))
     (HasWords-rest image (first + 6) (gaps_words room r.gaps.items) ending tail) in
-    let behind : first + role_word r.layout + 1 ≡ first + (role_word r.layout + 1) = omega arith in
     record {
       number_is = words.0 ∙ number_is;
       count = simp add_assoc at words.1.1.1.1.1.0;
       unused = rw (length-pairs r.gaps.items) at (HasWords-rest image (first + 6) pairs unused middle);
       role = after.0;
-      last = sym (ap image behind) ∙ after.1.0;
     }
 
 pub no_record-count : (layout : Layout) (lines : ℕ) (image : Image) (number first count : ℕ) → IsSought layout lines image number first
@@ -161,7 +158,6 @@ no_record-filled layout lines image number first count sought at none r is =
     let filled : IsFilled r.layout image first number count =
     record {
       number_is = stands.number_is;
-      last = stands.last;
       unused = subst (λ n. AreZero image (first + 6 + 2 * n) (gap_room r.layout - 2 * n)) (sym stands.count ∙ at) stands.unused;
     } in
     none (subst (λ (l : Layout). IsFilled l image first number count) (sym same) filled)
@@ -170,23 +166,22 @@ no_record-filled layout lines image number first count sought at none r is =
 pub IsRecordOf-read : (lines : ℕ) (image : Image) (number first count : ℕ) (r : Record) → IsSought r.layout lines image number first → r.number ≡ number
     → image (first + 1) ≡ r.position → image (first + 2) ≡ r.cp → image (first + 3) ≡ r.cd → image (first + 4) ≡ r.epoch → image (first + 5) ≡ count
     → count ≤ max_gaps r.layout → r.gaps.items ≡ gaps_from image (first + 6) count → image (first + role_word r.layout) ≡ role_number r.role
-    → IsFilled r.layout image first number count → IsRecordOf lines image r
-IsRecordOf-read lines image number first count r sought number_is position cp cd epoch at few gaps role filled =
+    → image (first + role_word r.layout + 1) ≡ r.floor → IsFilled r.layout image first number count → IsRecordOf lines image r
+IsRecordOf-read lines image number first count r sought number_is position cp cd epoch at few gaps role floor filled =
     let room = gap_room r.layout in
     let len : length r.gaps.items ≡ count = ap length gaps ∙ length-gaps_from image (first + 6) count in
     let fits : 2 * length r.gaps.items ≤ room = omega (arith, len, few) in
     let pairs = flat_map gap_words r.gaps.items in
     let unused : List ℕ = replicate (room - 2 * length r.gaps.items) 0 in
-    let ending = role_number r.role ∷ 0 ∷ [] in
+    let ending = role_number r.role ∷ r.floor ∷ [] in
     let in_gaps : HasWords image (first + 6) pairs =
     subst (λ gaps. HasWords image (first + 6) (flat_map gap_words gaps)) (sym gaps) (HasWords-gaps_from image (first + 6) count) in
     let zeros : HasWords image (first + 6 + length pairs) unused = rw (length-pairs r.gaps.items, len) filled.unused in
     let middle : HasWords image (first + 6) (gaps_words room r.gaps.items) =
     subst (HasWords image (first + 6)) (sym (gaps_words-pairs room r.gaps.items fits)) (HasWords-append image (first + 6) pairs unused in_gaps zeros) in
-    let behind : first + role_word r.layout + 1 ≡ first + (role_word r.layout + 1) = omega arith in
     let after : HasWords image (first + 6 + length (gaps_words room r.gaps.items)) ending =
     HasWords-at image (first + role_word r.layout) (first + 6 + length (gaps_words room r.gaps.items)) ending (omega (arith, length-gaps_words room r.gaps.items))
-    (role, (ap image behind ∙ filled.last, tt)) in
+    (role, (floor, tt)) in
     let tail : HasWords image (first + 6) (gaps_words room r.gaps.items ++ ending) = HasWords-append image (first + 6) (gaps_words room r.gaps.items) ending middle after in
     let words : HasWords image first (record_words r) = simp add_assoc (filled.number_is ∙ sym number_is, (position, (cp, (cd, (epoch, (at ∙ sym len, tail)))))) in
     let start : first ≡ record_word r.layout lines r.number 0 =

@@ -29,7 +29,7 @@ length-gaps_words room gaps =
 -- they fill its slot
 pub length-record_words : (r : Record) → length (record_words r) ≡ first_word (slot_lines r.layout)
 length-record_words r =
-    omega (arith, length-append (gaps_words (gap_room r.layout) r.gaps.items) (role_number r.role ∷ 0 ∷ []), length-gaps_words (gap_room r.layout) r.gaps.items, slot_words r.layout)
+    omega (arith, length-append (gaps_words (gap_room r.layout) r.gaps.items) (role_number r.role ∷ r.floor ∷ []), length-gaps_words (gap_room r.layout) r.gaps.items, slot_words r.layout)
 
 same_role : (a b : Role) → role_number a ≡ role_number b → a ≡ b
 same_role a b e = grind arith
@@ -56,7 +56,7 @@ same_prefixes (x ∷ xs) (y ∷ ys) us vs e same = let tails = same_prefixes xs 
 
 -- the words of a record in a slot that has this room for gaps
 abbrev words_in : ℕ → Record → List ℕ
-words_in room r = r.number ∷ r.position ∷ r.cp ∷ r.cd ∷ r.epoch ∷ length r.gaps.items ∷ gaps_words room r.gaps.items ++ role_number r.role ∷ 0 ∷ []
+words_in room r = r.number ∷ r.position ∷ r.cp ∷ r.cd ∷ r.epoch ∷ length r.gaps.items ∷ gaps_words room r.gaps.items ++ role_number r.role ∷ r.floor ∷ []
 
 -- two records of one layout with the same words are equal, where there is room for their gaps
 same_record_words : (room : ℕ) (a b : Record) → a.layout ≡ b.layout → 2 * length a.gaps.items ≤ room → words_in room a ≡ words_in room b → a ≡ b
@@ -67,15 +67,16 @@ same_record_words room a b layout few same =
     let cd : a.cd ≡ b.cd = cc in
     let epoch : a.epoch ≡ b.epoch = cc in
     let count : length a.gaps.items ≡ length b.gaps.items = cc in
-    let rest : gaps_words room a.gaps.items ++ role_number a.role ∷ 0 ∷ [] ≡ gaps_words room b.gaps.items ++ role_number b.role ∷ 0 ∷ [] = cc in
+    let rest : gaps_words room a.gaps.items ++ role_number a.role ∷ a.floor ∷ [] ≡ gaps_words room b.gaps.items ++ role_number b.role ∷ b.floor ∷ [] = cc in
     let parts =
-    same_prefixes (gaps_words room a.gaps.items) (gaps_words room b.gaps.items) (role_number a.role ∷ 0 ∷ []) (role_number b.role ∷ 0 ∷ [])
+    same_prefixes (gaps_words room a.gaps.items) (gaps_words room b.gaps.items) (role_number a.role ∷ a.floor ∷ []) (role_number b.role ∷ b.floor ∷ [])
     (length-gaps_words room a.gaps.items ∙ sym (length-gaps_words room b.gaps.items)) rest in
     let last = parts.1 in
     let number_of_role : role_number a.role ≡ role_number b.role = cc in
     let role = same_role a.role b.role number_of_role in
+    let floor : a.floor ≡ b.floor = cc in
     let gaps = same_gaps (replicate room 0) a.gaps.items b.gaps.items room count few parts.0 in
-    λ i. record { layout = layout i; number = number i; position = position i; cp = cp i; cd = cd i; epoch = epoch i; role = role i; gaps = record { items = gaps i } }
+    λ i. record { layout = layout i; number = number i; position = position i; cp = cp i; cd = cd i; epoch = epoch i; role = role i; gaps = record { items = gaps i }; floor = floor i }
 
 -- an image of as many lines has the same record
 pub HasRecord-lines : {m n : ℕ} {r : Record} {image : Image} → m ≡ n → HasRecord m r image → HasRecord n r image

@@ -65,7 +65,7 @@ abbrev set_image : Image
 set_image = image_with (set_words 2)
 
 abbrev record_two : Record
-record_two = record { layout = Version1; number = 2; position = 1; cp = 1; cd = 4098; epoch = 1; role = Primary; gaps = record { items = [] } }
+record_two = record { layout = Version1; number = 2; position = 1; cp = 1; cd = 4098; epoch = 1; role = Primary; gaps = record { items = [] }; floor = 0 }
 
 abbrev set_list : List Call
 set_list = record { connection = 0; item = Request (codes "SET" ∷ codes "a" ∷ codes "1" ∷ []); reply = Simple (codes "OK") } ∷ []
@@ -99,7 +99,7 @@ abbrev lost_image : Image
 lost_image = image_with (set_words 1)
 
 abbrev record_one : Record
-record_one = record { layout = Version1; number = 1; position = 0; cp = 0; cd = 4097; epoch = 1; role = Primary; gaps = record { items = [] } }
+record_one = record { layout = Version1; number = 1; position = 0; cp = 0; cd = 4097; epoch = 1; role = Primary; gaps = record { items = [] }; floor = 0 }
 
 lost_map : map_below (version_at record_one lost_image) 512 ≡ []
 unfolding map_below
@@ -129,7 +129,7 @@ field_map = refl
 -- ---- stamps
 
 abbrev reopened : Record
-reopened = record { layout = Version1; number = 3; position = 3; cp = 4100; cd = 8197; epoch = 1; role = Primary; gaps = record { items = record { first = 4; last = 4099 } ∷ [] } }
+reopened = record { layout = Version1; number = 3; position = 3; cp = 4100; cd = 8197; epoch = 1; role = Primary; gaps = record { items = record { first = 4; last = 4099 } ∷ [] }; floor = 0 }
 
 -- after a reopening the stamps of the three commands count, those in the gap do not, and the stamp limit from before the reopening does
 stamps_count : (counts reopened 0 ≡ false) × (counts reopened 3 ≡ true) × (counts reopened 4 ≡ false) × (counts reopened 4099 ≡ false) × (counts reopened 4100 ≡ true) × (counts reopened 4101 ≡ false)

@@ -206,6 +206,7 @@ next_record r group =
       epoch = group.epoch;
       role = r.role;
       gaps = r.gaps;
+      floor = r.floor;
     }
 
 -- the contents after a group

@@ -57,7 +57,7 @@ gaps_words room gaps = take room (flat_map gap_words gaps ++ replicate room 0)
 -- the words of a record
 abbrev pub record_words : Record → List ℕ
 record_words r =
-    r.number ∷ r.position ∷ r.cp ∷ r.cd ∷ r.epoch ∷ length r.gaps.items ∷ gaps_words (gap_room r.layout) r.gaps.items ++ role_number r.role ∷ 0 ∷ []
+    r.number ∷ r.position ∷ r.cp ∷ r.cd ∷ r.epoch ∷ length r.gaps.items ∷ gaps_words (gap_room r.layout) r.gaps.items ++ role_number r.role ∷ r.floor ∷ []
 
 -- the current record of an image of `lines` lines: the root names it, and its slot holds it
 pub record HasRecord (lines : ℕ) (r : Record) (image : Image) : Type 0 where

@@ -8,3 +8,4 @@ pub mod Standing
 pub mod ReadImage
 pub mod Shape
 pub mod Group
+pub mod Floor

@@ -9,7 +9,7 @@ use Rattle.model.specs.declared.record.Gap.{Gap}
 use Rattle.model.specs.declared.record.Record.{Record}
 use Rattle.model.specs.declared.layout.Layout.{Layout}
 use Rattle.model.specs.declared.layout.TheConstants.{GAPS_WORD, LINE_WORDS}
-use Rattle.model.specs.Layout.{gap_room, max_gaps, role_word, version}
+use Rattle.model.specs.Layout.{gap_room, max_gaps, version}
 use Rattle.model.specs.Image.{Image, Version, HasSuperblock, HasWords, HasRecord, IsMapOf, version_at, with_version, counts, entry_word, key_bytes, field_bytes, entry_bytes, bytes_at, id_of, entries_of_lines, lines_of_bytes}
 
 -- the image that the words make up, with zeros after them
@@ -29,10 +29,9 @@ gaps_from image first (suc count) = record { first = image first; last = image (
 abbrev pub AreZero : Image → ℕ → ℕ → Type 0
 AreZero image first count = HasWords image first (replicate count 0)
 
--- the slot that begins at word `first` has this record number, and zeros in the room after `gaps` gaps and in its last word
+-- the slot that begins at word `first` has this record number, and zeros in the room after `gaps` gaps
 pub record IsFilled (layout : Layout) (image : Image) (first number gaps : ℕ) : Type 0 where
   pub number_is : image first ≡ number
-  pub last : image (first + (role_word layout + 1)) ≡ 0
   pub unused : AreZero image (first + GAPS_WORD + 2 * gaps) (gap_room layout - 2 * gaps)
 
 -- the image of `lines` lines has the version of this record, and the record, which has no more gaps than there is room for

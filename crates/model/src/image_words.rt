@@ -48,7 +48,8 @@ pub fn read_record(words: &[u64]) -> Option<Record>
     let first = LINE_WORDS * layout.slot_line(words.len() as u64 / LINE_WORDS, number);
     let gap_count = word_at(words, first + 5);
     let gaps = read_gaps(words, layout, first + GAPS_WORD, gap_count)?;
-    let role = read_role(word_at(words, first + layout.role_word()))?;
+    let role_word = first + layout.role_word();
+    let role = read_role(word_at(words, role_word))?;
     if !is_filled(words, layout, first, number, gap_count) {
         return None;
     }
@@ -61,6 +62,7 @@ pub fn read_record(words: &[u64]) -> Option<Record>
         epoch: word_at(words, first + 4),
         role,
         gaps,
+        floor: word_at(words, role_word + 1),
     })
 }
 
@@ -88,16 +90,14 @@ fn read_gaps(
     Some(gaps)
 }
 
-/// Whether the slot has this number, and zeros in the room after `gaps` gaps and in its last word.
+/// Whether the slot has this number, and zeros in the room after `gaps` gaps.
 fn is_filled(words: &[u64], layout: Layout, first: u64, number: u64, gaps: u64) -> bool
     requires slot { first < 2 ^ 63 }
     requires few { gaps ≤ max_gaps layout }
     ensures { IsTrue result ↔ IsFilled layout (image_of words.now) first number gaps }
 {
     let room = 2 * (layout.max_gaps() - gaps);
-    word_at(words, first) == number
-        && word_at(words, first + layout.role_word() + 1) == 0
-        && are_zero(words, first + GAPS_WORD + 2 * gaps, room)
+    word_at(words, first) == number && are_zero(words, first + GAPS_WORD + 2 * gaps, room)
 }
 
 /// Whether the `count` words from `first` on are zero.

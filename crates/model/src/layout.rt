@@ -97,7 +97,7 @@ impl Layout {
         }
     }
 
-    /// The word of a record that holds its role, after the gaps. The word after it is zero.
+    /// The word of a record that holds its role, after the gaps. The word after it holds the floor.
     pub fn role_word(self) -> u64
         ensures { result ≡ layouts.role_word self }
     {

@@ -40,6 +40,8 @@ pub struct Record {
     pub role: Role,
     /// At most as many as the layout has room for, in order of stamps.
     pub gaps: ArrayVec<Gap, MAX_GAPS>,
+    /// The position up to which what has ended may have been freed; 0 where nothing is known to be.
+    pub floor: u64,
 }
 
 impl Record {

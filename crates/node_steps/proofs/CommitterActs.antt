@@ -1,5 +1,5 @@
 -- A turn of the committer is an act.
-use Rattle.std.proofs.Common.{◌≡◌, ◌+◌, ◌-◌, ◌<◌, ◌≤◌, ℕ, inl, inr, Bool, true, false, cond, List, [], ◌∷◌, ◌++◌, length, drop, Ok, Option, Some, refl, sym, ap, ap₂, subst, ◌∙◌, arith, length-append, append-nil}
+use Rattle.std.proofs.Common.{◌≡◌, ◌+◌, ◌-◌, ◌<◌, ◌≤◌, ℕ, inl, inr, Bool, true, false, cond, List, [], ◌∷◌, ◌++◌, length, drop, Ok, Option, Some, refl, sym, ap, ap₂, subst, ◌∙◌, arith, le_refl, length-append, append-nil, max}
 use Rattle.std.proofs.lemmas.Bool.{cases_lt}
 use Rattle.std.proofs.lemmas.List.{length-drop, map-append}
 use Rattle.pmem.specs.Device.{State}
@@ -11,6 +11,7 @@ use Rattle.model.specs.declared.work.Work.{Work}
 use Rattle.model.specs.declared.work.Work.TheVariants as work
 use Rattle.model.specs.declared.call.Call.{Call}
 use Rattle.model.specs.Call.{cut_at, keyspace_after}
+use Rattle.model.specs.Floor.{floor_raised, floored}
 use Rattle.model.specs.Group.{AreEnded, Contents, after_free, after_group, entries_of, is_listed, last_position}
 use Rattle.model.specs.Image.{IsMapOf}
 use Rattle.model.specs.Standing.{Holder}
@@ -38,6 +39,7 @@ use Rattle.primary.specs.Recalling.{KeepsPast, Remembers}
 use Rattle.primary.specs.Standing.{StandsOver}
 use Rattle.primary.proofs.AheadLemmas.{laid-engine}
 use Rattle.primary.proofs.KeptTurns.{reached-ended}
+use Rattle.primary.proofs.NumberedLemmas.{lawful_raised, lawful_renumbered}
 use Rattle.primary.proofs.TurnedLemmas.{group-is, ok_not_err}
 use Rattle.machine.specs.Event.{Commits, Committer as MachineCommitter, Link as MachineLink, Span, Work as MachineWork, World, committed_first, freed_first, from_group, handed, handed_to, has_room, is_durable, is_running, is_shown, may_happen, nodes_run, raised_local, reached_lists, ready_again, shown}
 use Rattle.machine.specs.declared.event.Event.{Event}
@@ -75,7 +77,7 @@ module _ {E : Type 0} (device : E → State) (contents : E → Contents) (is_fau
       record { leads = stands.leads; consistent = consistent; laid = laid-engine (device old.engine) (contents old.engine) consistent engine.lawful engine.durable; durable = engine.durable }
 
   -- over the list as the past
-  pub keeps : KeepsPast w.standby.position (past_of calls) (contents old.engine) before.items old.aside.items s
+  pub keeps : KeepsPast (contents old.engine).current.floor (past_of calls) (contents old.engine) before.items old.aside.items s
   keeps =
       let at = stands.engine.contents_at.at in
       record {
@@ -84,7 +86,7 @@ module _ {E : Type 0} (device : E → State) (contents : E → Contents) (is_fau
           served = stands.sequencer.table ∙ sym (keyspace_after-cut_at-position calls) ∙ ap (λ p. keyspace_after (cut_at calls p)) (sym stands.sequencer.position);
           waiting = waits-along calls w.primary.committer.closed s stands.sequencer;
         };
-        remembers = subst (λ p. Remembers w.standby.position p (past_of calls) (contents old.engine) before.items old.aside.items s) (sym at) stands.remembers;
+        remembers = subst (λ p. Remembers (contents old.engine).current.floor p (past_of calls) (contents old.engine) before.items old.aside.items s) (sym at) stands.remembers;
       }
 
   module _ (new : Committer E) (after : Waiting Work) (told : List Places) where
@@ -107,7 +109,7 @@ module _ {E : Type 0} (device : E → State) (contents : E → Contents) (is_fau
       pub groups : AreGroupsOf calls (handed_on ++ more) link.waiting
 
     arrived : (committer : MachineCommitter) (link : MachineLink) (count gaps : ℕ) (more : List Group) → Arrives committer link count gaps more
-        → StandsOver (device new.engine) (contents new.engine) after.items new.aside.items s told → KeepsPast w.standby.position (past_of calls) (contents new.engine) after.items new.aside.items s
+        → StandsOver (device new.engine) (contents new.engine) after.items new.aside.items s told → KeepsPast (contents new.engine).current.floor (past_of calls) (contents new.engine) after.items new.aside.items s
         → Sound (world_with committer link count gaps w)
         → NodeRefines holder (node_of device contents is_faulted seats s told new after) (handed_on ++ more) (world_with committer link count gaps w)
     arrived committer link count gaps more is over' keeps' sound =
@@ -137,14 +139,14 @@ module _ {E : Type 0} (device : E → State) (contents : E → Contents) (is_fau
           };
           leads = over'.leads;
           freeing = record { ended = stands.freeing.ended; newest = stands.freeing.newest; notices_are = is.counted; gaps = is.gaps_are };
-          remembers = subst (λ p. Remembers w.standby.position p (past_of calls) (contents new.engine) after.items new.aside.items s) is.at keeps'.remembers;
+          remembers = subst (λ p. Remembers (contents new.engine).current.floor p (past_of calls) (contents new.engine) after.items new.aside.items s) is.at keeps'.remembers;
           handed_are = is.groups;
         }
 
     -- a step of the machine that leads there
     arrives : (act : Act) (event : Event) → event_of act ≡ Some event → nodes_run w event ≡ is_running w.primary.life
         → (committer : MachineCommitter) (link : MachineLink) (count gaps : ℕ) → Arrives committer link count gaps (handed_by act)
-        → StandsOver (device new.engine) (contents new.engine) after.items new.aside.items s told → KeepsPast w.standby.position (past_of calls) (contents new.engine) after.items new.aside.items s
+        → StandsOver (device new.engine) (contents new.engine) after.items new.aside.items s told → KeepsPast (contents new.engine).current.floor (past_of calls) (contents new.engine) after.items new.aside.items s
         → may_happen w event ≡ true → machine.Happens w event (world_with committer link count gaps w)
         → StepsTo holder act (node_of device contents is_faulted seats s told new after) handed_on w
     arrives act event is_event own committer link count gaps is over' keeps' may happens =
@@ -170,27 +172,29 @@ module _ {E : Type 0} (device : E → State) (contents : E → Contents) (is_fau
     Over told = StandsOver (device new.engine) (contents new.engine) after.items new.aside.items s told
 
     abbrev Kept : Type 0
-    Kept = KeepsPast w.standby.position (past_of calls) (contents new.engine) after.items new.aside.items s
+    Kept = KeepsPast (contents new.engine).current.floor (past_of calls) (contents new.engine) after.items new.aside.items s
 
     abbrev gaps_of : Committer E → ℕ
     gaps_of committer = length (contents committer.engine).current.gaps.items
 
-    pub commit-act : due_now contents old before room remote ≡ due.Commit → TakesGroup device contents is_faulted old before (Ok came) new after → Over notices → Kept
+    pub commit-act : due_now contents old before room remote ≡ due.Commit → TakesGroup device contents is_faulted remote old before (Ok came) new after → Over notices → Kept
         → StepsTo holder Committed (node_of device contents is_faulted seats s notices new after) handed_on w
     commit-act is took over' keeps' =
         let c = contents old.engine in
         let firsts : FirstGroup calls took.lists took.group after.items w.primary.committer.waiting =
         first-group calls took.lists took.group after.items w.primary.committer.waiting
         (subst (λ (items : List Work). AreWorkOf calls items w.primary.committer.waiting) took.taken stands.committing.work) in
-        let moved : contents new.engine ≡ after_group c took.group = Same-is (after_group c took.group) (contents new.engine) took.commits.moved in
-        let lawful = group-is device contents is_faulted old new before after (Ok came) took s notices over in
+        let made = after_group c took.group in
+        let moved : contents new.engine ≡ after_group (floored remote c) took.group = Same-is (after_group (floored remote c) took.group) (contents new.engine) took.commits.moved in
+        let lawful = group-is device contents is_faulted old new before after (Ok came) remote took s notices over in
+        let are = group_lawful c took.group stands.engine.lawful lawful (λ would. ok_not_err came (took.commits.exhausts stands.engine.sound would)) in
         let epochs : AreOfEpoch c.current.epoch (groups_of (work.Commit took.group ∷ after.items)) =
         subst (AreOfEpoch c.current.epoch) (ap groups_of took.taken ∙ groups_of-lists took.lists (work.Commit took.group ∷ after.items)) stands.leads.epochs in
         let there : Arrives new after notices (committed_first (Commits firsts.first ∷ firsts.others) w.primary.committer) w.primary.link w.primary.notices w.primary.gaps [] =
         record {
           engine = record {
-            lawful = same_lawful (after_group c took.group) (contents new.engine) took.commits.moved
-                (group_lawful c took.group stands.engine.lawful lawful (λ would. ok_not_err came (took.commits.exhausts stands.engine.sound would)));
+            lawful = same_lawful (after_group (floored remote c) took.group) (contents new.engine) took.commits.moved
+                (lawful_renumbered made.current.number (max c.current.floor remote) made are (le_refl made.current.number) are.current.number);
             role = ap (λ (d : Contents). d.current.role) moved;
             epoch = ap (λ (d : Contents). d.current.epoch) moved ∙ epochs.0;
             lines = ap (λ (d : Contents). d.lines) moved;
@@ -223,16 +227,20 @@ module _ {E : Type 0} (device : E → State) (contents : E → Contents) (is_fau
         let c = contents old.engine in
         let told = notices ++ frees.frees.answer.0 ∷ [] in
         let entries = frees.list.entries.items in
-        let moved : contents new.engine ≡ after_free entries c = Same-is (after_free entries c) (contents new.engine) frees.frees.moved in
+        let moved : contents new.engine ≡ after_free entries (floor_raised frees.list.position c) =
+        Same-is (after_free entries (floor_raised frees.list.position c)) (contents new.engine) frees.frees.moved in
         let due_so = free-now contents old before room remote is in
         let ended : AreEnded c entries =
-        reached-ended device contents is_faulted w.standby.position (past_of calls) s notices old new before after room remote (Ok came) due_so.none frees over keeps in
+        reached-ended device contents is_faulted (past_of calls) s notices old new before after room remote (Ok came) due_so.none frees over keeps in
         let reached_is : positions_of_lists (frees.list ∷ frees.rest) ≡ reached_lists w =
         ap positions_of_lists (sym frees.reached) ∙ reached-positions w (node_of device contents is_faulted seats s notices old before).committing room stands.committing (sym room_is) in
         let there : Arrives new after told (freed_first w) w.primary.link (w.primary.notices + 1) w.primary.gaps [] =
         record {
           engine = record {
-            lawful = same_lawful (after_free entries c) (contents new.engine) frees.frees.moved (lawful_without c (λ i. is_listed i entries) (AllEnded-listed c entries ended) stands.engine.lawful);
+            lawful = same_lawful (after_free entries (floor_raised frees.list.position c)) (contents new.engine) frees.frees.moved
+                (lawful_raised frees.list.position (after_free entries c)
+                (lawful_without c (λ i. is_listed i entries) (AllEnded-listed c entries ended) stands.engine.lawful)
+                (λ exhausts. ok_not_err came (frees.frees.exhausts stands.engine.sound exhausts)));
             role = ap (λ (d : Contents). d.current.role) moved;
             epoch = ap (λ (d : Contents). d.current.epoch) moved;
             lines = ap (λ (d : Contents). d.lines) moved;

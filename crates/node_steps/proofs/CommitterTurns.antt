@@ -79,13 +79,6 @@ commit-both (Shown group) aside items room gap remote is = cc
 commit-room : (stage : Stage) (aside : List FreeList) (items : List Work) (room gap : Bool) (remote : ℕ) → due_of stage aside items room gap remote ≡ due.Commit → room ≡ true
 commit-room stage aside items room gap remote is = (commit-both stage aside items room gap remote is).0
 
-commit-anyway : (stage : Stage) (aside : List FreeList) (items : List Work) (room gap : Bool) (remote : ℕ) → due_of stage aside items room gap remote ≡ due.Commit
-    → due_of stage aside items room gap 0 ≡ due.Commit
-commit-anyway stage aside items room gap remote is = (commit-both stage aside items room gap remote is).1
-
-clear-anyway : (stage : Stage) (aside : List FreeList) (items : List Work) (room gap : Bool) → ClearIsDue stage aside items room gap → due_of stage aside items room gap 0 ≡ due.Clear
-clear-anyway stage aside items room gap so = rw (so.ready, so.no_aside, so.no_work, so.room, so.gap) refl
-
 -- ---- where nothing went aside
 
 nothing-waits : (items : List Work) → has_group items ≡ false → lists_of items ≡ [] → items ≡ []
@@ -129,41 +122,26 @@ module _ {E : Type 0} (device : E → State) (contents : E → Contents) (is_fau
       told-for-all device contents is_faulted offered known_room old new before after link link' room remote (Ok came) took s notices
       (over device contents is_faulted seats s holder handed w notices old before stands)
 
-  kept-then : (came : Done) → Took now (Ok came) → (holder : Holder) (handed : List Group) (w : World) → NodeRefines holder from handed w → remote ≤ w.standby.position
-      → KeepsPast w.standby.position (past_of w.primary.calls) (contents new.engine) after.items new.aside.items s
-  kept-then came took holder handed w stands passed =
-      kept-for-all device contents is_faulted offered known_room old new before after link link' room remote (Ok came) took s notices w.standby.position (past_of w.primary.calls) passed
+  kept-then : (came : Done) → Took now (Ok came) → (holder : Holder) (handed : List Group) (w : World) → NodeRefines holder from handed w
+      → KeepsPast (contents new.engine).current.floor (past_of w.primary.calls) (contents new.engine) after.items new.aside.items s
+  kept-then came took holder handed w stands =
+      kept-for-all device contents is_faulted offered known_room old new before after link link' room remote (Ok came) took s notices (past_of w.primary.calls)
       (over device contents is_faulted seats s holder handed w notices old before stands)
       (keeps device contents is_faulted seats s holder handed w notices old before stands)
-
-  -- of a step that is due by whatever mark, and goes by none
-  kept-anyway : (came : Done) → Takes device contents is_faulted offered known_room (due_now contents old before room 0) room 0 old before link (Ok came) new after link'
-      → (holder : Holder) (handed : List Group) (w : World) → NodeRefines holder from handed w
-      → KeepsPast w.standby.position (past_of w.primary.calls) (contents new.engine) after.items new.aside.items s
-  kept-anyway came took holder handed w stands =
-      kept-for-all device contents is_faulted offered known_room old new before after link link' room 0 (Ok came) took s notices w.standby.position (past_of w.primary.calls) (omega arith)
-      (over device contents is_faulted seats s holder handed w notices old before stands)
-      (keeps device contents is_faulted seats s holder handed w notices old before stands)
-
-  -- the standby has passed the remote mark that is reached
-  passed : (holder : Holder) (handed : List Group) (w : World) → NodeRefines holder from handed w → remote ≤ w.primary.link.remote → remote ≤ w.standby.position
-  passed holder handed w stands reaches = omega (arith, reaches, stands.sound.link.remote, stands.sound.standby.known)
 
   abbrev Over : List Places → Type 0
   Over told = StandsOver (device new.engine) (contents new.engine) after.items new.aside.items s told
 
   -- ---- by the step that was due
 
-  committed : now ≡ due.Commit → (came : Done) → OffersNone device contents is_faulted offered known_room link link' → TakesGroup device contents is_faulted old before (Ok came) new after → IsAct Committed from (to notices)
+  committed : now ≡ due.Commit → (came : Done) → OffersNone device contents is_faulted offered known_room link link' → TakesGroup device contents is_faulted remote old before (Ok came) new after → IsAct Committed from (to notices)
   committed is came none took = λ holder handed w stands rests.
       let told : came ≡ done.Committed (contents new.engine).current.position = took.commits.answer in
       let whole : Took now (Ok came) = subst (λ (step : Due). Took step (Ok came)) (sym is) (none, inl took) in
-      let at_zero = subst (λ (step : Due). Takes device contents is_faulted offered known_room step room 0 old before link (Ok came) new after link')
-      (sym (commit-anyway old.stage old.aside.items before.items room (nat_lt 0 (length (contents old.engine).current.gaps.items)) remote is)) (none, inl took) in
       let standing : Over notices = subst Over (append-nil notices) (subst (λ (d : Done). Over (notices ++ notices_of d)) told (over-then came whole holder handed w stands)) in
       commit-act device contents is_faulted seats s holder handed w notices old before stands room remote
       (rests ∙ sym (commit-room old.stage old.aside.items before.items room (nat_lt 0 (length (contents old.engine).current.gaps.items)) remote is)) new after came is took standing
-      (kept-anyway came at_zero holder handed w stands)
+      (kept-then came whole holder handed w stands)
 
   freed : now ≡ due.Free → (came : Done) → OffersNone device contents is_faulted offered known_room link link' → (frees : FreesReached device contents is_faulted room remote old before (Ok came) new after)
       → IsAct (Freed room remote) from (to (notices ++ frees.frees.answer.0 ∷ []))
@@ -171,18 +149,16 @@ module _ {E : Type 0} (device : E → State) (contents : E → Contents) (is_fau
       let whole : Took now (Ok came) = subst (λ (step : Due). Took step (Ok came)) (sym is) (none, inl frees) in
       let standing : Over (notices ++ frees.frees.answer.0 ∷ []) = subst (λ (d : Done). Over (notices ++ notices_of d)) frees.frees.answer.1 (over-then came whole holder handed w stands) in
       free-act device contents is_faulted seats s holder handed w notices old before stands room remote rests.0 new after came is rests.1 frees standing
-      (kept-then came whole holder handed w stands (passed holder handed w stands rests.1))
+      (kept-then came whole holder handed w stands)
 
   cleared : now ≡ due.Clear → (came : Done) → OffersNone device contents is_faulted offered known_room link link' → after ≡ before → (clears : ClearsGap device contents is_faulted old (Ok came) new)
       → IsAct Cleared from (to (notices ++ clears.answer.0 ∷ []))
   cleared is came none queue clears = λ holder handed w stands rests.
       let so = clear-now contents old before room remote is in
       let whole : Took now (Ok came) = subst (λ (step : Due). Took step (Ok came)) (sym is) (none, queue, clears) in
-      let zero_is : due_now contents old before room 0 ≡ due.Clear = clear-anyway old.stage old.aside.items before.items room (nat_lt 0 (length (contents old.engine).current.gaps.items)) so in
-      let at_zero = subst (λ (step : Due). Takes device contents is_faulted offered known_room step room 0 old before link (Ok came) new after link') (sym zero_is) (none, queue, clears) in
       let standing : Over (notices ++ clears.answer.0 ∷ []) = subst (λ (d : Done). Over (notices ++ notices_of d)) clears.answer.1 (over-then came whole holder handed w stands) in
       clear-act device contents is_faulted seats s holder handed w notices old before stands room remote (rests ∙ sym so.room) new after came is queue clears standing
-      (kept-anyway came at_zero holder handed w stands)
+      (kept-then came whole holder handed w stands)
 
   -- it is one act, after which this is to be told, by an answer that says so
   abbrev Says : Done → Type 0

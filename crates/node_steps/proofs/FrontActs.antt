@@ -90,7 +90,7 @@ module _ (old : Node) (waiting : Waiting Work) (s : Sequencing) (holder : Holder
         engine = stands.engine;
         leads = Leads-group old.contents old.committing.waiting waiting old.committing.aside before s old.notices stands.engine.contents_at.consistent stands.leads closes;
         freeing = freeing;
-        remembers = remembers-group w.standby.position w.primary.committer.position (past_of calls) old.contents old.committing.waiting waiting old.committing.aside before s old.notices
+        remembers = remembers-group old.contents.current.floor w.primary.committer.position (past_of calls) old.contents old.committing.waiting waiting old.committing.aside before s old.notices
             stands.engine.contents_at.at stands.engine.contents_at.consistent stands.leads closes (waits-along calls w.primary.committer.closed before stands.sequencer) stands.remembers;
         handed_are = none_more;
       }
@@ -128,7 +128,7 @@ module _ (old : Node) (waiting : Waiting Work) (s : Sequencing) (holder : Holder
         engine = stands.engine;
         leads = Leads-list old.contents old.committing.waiting waiting old.committing.aside before s old.notices stands.leads closes;
         freeing = freeing;
-        remembers = remembers-list w.standby.position w.primary.committer.position (past_of calls) old.contents old.committing.waiting waiting old.committing.aside before s old.notices
+        remembers = remembers-list old.contents.current.floor w.primary.committer.position (past_of calls) old.contents old.committing.waiting waiting old.committing.aside before s old.notices
             stands.engine.contents_at.at stands.engine.contents_at.consistent stands.leads closes stands.remembers;
         handed_are = none_more;
       }
@@ -181,8 +181,8 @@ told-stands old s notice rest told takes holder handed w stands sound =
           (subst (λ (notices : List Freed). Leads old.contents old.committing.waiting.items old.committing.aside before notices) told stands.leads) takes
           (λ c e x ahead expects. IsAheadOf-back before c notice.entries.items e notice.extents.items x ahead expects s takes);
       freeing = record { ended = ap length ended ∙ stands.freeing.ended; newest = newest ∙ stands.freeing.newest; notices_are = omega (arith, many); gaps = stands.freeing.gaps };
-      remembers = remembers-on w.standby.position w.standby.position w.primary.committer.position (past_of calls) old.contents old.committing.waiting.items old.committing.aside before s
-          (le_refl w.standby.position) ended newest stands.remembers;
+      remembers = remembers-on old.contents.current.floor old.contents.current.floor w.primary.committer.position (past_of calls) old.contents old.committing.waiting.items old.committing.aside before s
+          (le_refl old.contents.current.floor) ended newest stands.remembers;
       handed_are = subst (λ (gs : List Group). AreGroupsOf calls gs w.primary.link.waiting) (sym (append-nil handed)) stands.handed_are;
     }
 
@@ -233,7 +233,7 @@ module _ (old : Node) (c seat : ℕ) (item : Item) (reply : Reply) (s : Sequenci
         engine = EngineStands-grows holder list (call ∷ []) w.primary.committer.position old.device old.contents old.is_faulted within stands.engine;
         leads = leads-still old.contents old.committing.waiting.items old.committing.aside old.sequencer s old.notices still stands.leads;
         freeing = freeing-still old.sequencer s old.notices old.contents w.primary (called c call w).primary still refl refl refl refl stands.freeing;
-        remembers = remembers-still w.standby.position w.primary.committer.position w.primary.committer.closed list (call ∷ []) old.contents old.committing.waiting.items old.committing.aside old.sequencer s
+        remembers = remembers-still old.contents.current.floor w.primary.committer.position w.primary.committer.closed list (call ∷ []) old.contents old.committing.waiting.items old.committing.aside old.sequencer s
             old.notices stands.engine.contents_at.at stands.sequencer stands.leads still.ended still.newest stands.remembers;
         handed_are = AreGroupsOf-grows list (call ∷ []) (handed ++ []) w.primary.link.waiting
             (subst (λ (gs : List Group). AreGroupsOf list gs w.primary.link.waiting) (sym (append-nil handed)) stands.handed_are);

@@ -8,7 +8,6 @@ use Rattle.connections.specs.Session.{SeatsFollow}
 use Rattle.machine.specs.declared.event.Event.{Event}
 use Rattle.machine.specs.Event.{Run, Span, Step, World, last_world, option_items}
 use Rattle.machine.proofs.RunLemmas.{last_world-append, last_world-push, run-append, run-push}
-use Rattle.primary.proofs.RecallLemmas.{remembers-on}
 use Rattle.node_steps.specs.Acts.{Act, AreActs, Did, GoesOn, HasInOrder, RunsThrough, StepsTo, event_of, events_of, handed_by}
 use Rattle.node_steps.proofs.Meanwhile.{Meanwhile}
 use Rattle.node_steps.proofs.OthersLemmas.{meanwhile-others}
@@ -44,9 +43,7 @@ meanwhile-stands holder node handed w now stands meanwhile =
         notices_are = stands.freeing.notices_are ∙ sym meanwhile.notices;
         gaps = stands.freeing.gaps ∙ sym meanwhile.gaps;
       };
-      remembers = rw (meanwhile.calls, meanwhile.committer)
-          (remembers-on w.standby.position now.standby.position w.primary.committer.position (past_of w.primary.calls) node.contents node.committing.waiting.items node.committing.aside node.sequencer node.sequencer
-          meanwhile.standby refl refl stands.remembers);
+      remembers = rw (meanwhile.calls, meanwhile.committer) stands.remembers;
       handed_are = rw meanwhile.calls
           (groups-left w.primary.calls handed meanwhile.sent now.primary.link.waiting
           (subst (λ (spans : List Span). AreGroupsOf w.primary.calls handed spans) meanwhile.waiting stands.handed_are));

@@ -75,8 +75,8 @@ openings-stand holder w s waiting device contents is_faulted opened role epoch e
       engine = subst (λ (k : Committer). EngineStands holder calls k.position device contents is_faulted) (sym opened.committer) engine;
       leads = subst (λ (items : List Work). Leads contents items [] s []) (sym none) (leads-starts contents s over);
       freeing = record { ended = sym opened.ended_are; newest = newest ∙ engine.contents_at.at ∙ sym opened.newest; notices_are = sym opened.none_told; gaps = sym opened.gaps_are };
-      remembers = subst (λ (k : Committer). Remembers w.standby.position k.position (past_of calls) contents waiting.items [] s) (sym opened.committer)
-          (subst (λ (items : List Work). Remembers w.standby.position p (past_of calls) contents items [] s) (sym none)
-          (remembers-opened w.standby.position p (past_of calls) contents s (newest ∙ engine.contents_at.at) recalls));
+      remembers = subst (λ (k : Committer). Remembers contents.current.floor k.position (past_of calls) contents waiting.items [] s) (sym opened.committer)
+          (subst (λ (items : List Work). Remembers contents.current.floor p (past_of calls) contents items [] s) (sym none)
+          (remembers-opened contents.current.floor p (past_of calls) contents s (newest ∙ engine.contents_at.at) recalls));
       handed_are = subst (λ (spans : List Span). AreGroupsOf calls [] spans) (sym opened.waiting) tt;
     }

@@ -62,8 +62,8 @@ seats-stand holder old handed w connections seats s seat now stands moves follow
       engine = stands.engine;
       leads = leads-still old.contents old.committing.waiting.items old.committing.aside old.sequencer s old.notices still stands.leads;
       freeing = freeing-still old.sequencer s old.notices old.contents w.primary (with_connections connections w).primary still refl refl refl refl stands.freeing;
-      remembers = remembers-on w.standby.position w.standby.position w.primary.committer.position (past_of calls) old.contents old.committing.waiting.items old.committing.aside old.sequencer s
-          (le_refl w.standby.position) still.ended still.newest stands.remembers;
+      remembers = remembers-on old.contents.current.floor old.contents.current.floor w.primary.committer.position (past_of calls) old.contents old.committing.waiting.items old.committing.aside old.sequencer s
+          (le_refl old.contents.current.floor) still.ended still.newest stands.remembers;
       handed_are = subst (λ (gs : List Group). AreGroupsOf calls gs w.primary.link.waiting) (sym (append-nil handed)) stands.handed_are;
     }
 

@@ -62,13 +62,13 @@ opened_node s waiting device contents is_faulted =
       is_faulted = is_faulted;
     }
 
--- What an opening answers is that of each world whose primary was just opened there, if the image recalls the keyspaces at which the standby may stand.
+-- What an opening answers is that of each world whose primary was just opened there, if the image recalls the keyspaces from its floor on.
 abbrev pub OpeningsStand : Type 0
 OpeningsStand =
     (holder : Holder) (w : World) (s : Sequencing) (waiting : Waiting Work) (device : State) (contents : Contents) (is_faulted : Bool)
     → IsJustOpened w (length s.ended) (length contents.current.gaps.items) → holder.role ≡ Role.Primary → holder.epoch ≡ w.primary.epoch
     → EngineStands holder w.primary.calls (position_of w.primary.calls) device contents is_faulted → IsOver contents s → waiting.items ≡ []
-    → RecallsEach w.standby.position (position_of w.primary.calls) (past_of w.primary.calls) contents
+    → RecallsEach contents.current.floor (position_of w.primary.calls) (past_of w.primary.calls) contents
     → NodeRefines holder (opened_node s waiting device contents is_faulted) [] w
 
 -- ---- the committer

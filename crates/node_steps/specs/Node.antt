@@ -42,8 +42,8 @@ pub record FreeingRefines (s : Sequencing) (notices : List Freed) (contents : Co
   pub gaps : length contents.current.gaps.items ≡ machine.gaps
 
 -- What the thread has is that of the world's primary, which runs, and these groups were handed on to the link and are not sent. The image is this holder's.
--- Nothing is said of what others have: of connections no more than that they are open, of the link no more than what waits there, nothing of what was
--- sent, and of the standby only its position.
+-- Nothing is said of what others have: of connections no more than that they are open, of the link no more than what waits there, and nothing of what was
+-- sent, or of the standby.
 pub record NodeRefines (holder : Holder) (node : Node) (handed : List Group) (w : World) : Type 0 where
   pub sound : Sound w
   pub running : w.primary.life ≡ Running
@@ -58,5 +58,6 @@ pub record NodeRefines (holder : Holder) (node : Node) (handed : List Group) (w 
   pub engine : EngineStands holder w.primary.calls w.primary.committer.position node.device node.contents node.is_faulted
   pub leads : Leads node.contents node.committing.waiting.items node.committing.aside node.sequencer node.notices
   pub freeing : FreeingRefines node.sequencer node.notices node.contents w.primary
-  pub remembers : Remembers w.standby.position w.primary.committer.position (past_of w.primary.calls) node.contents node.committing.waiting.items node.committing.aside node.sequencer
+  -- from the floor of the record on
+  pub remembers : Remembers node.contents.current.floor w.primary.committer.position (past_of w.primary.calls) node.contents node.committing.waiting.items node.committing.aside node.sequencer
   pub handed_are : AreGroupsOf w.primary.calls handed w.primary.link.waiting

@@ -104,6 +104,7 @@ after_parts epoch contents parts =
         epoch = epoch;
         role = contents.current.role;
         gaps = contents.current.gaps;
+        floor = contents.current.floor;
       };
       lines = contents.lines;
       versions = parts_versions contents.versions parts;

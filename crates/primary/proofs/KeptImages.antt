@@ -1,6 +1,6 @@
 -- What a crash leaves of the past that a primary keeps, and what it keeps of it once it is opened again.
 use mathlib.Core.Path.{fun_ext}
-use Rattle.std.proofs.Common.{◌≡◌, ℕ, ◌<◌, ◌≤◌, Bool, true, false, List, [], ◌++◌, Result, inl, inr, refl, sym, ap, ap₂, subst, ◌∙◌, arith, le_refl}
+use Rattle.std.proofs.Common.{◌≡◌, ℕ, IsTrue, ◌<◌, ◌≤◌, Bool, true, false, List, [], ◌++◌, Result, inl, inr, refl, sym, ap, ap₂, subst, ◌∙◌, arith, le_refl}
 use Rattle.std.proofs.lemmas.Bool.{cases_lt, cond-true, le-ltb, lt-ltb, cond-false}
 use Rattle.kv_types.specs.declared.refusal.Refusal.{Refusal}
 use Rattle.kv_types.specs.Keyspace.{Keyspace}
@@ -14,7 +14,9 @@ use Rattle.model.specs.declared.record.Record.{Record}
 use Rattle.model.specs.declared.record.Role.{Role}
 use Rattle.model.specs.declared.work.FreeList.{FreeList}
 use Rattle.model.specs.declared.work.Work.{Work}
-use Rattle.model.specs.Group.{Contents, IsConsistent, Versions, after_group, without, entries_of}
+use Rattle.std.proofs.Math.Nat.{le-max_left, le-max_right}
+use Rattle.model.specs.Floor.{floor_raised, floored}
+use Rattle.model.specs.Group.{Contents, IsConsistent, Versions, after_group, is_ended_version, without, entries_of}
 use Rattle.model.specs.Image.{HasRecord, Holds, Image, IsMapOf, entries_of_lines, version_at}
 use Rattle.model.proofs.GroupsLemmas.{IsConsistent-after_group}
 use Rattle.model.proofs.MapLemmas.{IsMapOf-same, IsMapOf-unique}
@@ -24,7 +26,7 @@ use Rattle.mv_keyspace.specs.Table.{records}
 use Rattle.mv_keyspace.proofs.PartTables.{map-from_table}
 use Rattle.wbl_engine.specs.declared.freeing.Freed.{Freed as Places}
 use Rattle.wbl_engine.specs.Contents.{Keeps}
-use Rattle.wbl_engine.specs.Freeing.{KeepsWithoutSome, cleared_contents}
+use Rattle.wbl_engine.specs.Freeing.{KeepsFreed, KeepsWithoutSome, cleared_contents}
 use Rattle.wbl_engine.specs.Lawful.{IsUndamaged}
 use Rattle.wbl_engine.specs.Reopening.{StaysReadable, reopened}
 use Rattle.wbl_engine.specs.Restarting.{IsReopened}
@@ -45,7 +47,8 @@ use Rattle.standby_stream.specs.Delta.{LeadsTo, Recalls}
 use Rattle.primary.specs.Recalling.{AgreeUpTo, AreKeyspaces, DeltaLeads, Follows, ImageRecalls, KeepsPast, Past, RecallsEach, versions_under}
 use Rattle.primary.specs.Resuming.{IsOver}
 use Rattle.primary.specs.Standing.{StandsOver}
-use Rattle.primary.proofs.KeptTurns.{committed-keeps, keeps-same, reached-ended, reached-remembers}
+use Rattle.primary.proofs.KeptTurns.{committed-keeps, keeps-same, raised-remembers, reached-ended}
+use Rattle.primary.proofs.NumberedLemmas.{consistent_renumbered}
 use Rattle.primary.proofs.RecallLemmas.{recalls-each, recalls-without, remembers-opened}
 use Rattle.primary.proofs.RecallParts.{recalls-more}
 use Rattle.primary.proofs.TurnedLemmas.{group-is}
@@ -60,9 +63,9 @@ versions-kept contents image consistent held i = elim (cases_lt i (entries_of co
 ]
 
 -- an image recalls what the contents do that it holds
-pub recalls-of : (low : ℕ) (past : Past) (contents : Contents) (image : Image) → IsConsistent contents → IsMapOf contents.versions (entries_of contents) (past contents.current.position)
-    → RecallsEach low contents.current.position past contents → Keeps contents image → ImageRecalls low past image
-recalls-of low past contents image consistent now recalls held = record {
+pub recalls-of : (past : Past) (contents : Contents) (image : Image) → IsConsistent contents → IsMapOf contents.versions (entries_of contents) (past contents.current.position)
+    → RecallsEach contents.current.floor contents.current.position past contents → Keeps contents image → ImageRecalls past image
+recalls-of past contents image consistent now recalls held = record {
   lines = contents.lines;
   current = contents.current;
   holds = Holds-versions contents.lines contents.current contents.versions (past contents.current.position) image held.superblock held.has_record held.versions now;
@@ -70,26 +73,26 @@ recalls-of low past contents image consistent now recalls held = record {
       subst (λ (versions : Versions). Recalls versions (λ i. Unit {0}) p (past p)) (fun_ext (λ i. sym (versions-kept contents image consistent held i))) (recalls p from below);
 }
 
-image-recalls : (low : ℕ) (past : Past) (contents : Contents) (items : List Work) (aside : List FreeList) (s : Sequencing) (image : Image) → IsConsistent contents → KeepsPast low past contents items aside s
-    → Keeps contents image → ImageRecalls low past image
-image-recalls low past contents items aside s image consistent keeps held =
-    recalls-of low past contents image consistent keeps.now (recalls-each low contents.current.position past contents items aside s keeps.remembers) held
+image-recalls : (past : Past) (contents : Contents) (items : List Work) (aside : List FreeList) (s : Sequencing) (image : Image) → IsConsistent contents
+    → KeepsPast contents.current.floor past contents items aside s → Keeps contents image → ImageRecalls past image
+image-recalls past contents items aside s image consistent keeps held =
+    recalls-of past contents image consistent keeps.now (recalls-each contents.current.floor contents.current.position past contents items aside s keeps.remembers) held
 
 -- now
-pub crash-recalls : (low : ℕ) (past : Past) (device : State) (contents : Contents) (items : List Work) (aside : List FreeList) (s : Sequencing) (notices : List Places) (image : Image)
-    → StandsOver device contents items aside s notices → KeepsPast low past contents items aside s → IsImage device.words image → ImageRecalls low past image
-crash-recalls low past device contents items aside s notices image over keeps is = image-recalls low past contents items aside s image over.consistent keeps (over.durable image is)
+pub crash-recalls : (past : Past) (device : State) (contents : Contents) (items : List Work) (aside : List FreeList) (s : Sequencing) (notices : List Places) (image : Image)
+    → StandsOver device contents items aside s notices → KeepsPast contents.current.floor past contents items aside s → IsImage device.words image → ImageRecalls past image
+crash-recalls past device contents items aside s notices image over keeps is = image-recalls past contents items aside s image over.consistent keeps (over.durable image is)
 
 -- at any moment of a turn of the committer
-module _ {E : Type 0} (device : E → State) (contents : E → Contents) (is_faulted : E → Bool) (low : ℕ) (past : Past) (s : Sequencing) (notices : List Places) where
+module _ {E : Type 0} (device : E → State) (contents : E → Contents) (is_faulted : E → Bool) (past : Past) (s : Sequencing) (notices : List Places) where
   module _ {O : Type 0} (offered : O → List Group) (known_room : O → ℕ) (old new : Committer E) (before after : Waiting Work) (link link' : O) (has_room : Bool) (remote : ℕ) (result : Result Done Refusal)
-      (passed : remote ≤ low) (sound : is_faulted old.engine ≡ false) (over : StandsOver (device old.engine) (contents old.engine) before.items old.aside.items s notices)
-      (keeps : KeepsPast low past (contents old.engine) before.items old.aside.items s) where
+      (sound : is_faulted old.engine ≡ false) (over : StandsOver (device old.engine) (contents old.engine) before.items old.aside.items s notices)
+      (keeps : KeepsPast (contents old.engine).current.floor past (contents old.engine) before.items old.aside.items s) where
     abbrev c : Contents
     c = contents old.engine
 
     abbrev Left : Type 0
-    Left = LeavesOnly (device old.engine) (device new.engine) (ImageRecalls low past)
+    Left = LeavesOnly (device old.engine) (device new.engine) (ImageRecalls past)
 
     abbrev Took : Due → Type 0
     Took step = Takes device contents is_faulted offered known_room step has_room remote old before link result new after link'
@@ -97,37 +100,50 @@ module _ {E : Type 0} (device : E → State) (contents : E → Contents) (is_fau
     abbrev now : Due
     now = due_now contents old before has_room remote
 
-    old-recalls : (image : Image) → Keeps c image → ImageRecalls low past image
-    old-recalls image held = image-recalls low past c before.items old.aside.items s image over.consistent keeps held
+    old-recalls : (image : Image) → Keeps c image → ImageRecalls past image
+    old-recalls image held = image-recalls past c before.items old.aside.items s image over.consistent keeps held
 
     -- nothing was done to the device
     still : new.engine ≡ old.engine → Left
     still same =
-        subst (λ (e : E). LeavesOnly (device old.engine) (device e) (ImageRecalls low past)) (sym same)
-        (none_leaves (device old.engine) (ImageRecalls low past) (λ image is. old-recalls image (over.durable image is)))
+        subst (λ (e : E). LeavesOnly (device old.engine) (device e) (ImageRecalls past)) (sym same)
+        (none_leaves (device old.engine) (ImageRecalls past) (λ image is. old-recalls image (over.durable image is)))
 
-    committed : TakesGroup device contents is_faulted old before result new after → Left
+    committed : TakesGroup device contents is_faulted remote old before result new after → Left
     committed took =
-        let kept = committed-keeps device contents is_faulted low past s notices old new before after result took over keeps in
-        let consistent = IsConsistent-after_group c took.group over.consistent (group-is device contents is_faulted old new before after result took s notices over) in
-        LeavesOnly-weaken (ImageRecalls low past)
+        let made = after_group (floored remote c) took.group in
+        let kept = committed-keeps device contents is_faulted past s notices old new before after result remote took over keeps in
+        let consistent = consistent_renumbered (after_group c took.group).current.number made.current.floor (after_group c took.group)
+        (IsConsistent-after_group c took.group over.consistent (group-is device contents is_faulted old new before after result remote took s notices over)) in
+        LeavesOnly-weaken (ImageRecalls past)
         (λ image either. elim either [
           | inl was ↦ old-recalls image was
-          | inr is ↦ image-recalls low past (after_group c took.group) after.items (old.aside.items ++ took.lists) s image consistent kept is
+          | inr is ↦ image-recalls past made after.items (old.aside.items ++ took.lists) s image consistent kept is
         ]) (took.commits.moments sound)
 
     freed : (has_room ≡ true → has_group before.items ≡ false) → FreesReached device contents is_faulted has_room remote old before result new after → Left
-    freed none it = LeavesOnly-weaken (ImageRecalls low past) some (it.frees.moments sound)
+    freed none it = LeavesOnly-weaken (ImageRecalls past) either (it.frees.moments sound)
       where
-        some : (image : Image) → KeepsWithoutSome it.list.entries.items c image → ImageRecalls low past image
+        raised : Contents
+        raised = floor_raised it.list.position c
+
+        some : (image : Image) → KeepsWithoutSome it.list.entries.items raised image → ImageRecalls past image
         some image (gone, listed, held) =
-            let ended = reached-ended device contents is_faulted low past s notices old new before after has_room remote result none it over keeps in
-            let remembers = reached-remembers device contents is_faulted low past s notices old new before after has_room remote result none it over keeps in
-            recalls-of low past (without gone c) image (consistent_without c gone over.consistent)
-            (IsMapOf-contents_without c gone (past c.current.position) (λ i so. AllEnded-listed c it.list.entries.items ended i (listed i so)) keeps.now)
+            let ended = reached-ended device contents is_faulted past s notices old new before after has_room remote result none it over keeps in
+            let remembers = raised-remembers device contents is_faulted past s notices old new before after has_room remote result none it over keeps raised.current.floor
+            (le-max_left c.current.floor it.list.position) in
+            let all : (i : ℕ) → IsTrue (gone i) → IsTrue (is_ended_version (c.versions i)) = λ i so. AllEnded-listed c it.list.entries.items ended i (listed i so) in
+            recalls-of past (without gone raised) image
+            (consistent_renumbered raised.current.number raised.current.floor (without gone c) (consistent_without c gone over.consistent))
+            (IsMapOf-contents_without c gone (past c.current.position) all keeps.now)
             (λ p from below.
             recalls-more (without gone c).versions _ (λ i. Unit {0}) p (past p) (λ i held. tt)
-            (recalls-without low c.current.position past c after.items it.list it.rest s (omega (arith, it.passed, passed)) ended remembers gone listed p from below)) held
+            (recalls-without raised.current.floor c.current.position past c after.items it.list it.rest s (le-max_right c.current.floor it.list.position) ended remembers gone listed p from below))
+            held
+
+        either : (image : Image) → KeepsFreed it.list.entries.items c raised image → ImageRecalls past image
+        either image (inl was) = old-recalls image was
+        either image (inr left) = some image left
 
     leaves-by : (step : Due) → now ≡ step → Took step → Left
     leaves-by due.Commit is (none, inl took) = committed took
@@ -135,12 +151,12 @@ module _ {E : Type 0} (device : E → State) (contents : E → Contents) (is_fau
     leaves-by due.Free is (none, inl frees) = freed (free-now contents old before has_room remote is).none frees
     leaves-by due.Free is (none, inr lacks) = still lacks.engine
     leaves-by due.Clear is (none, queue, clears) =
-        LeavesOnly-weaken (ImageRecalls low past)
+        LeavesOnly-weaken (ImageRecalls past)
         (λ image either. elim either [
           | inl was ↦ old-recalls image was
           | inr is ↦
-              image-recalls low past (cleared_contents c) before.items old.aside.items s image (record { free = over.consistent.free; beyond = over.consistent.beyond })
-              (keeps-same low past c (cleared_contents c) before.items old.aside.items s refl refl refl (λ i. refl) keeps) is
+              image-recalls past (cleared_contents c) before.items old.aside.items s image (record { free = over.consistent.free; beyond = over.consistent.beyond })
+              (keeps-same c.current.floor past c (cleared_contents c) before.items old.aside.items s refl refl refl (λ i. refl) keeps) is
         ]) (clears.moments sound)
     leaves-by due.Raise is (same, queue, raises) = still (ap (λ (one : Committer E). one.engine) raises.now)
     leaves-by due.Hand is (queue, hands) = elim hands.came [
@@ -154,15 +170,14 @@ module _ {E : Type 0} (device : E → State) (contents : E → Contents) (is_fau
 
 -- ---- an image
 
--- the standby goes on, and the past is another above the image's position
-pub image-later : (low low' : ℕ) (past later : Past) (image : Image) → low ≤ low' → (recalled : ImageRecalls low past image) → AgreeUpTo recalled.current.position past later
-    → ImageRecalls low' later image
-image-later low low' past later image rises recalled agree = record {
+-- the past is another above the image's position
+pub image-later : (past later : Past) (image : Image) → (recalled : ImageRecalls past image) → AgreeUpTo recalled.current.position past later → ImageRecalls later image
+image-later past later image recalled agree = record {
   lines = recalled.lines;
   current = recalled.current;
   holds = subst (λ (s : Keyspace). Holds recalled.lines recalled.current s image) (sym (agree recalled.current.position (le_refl recalled.current.position))) recalled.holds;
   recalls = λ p from below.
-      subst (Recalls (versions_under recalled.lines recalled.current image) (λ i. Unit {0}) p) (sym (agree p (omega (arith, below)))) (recalled.recalls p (omega (arith, rises, from)) below);
+      subst (Recalls (versions_under recalled.lines recalled.current image) (λ i. Unit {0}) p) (sym (agree p (omega (arith, below)))) (recalled.recalls p from below);
 }
 
 -- ---- an opening
@@ -174,8 +189,15 @@ reopened-at r = elim (room_cases r) [
   | inr same ↦ ap (λ (q : Record). q.position) same.1
 ]
 
+-- and its floor
+pub reopened-floor : (r : Record) → (reopened r).floor ≡ r.floor
+reopened-floor r = elim (room_cases r) [
+  | inl full ↦ ap (λ (q : Record). q.floor) full.1
+  | inr same ↦ ap (λ (q : Record). q.floor) same.1
+]
+
 -- an image that recalls the past, under the record of an image of so many lines that breaks no rule
-module _ (low : ℕ) (past : Past) (lines' : ℕ) (image : Image) (r : Record) (recalled : ImageRecalls low past image) (undamaged : IsUndamaged lines' r image) where
+module _ (past : Past) (lines' : ℕ) (image : Image) (r : Record) (recalled : ImageRecalls past image) (undamaged : IsUndamaged lines' r image) where
   own : recalled.lines ≡ lines'
   own = sym recalled.holds.superblock.line_count ∙ undamaged.superblock.line_count
 
@@ -188,12 +210,12 @@ module _ (low : ℕ) (past : Past) (lines' : ℕ) (image : Image) (r : Record) (
   own_map = subst (λ (q : Record). IsMapOf (version_at q image) (entries_of_lines q.layout lines') (past q.position)) same_record
       (subst (λ n. IsMapOf (version_at recalled.current image) (entries_of_lines recalled.current.layout n) (past recalled.current.position)) own recalled.holds.map)
 
-  own_recalls : (p : ℕ) → low ≤ p → p < r.position → Recalls (versions_under lines' r image) (λ i. Unit {0}) p (past p)
-  own_recalls = subst (λ (q : Record). (p : ℕ) → low ≤ p → p < q.position → Recalls (versions_under lines' q image) (λ i. Unit {0}) p (past p)) same_record
-      (subst (λ n. (p : ℕ) → low ≤ p → p < recalled.current.position → Recalls (versions_under n recalled.current image) (λ i. Unit {0}) p (past p)) own recalled.recalls)
+  own_recalls : (p : ℕ) → r.floor ≤ p → p < r.position → Recalls (versions_under lines' r image) (λ i. Unit {0}) p (past p)
+  own_recalls = subst (λ (q : Record). (p : ℕ) → q.floor ≤ p → p < q.position → Recalls (versions_under lines' q image) (λ i. Unit {0}) p (past p)) same_record
+      (subst (λ n. (p : ℕ) → recalled.current.floor ≤ p → p < recalled.current.position → Recalls (versions_under n recalled.current image) (λ i. Unit {0}) p (past p)) own recalled.recalls)
 
   -- one that can be reopened instead recalls the same
-  readable-recalls : (other : Image) → StaysReadable lines' r image other → ImageRecalls low past other
+  readable-recalls : (other : Image) → StaysReadable lines' r image other → ImageRecalls past other
   readable-recalls other stays = record {
     lines = lines';
     current = stays.current;
@@ -203,7 +225,7 @@ module _ (low : ℕ) (past : Past) (lines' : ℕ) (image : Image) (r : Record) (
         (subst (λ n. IsMapOf (version_at r image) (entries_of_lines r.layout lines') (past n)) (sym stays.position) own_map));
     recalls = λ p from below.
         subst (λ (versions : Versions). Recalls versions (λ i. Unit {0}) p (past p)) (fun_ext (λ i. sym (same_versions i)))
-        (own_recalls p from (omega (arith, below, stays.position)));
+        (own_recalls p (omega (arith, from, stays.floor)) (omega (arith, below, stays.position)));
   }
     where
       same_versions : (i : ℕ) → versions_under lines' stays.current other i ≡ versions_under lines' r image i
@@ -218,18 +240,21 @@ module _ (low : ℕ) (past : Past) (lines' : ℕ) (image : Image) (r : Record) (
           )
 
 -- at any moment of a reopening
-pub reopening-leaves : (low : ℕ) (past : Past) (old new : State) (image : Image) (r : Record) → ImageRecalls low past image → IsUndamaged old.lines r image
-    → LeavesOnly old new (StaysReadable old.lines r image) → LeavesOnly old new (ImageRecalls low past)
-reopening-leaves low past old new image r recalled undamaged moments =
-    LeavesOnly-weaken (ImageRecalls low past) (λ other stays. readable-recalls low past old.lines image r recalled undamaged other stays) moments
+pub reopening-leaves : (past : Past) (old new : State) (image : Image) (r : Record) → ImageRecalls past image → IsUndamaged old.lines r image
+    → LeavesOnly old new (StaysReadable old.lines r image) → LeavesOnly old new (ImageRecalls past)
+reopening-leaves past old new image r recalled undamaged moments =
+    LeavesOnly-weaken (ImageRecalls past) (λ other stays. readable-recalls past old.lines image r recalled undamaged other stays) moments
 
 -- an image that recalls the past was opened again
-module _ (low : ℕ) (past : Past) (lines' : ℕ) (image : Image) (role : Role) (contents : Contents) (recalled : ImageRecalls low past image) (opened : IsReopened lines' image role contents) where
+module _ (past : Past) (lines' : ℕ) (image : Image) (role : Role) (contents : Contents) (recalled : ImageRecalls past image) (opened : IsReopened lines' image role contents) where
   abbrev before : Record
   before = opened.reopens.before
 
   at : contents.current.position ≡ before.position
   at = ap (λ (r : Record). r.position) opened.reopens.current ∙ reopened-at before
+
+  floor_at : contents.current.floor ≡ before.floor
+  floor_at = ap (λ (r : Record). r.floor) opened.reopens.current ∙ reopened-floor before
 
   versions_are : contents.versions ≡ versions_under lines' before image
   versions_are = fun_ext opened.reopens.versions
@@ -241,13 +266,13 @@ module _ (low : ℕ) (past : Past) (lines' : ℕ) (image : Image) (role : Role) 
       (subst (λ n. IsMapOf contents.versions (entries_of_lines before.layout lines') (past n)) (sym at)
       (IsMapOf-same (version_at before image) contents.versions (entries_of_lines before.layout lines') (past before.position)
       (λ i within. sym (opened.reopens.versions i ∙ cond-true _ _ _ (lt-ltb i (entries_of_lines before.layout lines') within)))
-      (own_map low past lines' image before recalled opened.reopens.undamaged)))
+      (own_map past lines' image before recalled opened.reopens.undamaged)))
 
   -- it recalls it still
-  pub recalls-reopened : RecallsEach low contents.current.position past contents
+  pub recalls-reopened : RecallsEach contents.current.floor contents.current.position past contents
   recalls-reopened = λ p from below.
       subst (λ (versions : Versions). Recalls versions (λ i. Unit {0}) p (past p)) (sym versions_are)
-      (own_recalls low past lines' image before recalled opened.reopens.undamaged p from (omega (arith, below, at)))
+      (own_recalls past lines' image before recalled opened.reopens.undamaged p (omega (arith, from, floor_at)) (omega (arith, below, at)))
 
   -- a sequencer over it serves the keyspace there
   module _ (s : Sequencing) (over : IsOver contents s) (consistent : IsConsistent contents) (keyspaces : AreKeyspaces past) where
@@ -259,15 +284,16 @@ module _ (low : ℕ) (past : Past) (lines' : ℕ) (image : Image) (role : Role) 
     follows-opened : Follows past s
     follows-opened = subst (Follows past) (sym over.starts_so) (record { served = serves; waiting = tt })
 
-    pub keeps-opened : KeepsPast low past contents [] [] s
+    pub keeps-opened : KeepsPast contents.current.floor past contents [] [] s
     keeps-opened = record {
       now = map_is;
       follows = follows-opened;
-      remembers = remembers-opened low contents.current.position past contents s (ap (λ (one : Sequencing). one.newest) over.starts_so) recalls-reopened;
+      remembers = remembers-opened contents.current.floor contents.current.position past contents s (ap (λ (one : Sequencing). one.newest) over.starts_so) recalls-reopened;
     }
 
-    pub delta-leads : (opening : Opening) → opening.position ≡ contents.current.position → LeadsTo contents opening (records s.table) → DeltaLeads low contents.current.position past opening
-    delta-leads opening position leads = record {
+    pub delta-leads : (opening : Opening) → opening.position ≡ contents.current.position → opening.floor ≡ contents.current.floor → LeadsTo contents opening (records s.table)
+        → DeltaLeads contents.current.position past opening
+    delta-leads opening position floor leads = record {
       position_is = position;
-      leads = λ p from below. leads p (past p) (keyspaces p) (recalls-reopened p from below) ∙ ap (λ (one : Sequencing). records one.table) over.starts_so ∙ serves;
+      leads = λ p from below. leads p (past p) (keyspaces p) (recalls-reopened p (omega (arith, from, floor)) below) ∙ ap (λ (one : Sequencing). records one.table) over.starts_so ∙ serves;
     }

@@ -1,5 +1,5 @@
 -- What of its past a primary keeps over a turn of the committer.
-use Rattle.std.proofs.Common.{◌≡◌, ℕ, ◌≤◌, Bool, true, false, List, [], ◌∷◌, ◌++◌, Result, Ok, Err, IfOk, IsErrOf, refl, sym, ap, subst, ◌∙◌, inl, inr, arith}
+use Rattle.std.proofs.Common.{◌≡◌, ℕ, ◌≤◌, Bool, true, false, List, [], ◌∷◌, ◌++◌, Result, Ok, Err, IfOk, IsErrOf, refl, sym, ap, subst, ◌∙◌, inl, inr, max, arith}
 use Rattle.pmem.specs.Device.{State}
 use Rattle.kv_types.specs.declared.refusal.Refusal.{Refusal}
 use Rattle.kv_types.specs.declared.refusal.Refusal.TheVariants.{Memory}
@@ -7,6 +7,8 @@ use Rattle.model.specs.declared.group.Group.{Group}
 use Rattle.model.specs.declared.record.Record.{Record}
 use Rattle.model.specs.declared.work.FreeList.{FreeList}
 use Rattle.model.specs.declared.work.Work.{Work}
+use Rattle.std.proofs.Math.Nat.{le-max_left, le-max_right}
+use Rattle.model.specs.Floor.{floor_raised, floored, raised_record}
 use Rattle.model.specs.Group.{AreEnded, Contents, after_free, after_group, is_listed, last_position, entries_of}
 use Rattle.model.specs.Image.{IsMapOf}
 use Rattle.model.proofs.DirectoryLemmas.{entries_same}
@@ -28,7 +30,9 @@ use Rattle.pipes.specs.Waiting.{Waiting}
 use Rattle.primary.specs.Leading.{Leads}
 use Rattle.primary.specs.Recalling.{KeepsPast, Past, Remembers}
 use Rattle.primary.specs.Standing.{StandsOver}
-use Rattle.primary.proofs.RecallLemmas.{remembers-aside, remembers-freed, remembers-same}
+use Rattle.primary.proofs.KeptLemmas.{keeps-raised}
+use Rattle.primary.proofs.NumberedLemmas.{renumbered}
+use Rattle.primary.proofs.RecallLemmas.{remembers-aside, remembers-freed, remembers-on, remembers-same}
 use Rattle.primary.proofs.RecallParts.{map-committed, remembers-committed}
 use Rattle.primary.proofs.TurnedLemmas.{Leads-reached, group-is, ok_not_err}
 
@@ -50,12 +54,18 @@ keeps-same low past contents new items aside s at layout lines versions keeps =
       remembers = subst (λ p. Remembers low p past new items aside s) (sym at) same;
     }
 
-module _ {E : Type 0} (device : E → State) (contents : E → Contents) (is_faulted : E → Bool) (low : ℕ) (past : Past) (s : Sequencing) (notices : List Places) where
+-- under a record of another number and with another floor
+keeps-renumbered : (low number floor : ℕ) (past : Past) (contents : Contents) (items : List Work) (aside : List FreeList) (s : Sequencing) → KeepsPast low past contents items aside s
+    → KeepsPast low past (renumbered number floor contents) items aside s
+keeps-renumbered low number floor past contents items aside s keeps =
+    record { now = keeps.now; follows = keeps.follows; remembers = record { earlier = keeps.remembers.earlier; groups = keeps.remembers.groups } }
+
+module _ {E : Type 0} (device : E → State) (contents : E → Contents) (is_faulted : E → Bool) (past : Past) (s : Sequencing) (notices : List Places) where
   abbrev Stood : Committer E → Waiting Work → Type 0
   Stood c waiting = StandsOver (device c.engine) (contents c.engine) waiting.items c.aside.items s notices
 
   abbrev Kept : Committer E → Waiting Work → Type 0
-  Kept c waiting = KeepsPast low past (contents c.engine) waiting.items c.aside.items s
+  Kept c waiting = KeepsPast (contents c.engine).current.floor past (contents c.engine) waiting.items c.aside.items s
 
   unmoved : (old new : Committer E) (before after : Waiting Work) → new.engine ≡ old.engine → new.aside.items ≡ old.aside.items → after ≡ before → Kept old before → Kept new after
   unmoved old new before after engine aside queue keeps = rw (queue, aside, engine) keeps
@@ -63,13 +73,14 @@ module _ {E : Type 0} (device : E → State) (contents : E → Contents) (is_fau
   -- ---- a group has committed
 
   -- what an engine then contains
-  pub committed-keeps : (old new : Committer E) (before after : Waiting Work) (result : Result Done Refusal) (took : TakesGroup device contents is_faulted old before result new after) → Stood old before
-      → Kept old before → KeepsPast low past (after_group (contents old.engine) took.group) after.items (old.aside.items ++ took.lists) s
-  committed-keeps old new before after result took over keeps =
+  made-keeps : (old new : Committer E) (before after : Waiting Work) (result : Result Done Refusal) (remote : ℕ) (took : TakesGroup device contents is_faulted remote old before result new after) → Stood old before
+      → Kept old before → KeepsPast (contents old.engine).current.floor past (after_group (contents old.engine) took.group) after.items (old.aside.items ++ took.lists) s
+  made-keeps old new before after result remote took over keeps =
       let c = contents old.engine in
+      let low = c.current.floor in
       let group = took.group in
       let parts = group.parts.items in
-      let lawful = group-is device contents is_faulted old new before after result took s notices over in
+      let lawful = group-is device contents is_faulted old new before after result remote took s notices over in
       let remembers = subst (λ (xs : List Work). Remembers low c.current.position past c xs old.aside.items s) took.taken keeps.remembers in
       let ends : last_position group.before parts ≡ last_position c.current.position parts = ap (λ p. last_position p parts) lawful.before in
       let map_is = map-committed low c.current.position past c took.lists group after.items old.aside.items s refl over.consistent keeps.now lawful remembers in
@@ -80,21 +91,36 @@ module _ {E : Type 0} (device : E → State) (contents : E → Contents) (is_fau
         remembers = subst (λ p. Remembers low p past (after_group c group) after.items (old.aside.items ++ took.lists) s) ends remembered;
       }
 
-  group-keeps : (old new : Committer E) (before after : Waiting Work) (came : Done) → TakesGroup device contents is_faulted old before (Ok came) new after → Stood old before → Kept old before → Kept new after
-  group-keeps old new before after came took over keeps =
-      let is = Same-is (after_group (contents old.engine) took.group) (contents new.engine) took.commits.moved in
-      subst (λ (c : Contents). KeepsPast low past c after.items new.aside.items s) (sym is)
-      (subst (λ (xs : List FreeList). KeepsPast low past (after_group (contents old.engine) took.group) after.items xs s) (sym took.set_aside)
-      (committed-keeps old new before after (Ok came) took over keeps))
+  -- the floor is no lower than the remote mark then
+  pub committed-keeps : (old new : Committer E) (before after : Waiting Work) (result : Result Done Refusal) (remote : ℕ) (took : TakesGroup device contents is_faulted remote old before result new after)
+      → Stood old before → Kept old before
+      → KeepsPast (max (contents old.engine).current.floor remote) past (after_group (floored remote (contents old.engine)) took.group) after.items (old.aside.items ++ took.lists) s
+  committed-keeps old new before after result remote took over keeps =
+      let c = contents old.engine in
+      let made = after_group c took.group in
+      let floor = max c.current.floor remote in
+      keeps-renumbered floor made.current.number floor past made after.items (old.aside.items ++ took.lists) s
+      (keeps-raised c.current.floor floor past made after.items (old.aside.items ++ took.lists) s (le-max_left c.current.floor remote)
+      (made-keeps old new before after result remote took over keeps))
+
+  group-keeps : (old new : Committer E) (before after : Waiting Work) (came : Done) (remote : ℕ) → TakesGroup device contents is_faulted remote old before (Ok came) new after → Stood old before → Kept old before
+      → Kept new after
+  group-keeps old new before after came remote took over keeps =
+      let made = after_group (floored remote (contents old.engine)) took.group in
+      let is = Same-is made (contents new.engine) took.commits.moved in
+      subst (λ (c : Contents). KeepsPast c.current.floor past c after.items new.aside.items s) (sym is)
+      (subst (λ (xs : List FreeList). KeepsPast made.current.floor past made after.items xs s) (sym took.set_aside)
+      (committed-keeps old new before after (Ok came) remote took over keeps))
 
   -- ---- a list was freed
 
   -- what is reached
   module _ (old new : Committer E) (before after : Waiting Work) (has_room : Bool) (remote : ℕ) (result : Result Done Refusal) (none : has_room ≡ true → has_group before.items ≡ false)
       (it : FreesReached device contents is_faulted has_room remote old before result new after) (over : Stood old before) (keeps : Kept old before) where
-    pub reached-remembers : Remembers low (contents old.engine).current.position past (contents old.engine) after.items (it.list ∷ it.rest) s
+    pub reached-remembers : Remembers (contents old.engine).current.floor (contents old.engine).current.position past (contents old.engine) after.items (it.list ∷ it.rest) s
     reached-remembers =
         let c = contents old.engine in
+        let low = c.current.floor in
         rw it.left
         (subst (λ (xs : List FreeList). Remembers low c.current.position past c (left_by has_room before.items) xs s) it.reached
         (remembers-reached has_room low c.current.position past c before.items old.aside.items s none keeps.remembers))
@@ -105,22 +131,31 @@ module _ {E : Type 0} (device : E → State) (contents : E → Contents) (is_fau
         let leads = subst (λ (xs : List FreeList). Leads c (left_by has_room before.items) xs s notices) it.reached (Leads-reached c has_room before.items old.aside.items s notices none over.leads) in
         AreEnded-first c it.list.entries.items (entries_of_lists it.rest) leads.aside_ended
 
-  freed-keeps : (old new : Committer E) (before after : Waiting Work) (has_room : Bool) (remote : ℕ) (came : Done) → remote ≤ low → (has_room ≡ true → has_group before.items ≡ false)
+    -- where the record has a floor from which on they are not needed
+    pub raised-remembers : (floor : ℕ) → (contents old.engine).current.floor ≤ floor → Remembers floor (contents old.engine).current.position past (contents old.engine) after.items (it.list ∷ it.rest) s
+    raised-remembers floor rises =
+        let c = contents old.engine in
+        remembers-on c.current.floor floor c.current.position past c after.items (it.list ∷ it.rest) s s rises refl refl reached-remembers
+
+  freed-keeps : (old new : Committer E) (before after : Waiting Work) (has_room : Bool) (remote : ℕ) (came : Done) → (has_room ≡ true → has_group before.items ≡ false)
       → FreesReached device contents is_faulted has_room remote old before (Ok came) new after → Stood old before → Kept old before → Kept new after
-  freed-keeps old new before after has_room remote came passed none it over keeps =
+  freed-keeps old new before after has_room remote came none it over keeps =
       let c = contents old.engine in
+      let r = raised_record it.list.position c.current in
       let entries = it.list.entries.items in
       let ended = reached-ended old new before after has_room remote (Ok came) none it over keeps in
-      let is = Same-is (after_free entries c) (contents new.engine) it.frees.moved in
-      let kept : KeepsPast low past (after_free entries c) after.items it.rest s =
+      let left = after_free entries (floor_raised it.list.position c) in
+      let is = Same-is left (contents new.engine) it.frees.moved in
+      let kept : KeepsPast r.floor past (after_free entries c) after.items it.rest s =
       record {
         now = IsMapOf-contents_without c (λ i. is_listed i entries) (past c.current.position) (AllEnded-listed c entries ended) keeps.now;
         follows = keeps.follows;
-        remembers = remembers-freed low c.current.position past c after.items it.list it.rest s (omega (arith, it.passed, passed)) ended
-            (reached-remembers old new before after has_room remote (Ok came) none it over keeps);
+        remembers = remembers-freed r.floor c.current.position past c after.items it.list it.rest s (le-max_right c.current.floor it.list.position) ended
+            (raised-remembers old new before after has_room remote (Ok came) none it over keeps r.floor (le-max_left c.current.floor it.list.position));
       } in
-      subst (λ (c : Contents). KeepsPast low past c after.items new.aside.items s) (sym is)
-      (subst (λ (xs : List FreeList). KeepsPast low past (after_free entries c) after.items xs s) (sym it.frees.aside) kept)
+      subst (λ (c : Contents). KeepsPast c.current.floor past c after.items new.aside.items s) (sym is)
+      (subst (λ (xs : List FreeList). KeepsPast left.current.floor past left after.items xs s) (sym it.frees.aside)
+      (keeps-renumbered r.floor r.number r.floor past (after_free entries c) after.items it.rest s kept))
 
   -- ---- a gap was cleared
 
@@ -129,13 +164,14 @@ module _ {E : Type 0} (device : E → State) (contents : E → Contents) (is_fau
   cleared-keeps old new before after came alone queue clears keeps =
       let cleared = clears.answer.3 in
       let at = ap (λ (r : Record). r.position) cleared.current in
-      let same = keeps-same low past (contents old.engine) (contents new.engine) before.items old.aside.items s at (ap (λ (r : Record). r.layout) cleared.current)
+      let floor = ap (λ (r : Record). r.floor) cleared.current in
+      let same = keeps-same (contents old.engine).current.floor past (contents old.engine) (contents new.engine) before.items old.aside.items s at (ap (λ (r : Record). r.layout) cleared.current)
       cleared.lines_are cleared.versions keeps in
-      rw (queue, clears.aside ∙ sym alone) same
+      rw (queue, clears.aside ∙ sym alone) (subst (λ (low : ℕ). KeepsPast low past (contents new.engine) before.items old.aside.items s) (sym floor) same)
 
   -- ---- any turn
 
-  module _ {O : Type 0} (offered : O → List Group) (known_room : O → ℕ) (old new : Committer E) (before after : Waiting Work) (link link' : O) (has_room : Bool) (remote : ℕ) (passed : remote ≤ low)
+  module _ {O : Type 0} (offered : O → List Group) (known_room : O → ℕ) (old new : Committer E) (before after : Waiting Work) (link link' : O) (has_room : Bool) (remote : ℕ)
       (over : Stood old before) (keeps : Kept old before) where
     abbrev Took : Due → Result Done Refusal → Type 0
     Took step result = Takes device contents is_faulted offered known_room step has_room remote old before link result new after link'
@@ -144,9 +180,9 @@ module _ {E : Type 0} (device : E → State) (contents : E → Contents) (is_fau
     now = due_now contents old before has_room remote
 
     keeps-by : (step : Due) (came : Done) → now ≡ step → Took step (Ok came) → Kept new after
-    keeps-by due.Commit came is (none, inl took) = group-keeps old new before after came took over keeps
+    keeps-by due.Commit came is (none, inl took) = group-keeps old new before after came remote took over keeps
     keeps-by due.Commit came is (none, inr lacks) = absurd (ok_not_err came lacks.answer)
-    keeps-by due.Free came is (none, inl frees) = freed-keeps old new before after has_room remote came passed (free-now contents old before has_room remote is).none frees over keeps
+    keeps-by due.Free came is (none, inl frees) = freed-keeps old new before after has_room remote came (free-now contents old before has_room remote is).none frees over keeps
     keeps-by due.Free came is (none, inr lacks) = absurd (ok_not_err came lacks.answer)
     keeps-by due.Clear came is (none, queue, clears) = cleared-keeps old new before after came (clear-now contents old before has_room remote is).no_aside queue clears keeps
     keeps-by due.Raise came is (same, queue, raises) = rw (queue, raises.now) keeps
@@ -181,8 +217,9 @@ module _ {E : Type 0} (device : E → State) (contents : E → Contents) (is_fau
 module _ {E : Type 0} (device : E → State) (contents : E → Contents) (is_faulted : E → Bool) {O : Type 0} (offered : O → List Group) (known_room : O → ℕ) (old new : Committer E) (before after : Waiting Work)
     (link link' : O) (has_room : Bool) (remote : ℕ) where
   pub kept-for-all : (result : Result Done Refusal) → Takes device contents is_faulted offered known_room (due_now contents old before has_room remote) has_room remote old before link result new after link'
-      → IfOk result (λ came. (s : Sequencing) (notices : List Places) (low : ℕ) (past : Past) → remote ≤ low → StandsOver (device old.engine) (contents old.engine) before.items old.aside.items s notices
-      → KeepsPast low past (contents old.engine) before.items old.aside.items s → KeepsPast low past (contents new.engine) after.items new.aside.items s)
-  kept-for-all (Ok came) took = λ s notices low past passed over keeps.
-      turn-keeps device contents is_faulted low past s notices offered known_room old new before after link link' has_room remote passed over keeps (Ok came) took
+      → IfOk result (λ came. (s : Sequencing) (notices : List Places) (past : Past) → StandsOver (device old.engine) (contents old.engine) before.items old.aside.items s notices
+      → KeepsPast (contents old.engine).current.floor past (contents old.engine) before.items old.aside.items s
+      → KeepsPast (contents new.engine).current.floor past (contents new.engine) after.items new.aside.items s)
+  kept-for-all (Ok came) took = λ s notices past over keeps.
+      turn-keeps device contents is_faulted past s notices offered known_room old new before after link link' has_room remote over keeps (Ok came) took
   kept-for-all (Err refusal) took = tt

@@ -1,6 +1,7 @@
 pub mod AheadLemmas
 pub mod FreedQueue
 pub mod LeadsLemmas
+pub mod NumberedLemmas
 pub mod OpenedLemmas
 pub mod TurnedLemmas
 pub mod ClosedLemmas

@@ -1,5 +1,5 @@
 -- What a turn of the committer leaves of a primary.
-use Rattle.std.proofs.Common.{◌≡◌, ℕ, ◌≤◌, Bool, true, false, nat_lt, List, [], ◌∷◌, ◌++◌, length, Result, Ok, Err, IfOk, IsErrOf, refl, sym, ap, subst, ◌∙◌, inl, inr, append-nil, arith, le_refl}
+use Rattle.std.proofs.Common.{◌≡◌, ℕ, ◌≤◌, Bool, true, false, nat_lt, max, List, [], ◌∷◌, ◌++◌, length, Result, Ok, Err, IfOk, IsErrOf, refl, sym, ap, subst, ◌∙◌, inl, inr, append-nil, arith, le_refl}
 use Rattle.pmem.specs.Device.{State}
 use Rattle.kv_types.specs.declared.place.EntryNo.{EntryNo}
 use Rattle.kv_types.specs.declared.refusal.Refusal.{Refusal}
@@ -10,6 +10,7 @@ use Rattle.model.specs.declared.record.Record.{Record}
 use Rattle.model.specs.declared.work.FreeList.{FreeList}
 use Rattle.model.specs.declared.work.Work.{Work}
 use Rattle.model.specs.declared.work.Work.TheVariants as work
+use Rattle.model.specs.Floor.{floor_raised, floored, raised_record}
 use Rattle.model.specs.Group.{AreParts, Contents, IsConsistent, IsGroup, Versions, after_free, after_group, is_listed, last_position, part_versions}
 use Rattle.model.proofs.GroupsLemmas.{IsConsistent-after_group}
 use Rattle.wbl_engine.specs.declared.freeing.Freed.{Freed as Places}
@@ -33,6 +34,7 @@ use Rattle.primary.specs.Standing.{StandsOver, notices_of, position_after}
 use Rattle.primary.proofs.AheadLemmas.{laid-group}
 use Rattle.primary.proofs.FreedQueue.{Leads-aside, Leads-cleared, Leads-freed}
 use Rattle.primary.proofs.LeadsLemmas.{leads-after}
+use Rattle.primary.proofs.NumberedLemmas.{consistent_renumbered, laid_renumbered, leads_renumbered}
 
 -- ---- the last part of a group is the newest
 
@@ -87,25 +89,29 @@ module _ {E : Type 0} (device : E → State) (contents : E → Contents) (is_fau
 
   -- ---- a group has committed
 
-  pub group-is : (old new : Committer E) (before after : Waiting Work) (result : Result Done Refusal) (took : TakesGroup device contents is_faulted old before result new after) (s : Sequencing) (notices : List Places)
+  pub group-is : (old new : Committer E) (before after : Waiting Work) (result : Result Done Refusal) (remote : ℕ) (took : TakesGroup device contents is_faulted remote old before result new after) (s : Sequencing) (notices : List Places)
       → Over old before s notices → IsGroup (contents old.engine) took.group
-  group-is old new before after result took s notices over =
+  group-is old new before after result remote took s notices over =
       (AreWork-behind (contents old.engine) took.lists (work.Commit took.group ∷ after.items) (subst (AreWork (contents old.engine)) took.taken over.leads.work_is)).0
 
-  group-stands : (old new : Committer E) (before after : Waiting Work) (came : Done) (s : Sequencing) (notices : List Places) → TakesGroup device contents is_faulted old before (Ok came) new after
+  group-stands : (old new : Committer E) (before after : Waiting Work) (came : Done) (remote : ℕ) (s : Sequencing) (notices : List Places)
+      → TakesGroup device contents is_faulted remote old before (Ok came) new after
       → Over old before s notices → Over new after s notices
-  group-stands old new before after came s notices took over =
+  group-stands old new before after came remote s notices took over =
       let c = contents old.engine in
       let commits = took.commits in
       let leads = subst (λ (xs : List Work). Leads c xs old.aside.items s notices) took.taken over.leads in
-      let lawful = group-is old new before after (Ok came) took s notices over in
-      let is = Same-is (after_group c took.group) (contents new.engine) commits.moved in
+      let lawful = group-is old new before after (Ok came) remote took s notices over in
+      let made = after_group c took.group in
+      let floor = max c.current.floor remote in
+      let is = Same-is (after_group (floored remote c) took.group) (contents new.engine) commits.moved in
       record {
         leads = subst (λ (c : Contents). Leads c after.items new.aside.items s notices) (sym is)
-            (subst (λ (xs : List FreeList). Leads (after_group c took.group) after.items xs s notices) (sym took.set_aside)
-            (leads-after c took.lists took.group after.items old.aside.items s notices over.consistent leads));
-        consistent = subst IsConsistent (sym is) (IsConsistent-after_group c took.group over.consistent lawful);
-        laid = subst AreLaid (sym is) (laid-group c took.group over.laid lawful);
+            (subst (λ (xs : List FreeList). Leads (after_group (floored remote c) took.group) after.items xs s notices) (sym took.set_aside)
+            (leads_renumbered made.current.number floor made after.items (old.aside.items ++ took.lists) s notices
+            (leads-after c took.lists took.group after.items old.aside.items s notices over.consistent leads)));
+        consistent = subst IsConsistent (sym is) (consistent_renumbered made.current.number floor made (IsConsistent-after_group c took.group over.consistent lawful));
+        laid = subst AreLaid (sym is) (laid_renumbered made.current.number floor made (laid-group c took.group over.laid lawful));
         durable = commits.durable;
       }
 
@@ -119,14 +125,17 @@ module _ {E : Type 0} (device : E → State) (contents : E → Contents) (is_fau
       let told = it.frees.answer in
       let places = told.0 in
       let leads = subst (λ (xs : List FreeList). Leads c (left_by has_room before.items) xs s notices) it.reached (Leads-reached c has_room before.items old.aside.items s notices none over.leads) in
-      let is = Same-is (after_free entries c) (contents new.engine) it.frees.moved in
+      let left = after_free entries c in
+      let r = raised_record it.list.position c.current in
+      let is = Same-is (after_free entries (floor_raised it.list.position c)) (contents new.engine) it.frees.moved in
       subst (λ (d : Done). Over new after s (notices ++ notices_of d)) (sym told.1) (record {
         leads = subst (λ (c : Contents). Leads c after.items new.aside.items s (notices ++ places ∷ [])) (sym is)
-            (subst (λ (xs : List FreeList). Leads (after_free entries c) after.items xs s (notices ++ places ∷ [])) (sym it.frees.aside)
-            (subst (λ (xs : List Work). Leads (after_free entries c) xs it.rest s (notices ++ places ∷ [])) (sym it.left)
-            (Leads-freed c (left_by has_room before.items) it.list it.rest s notices places over.consistent over.laid leads told.2 told.3)));
-        consistent = subst IsConsistent (sym is) (consistent_without c (λ i. is_listed i entries) over.consistent);
-        laid = subst AreLaid (sym is) (laid-freed c entries over.laid);
+            (subst (λ (xs : List FreeList). Leads (after_free entries (floor_raised it.list.position c)) after.items xs s (notices ++ places ∷ [])) (sym it.frees.aside)
+            (subst (λ (xs : List Work). Leads (after_free entries (floor_raised it.list.position c)) xs it.rest s (notices ++ places ∷ [])) (sym it.left)
+            (leads_renumbered r.number r.floor left (left_by has_room before.items) it.rest s (notices ++ places ∷ [])
+            (Leads-freed c (left_by has_room before.items) it.list it.rest s notices places over.consistent over.laid leads told.2 told.3))));
+        consistent = subst IsConsistent (sym is) (consistent_renumbered r.number r.floor left (consistent_without c (λ i. is_listed i entries) over.consistent));
+        laid = subst AreLaid (sym is) (laid_renumbered r.number r.floor left (laid-freed c entries over.laid));
         durable = it.frees.durable;
       })
 
@@ -167,7 +176,7 @@ module _ {E : Type 0} (device : E → State) (contents : E → Contents) (is_fau
 
     told-by : (step : Due) (came : Done) → now ≡ step → Took step (Ok came) → (s : Sequencing) (notices : List Places) → Over old before s notices → Over new after s (notices ++ notices_of came)
     told-by due.Commit came is (none, inl took) s notices over = subst (λ (d : Done). Over new after s (notices ++ notices_of d)) (sym took.commits.answer)
-        (still new after s notices (done.Committed (contents new.engine).current.position) refl (group-stands old new before after came s notices took over))
+        (still new after s notices (done.Committed (contents new.engine).current.position) refl (group-stands old new before after came remote s notices took over))
     told-by due.Commit came is (none, inr lacks) s notices over = absurd (ok_not_err came lacks.answer)
     told-by due.Free came is (none, inl frees) s notices over =
         freed-stands old new before after has_room remote came s notices (free-now contents old before has_room remote is).none frees over
@@ -227,7 +236,7 @@ module _ {E : Type 0} (device : E → State) (contents : E → Contents) (is_fau
     -- it never falls
     rises-by : (step : Due) (came : Done) → Took step (Ok came) → (s : Sequencing) (notices : List Places) → Over old before s notices → (contents old.engine).current.position ≤ (contents new.engine).current.position
     rises-by due.Commit came (none, inl took) s notices over =
-        let lawful = group-is old new before after (Ok came) took s notices over in
+        let lawful = group-is old new before after (Ok came) remote took s notices over in
         rw (ap (λ (r : Record). r.position) took.commits.moved.current)
         (subst (λ (p : ℕ). p ≤ last_position p took.group.parts.items) lawful.before (rises_within took.group.before (contents old.engine).versions took.group.parts.items lawful.parts))
     rises-by due.Commit came (none, inr lacks) s notices over = absurd (ok_not_err came lacks.answer)

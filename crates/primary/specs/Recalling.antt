@@ -74,9 +74,9 @@ pub record KeepsPast (low : ℕ) (past : Past) (contents : Contents) (items : Li
 
 -- by what is known of an engine
 module _ {E : Type 0} (contents : E → Contents) where
-  -- of what is in hand there, to this sequencer
-  abbrev pub BackKeeps : ℕ → Past → Back E → Sequencing → Type 0
-  BackKeeps low past back s = KeepsPast low past (contents back.committer.engine) back.work.items back.committer.aside.items s
+  -- of what is in hand there, to this sequencer, from the floor of the record on
+  abbrev pub BackKeeps : Past → Back E → Sequencing → Type 0
+  BackKeeps past back s = KeepsPast (contents back.committer.engine).current.floor past (contents back.committer.engine) back.work.items back.committer.aside.items s
 
 -- Whatever the committer has in hand, what was remembered is so still, and what is served now is the keyspace at the position that the sequencer is at now.
 abbrev pub Recollects : Sequencing → Sequencing → Type 0
@@ -94,14 +94,14 @@ RecallsEach low position past contents = (p : ℕ) → low ≤ p → p < positio
 abbrev pub versions_under : ℕ → Record → Image → Versions
 versions_under lines r image = λ i. if nat_lt i (entries_of_lines r.layout lines) then version_at r image i else None
 
--- The image holds the keyspace at the position of its record, and its versions recall each from `low` on up to there.
-pub record ImageRecalls (low : ℕ) (past : Past) (image : Image) : Type 0 where
+-- The image holds the keyspace at the position of its record, and its versions recall each from the record's floor on up to there.
+pub record ImageRecalls (past : Past) (image : Image) : Type 0 where
   pub lines : ℕ
   pub current : Record
   pub holds : Holds lines current (past current.position) image
-  pub recalls : (p : ℕ) → low ≤ p → p < current.position → Recalls (versions_under lines current image) (λ i. Unit {0}) p (past p)
+  pub recalls : (p : ℕ) → current.floor ≤ p → p < current.position → Recalls (versions_under lines current image) (λ i. Unit {0}) p (past p)
 
--- From each position at which the standby may stand, the delta leads to the keyspace at which the primary was opened.
-pub record DeltaLeads (low opened : ℕ) (past : Past) (opening : Opening) : Type 0 where
+-- From each position from the opening's floor on, the delta leads to the keyspace at which the primary was opened.
+pub record DeltaLeads (opened : ℕ) (past : Past) (opening : Opening) : Type 0 where
   pub position_is : opening.position ≡ opened
-  pub leads : (p : ℕ) → low ≤ p → p < opened → play_all (past p) (delta_changes opening p) ≡ past opened
+  pub leads : (p : ℕ) → opening.floor ≤ p → p < opened → play_all (past p) (delta_changes opening p) ≡ past opened

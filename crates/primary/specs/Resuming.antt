@@ -30,6 +30,8 @@ pub record IsOver (contents : Contents) (s : Sequencing) : Type 0 where
 pub record IsOpened (contents : Contents) (s : Sequencing) (opening : Opening) (position epoch keys : ℕ) : Type 0 where
   pub over : IsOver contents s
   pub opened_at : opening.position ≡ contents.current.position
+  -- what ended up to there may have been freed
+  pub floor : opening.floor ≡ contents.current.floor
   pub opening_is : IsOpening contents opening
   -- what a standby is told leads it to the keyspace that is served, from wherever the image recalls the keyspace at which it stands
   pub leads : LeadsTo contents opening (records s.table)

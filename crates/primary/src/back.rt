@@ -61,6 +61,13 @@ impl<E: Durable> Back<E> {
         self.committer.epoch()
     }
 
+    /// The floor of its record: the position up to which what has ended may have been freed.
+    pub fn floor(&self) -> u64
+        ensures { result ≡ (E.contents self.now.committer.engine).current.floor }
+    {
+        self.committer.floor()
+    }
+
     /// Whether something is in hand that may make room: groups and free lists that wait for the committer, lists that stand aside, gaps.
     pub fn is_room_coming(&self) -> bool
         ensures { result ≡ false ↔ HasNothingInHand (E.contents self.now.committer.engine) self.now.work.items self.now.committer.aside.items }
@@ -107,16 +114,16 @@ impl<E: Durable> Back<E> {
         ensures unmoved { IsErrOf result Refusal.Memory → self.new.committer.engine ≡ self.old.committer.engine }
         // what it says to be durable is
         ensures committed { IfOk result (λ came. (position : ℕ) → came ≡ done.Committed position → position ≡ (E.contents self.new.committer.engine).current.position) }
-        // what is recalled of the past from `low` on stays so, as long as the standby has passed no less than it is told to have
-        ensures keeps { IfOk result (λ _. (s : Sequencing) (notices : List Freed) (low : ℕ) (past : Past) → remote ≤ low → BackStands E.device E.contents self.old s notices
-            → BackKeeps E.contents low past self.old s → BackKeeps E.contents low past self.new s) }
-        ensures still { IsErrOf result Refusal.Memory → (s : Sequencing) (notices : List Freed) (low : ℕ) (past : Past) → remote ≤ low
-            → BackStands E.device E.contents self.old s notices → BackKeeps E.contents low past self.old s → BackKeeps E.contents low past self.new s }
+        // what is recalled of the past from the record's floor on stays so
+        ensures keeps { IfOk result (λ _. (s : Sequencing) (notices : List Freed) (past : Past) → BackStands E.device E.contents self.old s notices
+            → BackKeeps E.contents past self.old s → BackKeeps E.contents past self.new s) }
+        ensures still { IsErrOf result Refusal.Memory → (s : Sequencing) (notices : List Freed) (past : Past) → BackStands E.device E.contents self.old s notices
+            → BackKeeps E.contents past self.old s → BackKeeps E.contents past self.new s }
         ensures asked_moment { (E.device self.new.committer.engine).kept ≡ (E.device self.old.committer.engine).kept }
         // and at any moment of the step a crash leaves an image that recalls it, whatever it comes to
-        ensures leaves { E.is_faulted self.old.committer.engine ≡ false → (s : Sequencing) (notices : List Freed) (low : ℕ) (past : Past) → remote ≤ low
-            → BackStands E.device E.contents self.old s notices → BackKeeps E.contents low past self.old s
-            → LeavesOnly (E.device self.old.committer.engine) (E.device self.new.committer.engine) (ImageRecalls low past) }
+        ensures leaves { E.is_faulted self.old.committer.engine ≡ false → (s : Sequencing) (notices : List Freed) (past : Past)
+            → BackStands E.device E.contents self.old s notices → BackKeeps E.contents past self.old s
+            → LeavesOnly (E.device self.old.committer.engine) (E.device self.new.committer.engine) (ImageRecalls past) }
         ensures same { O.is_same link.old link.new }
     {
         self.committer.turn(alloc, &mut self.work, link, remote)
@@ -157,8 +164,8 @@ impl<E: Restarting> Back<E> {
         ensures aside { self.new.committer.aside ≡ self.old.committer.aside }
         ensures work { self.new.work ≡ self.old.work }
         // what is left recalls what was remembered
-        ensures recalls { (s : Sequencing) (notices : List Freed) (low : ℕ) (past : Past) → BackStands E.device E.contents self.old s notices
-            → BackKeeps E.contents low past self.old s → ImageRecalls low past (image_of (E.device self.new.committer.engine).words) }
+        ensures recalls { (s : Sequencing) (notices : List Freed) (past : Past) → BackStands E.device E.contents self.old s notices
+            → BackKeeps E.contents past self.old s → ImageRecalls past (image_of (E.device self.new.committer.engine).words) }
     {
         self.committer.crash(picks);
     }

@@ -61,11 +61,11 @@ pub fn open<P: Pmem + Drop, K: Keyspace + Drop>(
         × (opened.primary.back.committer.aside.items ≡ []) × (opened.primary.back.committer.local ≡ opened.position)) }
     ensures sound { IfOk result (λ opened. ⟦<WblEngine<P> as Durable>⟧.is_faulted opened.primary.back.committer.engine ≡ false) }
     ensures size { IfOk result (λ opened. (⟦<WblEngine<P> as Durable>⟧.contents opened.primary.back.committer.engine).lines ≤ MAX_LINES) }
-    // what the image recalls of the past is kept, and what a standby is told leads from each position there
-    ensures keeps { IfOk result (λ opened. (low : ℕ) (past : Past) → AreKeyspaces past → ImageRecalls low past (image_of (P.state device).words)
-        → BackKeeps ⟦<WblEngine<P> as Durable>⟧.contents low past opened.primary.back opened.primary.front.sequencer) }
-    ensures delta { IfOk result (λ opened. (low : ℕ) (past : Past) → AreKeyspaces past → ImageRecalls low past (image_of (P.state device).words)
-        → DeltaLeads low opened.position past opened.opening) }
+    // what the image recalls of the past, from its record's floor on, is kept, and what a standby is told leads from each position there
+    ensures keeps { IfOk result (λ opened. (past : Past) → AreKeyspaces past → ImageRecalls past (image_of (P.state device).words)
+        → BackKeeps ⟦<WblEngine<P> as Durable>⟧.contents past opened.primary.back opened.primary.front.sequencer) }
+    ensures delta { IfOk result (λ opened. (past : Past) → AreKeyspaces past → ImageRecalls past (image_of (P.state device).words)
+        → DeltaLeads opened.position past opened.opening) }
     ensures refused { IfErr result (λ refusal. (refusal ≡ Refusal.Fault) ⊎ ((refusal ≡ Refusal.Memory)
         ⊎ RefusesReopening LAYOUT (P.state device).lines (image_of (P.state device).words) Role.Primary refusal)) }
 {
@@ -92,18 +92,19 @@ fn assemble<E: Durable + Drop, K: Keyspace + Drop>(
     ensures opened { IfOk result (λ opened. IsOpened (E.contents engine) opened.primary.front.sequencer opened.opening opened.position opened.epoch opened.keys) }
     ensures ready { IfOk result (λ opened. (opened.primary.back.work.items ≡ []) × (opened.primary.back.committer.stage ≡ Ready)
         × (opened.primary.back.committer.aside.items ≡ []) × (opened.primary.back.committer.local ≡ opened.position)) }
-    ensures keeps { IfOk result (λ opened. (low : ℕ) (past : Past) (of : ℕ) (image : Image) → AreKeyspaces past → ImageRecalls low past image
-        → IsReopened of image Role.Primary (E.contents engine) → BackKeeps E.contents low past opened.primary.back opened.primary.front.sequencer
-        × DeltaLeads low opened.position past opened.opening) }
+    ensures keeps { IfOk result (λ opened. (past : Past) (of : ℕ) (image : Image) → AreKeyspaces past → ImageRecalls past image
+        → IsReopened of image Role.Primary (E.contents engine) → BackKeeps E.contents past opened.primary.back opened.primary.front.sequencer
+        × DeltaLeads opened.position past opened.opening) }
     ensures cause { IfErr result (λ refusal. refusal ≡ Refusal.Memory) }
 {
     let (layout, lines) = (engine.record().layout, engine.lines());
     let at = (engine.position(), engine.record().epoch);
+    let floor = engine.record().floor;
     let Resumed {
         sequencer,
         opening,
         keys,
-    } = resume(alloc, layout, lines, versions, at, hash_builder)?;
+    } = resume(alloc, layout, lines, versions, at, floor, hash_builder)?;
     Ok(Opened {
         primary: Primary::new(alloc, sequencer, engine)?,
         opening,

@@ -99,8 +99,8 @@ pub fn close<E: Durable, K: Keyspace>(
     ensures committer { back.new.committer ≡ back.old.committer }
     // nothing is called
     ensures at { front.new.sequencer.position ≡ front.old.sequencer.position }
-    ensures keeps { (low : ℕ) (past : Past) → BackStands E.device E.contents back.old front.old.sequencer [] → BackKeeps E.contents low past back.old front.old.sequencer
-        → BackKeeps E.contents low past back.new front.new.sequencer }
+    ensures keeps { (past : Past) → BackStands E.device E.contents back.old front.old.sequencer [] → BackKeeps E.contents past back.old front.old.sequencer
+        → BackKeeps E.contents past back.new front.new.sequencer }
 {
     close_next(alloc, &mut front.sequencer, &mut back.work)
 }

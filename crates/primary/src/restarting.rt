@@ -48,12 +48,13 @@ impl<E: Restarting, K: Keyspace + Drop> Primary<E, K> {
         ensures work { OnOk result (self.new.back.work.items ≡ []) }
         ensures opening { IfOk result (λ opening. (opening.position ≡ (E.contents self.new.back.committer.engine).current.position)
             × IsOpening (E.contents self.new.back.committer.engine) opening) }
+        ensures floor { IfOk result (λ opening. opening.floor ≡ (E.contents self.new.back.committer.engine).current.floor) }
         ensures leads { IfOk result (λ opening. LeadsTo (E.contents self.new.back.committer.engine) opening (records (self.new.front.sequencer).table)) }
         // what the image recalls of the past is kept, and what a standby is told leads from each position there
-        ensures keeps { OnOk result ((low : ℕ) (past : Past) → AreKeyspaces past → ImageRecalls low past (image_of (E.device self.old.back.committer.engine).words)
-            → BackKeeps E.contents low past self.new.back self.new.front.sequencer) }
-        ensures delta { IfOk result (λ opening. (low : ℕ) (past : Past) → AreKeyspaces past → ImageRecalls low past (image_of (E.device self.old.back.committer.engine).words)
-            → DeltaLeads low (E.contents self.new.back.committer.engine).current.position past opening) }
+        ensures keeps { OnOk result ((past : Past) → AreKeyspaces past → ImageRecalls past (image_of (E.device self.old.back.committer.engine).words)
+            → BackKeeps E.contents past self.new.back self.new.front.sequencer) }
+        ensures delta { IfOk result (λ opening. (past : Past) → AreKeyspaces past → ImageRecalls past (image_of (E.device self.old.back.committer.engine).words)
+            → DeltaLeads (E.contents self.new.back.committer.engine).current.position past opening) }
         ensures failures { ¬ IsErrOf result Refusal.Fault → (E.device self.new.back.committer.engine).failures ≡ (E.device self.old.back.committer.engine).failures }
         ensures refused { IfErr result (λ refusal. (refusal ≡ Refusal.Fault) ⊎ ((refusal ≡ Refusal.Memory)
             ⊎ (RefusesReopening (layout_in (image_of (E.device self.old.back.committer.engine).words)) (E.device self.old.back.committer.engine).lines
@@ -66,18 +67,19 @@ impl<E: Restarting, K: Keyspace + Drop> Primary<E, K> {
             → LeavesOnly (E.device self.old.back.committer.engine) (E.device self.new.back.committer.engine)
             (StaysReadable (E.device self.old.back.committer.engine).lines r (image_of (E.device self.old.back.committer.engine).words)) }
         // and at any moment a crash leaves an image that recalls what this one does
-        ensures leaves { (r : CommitRecord) (low : ℕ) (past : Past) → IsUndamaged (E.device self.old.back.committer.engine).lines r (image_of (E.device self.old.back.committer.engine).words)
-            → ImageRecalls low past (image_of (E.device self.old.back.committer.engine).words)
-            → LeavesOnly (E.device self.old.back.committer.engine) (E.device self.new.back.committer.engine) (ImageRecalls low past) }
+        ensures leaves { (r : CommitRecord) (past : Past) → IsUndamaged (E.device self.old.back.committer.engine).lines r (image_of (E.device self.old.back.committer.engine).words)
+            → ImageRecalls past (image_of (E.device self.old.back.committer.engine).words)
+            → LeavesOnly (E.device self.old.back.committer.engine) (E.device self.new.back.committer.engine) (ImageRecalls past) }
     {
         let versions = self.back.committer.restart(alloc, Role::Primary)?;
         let (layout, lines) = (self.back.committer.layout(), self.back.committer.lines());
+        let floor = self.back.floor();
         let at = (self.back.position(), self.back.epoch());
         let Resumed {
             sequencer,
             opening,
             keys: _,
-        } = resume(alloc, layout, lines, versions, at, hash_builder)?;
+        } = resume(alloc, layout, lines, versions, at, floor, hash_builder)?;
         drop_all(&mut self.back.work);
         self.front.sequencer = sequencer;
         Ok(opening)

@@ -31,14 +31,15 @@ pub(crate) struct Resumed<K: Keyspace> {
     pub(crate) keys: u64,
 }
 
-/// What a primary holds beside its engine, made of the versions that were read of its image; `layout` and `lines` are the image's, and `at` the position
-/// and the epoch of its record. Only `Memory`.
+/// What a primary holds beside its engine, made of the versions that were read of its image; `layout` and `lines` are the image's, `at` the position and the
+/// epoch of its record, and `floor` that record's floor. Only `Memory`.
 pub(crate) fn resume<K: Keyspace + Drop>(
     alloc: Global,
     layout: Layout,
     lines: u64,
     versions: Versions,
     at: (u64, u64),
+    floor: u64,
     hash_builder: RandomState,
 ) -> Result<Resumed<K>, Refusal>
     requires read { (contents : Contents) × (contents.current.layout ≡ layout) × (contents.lines ≡ lines) × (contents.current.position ≡ at.0)
@@ -48,13 +49,14 @@ pub(crate) fn resume<K: Keyspace + Drop>(
         → contents.current.epoch ≡ at.1 → AreOf contents versions.counted.items versions.gapped.items → IsOver contents resumed.sequencer) }
     ensures opening { IfOk result (λ resumed. (resumed.opening.position ≡ at.0) × ((contents : Contents) → contents.current.layout ≡ layout → contents.lines ≡ lines
         → AreOf contents versions.counted.items versions.gapped.items → IsOpening contents resumed.opening)) }
+    ensures floor { IfOk result (λ resumed. resumed.opening.floor ≡ floor) }
     ensures keys { IfOk result (λ resumed. resumed.keys ≡ length (keys_of (records (resumed.sequencer).table))) }
     ensures cause { IfErr result (λ refusal. refusal ≡ Refusal.Memory) }
 {
     let (keyspace, room, ended): (K, Rebuilt, Vec<RecordId>) = read_versions(
         alloc, layout, lines, versions,
     )?;
-    start(alloc, keyspace, room, ended, at, hash_builder)
+    start(alloc, keyspace, room, ended, at, floor, hash_builder)
 }
 
 /// Makes a keyspace, a heap and the records with versions that have ended of the versions that were read of an image of this layout and `lines` lines. Only `Memory`.
@@ -83,14 +85,15 @@ fn read_versions<K: Keyspace + Drop>(
     Ok((keyspace, room, ended))
 }
 
-/// What a primary holds beside its engine, over this keyspace and this room; `ended` are the records that have versions which ended, and `at` is the
-/// position and the epoch of the engine's record. Only `Memory`.
+/// What a primary holds beside its engine, over this keyspace and this room; `ended` are the records that have versions which ended, `at` is the position and
+/// the epoch of the engine's record, and `floor` that record's floor. Only `Memory`.
 fn start<K: Keyspace + Drop>(
     alloc: Global,
     keyspace: K,
     room: Rebuilt,
     ended: Vec<RecordId>,
     at: (u64, u64),
+    floor: u64,
     hash_builder: RandomState,
 ) -> Result<Resumed<K>, Refusal>
     requires rebuilt { (contents : Contents) × (contents.current.position ≡ at.0) × IsRebuilt contents (K.table keyspace) room.heap
@@ -100,10 +103,11 @@ fn start<K: Keyspace + Drop>(
         → IsRebuilt contents (K.table keyspace) room.heap → AreEndedOf contents (numbers_of room.ended.items) → IsOver contents resumed.sequencer) }
     ensures opening { IfOk result (λ resumed. (resumed.opening.position ≡ at.0) × ((contents : Contents) → IsRebuilt contents (K.table keyspace) room.heap
         → AreIdsEnded contents ended.items → IsOpening contents resumed.opening)) }
+    ensures floor { IfOk result (λ resumed. resumed.opening.floor ≡ floor) }
     ensures keys { IfOk result (λ resumed. resumed.keys ≡ length (keys_of (records (resumed.sequencer).table))) }
     ensures cause { IfErr result (λ refusal. refusal ≡ Refusal.Memory) }
 {
-    let opening = Opening::new(alloc, &keyspace, ended, at.0)?;
+    let opening = Opening::new(alloc, &keyspace, ended, at.0, floor)?;
     let keys = keyspace.count_keys();
     Ok(Resumed {
         sequencer: Sequencer::new(alloc, keyspace, room, at.0, at.1, hash_builder)?,

@@ -25,29 +25,29 @@ module _ {E : Type 0} (device : E → State) (contents : E → Contents) (is_fau
   -- ---- steps
 
   -- now
-  back-leaves : (back : Back E) (s : Sequencing) (low : ℕ) (past : Past) → Over back s → BackKeeps contents low past back s
-      → LeavesOnly (device back.committer.engine) (device back.committer.engine) (ImageRecalls low past)
-  back-leaves back s low past over kept =
-      none_leaves (device back.committer.engine) (ImageRecalls low past)
-      (λ image is. crash-recalls low past (device back.committer.engine) (contents back.committer.engine) back.work.items back.committer.aside.items s [] image over kept is)
+  back-leaves : (back : Back E) (s : Sequencing) (past : Past) → Over back s → BackKeeps contents past back s
+      → LeavesOnly (device back.committer.engine) (device back.committer.engine) (ImageRecalls past)
+  back-leaves back s past over kept =
+      none_leaves (device back.committer.engine) (ImageRecalls past)
+      (λ image is. crash-recalls past (device back.committer.engine) (contents back.committer.engine) back.work.items back.committer.aside.items s [] image over kept is)
 
   module _ (remote : ℕ) where
     pub through-none : {T : Type 0} (back : Back E) (x : T) → KeepsThrough device contents is_faulted {T = T} remote back (Ok x) back
     through-none {T} back x = record {
-      kept = λ s low past passed over kept. kept;
+      kept = λ s past over kept. kept;
       sound = λ sound. sound;
-      leaves = λ sound s low past passed over kept. back-leaves back s low past over kept;
+      leaves = λ sound s past over kept. back-leaves back s past over kept;
     }
 
     pub through-then : {T U : Type 0} (old between new : Back E) (x : T) (came : Result U Refusal) → ((s : Sequencing) → Over old s → Over between s)
         → KeepsThrough device contents is_faulted {T = T} remote old (Ok x) between → KeepsThrough device contents is_faulted remote between came new
         → KeepsThrough device contents is_faulted remote old came new
     through-then {T} {U} old between new x came stands one other = record {
-      kept = λ s low past passed over kept. other.kept s low past passed (stands s over) (one.kept s low past passed over kept);
+      kept = λ s past over kept. other.kept s past (stands s over) (one.kept s past over kept);
       sound = λ sound. other.sound (one.sound sound);
-      leaves = λ sound s low past passed over kept.
-          LeavesOnly-then (one.leaves sound s low past passed over kept)
-          (other.leaves (one.sound sound) s low past passed (stands s over) (one.kept s low past passed over kept));
+      leaves = λ sound s past over kept.
+          LeavesOnly-then (one.leaves sound s past over kept)
+          (other.leaves (one.sound sound) s past (stands s over) (one.kept s past over kept));
     }
 
     -- whatever is answered
@@ -57,7 +57,7 @@ module _ {E : Type 0} (device : E → State) (contents : E → Contents) (is_fau
     pub through-err : {T U : Type 0} (old new : Back E) (x : Refusal) (came : Result U Refusal) (y : Refusal) → came ≡ Err y → KeepsThrough device contents is_faulted {T = T} remote old (Err x) new
         → KeepsThrough device contents is_faulted remote old came new
     through-err {T} {U} old new x came y is one =
-        subst (λ (r : Result U Refusal). KeepsThrough device contents is_faulted remote old r new) (sym is) (record { kept = λ s low past passed over kept. tt; sound = λ sound. tt; leaves = one.leaves })
+        subst (λ (r : Result U Refusal). KeepsThrough device contents is_faulted remote old r new) (sym is) (record { kept = λ s past over kept. tt; sound = λ sound. tt; leaves = one.leaves })
 
   -- ---- a job, wherever it is
 
@@ -97,28 +97,28 @@ module _ {E : Type 0} (device : E → State) (contents : E → Contents) (is_fau
   pub through-same : (remote : ℕ) (job : Jobs) (s : Sequencing) → JobStands job s → Through remote job s job s
   through-same remote (Some job) s over = record {
     at = refl;
-    kept = λ low past passed kept. kept;
+    kept = λ past kept. kept;
     sound = λ sound. sound;
-    leaves = λ sound low past passed kept. back-leaves job.back s low past over kept;
+    leaves = λ sound past kept. back-leaves job.back s past over kept;
   }
   through-same remote None s over = absurd over
 
   pub through-raised : (remote higher : ℕ) (job job' : Jobs) (s s' : Sequencing) → remote ≤ higher → Through remote job s job' s' → Through higher job s job' s'
   through-raised remote higher job job' s s' rises one = record {
     at = one.at;
-    kept = λ low past passed kept. one.kept low past (omega (arith, rises, passed)) kept;
+    kept = λ past kept. one.kept past kept;
     sound = one.sound;
-    leaves = λ sound low past passed kept. one.leaves sound low past (omega (arith, rises, passed)) kept;
+    leaves = λ sound past kept. one.leaves sound past kept;
   }
 
   pub job-through-then : (remote : ℕ) (first second third : Jobs) (s between s' : Sequencing) → Through remote first s second between → Through remote second between third s' → Through remote first s third s'
   job-through-then remote first second third s between s' one other = record {
     at = other.at ∙ one.at;
-    kept = λ low past passed kept. other.kept low past passed (one.kept low past passed kept);
+    kept = λ past kept. other.kept past (one.kept past kept);
     sound = λ sound. other.sound (one.sound sound);
-    leaves = λ sound low past passed kept.
-        leaves-then (ImageRecalls low past) first second third (one.leaves sound low past passed kept)
-        (other.leaves (one.sound sound) low past passed (one.kept low past passed kept));
+    leaves = λ sound past kept.
+        leaves-then (ImageRecalls past) first second third (one.leaves sound past kept)
+        (other.leaves (one.sound sound) past (one.kept past kept));
   }
 
   -- the same, by other names
@@ -127,37 +127,37 @@ module _ {E : Type 0} (device : E → State) (contents : E → Contents) (is_fau
 
   -- what waited was closed, and nothing else was done to the job
   pub through-closed : (remote : ℕ) (job job' : CommitJob E) (s s' : Sequencing) → Over job.back s → job'.back.committer ≡ job.back.committer → s'.position ≡ s.position
-      → ((low : ℕ) (past : Past) → BackKeeps contents low past job.back s → BackKeeps contents low past job'.back s') → Through remote (Some job) s (Some job') s'
+      → ((past : Past) → BackKeeps contents past job.back s → BackKeeps contents past job'.back s') → Through remote (Some job) s (Some job') s'
   through-closed remote job job' s s' over committer at keeps =
       let engine : job'.back.committer.engine ≡ job.back.committer.engine = ap (λ (c : Committer E). c.engine) committer in
       record {
         at = at;
-        kept = λ low past passed kept. keeps low past kept;
+        kept = λ past kept. keeps past kept;
         sound = λ sound. ap is_faulted engine ∙ sound;
-        leaves = λ sound low past passed kept.
-            subst (λ (e : E). LeavesOnly (device job.back.committer.engine) (device e) (ImageRecalls low past)) (sym engine) (back-leaves job.back s low past over kept);
+        leaves = λ sound past kept.
+            subst (λ (e : E). LeavesOnly (device job.back.committer.engine) (device e) (ImageRecalls past)) (sym engine) (back-leaves job.back s past over kept);
       }
 
   -- its steps were taken, and the front was told of what they gave back
   pub through-steps : (remote : ℕ) (job job' : CommitJob E) (s s' : Sequencing) (stepped : Stepped) → job.remote ≤ remote → Over job.back s → job'.came ≡ Ok stepped → s'.position ≡ s.position
-      → KeepsThrough device contents is_faulted job.remote job.back job'.came job'.back → ((low : ℕ) (past : Past) → BackKeeps contents low past job'.back s → BackKeeps contents low past job'.back s')
+      → KeepsThrough device contents is_faulted job.remote job.back job'.came job'.back → ((past : Past) → BackKeeps contents past job'.back s → BackKeeps contents past job'.back s')
       → Through remote (Some job) s (Some job') s'
   through-steps remote job job' s s' stepped goes_by over came at steps told =
       let did = subst (λ (r : Result Stepped Refusal). KeepsThrough device contents is_faulted job.remote job.back r job'.back) came steps in
       record {
         at = at;
-        kept = λ low past passed kept. told low past (did.kept s low past (omega (arith, goes_by, passed)) over kept);
+        kept = λ past kept. told past (did.kept s past over kept);
         sound = did.sound;
-        leaves = λ sound low past passed kept. did.leaves sound s low past (omega (arith, goes_by, passed)) over kept;
+        leaves = λ sound past kept. did.leaves sound s past over kept;
       }
 
   -- ---- while calls are made
 
-  job-goes-on : (job : Jobs) (s s' : Sequencing) → JobStands job s → Serves s s' → (low : ℕ) (past : Past) → AreKeyspaces past → JobKeeps device contents is_faulted low past job s
-      → (later : Past) × AreKeyspaces later × AgreeUpTo s.position past later × JobKeeps device contents is_faulted low later job s'
-  job-goes-on (Some job) s s' over serves low past keyspaces kept =
-      serves.goes_on low past (contents job.back.committer.engine) job.back.work.items job.back.committer.aside.items over.leads keyspaces kept
-  job-goes-on None s s' over serves low past keyspaces kept = absurd over
+  job-goes-on : (job : Jobs) (s s' : Sequencing) → JobStands job s → Serves s s' → (past : Past) → AreKeyspaces past → JobKeeps device contents is_faulted past job s
+      → (later : Past) × AreKeyspaces later × AgreeUpTo s.position past later × JobKeeps device contents is_faulted later job s'
+  job-goes-on (Some job) s s' over serves past keyspaces kept =
+      serves.goes_on (contents job.back.committer.engine).current.floor past (contents job.back.committer.engine) job.back.work.items job.back.committer.aside.items over.leads keyspaces kept
+  job-goes-on None s s' over serves past keyspaces kept = absurd over
 
   -- a round: connections are served between two looks at the job
   pub goes-round : (remote : ℕ) (first second third : Jobs) (s tended served s' : Sequencing) → Through remote first s second tended → JobStands second tended → Serves tended served
@@ -165,15 +165,15 @@ module _ {E : Type 0} (device : E → State) (contents : E → Contents) (is_fau
   goes-round remote first second third s tended served s' one over serves other = record {
     rises = omega (arith, one.at, serves.rises, other.at);
     sound = λ sound. other.sound (one.sound sound);
-    goes_on = λ low past passed keyspaces kept.
-        let later = job-goes-on second tended served over serves low past keyspaces (one.kept low past passed kept) in (
+    goes_on = λ past keyspaces kept.
+        let later = job-goes-on second tended served over serves past keyspaces (one.kept past kept) in (
           later.0,
           later.1,
           (λ p within. later.2 p (omega (arith, within, one.at))),
-          other.kept low later.0 passed later.3,
+          other.kept later.0 later.3,
           λ sound.
-              leaves-then _ first second third (leaves-wider (ImageRecalls low past) _ first second (λ image was. inl was) (one.leaves sound low past passed kept))
-              (leaves-wider (ImageRecalls low later.0) _ second third (λ image is. inr is) (other.leaves (one.sound sound) low later.0 passed later.3)),
+              leaves-then _ first second third (leaves-wider (ImageRecalls past) _ first second (λ image was. inl was) (one.leaves sound past kept))
+              (leaves-wider (ImageRecalls later.0) _ second third (λ image is. inr is) (other.leaves (one.sound sound) later.0 later.3)),
         );
   }
 
@@ -188,12 +188,12 @@ module _ {E : Type 0} (device : E → State) (contents : E → Contents) (is_fau
       record {
         rises = le_refl s.position;
         sound = λ sound. sound;
-        goes_on = λ low past passed keyspaces kept. (
+        goes_on = λ past keyspaces kept. (
           past,
           keyspaces,
           (λ p within. refl),
           kept,
-          λ sound. leaves-wider (ImageRecalls low past) _ job job (λ image is. (past, (λ p within. refl), is)) (same.leaves sound low past passed kept),
+          λ sound. leaves-wider (ImageRecalls past) _ job job (λ image is. (past, (λ p within. refl), is)) (same.leaves sound past kept),
         );
       }
 
@@ -201,7 +201,7 @@ module _ {E : Type 0} (device : E → State) (contents : E → Contents) (is_fau
   run-raised remote higher job job' s s' rises one = record {
     rises = one.rises;
     sound = one.sound;
-    goes_on = λ low past passed keyspaces kept. one.goes_on low past (omega (arith, rises, passed)) keyspaces kept;
+    goes_on = λ past keyspaces kept. one.goes_on past keyspaces kept;
   }
 
   pub run-more : (remote : ℕ) (first second third : Jobs) (s between s' : Sequencing) → Run remote first s second between → PastGoesOn device contents is_faulted remote second between third s'
@@ -209,9 +209,9 @@ module _ {E : Type 0} (device : E → State) (contents : E → Contents) (is_fau
   run-more remote first second third s between s' one other = record {
     rises = omega (arith, one.rises, other.rises);
     sound = λ sound. other.sound (one.sound sound);
-    goes_on = λ low past passed keyspaces kept.
-        let before = one.goes_on low past passed keyspaces kept in
-        let after = other.goes_on low before.0 passed before.1 before.3 in
+    goes_on = λ past keyspaces kept.
+        let before = one.goes_on past keyspaces kept in
+        let after = other.goes_on before.0 before.1 before.3 in
         let agrees : AgreeUpTo s.position past after.0 = λ p within. after.2 p (omega (arith, within, one.rises)) ∙ before.2 p within in (
           after.0,
           after.1,

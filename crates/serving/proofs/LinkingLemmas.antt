@@ -21,11 +21,12 @@ pub link-of : (contents : Contents) (s : Sequencing) (opening : Opening) (positi
 link-of contents s opening position epoch keys sender receiver consistent opened begun = record {
   link = begun.link ∙ ap new_stream opened.epoch_is;
   opened_at = ap (λ (o : Opening). o.position) begun.told ∙ opened.opened_at;
+  floor = ap (λ (o : Opening). o.floor) begun.told ∙ opened.floor;
   told = subst (IsOpening contents) (sym begun.told) opened.opening_is;
   leads = subst (λ (o : Opening). LeadsTo contents o (records s.table)) (sym begun.told) opened.leads;
-  delta = λ low past lines' image keyspaces recalled reopened.
-      subst (DeltaLeads low contents.current.position past) (sym begun.told)
-      (delta-leads low past lines' image role.Primary contents recalled reopened s opened.over consistent keyspaces opening opened.opened_at opened.leads);
+  delta = λ past lines' image keyspaces recalled reopened.
+      subst (DeltaLeads contents.current.position past) (sym begun.told)
+      (delta-leads past lines' image role.Primary contents recalled reopened s opened.over consistent keyspaces opening opened.opened_at opened.floor opened.leads);
   fits = subst (λ (o : Opening). (from : ℕ) → changes_size (delta_changes o from) ≤ 2 ^ 40) (sym begun.told) opened.fits;
   counts_in = begun.counts_in ∙ opened.epoch_is;
   behind = begun.behind;

@@ -231,18 +231,18 @@ module _ {E : Type 0} (device : E → State) (contents : E → Contents) (is_fau
   no-does : (s : Sequencing) (job : CommitJob E) → DoesOr s job s job
   no-does s job = inl (does-by s s job job (no-acts (node s [] job.back) job.groups))
 
-  steps-taken : (heard : ℕ) (job : CommitJob E) (lender : EndView (CommitJob E)) (old : Sequencing) (home' : Option (CommitJob E)) (lender' : EndView (CommitJob E)) (new : Sequencing) (it : JobCame)
-      → HasStepsTaken device contents is_faulted heard job lender old home' lender' new it → JobActs old job home' lender' new
-  steps-taken heard job lender old home' lender' new came.Away taken = absurd taken
-  steps-taken heard job lender old home' lender' new came.Rests (due, home, lent, same) = rw (home, same) (record { job' = job; is_job = refl; does = no-does old job })
-  steps-taken heard job lender old home' lender' new came.Lent (due, long, home, lent, same) = rw (home, lent, same) (record { job' = job; is_job = refl; does = no-does old job })
-  steps-taken heard job lender old home' lender' new (came.Stepped did) (due, short, job', home, lent, back) = rw home (record { job' = job'; is_job = refl; does = comes-acts job job' old new did back })
+  steps-taken : (heard : ℕ) (is_short : Bool) (job : CommitJob E) (lender : EndView (CommitJob E)) (old : Sequencing) (home' : Option (CommitJob E)) (lender' : EndView (CommitJob E)) (new : Sequencing) (it : JobCame)
+      → HasStepsTaken device contents is_faulted heard is_short job lender old home' lender' new it → JobActs old job home' lender' new
+  steps-taken heard is_short job lender old home' lender' new came.Away taken = absurd taken
+  steps-taken heard is_short job lender old home' lender' new came.Rests (due, home, lent, same) = rw (home, same) (record { job' = job; is_job = refl; does = no-does old job })
+  steps-taken heard is_short job lender old home' lender' new came.Lent (due, long, home, lent, same) = rw (home, lent, same) (record { job' = job; is_job = refl; does = no-does old job })
+  steps-taken heard is_short job lender old home' lender' new (came.Stepped did) (due, short, job', home, lent, back) = rw home (record { job' = job'; is_job = refl; does = comes-acts job job' old new did back })
 
   tends-job : (read : MarkView) (is_short : Bool) (gathering noted : Gathering) (job : CommitJob E) (lender : EndView (CommitJob E)) (old : Sequencing) (home' : Option (CommitJob E)) (lender' : EndView (CommitJob E))
       (new : Sequencing) (tended : Tended) → is_ok tended.closed ≡ true → TendsJob device contents is_faulted read is_short gathering noted job lender old home' lender' new tended → JobActs old job home' lender' new
   tends-job read is_short gathering noted job lender old home' lender' new tended ok tends =
       let ready = tends.ready in
-      let taken = steps-taken read.heard ready lender tends.between home' lender' new tended.job tends.steps in
+      let taken = steps-taken read.heard is_short ready lender tends.between home' lender' new tended.job tends.steps in
       let closes = by tended.closed ok tends.closes in
       let first : Does old job tends.between ready =
       record {

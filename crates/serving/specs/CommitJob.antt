@@ -76,7 +76,7 @@ module _ {E : Type 0} (device : E → State) (contents : E → Contents) where
           (between : Back E) × (at : RingOutlet Group P) × IsStep remote old link came between at × AreSteps remote between at all new link'
 
     -- All steps were taken by the remote mark of the job, which stays, until they end. Each sequencer that was ahead of it is so after them, what they
-    -- committed is shown, and what was kept of the past is, if the standby has passed that mark.
+    -- committed is shown, and what was kept of the past is.
     abbrev pub DoesSteps : CommitJob E → CommitJob E → Type 0
     DoesSteps old new =
         ((s : Sequencing) → BackStands device contents old.back s [] → StandsAfter new.back s new.came)

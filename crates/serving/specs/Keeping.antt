@@ -18,14 +18,14 @@ job_of None lent = lent
 
 -- by what is known of an engine
 module _ {E : Type 0} (device : E → State) (contents : E → Contents) (is_faulted : E → Bool) where
-  -- Steps were taken by this remote mark, and came to this. Where the standby has passed that mark, each past that was kept of what was in hand is kept, and
-  -- at any moment a crash leaves an image that recalls it.
+  -- Steps were taken by this remote mark, and came to this. Each past that was kept of what was in hand is kept, and at any moment a crash leaves an image
+  -- that recalls it.
   pub record KeepsThrough {T : Type 0} (remote : ℕ) (old : Back E) (came : Result T Refusal) (new : Back E) : Type 0 where
-    pub kept : (s : Sequencing) (low : ℕ) (past : Past) → remote ≤ low → BackStands device contents old s [] → BackKeeps contents low past old s
-        → OnOk came (BackKeeps contents low past new s)
+    pub kept : (s : Sequencing) (past : Past) → BackStands device contents old s [] → BackKeeps contents past old s
+        → OnOk came (BackKeeps contents past new s)
     pub sound : is_faulted old.committer.engine ≡ false → OnOk came (is_faulted new.committer.engine ≡ false)
-    pub leaves : is_faulted old.committer.engine ≡ false → (s : Sequencing) (low : ℕ) (past : Past) → remote ≤ low → BackStands device contents old s []
-        → BackKeeps contents low past old s → LeavesOnly (device old.committer.engine) (device new.committer.engine) (ImageRecalls low past)
+    pub leaves : is_faulted old.committer.engine ≡ false → (s : Sequencing) (past : Past) → BackStands device contents old s []
+        → BackKeeps contents past old s → LeavesOnly (device old.committer.engine) (device new.committer.engine) (ImageRecalls past)
 
   -- ---- a job, wherever it is
 
@@ -35,9 +35,9 @@ module _ {E : Type 0} (device : E → State) (contents : E → Contents) (is_fau
   IsSound None = ⊥
 
   -- what it has in hand keeps the past, with this sequencer
-  abbrev pub JobKeeps : ℕ → Past → Option (CommitJob E) → Sequencing → Type 0
-  JobKeeps low past (Some job) s = BackKeeps contents low past job.back s
-  JobKeeps low past None s = ⊥
+  abbrev pub JobKeeps : Past → Option (CommitJob E) → Sequencing → Type 0
+  JobKeeps past (Some job) s = BackKeeps contents past job.back s
+  JobKeeps past None s = ⊥
 
   -- at any moment from the first to the second a crash left only such images
   abbrev pub JobLeaves : (Image → Type 0) → Option (CommitJob E) → Option (CommitJob E) → Type 0
@@ -48,22 +48,22 @@ module _ {E : Type 0} (device : E → State) (contents : E → Contents) (is_fau
   -- image that recalls it.
   pub record JobKeepsThrough (remote : ℕ) (job : Option (CommitJob E)) (old : Sequencing) (job' : Option (CommitJob E)) (new : Sequencing) : Type 0 where
     pub at : new.position ≡ old.position
-    pub kept : (low : ℕ) (past : Past) → remote ≤ low → JobKeeps low past job old → JobKeeps low past job' new
+    pub kept : (past : Past) → JobKeeps past job old → JobKeeps past job' new
     pub sound : IsSound job → IsSound job'
-    pub leaves : IsSound job → (low : ℕ) (past : Past) → remote ≤ low → JobKeeps low past job old → JobLeaves (ImageRecalls low past) job job'
+    pub leaves : IsSound job → (past : Past) → JobKeeps past job old → JobLeaves (ImageRecalls past) job job'
 
   -- The same where calls were made too: the past goes on, and the image recalls it as it was or as it is.
   pub record PastGoesOn (remote : ℕ) (job : Option (CommitJob E)) (old : Sequencing) (job' : Option (CommitJob E)) (new : Sequencing) : Type 0 where
-    pub goes_on : (low : ℕ) (past : Past) → remote ≤ low → AreKeyspaces past → JobKeeps low past job old
-        → (later : Past) × AreKeyspaces later × AgreeUpTo old.position past later × JobKeeps low later job' new
-        × (IsSound job → JobLeaves (λ image. ImageRecalls low past image ⊎ ImageRecalls low later image) job job')
+    pub goes_on : (past : Past) → AreKeyspaces past → JobKeeps past job old
+        → (later : Past) × AreKeyspaces later × AgreeUpTo old.position past later × JobKeeps later job' new
+        × (IsSound job → JobLeaves (λ image. ImageRecalls past image ⊎ ImageRecalls later image) job job')
     pub rises : old.position ≤ new.position
     pub sound : IsSound job → IsSound job'
 
   -- The same over any number of rounds: at any moment the image recalls a past that goes on from the first.
   pub record RunGoesOn (remote : ℕ) (job : Option (CommitJob E)) (old : Sequencing) (job' : Option (CommitJob E)) (new : Sequencing) : Type 0 where
-    pub goes_on : (low : ℕ) (past : Past) → remote ≤ low → AreKeyspaces past → JobKeeps low past job old
-        → (later : Past) × AreKeyspaces later × AgreeUpTo old.position past later × JobKeeps low later job' new
-        × (IsSound job → JobLeaves (λ image. (between : Past) × AgreeUpTo old.position past between × ImageRecalls low between image) job job')
+    pub goes_on : (past : Past) → AreKeyspaces past → JobKeeps past job old
+        → (later : Past) × AreKeyspaces later × AgreeUpTo old.position past later × JobKeeps later job' new
+        × (IsSound job → JobLeaves (λ image. (between : Past) × AgreeUpTo old.position past between × ImageRecalls between image) job job')
     pub rises : old.position ≤ new.position
     pub sound : IsSound job → IsSound job'

@@ -14,12 +14,12 @@ use Rattle.links.specs.declared.receiver.AckReceiver.{AckReceiver}
 use Rattle.links.specs.declared.sender.LinkSender.{LinkSender}
 use Rattle.links.specs.declared.standing.Standing.TheVariants.{Behind}
 
--- Of a primary whose image was opened with these contents: whatever the past, from each position at which that image recalls its keyspace, the delta that is
--- sent leads to the keyspace that was opened.
+-- Of a primary whose image was opened with these contents: whatever the past, from each position from its floor on, the delta that is sent leads to the
+-- keyspace that was opened.
 abbrev pub LeadsFromEach : Contents → LinkSender → Type 0
 LeadsFromEach contents sender =
-    (low : ℕ) (past : Past) (lines' : ℕ) (image : Image) → AreKeyspaces past → ImageRecalls low past image → IsReopened lines' image role.Primary contents
-    → DeltaLeads low contents.current.position past sender.outgoing.opening
+    (past : Past) (lines' : ℕ) (image : Image) → AreKeyspaces past → ImageRecalls past image → IsReopened lines' image role.Primary contents
+    → DeltaLeads contents.current.position past sender.outgoing.opening
 
 -- Both ends are of the image that was opened with these contents: frames and acknowledgements are of its record's epoch, and what a standby is told that is
 -- behind is what was in it, at its position; from wherever the image recalls the keyspace at which the standby stands, that leads to the one that is served.
@@ -27,6 +27,8 @@ LeadsFromEach contents sender =
 pub record IsLinkOf (contents : Contents) (s : Sequencing) (sender : LinkSender) (receiver : AckReceiver) : Type 0 where
   pub link : sender.outgoing.link ≡ new_stream contents.current.epoch
   pub opened_at : sender.outgoing.opening.position ≡ contents.current.position
+  -- a standby below it, but for one at 0, is not served
+  pub floor : sender.outgoing.opening.floor ≡ contents.current.floor
   pub told : IsOpening contents sender.outgoing.opening
   pub leads : LeadsTo contents sender.outgoing.opening (records s.table)
   pub delta : LeadsFromEach contents sender

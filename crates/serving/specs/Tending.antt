@@ -17,7 +17,7 @@ use Rattle.primary.specs.Standing.{IsTold}
 use Rattle.serving.specs.Closing.{ClosesBoth, LacksBoth}
 use Rattle.serving.specs.CommitJob.{DoesSteps}
 use Rattle.serving.specs.Serving.{Serves}
-use Rattle.serving.specs.Steps.{does_step}
+use Rattle.serving.specs.Steps.{does_step, is_free_worth}
 use Rattle.serving.specs.Visiting.{ServesRound}
 use Rattle.serving.specs.declared.commit_job.CommitJob.{CommitJob}
 use Rattle.serving.specs.declared.committing.Stepped.{Stepped}
@@ -70,20 +70,20 @@ module _ {E : Type 0} (device : E → State) (contents : E → Contents) (is_fau
       (home ≡ None) × (lent : CommitJob E) × (job : CommitJob E) × (lender.value ≡ Some lent) × (home' ≡ Some job)
       × (lender' ≡ record lender { value = None; asked = lender.asked + 1; found = RETURNED }) × ComesBack lent job old new did
 
-  -- whether a step of the job is due, by its remote mark: none is before the standby was heard, whose word is 1 from then on
-  abbrev pub is_due : ℕ → CommitJob E → Bool
-  is_due heard job =
+  -- whether a step of the job is to be taken, by its remote mark: none is before the standby was heard, whose word is 1 from then on
+  abbrev pub is_due : ℕ → Bool → CommitJob E → Bool
+  is_due heard is_short job =
       let has_room = nat_lt 0 (known_free job.groups.producer) in
-      nat_eq heard 1 && does_step has_room (due_now contents job.back.committer job.back.work has_room job.remote)
+      nat_eq heard 1 && does_step has_room (is_free_worth is_short job.remote (contents job.back.committer.engine).current.floor) (due_now contents job.back.committer job.back.work has_room job.remote)
 
   -- Where a step of the job is due it is lent, if steps took long, or else its steps are taken here. Otherwise it rests here.
-  abbrev pub HasStepsTaken : ℕ → CommitJob E → EndView (CommitJob E) → Sequencing → Option (CommitJob E) → EndView (CommitJob E) → Sequencing → JobCame → Type 0
-  HasStepsTaken heard job lender old home' lender' new came.Away = ⊥
-  HasStepsTaken heard job lender old home' lender' new came.Rests = (is_due heard job ≡ false) × (home' ≡ Some job) × (lender' ≡ lender) × (new ≡ old)
-  HasStepsTaken heard job lender old home' lender' new came.Lent =
-      (is_due heard job ≡ true) × (job.step_time.is_long ≡ true) × (home' ≡ None) × (lender' ≡ record lender { value = Some job }) × (new ≡ old)
-  HasStepsTaken heard job lender old home' lender' new (came.Stepped did) =
-      (is_due heard job ≡ true) × (job.step_time.is_long ≡ false) × (job' : CommitJob E) × (home' ≡ Some job') × (lender' ≡ lender) × ComesBack job job' old new did
+  abbrev pub HasStepsTaken : ℕ → Bool → CommitJob E → EndView (CommitJob E) → Sequencing → Option (CommitJob E) → EndView (CommitJob E) → Sequencing → JobCame → Type 0
+  HasStepsTaken heard is_short job lender old home' lender' new came.Away = ⊥
+  HasStepsTaken heard is_short job lender old home' lender' new came.Rests = (is_due heard is_short job ≡ false) × (home' ≡ Some job) × (lender' ≡ lender) × (new ≡ old)
+  HasStepsTaken heard is_short job lender old home' lender' new came.Lent =
+      (is_due heard is_short job ≡ true) × (job.step_time.is_long ≡ true) × (home' ≡ None) × (lender' ≡ record lender { value = Some job }) × (new ≡ old)
+  HasStepsTaken heard is_short job lender old home' lender' new (came.Stepped did) =
+      (is_due heard is_short job ≡ true) × (job.step_time.is_long ≡ false) × (job' : CommitJob E) × (home' ≡ Some job') × (lender' ≡ lender) × ComesBack job job' old new did
 
   -- What is due is closed, and then the job, which goes by the remote mark as it was read, is lent, or has its steps taken, or rests: always where the standby was
   -- not heard in this opening. So nothing is made durable before.
@@ -97,7 +97,7 @@ module _ {E : Type 0} (device : E → State) (contents : E → Contents) (is_fau
     pub by : ready.remote ≡ read.remote
     pub offered : offered_at ready.groups ≡ offered_at job.groups
     pub times : ready.step_time ≡ job.step_time
-    pub steps : HasStepsTaken read.heard ready lender between home' lender' new tended.job
+    pub steps : HasStepsTaken read.heard is_short ready lender between home' lender' new tended.job
 
   -- While the job is away nothing is closed.
   abbrev pub Tends : MarkView → Bool → Gathering → Gathering → Option (CommitJob E) → EndView (CommitJob E) → Sequencing → Option (CommitJob E) → EndView (CommitJob E) → Sequencing → Tended → Type 0

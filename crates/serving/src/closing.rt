@@ -40,7 +40,7 @@ pub(crate) fn close_due<E: Durable, K: Keyspace>(
     ensures committer { back.new.committer ≡ back.old.committer }
     // nothing is called, and what is kept of the past stays so
     ensures at { front.new.sequencer.position ≡ front.old.sequencer.position }
-    ensures past { (low : ℕ) (past : Past) → BackKeeps E.contents low past back.old front.old.sequencer → BackKeeps E.contents low past back.new front.new.sequencer }
+    ensures past { (past : Past) → BackKeeps E.contents past back.old front.old.sequencer → BackKeeps E.contents past back.new front.new.sequencer }
 {
     let is_closed = close_group(alloc, front, back, gathering, remote, is_short)?;
     let is_tight = is_short || (is_closed && !has_ample_room(front));
@@ -67,8 +67,8 @@ fn close_group<E: Durable, K: Keyspace>(
     ensures stands { BackStands E.device E.contents back.old front.old.sequencer [] → BackStands E.device E.contents back.new front.new.sequencer [] }
     ensures committer { back.new.committer ≡ back.old.committer }
     ensures at { front.new.sequencer.position ≡ front.old.sequencer.position }
-    ensures past { (low : ℕ) (past : Past) → BackStands E.device E.contents back.old front.old.sequencer [] → BackKeeps E.contents low past back.old front.old.sequencer
-        → BackKeeps E.contents low past back.new front.new.sequencer }
+    ensures past { (past : Past) → BackStands E.device E.contents back.old front.old.sequencer [] → BackKeeps E.contents past back.old front.old.sequencer
+        → BackKeeps E.contents past back.new front.new.sequencer }
 {
     let position = front.position();
     if !gathering.is_group_due(position, remote, is_short) {
@@ -101,8 +101,8 @@ fn close_list<E: Durable, K: Keyspace>(
     ensures stands { BackStands E.device E.contents back.old front.old.sequencer [] → BackStands E.device E.contents back.new front.new.sequencer [] }
     ensures committer { back.new.committer ≡ back.old.committer }
     ensures at { front.new.sequencer.position ≡ front.old.sequencer.position }
-    ensures past { (low : ℕ) (past : Past) → BackStands E.device E.contents back.old front.old.sequencer [] → BackKeeps E.contents low past back.old front.old.sequencer
-        → BackKeeps E.contents low past back.new front.new.sequencer }
+    ensures past { (past : Past) → BackStands E.device E.contents back.old front.old.sequencer [] → BackKeeps E.contents past back.old front.old.sequencer
+        → BackKeeps E.contents past back.new front.new.sequencer }
 {
     let ended = front.count_ended();
     if !gathering.is_list_due(front.position(), remote, is_short, ended) {

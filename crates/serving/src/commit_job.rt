@@ -96,7 +96,7 @@ pub(crate) fn settle<E: Durable, K: Keyspace>(
     ensures refused { IfErr result (λ refusal. job.now.came ≡ Err refusal) }
     // nothing is called, and what is kept of the past stays so
     ensures at { front.new.sequencer.position ≡ front.old.sequencer.position }
-    ensures past { (low : ℕ) (past : Past) → BackKeeps E.contents low past job.now.back front.old.sequencer → BackKeeps E.contents low past job.now.back front.new.sequencer }
+    ensures past { (past : Past) → BackKeeps E.contents past job.now.back front.old.sequencer → BackKeeps E.contents past job.now.back front.new.sequencer }
 {
     match &job.came {
         Ok(stepped) => {

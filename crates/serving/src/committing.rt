@@ -8,7 +8,7 @@ ghost use Rattle.primary.specs.Standing.{BackStands, notices_of, position_after}
 ghost use Rattle.serving.specs.CommitJob.{AreSteps, IsShown, IsStep};
 ghost use Rattle.serving.specs.Keeping.{KeepsThrough};
 ghost use Rattle.serving.specs.Stepping.{EndAs, does_something, is_passed, passed_on};
-ghost use Rattle.serving.specs.Steps.{does_step};
+ghost use Rattle.serving.specs.Steps.{does_step, is_free_worth};
 
 use group_commit::{Done, Due};
 use kv_types::Refusal;
@@ -30,20 +30,24 @@ pub(crate) struct Stepped {
     pub(crate) any: bool,
 }
 
-/// Whether a step of the committer is due that does something: a group that was told of is handed on only where the link has room.
+/// Whether a step of the committer is due that does something: a group that was told of is handed on only where the link has room. A free that needs a record
+/// of its own, for its floor, waits for the next commit, which writes one anyway, unless a request waits for room (`is_short`).
 fn is_step_due<E: Durable, O: Outlet<Item = Group>>(
     back: &Back<E>,
     groups: &mut O,
     remote: u64,
+    is_short: bool,
 ) -> bool
-    ensures due { let has_room = nat_lt 0 (O.known_room groups.new) in result ≡ does_step has_room (due_now E.contents back.now.committer back.now.work has_room remote) }
+    ensures due { let has_room = nat_lt 0 (O.known_room groups.new) in let is_worth = is_free_worth is_short remote (E.contents back.now.committer.engine).current.floor in
+        result ≡ does_step has_room is_worth (due_now E.contents back.now.committer back.now.work has_room remote) }
     ensures offered { O.offered groups.new ≡ O.offered groups.old }
 {
     let has_room = groups.room() > 0;
     match back.due(has_room, remote) {
         Due::Nothing => false,
         Due::Hand => has_room,
-        Due::Commit | Due::Raise | Due::Free | Due::Clear => true,
+        Due::Free => is_short || remote <= back.floor(),
+        Due::Commit | Due::Raise | Due::Clear => true,
     }
 }
 
@@ -53,11 +57,13 @@ pub(crate) fn is_due<E: Durable, O: Outlet<Item = Group>>(
     groups: &mut O,
     remote: u64,
     is_heard: bool,
+    is_short: bool,
 ) -> bool
-    ensures due { let has_room = nat_lt 0 (O.known_room groups.new) in result ≡ (is_heard && does_step has_room (due_now E.contents back.now.committer back.now.work has_room remote)) }
+    ensures due { let has_room = nat_lt 0 (O.known_room groups.new) in let is_worth = is_free_worth is_short remote (E.contents back.now.committer.engine).current.floor in
+        result ≡ (is_heard && does_step has_room is_worth (due_now E.contents back.now.committer back.now.work has_room remote)) }
     ensures offered { O.offered groups.new ≡ O.offered groups.old }
 {
-    let is_step_due = is_step_due(back, groups, remote);
+    let is_step_due = is_step_due(back, groups, remote, is_short);
     is_heard && is_step_due
 }
 
@@ -80,7 +86,7 @@ pub(crate) fn take_steps<E: Durable>(
         → BackStands E.device E.contents back.new s (notices_of stepped.last)) }
     ensures shown { OnOk result (IsShown E.device E.contents back.new marks.new) }
     ensures steps { (all : List (Result Came Cause)) × AreSteps E.device E.contents E.is_faulted remote back.old groups.old all back.new groups.new × EndAs all result }
-    // what was kept of the past is, where the standby has passed the remote mark
+    // what was kept of the past is
     ensures past { KeepsThrough E.device E.contents E.is_faulted remote back.old result back.new }
 {
     let mut any = false;

@@ -129,7 +129,7 @@ fn take_rounds<R: Wait + Clock, E: Durable + Drop, K: Keyspace>(
 ) -> Stop
     requires stands { IsHereOrLent E.device E.contents state.old.home state.old.lender.value state.old.front.sequencer }
     requires remote { (remote_of state.old.home ≤ state.old.marks.remote) × (remote_of state.old.lender.value ≤ state.old.marks.remote) }
-    // however many rounds there were: the past that was kept goes on, where the standby has passed the remote mark as it was read last
+    // however many rounds there were: the past that was kept goes on
     ensures past { result ≡ Stop.ListenerClosed → RunGoesOn E.device E.contents E.is_faulted state.new.marks.remote (job_of state.old.home state.old.lender.value)
         state.old.front.sequencer (job_of state.new.home state.new.lender.value) state.new.front.sequencer }
 {
@@ -167,7 +167,7 @@ fn take_round<R: Wait + Clock, E: Durable + Drop, K: Keyspace>(
     ensures round { IfOk result (TakesRound E.device E.contents E.is_faulted state.old.marks state.old.connections state.old.gathering
         state.old.home state.old.lender state.old.front.sequencer state.new.marks state.new.connections state.new.gathering
         state.new.home state.new.lender state.new.front.sequencer) }
-    // the past that was kept goes on, where the standby has passed the remote mark
+    // the past that was kept goes on
     ensures past { OnOk result (PastGoesOn E.device E.contents E.is_faulted state.new.marks.remote (job_of state.old.home state.old.lender.value) state.old.front.sequencer
         (job_of state.new.home state.new.lender.value) state.new.front.sequencer) }
     ensures shown { OnOk result (state.new.fill ≡ fill_of (state.new.front.sequencer).table (state.new.front.sequencer).room) }
@@ -337,7 +337,7 @@ fn commit<R: Clock, E: Durable + Drop, K: Keyspace>(
     let mut job = job;
     job.remote = remote;
     let closed = close_due(alloc, front, &mut job.back, gathering, remote, is_short);
-    if !is_due(&job.back, &mut job.groups, remote, is_heard) {
+    if !is_due(&job.back, &mut job.groups, remote, is_heard, is_short) {
         drop(home.replace(job));
         return Ok(Tended {
             closed,

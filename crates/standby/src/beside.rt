@@ -93,7 +93,7 @@ impl<E: Durable, K: Keyspace> Standby<E, K> {
             before,
             parts,
         };
-        self.engine.commit_and_free(&group, &self.ended)?;
+        self.engine.commit_and_free(&group, &self.ended, 0)?;
         give_all(&mut self.heap, &self.ended, &extents);
         let part = group.parts.pop().unwrap();
         self.ended = part.ended;

@@ -17,7 +17,7 @@ use model::{COUNTER_LIMIT, Group, Record, STAMP_WINDOW};
 use mv_keyspace::Keyspace;
 use placing::give_all;
 use std::alloc::Global;
-use wbl_engine::Durable;
+use wbl_engine::{Durable, free_unraised};
 
 impl<E: Durable, K: Keyspace> Standby<E, K> {
     /// Takes a frame of its epoch, or, at position 0, of a higher one. One of its epoch that ends at its position or below it is acknowledged again. One
@@ -104,7 +104,7 @@ impl<E: Durable, K: Keyspace> Standby<E, K> {
         if self.ended.is_empty() {
             return Ok(());
         }
-        let freed = self.engine.free(alloc, &self.ended)?;
+        let freed = free_unraised(&mut self.engine, alloc, &self.ended)?;
         give_all(&mut self.heap, &freed.entries, &freed.extents);
         self.ended.clear();
         Ok(())
@@ -150,7 +150,7 @@ impl<E: Durable, K: Keyspace> Standby<E, K> {
             before,
             parts,
         };
-        self.engine.commit(&group)?;
+        self.engine.commit(&group, 0)?;
         let part = group.parts.pop().unwrap();
         self.ended = part.ended;
         Ok(())

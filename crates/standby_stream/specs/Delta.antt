@@ -78,6 +78,10 @@ pub record IsDelta (epoch : ℕ) (opening : Opening) (from : ℕ) (frame : Frame
 abbrev pub LeadsTo : Contents → Opening → Keyspace → Type 0
 LeadsTo contents opening t = (from : ℕ) (s : Keyspace) → IsKeyspace s → Recalls contents.versions (λ i. Unit {0}) from s → play_all s (delta_changes opening from) ≡ t
 
+-- A delta may start at this position, with this floor: what ended above it is there still. A standby at 0 has nothing, so that puts are enough.
+abbrev pub IsServed : ℕ → ℕ → Type 0
+IsServed floor position = (position ≡ 0) ⊎ (floor ≤ position)
+
 -- ---- what is promised of it
 
 -- Played on the keyspace at a position that the versions recall, the delta from there leads to the keyspace of the live versions.

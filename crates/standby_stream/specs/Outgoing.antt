@@ -7,5 +7,6 @@ use Rattle.standby_stream.specs.declared.outgoing.Outgoing.{Outgoing}
 pub record Notes (position : ℕ) (old new : Outgoing) : Type 0 where
   pub link : new.link ≡ acknowledged position old.link
   pub opened_at : new.opening.position ≡ old.opening.position
+  pub floor : new.opening.floor ≡ old.opening.floor
   pub kept : new.link.known < old.opening.position → new.opening ≡ old.opening
   pub forgotten : old.opening.position ≤ new.link.known → (new.opening.gone.items ≡ []) × (new.opening.rows.items ≡ [])

@@ -1,12 +1,12 @@
 //! What a primary tells a standby that is behind the position at which it was opened.
-ghost use Rattle.std.specs.Prelude.{◌≡◌, ◌↔◌, ◌<◌, ◌≤◌, ◌++◌, [], Contains, None, Err, IfOk, IfErr, OnOk, filter, is_none, map, nat_lt};
+ghost use Rattle.std.specs.Prelude.{◌≡◌, ◌↔◌, ◌<◌, ◌≤◌, ◌++◌, [], Contains, None, Err, IfOk, IfErr, IsTrue, OnOk, filter, is_none, map, nat_lt};
 ghost use Rattle.std.specs.List.Sorted.{IsStrictlySortedBy};
 ghost use Rattle.kv_types.specs.declared.change.Change.TheVariants as kinds;
 ghost use Rattle.kv_types.specs.declared.record_id.RecordId.{RecordId};
 ghost use Rattle.kv_types.specs.Keyspace.{record_cmp, value_at};
 ghost use Rattle.mv_keyspace.specs.Row.{table_of};
 ghost use Rattle.mv_keyspace.specs.Table.{records, since};
-ghost use Rattle.standby_stream.specs.Delta.{IsDelta, ids_ended, put_of_row};
+ghost use Rattle.standby_stream.specs.Delta.{IsDelta, IsServed, ids_ended, put_of_row};
 
 use frames::Frame;
 use heap_layout::Entry;
@@ -19,6 +19,8 @@ use std::alloc::{AllocError, Global};
 pub struct Opening {
     /// The position of the list at which the primary was opened.
     pub position: u64,
+    /// The floor of its record then: what ended up to this position may have been freed.
+    pub floor: u64,
     /// Records that had a version that had ended and no live one, each once, in the order of records.
     pub gone: Vec<RecordId>,
     /// The live records, in that order.
@@ -29,18 +31,20 @@ impl Opening {
     /// That of a primary that was formatted. It takes no memory.
     pub fn none(alloc: Global) -> Opening
         ensures position { result.position ≡ 0 }
+        ensures floor { result.floor ≡ 0 }
         ensures gone { result.gone.items ≡ [] }
         ensures rows { result.rows.items ≡ [] }
     {
         Opening {
             position: 0,
+            floor: 0,
             gone: Vec::new(alloc),
             rows: Vec::new(alloc),
         }
     }
 
-    /// That of a primary that was opened at this position with this keyspace, where `ended` has the records of all versions that had ended, in any
-    /// order and any number of times. It takes some n log n steps for n records.
+    /// That of a primary that was opened at this position, with this floor and this keyspace, where `ended` has the records of all versions that had ended,
+    /// in any order and any number of times. It takes some n log n steps for n records.
     ///
     /// # Errors
     ///
@@ -50,8 +54,10 @@ impl Opening {
         keyspace: &K,
         ended: Vec<RecordId>,
         position: u64,
+        floor: u64,
     ) -> Result<Opening, Refusal>
         ensures position { IfOk result (λ opening. opening.position ≡ position) }
+        ensures floor { IfOk result (λ opening. opening.floor ≡ floor) }
         ensures rows { IfOk result (λ opening. table_of opening.rows.items ≡ since 0 (K.table keyspace.now)) }
         ensures gone { IfOk result (λ opening. (id : RecordId) → Contains opening.gone.items id
             ↔ (Contains ended.items id × (value_at (records (K.table keyspace.now)) id ≡ None))) }
@@ -60,14 +66,23 @@ impl Opening {
     {
         Ok(Opening {
             position,
+            floor,
             gone: gone_among(keyspace, ended),
             rows: keyspace.since(alloc, 0)?,
         })
     }
 
+    /// Whether a delta may start at this position: at 0, or at the floor or above.
+    pub(crate) fn serves(&self, position: u64) -> bool
+        ensures { IsTrue result ↔ IsServed self.now.floor position }
+    {
+        position == 0 || self.floor <= position
+    }
+
     /// Forgets the records, once no standby can be behind the position.
     pub(crate) fn forget(&mut self, alloc: Global)
         ensures position { self.new.position ≡ self.old.position }
+        ensures floor { self.new.floor ≡ self.old.floor }
         ensures gone { self.new.gone.items ≡ [] }
         ensures rows { self.new.rows.items ≡ [] }
     {

@@ -24,7 +24,7 @@ impl Outgoing {
     ghost use Rattle.kv_types.specs.declared.refusal.Refusal.TheVariants.{Memory, PositionGap, StandbyAhead, WrongEpoch};
     ghost use Rattle.model.specs.declared.group.Group.{Group as Item};
     ghost use Rattle.frames.specs.declared.frame.Frame.{Frame as Kept};
-    ghost use Rattle.standby_stream.specs.Delta.{IsDelta};
+    ghost use Rattle.standby_stream.specs.Delta.{IsDelta, IsServed};
     ghost use Rattle.standby_stream.specs.Outgoing.{Notes};
     ghost use Rattle.standby_stream.specs.Sent.{MaySend};
     ghost use Rattle.standby_stream.specs.Stream.{IsDue, IsFull, Frames, TakesNext, counts, new_stream};
@@ -64,6 +64,14 @@ impl Outgoing {
         self.link.known()
     }
 
+    /// A position from which on `open_at` refuses no standby: it needs no delta there, and lacks nothing that is forgotten.
+    pub fn level(&self) -> u64
+        ensures known { (self.now.link).known ≤ result }
+        ensures opened { self.now.opening.position ≤ result }
+    {
+        self.link.known().max(self.opening.position)
+    }
+
     /// Whether the position at which the primary was opened was acknowledged: then no standby can be behind it that follows.
     fn is_forgotten(&self) -> bool
         ensures { IsTrue result ↔ (self.now.opening.position ≤ (self.now.link).known) }
@@ -76,23 +84,28 @@ impl Outgoing {
     ///
     /// # Errors
     ///
-    /// `PositionGap` just where a delta is due and what it is made of is forgotten, as for a standby that was formatted since: it cannot follow. Else
-    /// only `Memory`. Nothing changed then.
+    /// `PositionGap` just where the standby cannot follow: it is behind what was acknowledged, and what led there is forgotten, as one that was formatted
+    /// since; or a delta is due to it and may lack what was freed, as one that was put back from a copy. Else only `Memory`. Nothing changed then.
     pub fn open_at(&mut self, alloc: Global, position: u64) -> Result<(), Refusal>
         ensures behind { position < self.old.opening.position → (self.old.link).known < self.old.opening.position → OnOk result ((frame : Kept)
             × IsDelta (self.old.link).epoch self.old.opening position frame × (self.new.link ≡ record self.old.link { next = 0; delta = Some frame })) }
-        ensures forgotten { position < self.old.opening.position → self.old.opening.position ≤ (self.old.link).known → result ≡ Err PositionGap }
-        ensures level { self.old.opening.position ≤ position → (result ≡ Ok tt) × (self.new.link ≡ record self.old.link { next = 0; delta = None }) }
+        ensures forgotten { position < (self.old.link).known → self.old.opening.position ≤ (self.old.link).known → result ≡ Err PositionGap }
+        ensures served { position < self.old.opening.position → OnOk result (IsServed self.old.opening.floor position) }
+        ensures freed { position < self.old.opening.position → ¬ IsServed self.old.opening.floor position → result ≡ Err PositionGap }
+        ensures level { self.old.opening.position ≤ position → (self.old.link).known ≤ position → (result ≡ Ok tt) × (self.new.link ≡ record self.old.link { next = 0; delta = None }) }
         ensures refused { OnErr result (self.new.link ≡ self.old.link) }
-        ensures cause { (self.old.link).known < self.old.opening.position → IfErr result (λ refusal. refusal ≡ Memory) }
+        ensures cause { (self.old.link).known < self.old.opening.position → IsServed self.old.opening.floor position → IfErr result (λ refusal. refusal ≡ Memory) }
         ensures opening { self.new.opening ≡ self.old.opening }
         ensures epoch { (self.new.link).epoch ≡ (self.old.link).epoch }
     {
+        if self.is_forgotten() && position < self.link.known() {
+            return Err(Refusal::PositionGap);
+        }
         if position >= self.opening.position {
             self.link.reopen(None);
             return Ok(());
         }
-        if self.is_forgotten() {
+        if !self.opening.serves(position) {
             return Err(Refusal::PositionGap);
         }
         let frame = delta(alloc, self.link.epoch(), &self.opening, position)?;

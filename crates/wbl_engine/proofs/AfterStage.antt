@@ -30,9 +30,9 @@ use Rattle.wbl_engine.proofs.Storing.{staged_only}
 abbrev pub made_image : Record → State → List Part → Image
 made_image r d parts = written (group_pairs r parts) (image_of d.words)
 
-module _ {r : Record} {d : State} {parts : List Part} {position epoch : ℕ} (begun : IsCommitting r d parts position epoch) where
+module _ {r : Record} {d : State} {parts : List Part} {position epoch floor : ℕ} (begun : IsCommitting r d parts position epoch floor) where
   -- it has, under the next record, the versions after the parts
-  pub after_fits : Fits (record_after r parts position epoch) d.lines (made_image r d parts) (parts_versions (contents_of r d).versions parts)
+  pub after_fits : Fits (record_after r parts position epoch floor) d.lines (made_image r d parts) (parts_versions (contents_of r d).versions parts)
   after_fits =
       let fits : Fits (with_cp r (r.cp + length parts)) d.lines (made_image r d parts)
       (parts_versions (contents_of r d).versions parts) =
@@ -48,7 +48,7 @@ module _ {r : Record} {d : State} {parts : List Part} {position epoch : ℕ} (be
       }
 
   -- and breaks no rule
-  pub after_sound : IsSound (record_after r parts position epoch) d.lines (made_image r d parts)
+  pub after_sound : IsSound (record_after r parts position epoch floor) d.lines (made_image r d parts)
   after_sound =
       record {
         superblock = HasSuperblock-same r.layout d.lines (image_of d.words) (made_image r d parts)
@@ -60,11 +60,11 @@ module _ {r : Record} {d : State} {parts : List Part} {position epoch : ℕ} (be
         entries = after_fits.entries;
         positions = λ i within counted.
             parts_made parts position (contents_of r d).versions
-            (λ j version is. omega (arith, rest_made r d begun.rest j version is, begun.asked.up)) begun.asked.made i (version_in (record_after r parts position epoch) (made_image r d parts) i)
-            (sym (after_fits.same i within) ∙ cond-true (counts (record_after r parts position epoch) (made_image r d parts (entry_word i 0))) _ _ counted);
+            (λ j version is. omega (arith, rest_made r d begun.rest j version is, begun.asked.up)) begun.asked.made i (version_in (record_after r parts position epoch floor) (made_image r d parts) i)
+            (sym (after_fits.same i within) ∙ cond-true (counts (record_after r parts position epoch floor) (made_image r d parts (entry_word i 0))) _ _ counted);
       }
 
-  pub after_below : AreBelow r.layout d.lines (made_image r d parts) ((record_after r parts position epoch).cp + 1)
+  pub after_below : AreBelow r.layout d.lines (made_image r d parts) ((record_after r parts position epoch floor).cp + 1)
   after_below i zero within low = omega (arith, after_fits.begins i within)
   after_below i (suc zero) within low = omega (arith, after_fits.ends i within)
   after_below i (suc (suc k)) within low = absurd (omega (arith, low))
@@ -115,7 +115,7 @@ module _ {r : Record} {d : State} {parts : List Part} {position epoch : ℕ} (be
       ])
 
   -- a word that matters after the parts, and that they do not store, mattered before
-  mattered : (word : ℕ) → Matters (record_after r parts position epoch) d.lines (made_image r d parts) word → IsOutside (group_pairs r parts) word
+  mattered : (word : ℕ) → Matters (record_after r parts position epoch floor) d.lines (made_image r d parts) word → IsOutside (group_pairs r parts) word
       → Matters r d.lines (image_of d.words) word
   mattered word (inl before) out = inl before
   mattered word (inr (inl directory)) out = inr (inl directory)
@@ -139,13 +139,13 @@ module _ {r : Record} {d : State} {parts : List Part} {position epoch : ℕ} (be
             let count = kept_word i 4 within (omega arith) (omega arith) none in
             let was : IsTrue (counts r (image_of d.words (entry_word i 0))) =
             sym (counts-later r (r.cp + length parts) (image_of d.words (entry_word i 0)) (begun.rest.whole.begins i within) (omega arith))
-            ∙ sym (ap (counts (record_after r parts position epoch)) begin) ∙ counted in
+            ∙ sym (ap (counts (record_after r parts position epoch floor)) begin) ∙ counted in
             inr (inr (i, within, was, record { low = omega (arith, at.low, first); high = omega (arith, at.high, first, count) }))
       ]
 
   -- Each word that matters, before the parts or after them, is certain.
   pub stage_certain : {b : State} → Staged d b (group_pairs r parts) (parts_lines parts) → (word : ℕ)
-      → Matters r d.lines (image_of d.words) word ⊎ Matters (record_after r parts position epoch) d.lines (made_image r d parts) word
+      → Matters r d.lines (image_of d.words) word ⊎ Matters (record_after r parts position epoch floor) d.lines (made_image r d parts) word
       → Only (b.words word) (image_of b.words word)
   stage_certain staged word matters =
       staged_only (parts_covered (r.cp + 1) parts) staged word

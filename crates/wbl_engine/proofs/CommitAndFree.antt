@@ -30,7 +30,7 @@ use Rattle.wbl_engine.proofs.Staged.{EndsAt, IsCommitting, PutsAt, group_behind,
 use Rattle.wbl_engine.proofs.Storing.{AreBehind, IsStoredOver, partly_over, partly_recorded, staged_recorded, written_over}
 
 -- contents that say the same of each entry are one
-same_is : (old new : Contents) → Same old new → new ≡ old
+pub same_is : (old new : Contents) → Same old new → new ≡ old
 same_is old new same = grind arith
 
 -- none of the entries is freed yet
@@ -56,7 +56,7 @@ only_settled x y (inr none) = absurd none
 written_there : (pairs : List (ℕ × ℕ)) (base : Image) (word x : ℕ) → IsStored pairs word x → IsStored pairs word (written pairs base word)
 written_there pairs base word x stored = elim (written-cases pairs base word) [ inl out ↦ absurd (out.0 x stored) | inr there ↦ there ]
 
-module _ {r : Record} {d : State} {parts : List Part} {position epoch : ℕ} (entries : List EntryNo) (begun : IsCommitting r d parts position epoch)
+module _ {r : Record} {d : State} {parts : List Part} {position epoch floor : ℕ} (entries : List EntryNo) (begun : IsCommitting r d parts position epoch floor)
     (ended : AreEnded (contents_of r d) entries) where
   abbrev erased : List (ℕ × ℕ)
   erased = erase_pairs entries []
@@ -205,7 +205,7 @@ module _ {r : Record} {d : State} {parts : List Part} {position epoch : ℕ} (en
   freed_contents = same_is (after_free entries (contents_of r d)) (contents_of r freed) (freed_same r d entries begun.rest ended freed freed_newest refl)
 
   module _ (asked : AreCommittable (after_free entries (contents_of r d)) parts position) where
-    freed_begun : IsCommitting r freed parts position epoch
+    freed_begun : IsCommitting r freed parts position epoch floor
     freed_begun =
         record {
           rest = freed_rest;
@@ -270,7 +270,7 @@ module _ {r : Record} {d : State} {parts : List Part} {position epoch : ℕ} (en
             moments = step_leaves freed behind_freed (IsPartlyStored group freed_words) refl (λ image is word. inl (is word)) partly_now;
           }
 
-      module _ {next : Record} (is : next ≡ record_after r parts position epoch) where
+      module _ {next : Record} (is : next ≡ record_after r parts position epoch floor) where
         recorded_behind : {c : State} → IsRecorded b c next → IsRecorded behind_freed c next
         recorded_behind recorded =
             record {
@@ -292,9 +292,9 @@ module _ {r : Record} {d : State} {parts : List Part} {position epoch : ℕ} (en
         pub both_rest : {c : State} → IsLawful next → IsRecorded b c next → IsAtRest next c
         both_rest lawful recorded = done_rest freed_begun is alone lawful (recorded_behind recorded)
 
-        pub both_same : {c : State} → IsRecorded b c next → Same (after_parts (after_free entries (contents_of r d)) parts position epoch) (contents_of next c)
+        pub both_same : {c : State} → IsRecorded b c next → Same (after_parts (after_free entries (contents_of r d)) parts position epoch floor) (contents_of next c)
         both_same {c} recorded =
-            subst (λ (contents : Contents). Same (after_parts contents parts position epoch) (contents_of next c)) freed_contents
+            subst (λ (contents : Contents). Same (after_parts contents parts position epoch floor) (contents_of next c)) freed_contents
             (done_same freed_begun is alone (recorded_behind recorded))
 
         pub later_fails : {c : State} → IsRecordFault b c next → Same (after_free entries (contents_of r d)) (contents_of r c)
@@ -302,14 +302,14 @@ module _ {r : Record} {d : State} {parts : List Part} {position epoch : ℕ} (en
             subst (λ (contents : Contents). Same contents (contents_of r c)) freed_contents (later_fault freed_begun is alone (fault_behind fault))
 
         abbrev new : Contents
-        new = after_parts (after_free entries (contents_of r d)) parts position epoch
+        new = after_parts (after_free entries (contents_of r d)) parts position epoch floor
 
-        either : (image : Image) → IsEitherRecord b r (record_after r parts position epoch) image → KeepsFreedOr entries (contents_of r d) new image
+        either : (image : Image) → IsEitherRecord b r (record_after r parts position epoch floor) image → KeepsFreedOr entries (contents_of r d) new image
         either image recorded =
             elim (either_keeps freed_begun is alone image (record { either = recorded.either; elsewhere = recorded.elsewhere })) [
               | inl kept ↦
                   inl ((λ i. is_listed i entries), (λ i listed. listed), subst (λ (contents : Contents). Keeps contents image) freed_contents kept)
-              | inr made ↦ inr (subst (λ (contents : Contents). Keeps (after_parts contents parts position epoch) image) freed_contents made)
+              | inr made ↦ inr (subst (λ (contents : Contents). Keeps (after_parts contents parts position epoch floor) image) freed_contents made)
             ]
 
         pub both_moments : {c : State} → ((current : Record) → IsSucceeded b current next → LeavesOnly b c (IsEitherRecord b current next))

@@ -31,15 +31,15 @@ use Rattle.wbl_engine.proofs.Storing.{AgreesOn, IsStoredOver, beside_at, beside_
 
 -- from the contracts of what is called
 pub committing : {r : Record} {d : State} {parts : List Part} (next : Record) → IsAtRest r d → AreCommittable (contents_of r d) parts next.position
-    → AllByRecursion IsWritable (puts_of_parts parts) → IsCommitting r d parts next.position next.epoch
+    → AllByRecursion IsWritable (puts_of_parts parts) → IsCommitting r d parts next.position next.epoch next.floor
 committing next rest asked writable = record { rest = rest; asked = asked; writable = writable }
 
 -- what a crash may leave at any moment of a commit
 abbrev pub KeepsEither : Contents → Contents → Image → Type 0
 KeepsEither old new image = Keeps old image ⊎ Keeps new image
 
-abbrev pub IsBeforeOrAfter : Record → State → List Part → ℕ → ℕ → Image → Type 0
-IsBeforeOrAfter r d parts position epoch = KeepsEither (contents_of r d) (after_parts (contents_of r d) parts position epoch)
+abbrev pub IsBeforeOrAfter : Record → State → List Part → ℕ → ℕ → ℕ → Image → Type 0
+IsBeforeOrAfter r d parts position epoch floor = KeepsEither (contents_of r d) (after_parts (contents_of r d) parts position epoch floor)
 
 -- ---- which entries are free
 
@@ -48,7 +48,7 @@ free_stays cp old new top (inl same) = ap (λ (b : ℕ). b == 0 || nat_lt cp b) 
 free_stays cp old new top (inr put) =
     or_right (new == 0) (nat_lt cp new) (lt-ltb cp new put.1) ∙ sym (or_left (old == 0) (nat_lt cp old) (eq-eqb old 0 put.0))
 
-module _ {r : Record} {d : State} {parts : List Part} {position epoch : ℕ} (begun : IsCommitting r d parts position epoch) where
+module _ {r : Record} {d : State} {parts : List Part} {position epoch floor : ℕ} (begun : IsCommitting r d parts position epoch floor) where
   -- the begin of a put counts under the next record alone
   put_begin : (i : ℕ) → i < entries_of_lines r.layout d.lines → is_put_at i (puts_of_parts parts) ≡ true → r.cp < made_image r d parts (entry_word i 0)
   put_begin i within put =
@@ -67,27 +67,27 @@ module _ {r : Record} {d : State} {parts : List Part} {position epoch : ℕ} (be
       ]
 
   free_after : (i now : ℕ) → i < entries_of_lines r.layout d.lines → now ≡ made_image r d parts (entry_word i 0)
-      → (now == 0 || nat_lt (record_after r parts position epoch).cp now)
+      → (now == 0 || nat_lt (record_after r parts position epoch floor).cp now)
       ≡ ((image_of d.words (entry_word i 0) == 0 || nat_lt r.cp (image_of d.words (entry_word i 0))) && not (is_put_at i (puts_of_parts parts)))
   free_after i now within is =
       let was : ℕ = image_of d.words (entry_word i 0) in
       let put : Bool = is_put_at i (puts_of_parts parts) in
       elim (cases_Bool put) [
         | inl there ↦
-            or_from (now == 0) (nat_lt (record_after r parts position epoch).cp now) (ne_eqb now 0 (λ e. omega (arith, e, is, put_begin i within there)))
-            (le-ltb (record_after r parts position epoch).cp now (omega (arith, is, (after_fits begun).begins i within)))
+            or_from (now == 0) (nat_lt (record_after r parts position epoch floor).cp now) (ne_eqb now 0 (λ e. omega (arith, e, is, put_begin i within there)))
+            (le-ltb (record_after r parts position epoch floor).cp now (omega (arith, is, (after_fits begun).begins i within)))
             ∙ sym (and_right (was == 0 || nat_lt r.cp was) (not put) (ap not there))
         | inr none ↦
-            ap (λ (b : ℕ). b == 0 || nat_lt (record_after r parts position epoch).cp b) (is ∙ kept_word begun i 0 within (omega arith) (omega arith) none)
+            ap (λ (b : ℕ). b == 0 || nat_lt (record_after r parts position epoch floor).cp b) (is ∙ kept_word begun i 0 within (omega arith) (omega arith) none)
             ∙ ap (λ (t : Bool). was == 0 || t)
-            (le-ltb (record_after r parts position epoch).cp was (omega (arith, begun.rest.whole.begins i within)) ∙ sym (le-ltb r.cp was (begun.rest.whole.begins i within)))
+            (le-ltb (record_after r parts position epoch floor).cp was (omega (arith, begun.rest.whole.begins i within)) ∙ sym (le-ltb r.cp was (begun.rest.whole.begins i within)))
             ∙ sym (and-true (was == 0 || nat_lt r.cp was)) ∙ ap (λ (b : Bool). (was == 0 || nat_lt r.cp was) && not b) (sym none)
       ]
 
   -- ---- the contents, of an image that agrees with what the parts made, but for the record
 
   commit_same : (c : State) → c.lines ≡ d.lines → AgreesOn (IsBesideRecords r.layout d.lines) (made_image r d parts) (image_of c.words)
-      → Same (after_parts (contents_of r d) parts position epoch) (contents_of (record_after r parts position epoch) c)
+      → Same (after_parts (contents_of r d) parts position epoch floor) (contents_of (record_after r parts position epoch floor) c)
   commit_same c lines agrees =
       record {
         current = refl;
@@ -98,7 +98,7 @@ module _ {r : Record} {d : State} {parts : List Part} {position epoch : ℕ} (be
         is_free = λ i.
             let was : ℕ = image_of d.words (entry_word i 0) in
             let put : Bool = is_put_at i (puts_of_parts parts) in
-            erased_free (record_after r parts position epoch) c i ((was == 0 || nat_lt r.cp was) && not put) lines
+            erased_free (record_after r parts position epoch floor) c i ((was == 0 || nat_lt r.cp was) && not put) lines
             (λ within.
             free_after i (image_of c.words (entry_word i 0)) within (agrees (entry_word i 0) (inr (inl (omega arith, omega (arith, within))))))
             ∙ sym (and_assoc (nat_lt i (entries_of_lines r.layout d.lines)) (was == 0 || nat_lt r.cp was) (not put));
@@ -136,18 +136,18 @@ module _ {r : Record} {d : State} {parts : List Part} {position epoch : ℕ} (be
       (λ i within. sym (versions-within r d i within)) recorded
 
   -- until the first fence
-  pub stage_moments : {b : State} → LeavesOnly d b (IsPartlyStored (group_pairs r parts) d.words) → LeavesOnly d b (IsBeforeOrAfter r d parts position epoch)
+  pub stage_moments : {b : State} → LeavesOnly d b (IsPartlyStored (group_pairs r parts) d.words) → LeavesOnly d b (IsBeforeOrAfter r d parts position epoch floor)
   stage_moments moments =
-      LeavesOnly-weaken (IsBeforeOrAfter r d parts position epoch)
+      LeavesOnly-weaken (IsBeforeOrAfter r d parts position epoch floor)
       (λ image partly.
       inl (old_keeps image (partly_over (Matters r d.lines (image_of d.words)) d image (group_pairs r parts) begun.rest.certain partly)
       (partly_recorded d image (group_pairs r parts) begun.rest.many (group_behind begun) begun.rest.recorded partly)))
       moments
 
-module _ {r : Record} {d b : State} {parts : List Part} {position epoch : ℕ} {next : Record} (begun : IsCommitting r d parts position epoch) (is : next ≡ record_after r parts position epoch)
+module _ {r : Record} {d b : State} {parts : List Part} {position epoch floor : ℕ} {next : Record} (begun : IsCommitting r d parts position epoch floor) (is : next ≡ record_after r parts position epoch floor)
     (staged : Staged d b (group_pairs r parts) (parts_lines parts)) where
   -- while the record is written, each crash leaves the old contents or the new ones
-  pub either_keeps : (image : Image) → IsEitherRecord b r (record_after r parts position epoch) image → IsBeforeOrAfter r d parts position epoch image
+  pub either_keeps : (image : Image) → IsEitherRecord b r (record_after r parts position epoch floor) image → IsBeforeOrAfter r d parts position epoch floor image
   either_keeps image recorded =
       elim recorded.either [
         | inl old ↦
@@ -161,21 +161,21 @@ module _ {r : Record} {d b : State} {parts : List Part} {position epoch : ℕ} {
             (HasRecord-lines staged.stays.lines old))
         | inr new ↦
             let sound = after_sound begun in
-            let agrees : AgreesOn (Matters (record_after r parts position epoch) d.lines (made_image r d parts)) (made_image r d parts) image =
+            let agrees : AgreesOn (Matters (record_after r parts position epoch floor) d.lines (made_image r d parts)) (made_image r d parts) image =
             λ word matters.
             (stage_certain begun staged word (inr matters)).only (image word)
             (recorded.elsewhere word (beside_at r.layout (r.number + 1) word staged.stays.lines begun.rest.many (matters_beside sound word matters)))
             ∙ staged.newest word in
-            inr (erased_keeps (after_parts (contents_of r d) parts position epoch) sound (agrees_erased sound agrees) (omega arith)
-            (λ i k within low. let at = agrees_below (record_after r parts position epoch) d.lines agrees (after_below begun) i k within low in omega (arith, at)) (after_fits begun).same
+            inr (erased_keeps (after_parts (contents_of r d) parts position epoch floor) sound (agrees_erased sound agrees) (omega arith)
+            (λ i k within low. let at = agrees_below (record_after r parts position epoch floor) d.lines agrees (after_below begun) i k within low in omega (arith, at)) (after_fits begun).same
             (HasRecord-lines staged.stays.lines new))
       ]
 
   pub done_moments : {c : State} → ((current : Record) → IsSucceeded b current next → LeavesOnly b c (IsEitherRecord b current next))
-      → LeavesOnly d c (IsBeforeOrAfter r d parts position epoch)
+      → LeavesOnly d c (IsBeforeOrAfter r d parts position epoch floor)
   done_moments {c} moments =
       LeavesOnly-then (stage_moments begun staged.moments)
-      (LeavesOnly-weaken (IsBeforeOrAfter r d parts position epoch) either_keeps
+      (LeavesOnly-weaken (IsBeforeOrAfter r d parts position epoch floor) either_keeps
       (subst (λ (q : Record). LeavesOnly b c (IsEitherRecord b r q)) is
       (moments r
       (subst (λ (q : Record). IsSucceeded b r q) (sym is)
@@ -195,17 +195,17 @@ module _ {r : Record} {d b : State} {parts : List Part} {position epoch : ℕ} {
   pub done_rest : {c : State} → IsLawful next → IsRecorded b c next → IsAtRest next c
   done_rest {c} lawful recorded =
       let sound = after_sound begun in
-      let agrees : AgreesOn (Matters (record_after r parts position epoch) d.lines (made_image r d parts)) (made_image r d parts) (image_of c.words) =
+      let agrees : AgreesOn (Matters (record_after r parts position epoch floor) d.lines (made_image r d parts)) (made_image r d parts) (image_of c.words) =
       λ word matters. recorded_made c recorded.newest word (matters_beside sound word matters) in
-      let now : IsRecorded b c (record_after r parts position epoch) = subst (λ (q : Record). IsRecorded b c q) is recorded in
+      let now : IsRecorded b c (record_after r parts position epoch floor) = subst (λ (q : Record). IsRecorded b c q) is recorded in
       subst (λ (q : Record). IsAtRest q c) (sym is)
       (erased_rest begun.rest.many begun.rest.few sound (agrees_erased sound agrees) (subst IsLawful is lawful) (omega arith)
-      (agrees_below (record_after r parts position epoch) d.lines agrees (after_below begun)) (recorded.stays.lines ∙ staged.stays.lines) now.durable
+      (agrees_below (record_after r parts position epoch floor) d.lines agrees (after_below begun)) (recorded.stays.lines ∙ staged.stays.lines) now.durable
       (λ word matters.
       recorded_only now word (beside_at r.layout (r.number + 1) word staged.stays.lines begun.rest.many (matters_beside sound word matters))
       (stage_certain begun staged word (inr matters))))
 
-  pub done_same : {c : State} → IsRecorded b c next → Same (after_parts (contents_of r d) parts position epoch) (contents_of next c)
+  pub done_same : {c : State} → IsRecorded b c next → Same (after_parts (contents_of r d) parts position epoch floor) (contents_of next c)
   done_same {c} recorded =
-      subst (λ (q : Record). Same (after_parts (contents_of r d) parts position epoch) (contents_of q c)) (sym is)
+      subst (λ (q : Record). Same (after_parts (contents_of r d) parts position epoch floor) (contents_of q c)) (sym is)
       (commit_same begun c (recorded.stays.lines ∙ staged.stays.lines) (recorded_made c recorded.newest))

@@ -153,7 +153,7 @@ without_gap is lawful before some readable cleared same =
     record { is = is; lawful = lawful; before = before; some = some; readable = readable; cleared = cleared; lines_are = same }
 
 pub cleared_later : (r : Record) → IsLater r (record_after_clearing r)
-cleared_later r = record { layout = refl; position = refl; epoch = refl; role = refl; limit = omega arith }
+cleared_later r = record { layout = refl; position = refl; epoch = refl; role = refl; floor = refl; limit = omega arith }
 
 module _ {r next : Record} {d b : State} (without : IsWithoutGap r next d b) where
   alike : CountAlike b.lines (image_of b.words) r (record_after_clearing r)

@@ -6,7 +6,7 @@ use Rattle.model.specs.declared.group.Part.{Part}
 use Rattle.model.specs.declared.group.Put.{Put}
 use Rattle.model.specs.declared.record.Record.{Record}
 use Rattle.model.specs.Group.{AreAllApart, AreParts, Contents, HasItsLines, IsGroup, IsPlaced, IsUnused, Versions, after_group, is_put_at, last_position, next_record, part_versions, puts_of_part, entries_of}
-use Rattle.wbl_engine.specs.Committing.{AreCommittable, AreNamed, after_parts, record_after}
+use Rattle.wbl_engine.specs.Committing.{AreCommittable, AreNamed, after_parts, at_floor, record_after, under_floor}
 use Rattle.wbl_engine.specs.Relocating.{IsRelocation, after_relocation, relocated_record}
 use Rattle.wbl_engine.specs.Stage.{puts_of_parts}
 
@@ -48,22 +48,28 @@ group_committable contents group asked =
     }
 
 module _ (contents : Contents) (group : Group) {parts : List Part} {next : Record} (is_parts : parts ≡ group.parts.items)
-    (is_next : next ≡ next_record contents.current group) where
+    (is_next : next ≡ next_record (at_floor next.floor contents.current) group) where
   pub group_asked : IsGroup contents group → AreCommittable contents parts next.position
   group_asked asked =
-      subst (λ (q : Record). AreCommittable contents parts q.position) (sym is_next)
+      subst (λ (position : ℕ). AreCommittable contents parts position) (sym (ap (λ (q : Record). q.position) is_next))
       (subst (λ (ps : List Part). AreCommittable contents ps (next_record contents.current group).position) (sym is_parts)
       (group_committable contents group asked))
 
-  pub group_record : next ≡ record_after contents.current parts next.position next.epoch
-  group_record =
-      subst (λ (q : Record). q ≡ record_after contents.current parts q.position q.epoch) (sym is_next)
-      (ap (λ (ps : List Part). record_after contents.current ps (next_record contents.current group).position group.epoch) (sym is_parts))
+  -- the record, for any floor that it has
+  with_parts : (floor : ℕ) (q : Record) → q ≡ next_record (at_floor floor contents.current) group
+      → q ≡ record_after contents.current parts q.position q.epoch floor
+  with_parts floor q is =
+      subst (λ (s : Record). s ≡ record_after contents.current parts s.position s.epoch floor) (sym is)
+      (ap (λ (ps : List Part). record_after contents.current ps (next_record contents.current group).position group.epoch floor) (sym is_parts))
 
-  pub group_contents : after_parts contents parts next.position next.epoch ≡ after_group contents group
+  pub group_record : next ≡ record_after contents.current parts next.position next.epoch next.floor
+  group_record = with_parts next.floor next is_next
+
+  pub group_contents : after_parts contents parts next.position next.epoch next.floor ≡ after_group (under_floor next.floor contents) group
   group_contents =
-      ap (λ (q : Record). after_parts contents parts q.position q.epoch) is_next
-      ∙ ap (λ (ps : List Part). after_parts contents ps (next_record contents.current group).position group.epoch) is_parts
+      ap (λ (position : ℕ). after_parts contents parts position next.epoch next.floor) (ap (λ (q : Record). q.position) is_next)
+      ∙ ap (λ (epoch : ℕ). after_parts contents parts (next_record contents.current group).position epoch next.floor) (ap (λ (q : Record). q.epoch) is_next)
+      ∙ ap (λ (ps : List Part). after_parts contents ps (next_record contents.current group).position group.epoch next.floor) is_parts
 
 -- ---- one part, at a position that the record has
 
@@ -90,14 +96,14 @@ module _ (contents : Contents) (part : Part) {parts : List Part} {next : Record}
       (subst (λ (ps : List Part). AreCommittable contents ps contents.current.position) (sym is_parts)
       (relocation_committable contents part asked))
 
-  pub relocation_record : next ≡ record_after contents.current parts next.position next.epoch
+  pub relocation_record : next ≡ record_after contents.current parts next.position next.epoch next.floor
   relocation_record =
-      subst (λ (q : Record). q ≡ record_after contents.current parts q.position q.epoch) (sym is_next)
-      (ap (λ (ps : List Part). record_after contents.current ps contents.current.position contents.current.epoch) (sym is_parts))
+      subst (λ (q : Record). q ≡ record_after contents.current parts q.position q.epoch q.floor) (sym is_next)
+      (ap (λ (ps : List Part). record_after contents.current ps contents.current.position contents.current.epoch contents.current.floor) (sym is_parts))
 
-  pub relocation_contents : after_parts contents parts next.position next.epoch ≡ after_relocation contents part
+  pub relocation_contents : after_parts contents parts next.position next.epoch next.floor ≡ after_relocation contents part
   relocation_contents =
-      ap (λ (q : Record). after_parts contents parts q.position q.epoch) is_next
-      ∙ ap (λ (ps : List Part). after_parts contents ps contents.current.position contents.current.epoch) is_parts
+      ap (λ (q : Record). after_parts contents parts q.position q.epoch q.floor) is_next
+      ∙ ap (λ (ps : List Part). after_parts contents ps contents.current.position contents.current.epoch contents.current.floor) is_parts
       ∙ ap (λ (puts : List Put). record (after_relocation contents part) { is_free = λ i. contents.is_free i && not (is_put_at i puts) })
       (append-nil (puts_of_part part))

@@ -1,4 +1,5 @@
 pub mod AfterStage
+pub mod AnotherRecord
 pub mod ApartLemmas
 pub mod ClashLemmas
 pub mod ClearingLemmas
@@ -31,6 +32,7 @@ pub mod PartWords
 pub mod PositionLemmas
 pub mod PromotingLemmas
 pub mod PutPairs
+pub mod RaisingLemmas
 pub mod ReadBack
 pub mod Readable
 pub mod ReadingLemmas

@@ -23,7 +23,7 @@ pub record HasRoom (r : Record) : Type 0 where
 
 module _ {r : Record} {d : State} (next : Record) (is : next ≡ with_open_gap r) (readable : IsReadable r d) where
   later : IsLater r (with_open_gap r)
-  later = record { layout = refl; position = refl; epoch = refl; role = refl; limit = omega arith }
+  later = record { layout = refl; position = refl; epoch = refl; role = refl; floor = refl; limit = omega arith }
 
   lawful_open : HasRoom r → IsLawful (with_open_gap r)
   lawful_open has = open_lawful r readable.undamaged.current.lawful has.room has.limit has.number

@@ -21,16 +21,17 @@ use Rattle.wbl_engine.specs.Reopening.{IsBesideRecords, IsReadable, StaysReadabl
 use Rattle.wbl_engine.proofs.Erased.{AreBelow, CountAlike, IsErased, IsSound, agrees_below, agrees_erased, directory_matters, erased_keeps, erased_undamaged, erased_under, erased_version, matters_beside, nothing, undamaged_below, undamaged_sound, versions-within}
 use Rattle.wbl_engine.proofs.Storing.{AgreesOn, AreCertain, beside_next, recorded_only}
 
--- the second record is of the same history: the same layout, position, epoch and role, and no stamp is taken back
+-- the second record is of the same history: the same layout, position, epoch, role and floor, and no stamp is taken back
 pub record IsLater (r s : Record) : Type 0 where
   pub layout : s.layout ≡ r.layout
   pub position : s.position ≡ r.position
   pub epoch : s.epoch ≡ r.epoch
   pub role : s.role ≡ r.role
+  pub floor : s.floor ≡ r.floor
   pub limit : r.cd ≤ s.cd
 
 pub IsLater-same : (r : Record) → IsLater r r
-IsLater-same r = record { layout = refl; position = refl; epoch = refl; role = refl; limit = omega arith }
+IsLater-same r = record { layout = refl; position = refl; epoch = refl; role = refl; floor = refl; limit = omega arith }
 
 -- an image that has lost nothing of an undamaged one stays readable
 pub erased_stays : {r s : Record} {lines : ℕ} {base image : Image} → IsUndamaged lines r base → IsErased r s lines nothing base image → IsLater r s
@@ -43,6 +44,7 @@ erased_stays {r} {s} whole erased later below current =
       position = later.position;
       epoch = later.epoch;
       role = later.role;
+      floor = later.floor;
       versions = erased_version (undamaged_sound whole) erased;
     }
 
@@ -64,6 +66,7 @@ moments_then {r} {s} {d} {b} {c} whole erased later same first second =
           position = stays.position ∙ later.position;
           epoch = stays.epoch ∙ later.epoch;
           role = stays.role ∙ later.role;
+          floor = stays.floor ∙ later.floor;
           versions = λ i within.
               stays.versions i (subst (λ (layout : Layout). i < entries_of_lines layout d.lines) (sym later.layout) within)
               ∙ erased_version (undamaged_sound whole) erased i within;

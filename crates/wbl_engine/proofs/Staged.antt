@@ -78,7 +78,7 @@ live_within r d parts placed i live =
 
 -- ---- parts that are being committed, under a record of this position and this epoch
 
-pub record IsCommitting (r : Record) (d : State) (parts : List Part) (position epoch : ℕ) : Type 0 where
+pub record IsCommitting (r : Record) (d : State) (parts : List Part) (position epoch floor : ℕ) : Type 0 where
   pub rest : IsAtRest r d
   pub asked : AreCommittable (contents_of r d) parts position
   pub writable : AllByRecursion IsWritable (puts_of_parts parts)
@@ -100,7 +100,7 @@ pub record EndsAt (r : Record) (d : State) (parts : List Part) (i k x : ℕ) : T
   pub high : x ≤ r.cp + length parts
   pub live : IsTrue (is_live_version ((contents_of r d).versions i) || is_put_at i (puts_of_parts parts))
 
-module _ {r : Record} {d : State} {parts : List Part} {position epoch : ℕ} (begun : IsCommitting r d parts position epoch) where
+module _ {r : Record} {d : State} {parts : List Part} {position epoch floor : ℕ} (begun : IsCommitting r d parts position epoch floor) where
   -- its puts may be stored
   pub group_stored : AreStored (entries_of_lines r.layout d.lines) d.lines (contents_of r d).versions (image_of d.words) (puts_of_parts parts)
   group_stored =

@@ -1,12 +1,15 @@
 -- The record after a group.
-use Rattle.std.proofs.Common.{◌≡◌, ℕ, suc, ◌+◌, ◌-◌, ◌<◌, ◌≤◌, List, [], ◌∷◌, length, get_or, refl, sym, ap, subst, ◌∙◌, arith}
+use Rattle.std.proofs.Common.{◌≡◌, ℕ, suc, ◌+◌, ◌-◌, ◌<◌, ◌≤◌, List, [], ◌∷◌, length, get_or, max, refl, sym, ap, subst, ◌∙◌, arith}
 use Rattle.model.specs.declared.group.Part.{Part}
 use Rattle.model.specs.declared.image.TheConstants.{COUNTER_LIMIT, STAMP_WINDOW}
 use Rattle.model.specs.declared.record.Gap.{Gap}
 use Rattle.model.specs.declared.record.Record.{Record}
 use Rattle.model.specs.Layout.{max_gaps}
-use Rattle.model.specs.Group.{last_position}
+use Rattle.model.specs.declared.group.Group.{Group}
+use Rattle.model.specs.Floor.{with_floor}
+use Rattle.model.specs.Group.{last_position, next_record}
 use Rattle.wbl_record.specs.Current.{AreGaps, IsLawful}
+use Rattle.wbl_engine.specs.Committing.{at_floor}
 use Rattle.wbl_engine.proofs.CountLemmas.{AreGaps-later}
 
 -- where its counters are below their limit
@@ -39,3 +42,12 @@ last_position-get before (part ∷ []) d some = refl
 last_position-get before (part ∷ next ∷ parts) d some =
     let e : length (part ∷ next ∷ parts) - 1 ≡ suc (length (next ∷ parts) - 1) = omega arith in
     last_position-get part.position (next ∷ parts) d (omega arith) ∙ ap (λ (i : ℕ). (get_or (part ∷ next ∷ parts) i d).position) (sym e)
+
+-- ---- the floor of the record after a group
+
+module _ (r next : Record) (group : Group) (floor : ℕ) (is : next ≡ next_record (with_floor floor r) group) where
+  pub floor_after : next.floor ≡ max r.floor floor
+  floor_after = ap (λ (q : Record). q.floor) is
+
+  pub record_at_floor : next ≡ next_record (at_floor next.floor r) group
+  record_at_floor = subst (λ (q : Record). q ≡ next_record (at_floor q.floor r) group) (sym is) refl

@@ -24,9 +24,9 @@ pub record AreCommittable (contents : Contents) (parts : List Part) (position : 
   pub unused : AllByRecursion (IsUnused contents.versions contents.is_free) (puts_of_parts parts)
   pub apart : AreAllApart (puts_of_parts parts)
 
--- the record after parts, with this position and this epoch: each part takes one stamp
-abbrev pub record_after : Record → List Part → ℕ → ℕ → Record
-record_after r parts position epoch =
+-- the record after parts, with this position, this epoch and this floor: each part takes one stamp
+abbrev pub record_after : Record → List Part → ℕ → ℕ → ℕ → Record
+record_after r parts position epoch floor =
     record {
       layout = r.layout;
       number = r.number + 1;
@@ -36,14 +36,22 @@ record_after r parts position epoch =
       epoch = epoch;
       role = r.role;
       gaps = r.gaps;
+      floor = floor;
     }
 
 -- the contents under that record
-abbrev pub after_parts : Contents → List Part → ℕ → ℕ → Contents
-after_parts contents parts position epoch =
+abbrev pub after_parts : Contents → List Part → ℕ → ℕ → ℕ → Contents
+after_parts contents parts position epoch floor =
     record {
-      current = record_after contents.current parts position epoch;
+      current = record_after contents.current parts position epoch floor;
       lines = contents.lines;
       versions = parts_versions contents.versions parts;
       is_free = λ i. contents.is_free i && not (is_put_at i (puts_of_parts parts));
     }
+
+-- the record with this floor, and the contents under it
+abbrev pub at_floor : ℕ → Record → Record
+at_floor floor r = record r { floor = floor }
+
+abbrev pub under_floor : ℕ → Contents → Contents
+under_floor floor contents = record contents { current = at_floor floor contents.current }

@@ -49,6 +49,7 @@ pub record IsNew (lines : ℕ) (role : Role) (contents : Contents) : Type 0 wher
   pub epoch : contents.current.epoch ≡ FIRST_EPOCH
   pub role_is : contents.current.role ≡ role
   pub gaps : contents.current.gaps.items ≡ []
+  pub floor : contents.current.floor ≡ 0
   pub line_count : contents.lines ≡ lines
   pub versions : (i : ℕ) → contents.versions i ≡ None
   pub is_free : (i : ℕ) → i < entries_of contents → contents.is_free i ≡ true

@@ -27,6 +27,7 @@ first_record role =
       epoch = FIRST_EPOCH;
       role = role;
       gaps = record { items = [] };
+      floor = 0;
     }
 
 -- the contents of a new image: no version, and each entry of the directory free

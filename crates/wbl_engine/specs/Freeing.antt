@@ -18,6 +18,11 @@ KeepsWithoutSome entries contents image =
 abbrev pub KeepsFreedOr : List EntryNo → Contents → Contents → Image → Type 0
 KeepsFreedOr entries old new image = KeepsWithoutSome entries old image ⊎ Keeps new image
 
+-- The image holds the contents from before, or what is left of these, which are the same under a record with the floor, where some of the entries are freed:
+-- none is freed before that record is durable.
+abbrev pub KeepsFreed : List EntryNo → Contents → Contents → Image → Type 0
+KeepsFreed entries old floored image = Keeps old image ⊎ KeepsWithoutSome entries floored image
+
 -- the live versions make up the map that they made up before
 abbrev pub KeepsMap : Contents → Contents → Type 0
 KeepsMap old new =

@@ -8,6 +8,7 @@ pub mod Freeing
 pub mod Inspecting
 pub mod Lawful
 pub mod Promoting
+pub mod Raising
 pub mod Relocating
 pub mod Reopening
 pub mod Restarting

@@ -5,9 +5,10 @@ use Rattle.model.specs.declared.record.Record.{Record}
 use Rattle.model.specs.declared.record.Role.TheVariants.{Primary}
 use Rattle.model.specs.Group.{Contents}
 
--- the next record, of the next epoch, and a primary's: its position, its stamps and its gaps are as before
+-- The next record, of the next epoch, and a primary's: its position, its stamps and its gaps are as before. A standby has freed what ended, whenever it did, so
+-- the floor is the position.
 abbrev pub promoted_record : Record → Record
-promoted_record r = record r { number = r.number + 1; epoch = r.epoch + 1; role = Primary }
+promoted_record r = record r { number = r.number + 1; epoch = r.epoch + 1; role = Primary; floor = r.position }
 
 -- the contents under that record
 abbrev pub promoted : Contents → Contents

@@ -151,7 +151,7 @@ pub record IsReadable (r : Record) (d : State) : Type 0 where
   pub recorded : (image : Image) → IsImage d.words image → HasRecord d.lines r image
   pub certain : (word : ℕ) → IsBesideRecords r.layout d.lines word → Only (d.words word) (image_of d.words word)
 
--- The second image is undamaged, and has the versions that the first has under this record, and the record's layout, position, epoch and role.
+-- The second image is undamaged, and has the versions that the first has under this record, and the record's layout, position, epoch, role and floor.
 -- So it can be reopened again.
 pub record StaysReadable (lines' : ℕ) (r : Record) (image image' : Image) : Type 0 where
   pub current : Record
@@ -160,4 +160,5 @@ pub record StaysReadable (lines' : ℕ) (r : Record) (image image' : Image) : Ty
   pub position : current.position ≡ r.position
   pub epoch : current.epoch ≡ r.epoch
   pub role : current.role ≡ r.role
+  pub floor : current.floor ≡ r.floor
   pub versions : (i : ℕ) → i < entries_of_lines r.layout lines' → version_at current image' i ≡ version_at r image i

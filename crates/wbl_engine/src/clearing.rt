@@ -139,5 +139,6 @@ pub(crate) fn without_oldest_gap(current: &Record) -> Record
         epoch: current.epoch,
         role: current.role,
         gaps,
+        floor: current.floor,
     }
 }

@@ -5,7 +5,7 @@ ghost use Rattle.pmem.specs.Runs.{LeavesOnly, Staged, StageFailed};
 ghost use Rattle.model.specs.Layout.{directory_room};
 ghost use Rattle.model.specs.Group.{HasItsLines, IsGroup, IsPlaced, next_record, after_group};
 ghost use Rattle.wbl_engine.specs.AtRest.{IsAtRest, contents_of};
-ghost use Rattle.wbl_engine.specs.Committing.{AreCommittable, after_parts, record_after};
+ghost use Rattle.wbl_engine.specs.Committing.{AreCommittable, after_parts, at_floor, record_after, under_floor};
 ghost use Rattle.wbl_engine.specs.Contents.{Same};
 ghost use Rattle.wbl_engine.specs.Erasing.{erase_pairs, erase_lines};
 ghost use Rattle.wbl_engine.specs.Freeing.{AreEnded, KeepsFreedOr, after_free};
@@ -32,10 +32,10 @@ pub(crate) fn commit_and_erase<P: Pmem>(
     requires ended { AreEnded (contents_of current.now (P.state device.old)) entries.now }
     requires asked { IsGroup (contents_of current.now (P.state device.old)) group.now }
     requires freed { IsGroup (after_free entries.now (contents_of current.now (P.state device.old))) group.now }
-    requires after { next.now ≡ next_record current.now group.now }
+    requires after { next.now ≡ next_record (at_floor next.now.floor current.now) group.now }
     requires lawful { IsLawful next.now }
     ensures rest { OnOk result (IsAtRest next.now (P.state device.new)) }
-    ensures moved { OnOk result (Same (after_group (after_free entries.now (contents_of current.now (P.state device.old))) group.now)
+    ensures moved { OnOk result (Same (after_group (under_floor next.now.floor (after_free entries.now (contents_of current.now (P.state device.old)))) group.now)
         (contents_of next.now (P.state device.new))) }
     ensures sound { OnOk result ((P.state device.new).failures ≡ (P.state device.old).failures) }
     ensures stays { OnErr result (Same (after_free entries.now (contents_of current.now (P.state device.old))) (contents_of current.now (P.state device.new))) }
@@ -43,7 +43,7 @@ pub(crate) fn commit_and_erase<P: Pmem>(
     ensures asked_moment { (P.state device.new).kept ≡ (P.state device.old).kept }
     ensures moments { LeavesOnly (P.state device.old) (P.state device.new)
         (KeepsFreedOr entries.now (contents_of current.now (P.state device.old))
-        (after_group (after_free entries.now (contents_of current.now (P.state device.old))) group.now)) }
+        (after_group (under_floor next.now.floor (after_free entries.now (contents_of current.now (P.state device.old)))) group.now)) }
 {
     commit_parts_and_erase(device, group.parts.as_slice(), entries, current, next)
 }
@@ -61,10 +61,10 @@ fn commit_parts_and_erase<P: Pmem>(
     requires ended { AreEnded (contents_of current.now (P.state device.old)) entries.now }
     requires asked { AreCommittable (contents_of current.now (P.state device.old)) parts.now next.now.position }
     requires freed { AreCommittable (after_free entries.now (contents_of current.now (P.state device.old))) parts.now next.now.position }
-    requires after { next.now ≡ record_after current.now parts.now next.now.position next.now.epoch }
+    requires after { next.now ≡ record_after current.now parts.now next.now.position next.now.epoch next.now.floor }
     requires lawful { IsLawful next.now }
     ensures rest { OnOk result (IsAtRest next.now (P.state device.new)) }
-    ensures moved { OnOk result (Same (after_parts (after_free entries.now (contents_of current.now (P.state device.old))) parts.now next.now.position next.now.epoch)
+    ensures moved { OnOk result (Same (after_parts (after_free entries.now (contents_of current.now (P.state device.old))) parts.now next.now.position next.now.epoch next.now.floor)
         (contents_of next.now (P.state device.new))) }
     ensures sound { OnOk result ((P.state device.new).failures ≡ (P.state device.old).failures) }
     ensures stays { OnErr result (Same (after_free entries.now (contents_of current.now (P.state device.old))) (contents_of current.now (P.state device.new))) }
@@ -72,7 +72,7 @@ fn commit_parts_and_erase<P: Pmem>(
     ensures asked_moment { (P.state device.new).kept ≡ (P.state device.old).kept }
     ensures moments { LeavesOnly (P.state device.old) (P.state device.new)
         (KeepsFreedOr entries.now (contents_of current.now (P.state device.old))
-        (after_parts (after_free entries.now (contents_of current.now (P.state device.old))) parts.now next.now.position next.now.epoch)) }
+        (after_parts (after_free entries.now (contents_of current.now (P.state device.old))) parts.now next.now.position next.now.epoch next.now.floor)) }
 {
     stage_and_erase(device, parts, entries, current.cp + 1)?;
     write_next(device, next)

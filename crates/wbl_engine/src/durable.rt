@@ -4,12 +4,14 @@ ghost use Rattle.pmem.specs.Device.{State};
 ghost use Rattle.pmem.specs.Runs.{LeavesOnly};
 ghost use Rattle.model.specs.declared.group.Group.{Group};
 ghost use Rattle.model.specs.Image.{Version};
+ghost use Rattle.model.specs.Floor.{floored, floor_raised};
 ghost use Rattle.model.specs.Group.{Contents, IsGroup, after_group, entries_of};
 ghost use Rattle.model.specs.declared.image.TheConstants.{COUNTER_LIMIT};
 ghost use Rattle.wbl_engine.specs.Contents.{Keeps, IsDurable, Same, Exhausts};
 ghost use Rattle.wbl_engine.specs.Fencing.{StopsAtFault};
-ghost use Rattle.wbl_engine.specs.Freeing.{AreEnded, Clears, KeepsFreedOr, KeepsMap, KeepsVersions, KeepsWithoutSome, after_free, cleared_contents, extents_of};
+ghost use Rattle.wbl_engine.specs.Freeing.{AreEnded, Clears, KeepsFreed, KeepsFreedOr, KeepsMap, KeepsVersions, after_free, cleared_contents, extents_of};
 ghost use Rattle.wbl_engine.specs.Promoting.{ExhaustsPromotion, promoted};
+ghost use Rattle.wbl_engine.specs.Raising.{ExhaustsRaising};
 ghost use Rattle.wbl_engine.specs.Relocating.{ExhaustsRelocation, IsRelocation, KeepsKeyspace, after_relocation};
 
 use crate::committed::Committed;
@@ -33,12 +35,12 @@ pub trait Durable {
     /// A fence failed: each later commit returns `Refusal::Fault`, until the image is reopened.
     ghost is_faulted: { Self → Bool };
 
-    /// Commits a group under one record. `Fault` if a fence failed, in this call or an earlier one; `Exhausted` if a counter would
-    /// reach 2^62, with nothing changed. It allocates no memory.
-    fn commit(&mut self, group: &Group) -> Result<Committed, Refusal>
+    /// Commits a group under one record, which has this floor if that is higher than the one before. `Fault` if a fence failed, in this call or an earlier
+    /// one; `Exhausted` if a counter would reach 2^62, with nothing changed. It allocates no memory.
+    fn commit(&mut self, group: &Group, floor: u64) -> Result<Committed, Refusal>
         requires { IsGroup (contents self.old) group.now }
         ensures ok { IfOk result (λ committed. committed ≡ (contents self.new).current.position) }
-        ensures moved { OnOk result (Same (after_group (contents self.old) group.now) (contents self.new)) }
+        ensures moved { OnOk result (Same (after_group (floored floor (contents self.old)) group.now) (contents self.new)) }
         ensures durable { OnOk result (IsDurable (device self.new) (contents self.new)) }
         ensures fences { StopsAtFault device is_faulted self.old result self.new }
         ensures causes { IfErr result (λ refusal. (refusal ≡ Refusal.Fault) ⊎ (refusal ≡ Refusal.Exhausted)) }
@@ -47,20 +49,26 @@ pub trait Durable {
         ensures stays { OnErr result (Same (contents self.old) (contents self.new)) }
         // whole or not at all, at any moment of the call
         ensures moments { is_faulted self.old ≡ false → LeavesOnly (device self.old) (device self.new)
-            (λ image. Keeps (contents self.old) image ⊎ Keeps (after_group (contents self.old) group.now) image) };
+            (λ image. Keeps (contents self.old) image ⊎ Keeps (after_group (floored floor (contents self.old)) group.now) image) };
 
     /// Commits a group under one record as `commit` does, and frees entries whose versions had ended before it, by the commit's own fences: the begin of each
-    /// is erased with what the group stores. So the group takes no place of these versions. `Fault` if a fence failed, in this call or an earlier one;
-    /// `Exhausted` if a counter would reach 2^62, with nothing changed. It allocates no memory.
+    /// is erased with what the group stores. So the group takes no place of these versions. They are to have ended at the floor of the current record or
+    /// below, since this floor comes with the group's record, behind the erasing. `Fault` if a fence failed, in this call or an earlier one; `Exhausted` if
+    /// a counter would reach 2^62, with nothing changed. It allocates no memory.
     ///
     /// At any moment a crash leaves the contents without some of these versions, perhaps none and perhaps all; or what the group makes of the contents
     /// without all of them.
-    fn commit_and_free(&mut self, group: &Group, entries: &[EntryNo]) -> Result<Committed, Refusal>
+    fn commit_and_free(
+        &mut self,
+        group: &Group,
+        entries: &[EntryNo],
+        floor: u64,
+    ) -> Result<Committed, Refusal>
         requires ended { AreEnded (contents self.old) entries.now }
         requires group { IsGroup (contents self.old) group.now }
         requires freed { IsGroup (after_free entries.now (contents self.old)) group.now }
         ensures ok { IfOk result (λ committed. committed ≡ (contents self.new).current.position) }
-        ensures moved { OnOk result (Same (after_group (after_free entries.now (contents self.old)) group.now) (contents self.new)) }
+        ensures moved { OnOk result (Same (after_group (floored floor (after_free entries.now (contents self.old))) group.now) (contents self.new)) }
         ensures durable { OnOk result (IsDurable (device self.new) (contents self.new)) }
         ensures fences { StopsAtFault device is_faulted self.old result self.new }
         ensures causes { IfErr result (λ refusal. (refusal ≡ Refusal.Fault) ⊎ (refusal ≡ Refusal.Exhausted)) }
@@ -70,7 +78,7 @@ pub trait Durable {
         ensures exhausted { IsErrOf result Refusal.Exhausted → Exhausts (contents self.old) group.now × (self.new ≡ self.old) }
         ensures exhausts { is_faulted self.old ≡ false → Exhausts (contents self.old) group.now → result ≡ Err Refusal.Exhausted }
         ensures moments { is_faulted self.old ≡ false → LeavesOnly (device self.old) (device self.new)
-            (KeepsFreedOr entries.now (contents self.old) (after_group (after_free entries.now (contents self.old)) group.now)) };
+            (KeepsFreedOr entries.now (contents self.old) (after_group (floored floor (after_free entries.now (contents self.old))) group.now)) };
 
     /// Moves a live version to another place: commits the part under one record and one stamp, at the position that the record has. The part's one
     /// put makes the version again, with the same record, value and position, and the part names the entry that this ends. The map stays what it
@@ -90,25 +98,30 @@ pub trait Durable {
         ensures moments { is_faulted self.old ≡ false → LeavesOnly (device self.old) (device self.new)
             (λ image. Keeps (contents self.old) image ⊎ Keeps (after_relocation (contents self.old) part.now) image) };
 
-    /// Frees entries whose versions have ended: erases the begin of each. `Fault` if a fence failed, in this call or an earlier one; `Memory`
-    /// if an allocation was refused, with nothing changed.
+    /// Frees entries whose versions have ended, at this floor or below: erases the begin of each, by one fence. If the record has a lower floor, a record of
+    /// its own that has this one is made durable before, by two fences more. `Fault` if a fence failed, in this call or an earlier one; `Exhausted` if the
+    /// number of that record would reach 2^62, and `Memory` if an allocation was refused, both with nothing changed.
     ///
-    /// At any moment a crash leaves the contents without some of these versions, perhaps none and perhaps all.
-    fn free(&mut self, alloc: Global, entries: &[EntryNo]) -> Result<Freed, Refusal>
+    /// At any moment a crash leaves the contents from before; or, under a record with the floor, the contents without some of these versions, perhaps none
+    /// and perhaps all.
+    fn free(&mut self, alloc: Global, entries: &[EntryNo], floor: u64) -> Result<Freed, Refusal>
         requires { AreEnded (contents self.old) entries.now }
         ensures entries { IfOk result (λ freed. freed.entries.items ≡ entries.now) }
         ensures extents { IfOk result (λ freed. freed.extents.items ≡ extents_of (contents self.old).versions entries.now) }
-        ensures moved { OnOk result (Same (after_free entries.now (contents self.old)) (contents self.new)) }
+        ensures moved { OnOk result (Same (after_free entries.now (floor_raised floor (contents self.old))) (contents self.new)) }
         ensures map { OnOk result (KeepsMap (contents self.old) (contents self.new)) }
         ensures durable { OnOk result (IsDurable (device self.new) (contents self.new)) }
         ensures fences { StopsAtFault device is_faulted self.old result self.new }
-        ensures causes { IfErr result (λ refusal. (refusal ≡ Refusal.Fault) ⊎ (refusal ≡ Refusal.Memory)) }
-        // as loads return it
+        ensures causes { IfErr result (λ refusal. (refusal ≡ Refusal.Fault) ⊎ ((refusal ≡ Refusal.Exhausted) ⊎ (refusal ≡ Refusal.Memory))) }
+        // as loads return it, under the record from before
         ensures stays { IsErrOf result Refusal.Fault → is_faulted self.old ≡ false
-            → Same (after_free entries.now (contents self.old)) (contents self.new) }
+            → (((contents self.old).current.floor < floor) × Same (contents self.old) (contents self.new))
+            ⊎ Same (after_free entries.now (contents self.old)) (contents self.new) }
         ensures memory { IsErrOf result Refusal.Memory → self.new ≡ self.old }
+        ensures exhausted { IsErrOf result Refusal.Exhausted → ExhaustsRaising floor (contents self.old).current × (self.new ≡ self.old) }
+        ensures exhausts { is_faulted self.old ≡ false → ExhaustsRaising floor (contents self.old).current → result ≡ Err Refusal.Exhausted }
         ensures moments { is_faulted self.old ≡ false
-            → LeavesOnly (device self.old) (device self.new) (KeepsWithoutSome entries.now (contents self.old)) };
+            → LeavesOnly (device self.old) (device self.new) (KeepsFreed entries.now (contents self.old) (floor_raised floor (contents self.old))) };
 
     /// Clears the oldest gap: erases each begin and each end that lies in it, and then writes the record without it. Without a gap nothing
     /// changes, and nothing is freed. `Fault` if a fence failed, in this call or an earlier one; `Exhausted` if the number of the record would

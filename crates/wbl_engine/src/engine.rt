@@ -7,11 +7,11 @@ use crate::commit::commit_group;
 use crate::commit_and_free::commit_and_erase;
 use crate::committed::Committed;
 use crate::durable::Durable;
-use crate::erasing::erase_stamps;
 use crate::format::{first_record, format_device};
 use crate::freeing::{Freed, extent_of, freed_by, named_extents};
 use crate::inspecting::read_record;
 use crate::promoting::{promoted_record, write_promoted};
+use crate::raising::{free_under, raised_record};
 use crate::relocating::{commit_relocation, relocated_record};
 use crate::reopening::{layout_in, reopen_device};
 use crate::restarting::Restarting;
@@ -152,11 +152,11 @@ impl<P: Pmem> Durable for WblEngine<P> {
 
     ghost sized = { λ engine. refl };
 
-    fn commit(&mut self, group: &Group) -> Result<Committed, Refusal> {
+    fn commit(&mut self, group: &Group, floor: u64) -> Result<Committed, Refusal> {
         if self.faulted {
             return Err(Refusal::Fault);
         }
-        let Some(next) = next_record(&self.current, group) else {
+        let Some(next) = next_record(&self.current, group, floor) else {
             return Err(Refusal::Exhausted);
         };
         let position = next.position;
@@ -176,11 +176,12 @@ impl<P: Pmem> Durable for WblEngine<P> {
         &mut self,
         group: &Group,
         entries: &[EntryNo],
+        floor: u64,
     ) -> Result<Committed, Refusal> {
         if self.faulted {
             return Err(Refusal::Fault);
         }
-        let Some(next) = next_record(&self.current, group) else {
+        let Some(next) = next_record(&self.current, group, floor) else {
             return Err(Refusal::Exhausted);
         };
         let position = next.position;
@@ -211,15 +212,19 @@ impl<P: Pmem> Durable for WblEngine<P> {
         Ok(())
     }
 
-    fn free(&mut self, alloc: Global, entries: &[EntryNo]) -> Result<Freed, Refusal> {
+    fn free(&mut self, alloc: Global, entries: &[EntryNo], floor: u64) -> Result<Freed, Refusal> {
         if self.faulted {
             return Err(Refusal::Fault);
         }
+        let Some(next) = raised_record(&self.current, floor) else {
+            return Err(Refusal::Exhausted);
+        };
         let freed = freed_by(alloc, &self.device, entries)?;
-        let Ok(()) = erase_stamps(&mut self.device, entries, &[]) else {
+        let Ok(()) = free_under(&mut self.device, entries, &self.current, &next) else {
             self.faulted = true;
             return Err(Refusal::Fault);
         };
+        self.current = next;
         Ok(freed)
     }
 

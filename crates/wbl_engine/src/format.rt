@@ -74,5 +74,6 @@ pub fn first_record(role: Role) -> Record
         epoch: FIRST_EPOCH,
         role,
         gaps: ArrayVec::new(),
+        floor: 0,
     }
 }

@@ -13,11 +13,13 @@ mod freeing;
 mod inspecting;
 mod laws;
 mod promoting;
+mod raising;
 mod relocating;
 mod reopening;
 mod restarting;
 mod staging;
 mod successor;
+mod unraised;
 
 pub use committed::Committed;
 pub use durable::Durable;
@@ -33,3 +35,4 @@ pub use laws::{
 pub use model::{Gap, Record, Role};
 pub use reopening::layout_in;
 pub use restarting::Restarting;
+pub use unraised::free_unraised;

@@ -30,6 +30,7 @@ pub fn promoted_record(current: &Record) -> Option<Record>
             epoch,
             role: Role::Primary,
             gaps: copy_gaps(&current.gaps),
+            floor: current.position,
         })
     } else {
         None

@@ -31,6 +31,7 @@ pub fn relocated_record(current: &Record) -> Option<Record>
             epoch: current.epoch,
             role: current.role,
             gaps: copy_gaps(&current.gaps),
+            floor: current.floor,
         })
     } else {
         None

@@ -1,18 +1,19 @@
 //! The record after a group.
 ghost use Rattle.std.specs.Prelude.{◌≡◌, ◌⊎◌, ◌<◌, ◌≤◌, length, IfSome, IfNone};
 ghost use Rattle.model.specs.declared.group.TheConstants.{MAX_PARTS};
+ghost use Rattle.model.specs.Floor.{with_floor};
 ghost use Rattle.model.specs.Group.{next_record, last_position};
 ghost use Rattle.wbl_record.specs.Current.{IsLawful};
 
 use arrayvec::ArrayVec;
 use model::{COUNTER_LIMIT, Gap, Group, MAX_GAPS, Part, Record, STAMP_WINDOW};
 
-/// The record after a group, or `None` if one of its counters would reach 2^62.
-pub fn next_record(current: &Record, group: &Group) -> Option<Record>
+/// The record after a group, which has this floor if that is higher than the one before, or `None` if one of its counters would reach 2^62.
+pub fn next_record(current: &Record, group: &Group, floor: u64) -> Option<Record>
     requires lawful { IsLawful current.now }
     requires few { length group.now.parts.items ≤ MAX_PARTS }
     requires epoch { current.now.epoch ≤ group.now.epoch }
-    ensures next { IfSome result (λ next. next ≡ next_record current.now group.now) }
+    ensures next { IfSome result (λ next. next ≡ next_record (with_floor floor current.now) group.now) }
     ensures lawful { IfSome result IsLawful }
     ensures exhausted { IfNone result (let next = next_record current.now group.now in
         (COUNTER_LIMIT ≤ next.cd) ⊎ (COUNTER_LIMIT ≤ next.position) ⊎ (COUNTER_LIMIT ≤ next.number)
@@ -36,6 +37,7 @@ pub fn next_record(current: &Record, group: &Group) -> Option<Record>
             epoch: group.epoch,
             role: current.role,
             gaps: copy_gaps(&current.gaps),
+            floor: current.floor.max(floor),
         })
     } else {
         None

@@ -8,6 +8,7 @@ pub mod PlaceLemmas
 pub mod LoopLemmas
 pub mod LeavingLemmas
 pub mod VacatingSteps
+pub mod Undamaged
 pub mod VacatingImages
 mod EndedCopies
 mod EndedEntries
@@ -18,10 +19,12 @@ mod EndedMoments
 mod EndedRuns
 mod TwoSetsLemmas
 pub mod Maps
+pub mod Entries
 pub mod MovableLemmas
 pub mod Touching
 pub mod Marks
 pub mod Renewing
 pub mod SwitchLemmas
 pub mod Migratable
+pub mod Halfway
 pub mod Limits

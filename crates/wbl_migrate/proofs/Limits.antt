@@ -67,12 +67,14 @@ pub only_old : (lines : ℕ) (r : Record) (s : Keyspace) (image : Image) → Has
     → IsOldImage lines r s image
 only_old lines r s image has (inl old) = old
 only_old lines r s image has (inr (inl halfway)) =
-    let a = has.version in let b = halfway.movable.holds.superblock.version in absurd (omega (arith, a, b))
-only_old lines r s image has (inr (inr new)) = let a = has.version in let b = new.1.superblock.version ∙ ap version new.0 in absurd (omega (arith, a, b))
+    let a = has.version in let b = halfway.is.undamaged.superblock.version ∙ ap version halfway.is.layout in absurd (omega (arith, a, b))
+only_old lines r s image has (inr (inr new)) =
+    let a = has.version in let b = new.undamaged.superblock.version ∙ ap version new.layout in absurd (omega (arith, a, b))
 
 pub only_halfway : (lines : ℕ) (r : Record) (s : Keyspace) (image : Image) → HasSuperblock Halfway lines image → IsMigratable lines r s image
     → IsHalfwayImage lines r s image
 only_halfway lines r s image has (inl old) =
     let a = has.version in let b = old.undamaged.superblock.version ∙ ap version old.layout in absurd (omega (arith, a, b))
 only_halfway lines r s image has (inr (inl halfway)) = halfway
-only_halfway lines r s image has (inr (inr new)) = let a = has.version in let b = new.1.superblock.version ∙ ap version new.0 in absurd (omega (arith, a, b))
+only_halfway lines r s image has (inr (inr new)) =
+    let a = has.version in let b = new.undamaged.superblock.version ∙ ap version new.layout in absurd (omega (arith, a, b))

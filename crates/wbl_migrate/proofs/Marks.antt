@@ -12,7 +12,7 @@ use Rattle.wbl_record.proofs.Mixing.{IsMixed, mixed}
 use Rattle.wbl_migrate.specs.declared.marking.TheConstants.{VERSION_WORD}
 use Rattle.wbl_migrate.specs.Stage.{IsMovable, in_layout}
 use Rattle.wbl_migrate.specs.Steps.{Leaves, IsRenewed, renewed}
-use Rattle.wbl_migrate.proofs.MovableLemmas.{agrees_but_version, movable_at, record_stays}
+use Rattle.wbl_migrate.proofs.MovableLemmas.{agrees_but_version, halfway_lawful, itself, movable_at, record_stays, renewed_lawful}
 use Rattle.wbl_migrate.proofs.Touching.{IsStep, either_step, one_word, one_stored, value_stored}
 
 -- ---- a mark
@@ -39,8 +39,9 @@ halfway_image d lines r s image all partly version =
     let mark : IsMarked d image = marked d 3 image partly in
     let movable : IsMovable Version1 lines r s mark.base = all mark.base mark.is in
     let same = agrees_but_version lines mark.base image mark.same in
-    let has = movable.holds.has_record in
-    movable_at Version1 Halfway lines r r s mark.base image refl refl movable.gapless version
+    let current = movable.undamaged.current in
+    let has = current.has_record in
+    movable_at Version1 Halfway lines r r s mark.base image refl (itself r movable.gapless) (halfway_lawful r current.lawful) version
     (record_stays lines (in_layout Halfway r) mark.base image mark.same (record { root = has.root; words = has.words })) same movable
 
 pub new_image : (d : State) (lines : ℕ) (r : Record) (s : Keyspace) (image : Image) → Leaves d (IsRenewed lines r s)
@@ -48,7 +49,8 @@ pub new_image : (d : State) (lines : ℕ) (r : Record) (s : Keyspace) (image : I
 new_image d lines r s image all partly version =
     let mark : IsMarked d image = marked d 2 image partly in
     let is : IsRenewed lines r s mark.base = all mark.base mark.is in
-    movable_at Halfway Version2 lines r (renewed r) s mark.base image refl refl refl version
+    movable_at Halfway Version2 lines r (renewed r) s mark.base image refl (record { cp = refl; cd = refl; position = refl; gapless = refl })
+    (renewed_lawful r is.movable.undamaged.current.lawful is.number) version
     (record_stays lines (renewed r) mark.base image mark.same is.next) (agrees_but_version lines mark.base image mark.same) is.movable
 
 -- what stores the version, by the number that it is

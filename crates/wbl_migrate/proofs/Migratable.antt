@@ -1,5 +1,5 @@
 -- What each step of a migration leaves can be migrated on.
-use Rattle.std.proofs.Common.{◌≡◌, ◌≤◌, List, [], length, ◌⊎◌, Some, None, ℕ, refl, inl, inr, sym, ap, subst, ◌∙◌, arith}
+use Rattle.std.proofs.Common.{◌≡◌, [], ◌⊎◌, Some, None, ℕ, refl, inl, inr, sym, ap, subst, ◌∙◌, arith}
 use Rattle.kv_types.specs.declared.refusal.Refusal.{Refusal}
 use Rattle.kv_types.specs.declared.refusal.Refusal.TheVariants.{Damaged, Exhausted, Fault, Full, Memory, WrongRole}
 use Rattle.kv_types.specs.Keyspace.{Keyspace}
@@ -9,15 +9,15 @@ use Rattle.pmem.specs.Runs.{LeavesOnly}
 use Rattle.pmem.proofs.Leaving.{LeavesOnly-then, LeavesOnly-weaken, none_leaves}
 use Rattle.model.specs.declared.layout.Layout.{Layout}
 use Rattle.model.specs.declared.layout.Layout.TheVariants.{Version1, Version2, Halfway}
-use Rattle.model.specs.declared.record.Gap.{Gap}
 use Rattle.model.specs.declared.record.Record.{Record}
 use Rattle.model.specs.Layout.{version}
 use Rattle.model.specs.Image.{HasSuperblock, Holds, Image, IsMapOf, entries_of_lines, version_at}
 use Rattle.model.proofs.RecordLemmas.{HasRecord-unique}
 use Rattle.heap_layout.specs.Superblock.{super_refusal}
-use Rattle.wbl_record.specs.Current.{IsCurrent, IsLawful}
+use Rattle.wbl_record.specs.Current.{IsCurrent}
+use Rattle.wbl_engine.specs.Lawful.{IsUndamaged}
 use Rattle.wbl_engine.specs.Reopening.{RefusesReopening}
-use Rattle.wbl_migrate.specs.Migrating.{GoesOnFrom, HasGapless, IsHalfwayImage, IsMigratable, IsMigrated, IsOldImage, StaysMigratable, StaysOld}
+use Rattle.wbl_migrate.specs.Migrating.{GoesOnFrom, HasGapless, IsHalfwayImage, IsImageOf, IsMigratable, IsMigrated, IsOldImage, StaysMigratable, StaysOld}
 use Rattle.wbl_migrate.specs.Stage.{IsMovable, KeepsMap, in_layout}
 use Rattle.wbl_migrate.specs.Steps.{Leaves, IsHalfwayOrNew, renewed}
 use Rattle.wbl_migrate.proofs.MovableLemmas.{as_it_is}
@@ -38,41 +38,35 @@ one_record lines q r image is was = HasRecord-unique lines image q r is.lawful.f
 pub old_record : (lines : ℕ) (r q : Record) (s : Keyspace) (image : Image) → IsOldImage lines r s image → IsCurrent lines image q → q ≡ r
 old_record lines r q s image old is = one_record lines q r image is old.undamaged.current
 
-halfway_holds : (lines : ℕ) (r : Record) (s : Keyspace) (image : Image) → IsHalfwayImage lines r s image → Holds lines r s image
-halfway_holds lines r s image halfway = subst (λ (q : Record). Holds lines q s image) (as_it_is r Halfway halfway.layout) halfway.movable.holds
-
 pub halfway_is : (lines : ℕ) (r : Record) (s : Keyspace) (image : Image) → IsHalfwayImage lines r s image → HasGapless lines image r
-halfway_is lines r s image halfway =
-    let holds = halfway_holds lines r s image halfway in
-    record {
-      current = record { version_is = holds.superblock.version; has_record = holds.has_record; lawful = halfway.lawful };
-      gapless = halfway.movable.gapless;
-    }
+halfway_is lines r s image halfway = record { undamaged = halfway.is.undamaged; gapless = halfway.gapless }
 
 pub halfway_record : (lines : ℕ) (r q : Record) (s : Keyspace) (image : Image) → IsHalfwayImage lines r s image → HasGapless lines image q → q ≡ r
-halfway_record lines r q s image halfway is = one_record lines q r image is.current (halfway_is lines r s image halfway).current
+halfway_record lines r q s image halfway is = one_record lines q r image is.undamaged.current halfway.is.undamaged.current
 
 -- where its record has a gap, it has none without
-pub with_gap : (lines : ℕ) (q r : Record) (image : Image) → IsCurrent lines image q → ¬ (q.gaps.items ≡ []) → ¬ HasGapless lines image r
+pub with_gap : (lines : ℕ) (q r : Record) (image : Image) → IsUndamaged lines q image → ¬ (q.gaps.items ≡ []) → ¬ HasGapless lines image r
 with_gap lines q r image is gap other =
-    gap (subst (λ (x : Record). x.gaps.items ≡ []) (sym (one_record lines q r image is other.current)) other.gapless)
+    gap (subst (λ (x : Record). x.gaps.items ≡ []) (sym (one_record lines q r image is.current other.undamaged.current)) other.gapless)
 
 -- ---- the map
 
+-- what an image of a layout holds
+image_holds : (layout : Layout) (lines : ℕ) (r : Record) (s : Keyspace) (image : Image) → IsImageOf layout lines r s image → Holds lines r s image
+image_holds layout lines r s image is =
+    record {
+      superblock = is.undamaged.superblock;
+      has_record = is.undamaged.current.has_record;
+      map = subst (λ (l : Layout). IsMapOf (version_at r image) (entries_of_lines l lines) s) (sym is.layout) is.map;
+    }
+
 map_kept : (lines : ℕ) (r q : Record) (s : Keyspace) (image : Image) → GoesOnFrom r q → IsMigratable lines q s image → KeepsMap lines r.position s image
 map_kept lines r q s image goes (inl old) =
-    record {
-      current = q;
-      position_is = goes.position;
-      holds = record {
-        superblock = old.undamaged.superblock;
-        has_record = old.undamaged.current.has_record;
-        map = subst (λ (layout : Layout). IsMapOf (version_at q image) (entries_of_lines layout lines) s) (sym old.layout) old.map;
-      };
-    }
+    record { current = q; position_is = goes.position; holds = image_holds Version1 lines q s image old }
 map_kept lines r q s image goes (inr (inl halfway)) =
-    record { current = q; position_is = goes.position; holds = halfway_holds lines q s image halfway }
-map_kept lines r q s image goes (inr (inr new)) = record { current = q; position_is = goes.position; holds = new.1 }
+    record { current = q; position_is = goes.position; holds = image_holds Halfway lines q s image halfway.is }
+map_kept lines r q s image goes (inr (inr new)) =
+    record { current = q; position_is = goes.position; holds = image_holds Version2 lines q s image new }
 
 pub migratable_map : (lines : ℕ) (r : Record) (s : Keyspace) (image : Image) → StaysMigratable lines r s image → KeepsMap lines r.position s image
 migratable_map lines r s image stays = map_kept lines r stays.current s image stays.goes_on stays.is
@@ -96,37 +90,36 @@ stays d lines r s certain is =
 
 -- ---- from halfway on
 
-later : (lines : ℕ) (r q : Record) (s : Keyspace) (image : Image) → GoesOnFrom r q → IsLawful q → IsHalfwayOrNew lines q s image
-    → StaysMigratable lines r s image
-later lines r q s image goes lawful (inl halfway) =
-    let none = halfway.gapless in
+-- an image that can be migrated on is one of its layout
+movable_image : (layout : Layout) (lines : ℕ) (r : Record) (s : Keyspace) (image : Image) → IsMovable layout lines r s image
+    → IsImageOf layout lines (in_layout layout r) s image
+movable_image layout lines r s image movable = record { layout = refl; undamaged = movable.undamaged; map = movable.map }
+
+-- and one that is halfway, without a gap, can be
+halfway_can : (lines : ℕ) (r : Record) (s : Keyspace) (image : Image) → IsHalfwayImage lines r s image → IsMovable Halfway lines r s image
+halfway_can lines r s image halfway =
+    record {
+      undamaged = subst (λ (q : Record). IsUndamaged lines q image) (sym (as_it_is r Halfway halfway.is.layout)) halfway.is.undamaged;
+      map = halfway.is.map;
+      gapless = halfway.gapless;
+      last = λ i low high. absurd (omega (arith, low, high));
+    }
+
+later : (lines : ℕ) (r q : Record) (s : Keyspace) (image : Image) → GoesOnFrom r q → IsHalfwayOrNew lines q s image → StaysMigratable lines r s image
+later lines r q s image goes (inl halfway) =
     record {
       current = in_layout Halfway q;
       goes_on = record { position = goes.position; epoch = goes.epoch; role = goes.role };
-      is = inr (inl (record {
-        layout = refl;
-        lawful = record {
-          some = lawful.some;
-          number = lawful.number;
-          position = lawful.position;
-          limit = lawful.limit;
-          room = lawful.room;
-          some_epoch = lawful.some_epoch;
-          epoch = lawful.epoch;
-          few = subst (λ (gaps : List Gap). length gaps ≤ 8) (sym none) (omega arith);
-          gaps = lawful.gaps;
-        };
-        movable = record { holds = halfway.holds; gapless = none; behind = halfway.behind; last = halfway.last };
-      }));
+      is = inr (inl (record { is = movable_image Halfway lines q s image halfway; gapless = halfway.gapless }));
     }
-later lines r q s image goes lawful (inr new) =
-    record { current = renewed q; goes_on = goes_renewed r q goes; is = inr (inr (refl, new.holds)) }
+later lines r q s image goes (inr new) =
+    record { current = renewed q; goes_on = goes_renewed r q goes; is = inr (inr (movable_image Version2 lines (renewed q) s image new)) }
 
 pub new_migrated : (d : State) (lines : ℕ) (r q : Record) (s : Keyspace) → GoesOnFrom r q → Leaves d (IsMovable Version2 lines (renewed q) s)
     → Leaves d (IsMigrated lines r s)
 new_migrated d lines r q s goes all image is =
     let new : IsMovable Version2 lines (renewed q) s image = all image is in
-    record { current = renewed q; goes_on = goes_renewed r q goes; holds = (refl, new.holds) }
+    record { current = renewed q; goes_on = goes_renewed r q goes; is = movable_image Version2 lines (renewed q) s image new }
 
 -- an image that was halfway, whose record was read
 halfway_movable : (d : State) (r q : Record) (s : Keyspace) → IsCertain d → HasGapless d.lines (image_of d.words) q
@@ -134,7 +127,7 @@ halfway_movable : (d : State) (r q : Record) (s : Keyspace) → IsCertain d → 
 halfway_movable d r q s certain current halfway =
     let same : q ≡ r = halfway_record d.lines r q s (image_of d.words) halfway current in
     subst (λ (x : Record). Leaves d (IsMovable Halfway d.lines x s)) (sym same)
-    (certain_image d (IsMovable Halfway d.lines r s) certain halfway.movable)
+    (certain_image d (IsMovable Halfway d.lines r s) certain (halfway_can d.lines r s (image_of d.words) halfway))
 
 halfway_goes : (d : State) (r q : Record) (s : Keyspace) → HasGapless d.lines (image_of d.words) q → IsHalfwayImage d.lines r s (image_of d.words)
     → GoesOnFrom r q
@@ -152,7 +145,7 @@ pub finishing : (d e : State) (r q : Record) (s : Keyspace) → IsCertain d → 
     → IsHalfwayImage d.lines r s (image_of d.words) → LeavesOnly d e (StaysMigratable d.lines r s)
 finishing d e r q s certain current moments halfway =
     LeavesOnly-weaken (StaysMigratable d.lines r s)
-    (λ image is. later d.lines r q s image (halfway_goes d r q s current halfway) current.current.lawful is)
+    (λ image is. later d.lines r q s image (halfway_goes d r q s current halfway) is)
     (moments (halfway_movable d r q s certain current halfway))
 
 -- ---- from version 1 on
@@ -171,11 +164,11 @@ upgraded a b c r q s counted goes vacated done =
     subst (λ (n : ℕ). Leaves c (IsMigrated n r s)) counted
     (new_migrated c b.lines r q s goes (done (subst (λ (n : ℕ). Leaves b (IsMovable Version1 n q s)) (sym counted) vacated)))
 
-pub upgrading : (a b c : State) (r q : Record) (s : Keyspace) → b.lines ≡ a.lines → GoesOnFrom r q → IsLawful q → Leaves b (IsMovable Version1 a.lines q s)
+pub upgrading : (a b c : State) (r q : Record) (s : Keyspace) → b.lines ≡ a.lines → GoesOnFrom r q → Leaves b (IsMovable Version1 a.lines q s)
     → LeavesOnly a b (StaysOld a.lines r s)
     → (Leaves b (IsMovable Version1 b.lines q s) → LeavesOnly b c (λ image. IsImage b.words image ⊎ IsHalfwayOrNew b.lines q s image))
     → LeavesOnly a c (StaysMigratable a.lines r s)
-upgrading a b c r q s counted goes lawful vacated first second =
+upgrading a b c r q s counted goes vacated first second =
     let switched : LeavesOnly b c (λ image. IsImage b.words image ⊎ IsHalfwayOrNew b.lines q s image) =
     second (subst (λ (n : ℕ). Leaves b (IsMovable Version1 n q s)) (sym counted) vacated) in
     LeavesOnly-then (vacating a b a.lines r s first)
@@ -183,7 +176,7 @@ upgrading a b c r q s counted goes lawful vacated first second =
     (λ image is.
     elim is [
       | inl before ↦ old_stays a.lines r s image (first.each image (inl before))
-      | inr on ↦ subst (λ (n : ℕ). StaysMigratable n r s image) counted (later b.lines r q s image goes lawful on)
+      | inr on ↦ subst (λ (n : ℕ). StaysMigratable n r s image) counted (later b.lines r q s image goes on)
     ])
     switched)
 
@@ -234,5 +227,5 @@ pub only_new : (lines : ℕ) (r : Record) (s : Keyspace) (image : Image) → Has
 only_new lines r s image has (inl old) =
     let a = has.version in let b = old.undamaged.superblock.version ∙ ap version old.layout in absurd (omega (arith, a, b))
 only_new lines r s image has (inr (inl halfway)) =
-    let a = has.version in let b = halfway.movable.holds.superblock.version in absurd (omega (arith, a, b))
-only_new lines r s image has (inr (inr new)) = record { current = r; goes_on = goes_nowhere r; holds = new }
+    let a = has.version in let b = halfway.is.undamaged.superblock.version ∙ ap version halfway.is.layout in absurd (omega (arith, a, b))
+only_new lines r s image has (inr (inr new)) = record { current = r; goes_on = goes_nowhere r; is = new }

@@ -1,18 +1,22 @@
 -- What an image holds stays while no word changes that is read, and while what is read changes from one stage to the next.
-use Rattle.std.proofs.Common.{◌≡◌, ◌≢◌, ℕ, ◌+◌, ◌*◌, ◌/◌, ◌<◌, ◌≤◌, not, ◌&&◌, nat_le, nat_lt, List, [], IsTrue, inl, inr, sym, ap, subst, ◌∙◌, arith}
+use Rattle.std.proofs.Common.{◌≡◌, ◌≢◌, ℕ, ◌+◌, ◌*◌, ◌/◌, ◌<◌, ◌≤◌, not, ◌&&◌, nat_le, nat_lt, List, [], IsTrue, refl, inl, inr, sym, ap, subst, ◌∙◌, arith}
 use Rattle.std.specs.List.{list_any}
 use Rattle.kv_types.specs.Keyspace.{Keyspace}
+use Rattle.model.specs.declared.image.TheConstants.{COUNTER_LIMIT}
 use Rattle.model.specs.declared.layout.Layout.{Layout}
 use Rattle.model.specs.declared.layout.Layout.TheVariants.{Version1, Version2, Halfway}
 use Rattle.model.specs.declared.record.Gap.{Gap}
 use Rattle.model.specs.declared.record.Record.{Record}
 use Rattle.model.specs.Layout.{version}
-use Rattle.model.specs.Image.{HasRecord, Image, IsMapOf, counts, entries_of_lines, entry_word, is_in_gap, root_word, version_at}
+use Rattle.model.specs.Image.{HasRecord, Holds, Image, IsMapOf, counts, entries_of_lines, entry_word, is_in_gap, root_word, version_at}
 use Rattle.model.proofs.LayoutLemmas.{root_in, slot_at}
 use Rattle.model.proofs.MapLemmas.{IsMapOf-same}
+use Rattle.wbl_record.specs.Current.{IsLawful}
 use Rattle.wbl_record.specs.Record.{IsRecordWord}
 use Rattle.wbl_record.proofs.RecordWords.{HasRecord-same}
 use Rattle.wbl_migrate.specs.Stage.{IsMovable, in_layout}
+use Rattle.wbl_migrate.specs.Steps.{renewed}
+use Rattle.wbl_migrate.proofs.Entries.{versions_same}
 use Rattle.wbl_migrate.proofs.Maps.{IsMapOf-fewer, SameEntry, version_at-same, version_at-none}
 
 -- no layout has fewer entries than version 2
@@ -77,39 +81,83 @@ record_stays lines r base image same has =
     HasRecord-same lines r base image (same (root_word r.layout) (λ e. omega (arith, e, root)))
     (λ word low high. same word (λ e. omega (arith, e, low, behind))) has
 
--- An image that agrees with one that can be migrated on, with the version of a stage at which no more entries are read than in version 2, and with a record
--- there under which the same stamps count, can be migrated on from that stage.
+-- the second record has no gap, and under it the same stamps were given out and count, at the same position
+pub record CountsAlike (r q : Record) : Type 0 where
+  pub cp : q.cp ≡ r.cp
+  pub cd : q.cd ≡ r.cd
+  pub position : q.position ≡ r.position
+  pub gapless : q.gaps.items ≡ []
+
+pub itself : (r : Record) → r.gaps.items ≡ [] → CountsAlike r r
+itself r gapless = record { cp = refl; cd = refl; position = refl; gapless = gapless }
+
+-- the records of the stages obey the rules that the one of version 1 does
+pub halfway_lawful : (r : Record) → IsLawful (in_layout Version1 r) → IsLawful (in_layout Halfway r)
+halfway_lawful r lawful =
+    record {
+      some = lawful.some;
+      number = lawful.number;
+      position = lawful.position;
+      limit = lawful.limit;
+      room = lawful.room;
+      some_epoch = lawful.some_epoch;
+      epoch = lawful.epoch;
+      few = lawful.few;
+      gaps = lawful.gaps;
+    }
+
+pub renewed_lawful : (r : Record) → IsLawful (in_layout Halfway r) → (renewed r).number < COUNTER_LIMIT → IsLawful (renewed r)
+renewed_lawful r lawful number =
+    record {
+      some = omega arith;
+      number = number;
+      position = lawful.position;
+      limit = lawful.limit;
+      room = lawful.room;
+      some_epoch = lawful.some_epoch;
+      epoch = lawful.epoch;
+      few = omega arith;
+      gaps = tt;
+    }
+
+-- what an image that can be migrated on holds
+pub movable_holds : (layout : Layout) (lines : ℕ) (r : Record) (s : Keyspace) (image : Image) → IsMovable layout lines r s image
+    → Holds lines (in_layout layout r) s image
+movable_holds layout lines r s image movable =
+    let undamaged = movable.undamaged in
+    record { superblock = undamaged.superblock; has_record = undamaged.current.has_record; map = movable.map }
+
+-- An image that agrees with one that can be migrated on, with the version of a stage at which no more entries are read than in version 2, and with a lawful
+-- record there under which the same stamps count, can be migrated on from that stage.
 pub movable_at : (from to : Layout) (lines : ℕ) (r q : Record) (s : Keyspace) (base image : Image)
-    → entries_of_lines to lines ≡ entries_of_lines Version2 lines → q.cp ≡ r.cp → q.gaps.items ≡ [] → image 1 ≡ version to
+    → entries_of_lines to lines ≡ entries_of_lines Version2 lines → CountsAlike r q → IsLawful (in_layout to q) → image 1 ≡ version to
     → HasRecord lines (in_layout to q) image → Agrees lines base image → IsMovable from lines r s base → IsMovable to lines q s image
-movable_at from to lines r q s base image few cp none version_is has_record same movable =
+movable_at from to lines r q s base image few alike lawful version_is has_record same movable =
     let many : entries_of_lines Version2 lines ≤ entries_of_lines from lines = fewest from lines in
+    let was = movable.undamaged in
     let at : (i : ℕ) → i < entries_of_lines Version2 lines → SameEntry base image (8 + lines / 8) i =
     λ i below. record { words = λ k low. same.entries (entry_word i k) (omega arith) (omega arith); extents = λ word low. same.extents word (omega arith) } in
-    let counted_same = counted r q cp movable.gapless none in
-    let begun : (i : ℕ) → i < entries_of_lines Version2 lines → counts q (image (entry_word i 0)) ≡ counts r (base (entry_word i 0)) =
-    λ i below. ap (counts q) ((at i below).words 0 (omega arith)) ∙ counted_same (base (entry_word i 0)) in
+    let counted_same = counted r q alike.cp movable.gapless alike.gapless in
     let behind : (i : ℕ) → i < entries_of_lines Version2 lines → IsTrue (counts r (base (entry_word i 0))) → 8 + lines / 8 ≤ base (entry_word i 3) =
-    λ i below is. movable.behind i (omega arith) is in
+    λ i below is. ((was.versions.entries i (omega (arith, many, below))).whole is).above in
     let map : IsMapOf (version_at r base) (entries_of_lines Version2 lines) s =
     IsMapOf-fewer (version_at r base) (entries_of_lines Version2 lines) (entries_of_lines from lines) s many
-    (λ i low high. version_at-none r base i (movable.last i low high)) movable.holds.map in
+    (λ i low high. version_at-none r base i (movable.last i low high)) movable.map in
     record {
-      holds = record {
+      undamaged = record {
         superblock = record {
-          magic = same.head 0 (omega arith) (λ e. omega (arith, e)) (λ e. omega (arith, e)) ∙ movable.holds.superblock.magic;
+          magic = same.head 0 (omega arith) (λ e. omega (arith, e)) (λ e. omega (arith, e)) ∙ was.superblock.magic;
           version = version_is;
-          line_count = same.head 2 (omega arith) (λ e. omega (arith, e)) (λ e. omega (arith, e)) ∙ movable.holds.superblock.line_count;
-          room = same.head 3 (omega arith) (λ e. omega (arith, e)) (λ e. omega (arith, e)) ∙ movable.holds.superblock.room;
+          line_count = same.head 2 (omega arith) (λ e. omega (arith, e)) (λ e. omega (arith, e)) ∙ was.superblock.line_count;
+          room = same.head 3 (omega arith) (λ e. omega (arith, e)) (λ e. omega (arith, e)) ∙ was.superblock.room;
         };
-        has_record = has_record;
-        map = subst (λ (n : ℕ). IsMapOf (version_at q image) n s) (sym few)
-            (IsMapOf-same (version_at r base) (version_at q image) (entries_of_lines Version2 lines) s
-            (λ i below. sym (version_at-same r q base image (8 + lines / 8) i counted_same (at i below) (behind i below))) map);
+        current = record { version_is = version_is; has_record = has_record; lawful = lawful };
+        versions = versions_same lines (in_layout from r) (in_layout to q) base image counted_same alike.cd alike.position (omega (arith, few, many))
+            (λ i below. at i (omega (arith, few, below))) was.versions;
       };
-      gapless = none;
-      behind = λ i below is.
-          let under : i < entries_of_lines Version2 lines = omega (arith, few) in
-          rw ((at i under).words 3 (omega arith)) (behind i under (sym (begun i under) ∙ is));
+      map = subst (λ (n : ℕ). IsMapOf (version_at q image) n s) (sym few)
+          (IsMapOf-same (version_at r base) (version_at q image) (entries_of_lines Version2 lines) s
+          (λ i below. sym (version_at-same r q base image (8 + lines / 8) i counted_same (at i below) (behind i below))) map);
+      gapless = alike.gapless;
       last = λ i low high. absurd (omega (arith, few));
     }

@@ -16,7 +16,7 @@ use Rattle.wbl_record.proofs.Mixing.{IsMixed, mixed}
 use Rattle.wbl_record.proofs.RecordLemmas.{recorded}
 use Rattle.wbl_migrate.specs.Stage.{IsMovable}
 use Rattle.wbl_migrate.specs.Steps.{KeepsOthers, Leaves}
-use Rattle.wbl_migrate.proofs.MovableLemmas.{agrees_but_record, halfway_stays, movable_at}
+use Rattle.wbl_migrate.proofs.MovableLemmas.{agrees_but_record, halfway_stays, itself, movable_at}
 use Rattle.wbl_migrate.proofs.Touching.{IsStep, either_step, keeps_then, one_stored, staged_step, step_keeps}
 
 -- ---- nothing that is written is read halfway
@@ -31,8 +31,9 @@ renewing_image a lines n r s image room all which =
     λ word other. elim (mix.same word) [ inl e ↦ e | inr is ↦ absurd (other is) ] in
     let agrees = agrees_but_record lines n mix.base image room same in
     let version : image 1 ≡ mix.base 1 = same 1 (λ is. elim is [ inl e ↦ omega (arith, e) | inr slot ↦ omega (arith, slot.0) ]) in
-    movable_at Halfway Halfway lines r r s mix.base image refl refl movable.gapless (version ∙ movable.holds.superblock.version)
-    (halfway_stays lines r mix.base image agrees movable.holds.has_record) agrees movable
+    let was = movable.undamaged in
+    movable_at Halfway Halfway lines r r s mix.base image refl (itself r movable.gapless) was.current.lawful (version ∙ was.superblock.version)
+    (halfway_stays lines r mix.base image agrees was.current.has_record) agrees movable
 
 module _ (next : Record) (layout : next.layout ≡ Version2) where
   -- the words of the record

@@ -1,24 +1,27 @@
 -- One step of the migration after the other.
-use Rattle.std.proofs.Common.{◌≡◌, ◌⊎◌, ℕ, refl, inl, inr, sym, subst}
+use Rattle.std.proofs.Common.{◌≡◌, ◌⊎◌, ℕ, ◌+◌, ◌≤◌, refl, inl, inr, sym, subst}
 use Rattle.kv_types.specs.Keyspace.{Keyspace}
 use Rattle.pmem.specs.Device.{State}
 use Rattle.pmem.specs.Crash.{IsImage}
 use Rattle.pmem.specs.Runs.{LeavesOnly}
 use Rattle.pmem.proofs.Leaving.{LeavesOnly-then, LeavesOnly-weaken}
+use Rattle.model.specs.declared.image.TheConstants.{COUNTER_LIMIT}
 use Rattle.model.specs.declared.layout.Layout.TheVariants.{Version1, Version2, Halfway}
 use Rattle.model.specs.declared.record.Record.{Record}
 use Rattle.model.specs.Image.{HasRecord, Image}
+use Rattle.wbl_engine.proofs.LawfulLemmas.{below_limit}
 use Rattle.wbl_migrate.specs.Stage.{IsMovable, KeepsMap, in_layout}
 use Rattle.wbl_migrate.specs.Steps.{Leaves, IsAtSomeStage, IsHalfwayOrNew, IsRenewed, renewed}
+use Rattle.wbl_migrate.proofs.MovableLemmas.{movable_holds}
 
 -- ---- the map
 
 halfway_or_new_keeps : (lines : ℕ) (r : Record) (s : Keyspace) (image : Image) → IsHalfwayOrNew lines r s image → KeepsMap lines r.position s image
-halfway_or_new_keeps lines r s image (inl halfway) = record { current = in_layout Halfway r; position_is = refl; holds = halfway.holds }
-halfway_or_new_keeps lines r s image (inr new) = record { current = renewed r; position_is = refl; holds = new.holds }
+halfway_or_new_keeps lines r s image (inl halfway) = record { current = in_layout Halfway r; position_is = refl; holds = movable_holds Halfway lines r s image halfway }
+halfway_or_new_keeps lines r s image (inr new) = record { current = renewed r; position_is = refl; holds = movable_holds Version2 lines (renewed r) s image new }
 
 some_stage_keeps : (lines : ℕ) (r : Record) (s : Keyspace) (image : Image) → IsAtSomeStage lines r s image → KeepsMap lines r.position s image
-some_stage_keeps lines r s image (inl old) = record { current = in_layout Version1 r; position_is = refl; holds = old.holds }
+some_stage_keeps lines r s image (inl old) = record { current = in_layout Version1 r; position_is = refl; holds = movable_holds Version1 lines r s image old }
 some_stage_keeps lines r s image (inr later) = halfway_or_new_keeps lines r s image later
 
 pub halfway_map : (a b : State) (lines : ℕ) (r : Record) (s : Keyspace) → LeavesOnly a b (IsHalfwayOrNew lines r s)
@@ -37,10 +40,10 @@ record_moments a b lines r s moments = LeavesOnly-weaken (IsHalfwayOrNew lines r
 
 -- it was written
 pub renewed_images : (a b : State) (lines : ℕ) (r : Record) (s : Keyspace) → b.lines ≡ lines → LeavesOnly a b (IsMovable Halfway lines r s)
-    → Leaves b (HasRecord lines (renewed r)) → Leaves b (IsRenewed b.lines r s)
-renewed_images a b lines r s counted moments has =
+    → Leaves b (HasRecord lines (renewed r)) → (COUNTER_LIMIT ≤ r.number + 1 → ⊥) → Leaves b (IsRenewed b.lines r s)
+renewed_images a b lines r s counted moments has room =
     subst (λ (n : ℕ). Leaves b (IsRenewed n r s)) (sym counted)
-    (λ image is. record { movable = moments.each image (inl is); next = has image is })
+    (λ image is. record { movable = moments.each image (inl is); next = has image is; number = below_limit (r.number + 1) room })
 
 pub new_images : (b c : State) (lines : ℕ) (r : Record) (s : Keyspace) → b.lines ≡ lines → Leaves c (IsMovable Version2 b.lines (renewed r) s)
     → Leaves c (IsMovable Version2 lines (renewed r) s)

@@ -16,6 +16,7 @@ use Rattle.model.specs.declared.layout.Layout.{Layout}
 use Rattle.model.specs.declared.layout.Layout.TheVariants.{Version2}
 use Rattle.model.specs.declared.record.Record.{Record}
 use Rattle.model.specs.declared.record.Role.TheVariants.{Primary}
+use Rattle.model.specs.Floor.{floored}
 use Rattle.model.specs.Group.{AreAllApart, AreApart, AreParts, Contents, HasItsLines, IsGroup, IsPlaced, IsUnused, Versions, after_group, change_of, changes_versions, ended_by, ended_where_begun, entries_of, is_ended_version, is_live_version, is_put_at, NamesEnded, part_versions, parts_versions, put_of, puts_of_group, puts_of_part, version_of_put}
 use Rattle.model.specs.Image.{Version, entries_of_lines}
 use Rattle.model.proofs.RecordLemmas.{HasRecord-lines, HasRecord-unique}
@@ -194,7 +195,7 @@ zero_one : ◌≢◌ {A = ℕ} 0 1
 zero_one is = omega (arith, is)
 
 module _ {old : Contents} {group : Group} (new : IsNew 4096 Primary old) (two : IsTwoSets 0 1 group) {held : Contents} {r : Record} (d : State)
-    (same : Same (after_group old group) held) (durable : IsDurable d held) (filled : held.lines ≡ d.lines)
+    (same : Same (after_group (floored 0 old) group) held) (durable : IsDurable d held) (filled : held.lines ≡ d.lines)
     (current : IsCurrent d.lines (image_of d.words) r) where
   held_at : (i : ℕ) → held.versions i ≡ after_second 0 1 old.versions i
   held_at i = same.versions i ∙ ap (λ (versions : Versions). versions i) (both_are new two)

@@ -1,5 +1,5 @@
 -- An image that was old stays old while its last entries are emptied, and can be migrated on where they are empty.
-use Rattle.std.proofs.Common.{◌≡◌, ℕ, ◌<◌, ◌≤◌, Bool, true, false, not, cond, ◌==◌, List, [], Option, None, Some, Result, Ok, Err, refl, inl, inr, sym, ap, subst, ◌∙◌, nat_lt}
+use Rattle.std.proofs.Common.{◌≡◌, ℕ, ◌<◌, ◌≤◌, Bool, true, false, not, cond, ◌==◌, List, [], Option, None, Some, Result, Ok, Err, OnOk, refl, inl, inr, sym, ap, subst, ◌∙◌, nat_lt}
 use Rattle.std.proofs.lemmas.Bool.{cases_lt, cond-true, lt-ltb}
 use Rattle.kv_types.specs.declared.place.EntryNo.{EntryNo}
 use Rattle.kv_types.specs.declared.refusal.Refusal.{Refusal}
@@ -19,11 +19,11 @@ use Rattle.model.specs.Layout as layouts
 use Rattle.model.specs.declared.record.Record.{Record}
 use Rattle.model.specs.declared.record.Role.{Role}
 use Rattle.model.specs.Group.{Contents, IsConsistent, entries_of}
-use Rattle.model.specs.Image.{Holds, Image, IsMapOf, Version, counts, directory_room, entries_of_lines, entry_word, magic_number, version_at, version_in}
+use Rattle.model.specs.Image.{Image, IsMapOf, Version, counts, directory_room, entries_of_lines, entry_word, magic_number, version_at, version_in}
 use Rattle.model.proofs.MapLemmas.{IsMapOf-same, value_at-maps}
 use Rattle.wbl_engine.specs.Contents.{IsDurable, Keeps}
 use Rattle.wbl_engine.specs.Freeing.{record_after_clearing}
-use Rattle.wbl_engine.specs.Lawful.{AreLawful}
+use Rattle.wbl_engine.specs.Lawful.{AreLawful, IsUndamaged}
 use Rattle.wbl_engine.specs.Reopening.{IsShown, RefusesReopening, Reopens, StaysReadable, is_full, reopened, with_open_gap}
 use Rattle.wbl_engine.proofs.LawfulLemmas.{lawful_undamaged}
 use Rattle.wbl_engine.proofs.ReadingLemmas.{undamaged_unique}
@@ -41,6 +41,7 @@ use Rattle.wbl_migrate.proofs.Maps.{version_at-none}
 use Rattle.wbl_migrate.proofs.MovableLemmas.{as_it_is}
 use Rattle.wbl_migrate.proofs.Picks.{none_some}
 use Rattle.wbl_migrate.proofs.StepLemmas.{ok_no_error}
+use Rattle.wbl_migrate.proofs.Undamaged.{undamaged_image}
 
 -- The contents are of version 1, have `lines'` lines and this keyspace as their map, under a record that goes on from this one.
 pub record StandFor (lines' : ℕ) (r : Record) (s : Keyspace) (contents : Contents) : Type 0 where
@@ -49,6 +50,11 @@ pub record StandFor (lines' : ℕ) (r : Record) (s : Keyspace) (contents : Conte
   pub goes_on : GoesOnFrom r contents.current
   pub lawful : AreLawful contents
   pub map : IsMapOf contents.versions (entries_of contents) s
+
+-- what holds anyway holds where a call answered
+pub on_ok : {T E P : Type 0} (result : Result T E) → P → OnOk result P
+on_ok (Ok value) holds = holds
+on_ok (Err e) holds = tt
 
 -- ---- what a reopening gives
 
@@ -97,6 +103,14 @@ module _ {lines : ℕ} {before : Image} {role : Role} {contents : Contents} {cou
             (sym (new_entries reopens ∙ ap (λ (layout : Layout). entries_of_lines layout lines) before_layout))
             (IsMapOf-same (version_at r before) contents.versions (entries_of_lines Version1 lines) s same_versions old.map);
       }
+
+-- only an old image is reopened as one of version 1
+pub opened_old : {lines : ℕ} {before : Image} {role : Role} {contents : Contents} {counted : List (EntryNo × Entry)} {gapped : List EntryNo}
+    → Reopens lines before role contents counted gapped → contents.current.layout ≡ Version1 → (r : Record) × (s : Keyspace) × IsOldImage lines r s before
+opened_old {lines} {before} reopens is =
+    let r : Record = reopens.before in
+    let layout : r.layout ≡ Version1 = sym (room_layout r) ∙ sym (ap (λ (q : Record). q.layout) reopens.current) ∙ is in
+    let image_is = undamaged_image lines r before reopens.undamaged Version1 layout in (r, image_is.0, image_is.1)
 
 -- while it is reopened
 readable_stays : (lines : ℕ) (r : Record) (s : Keyspace) (before image : Image) → IsOldImage lines r s before → StaysReadable lines r before image
@@ -178,14 +192,10 @@ module _ (lines : ℕ) (r : Record) (s : Keyspace) where
     movable : a.current.gaps.items ≡ [] → IsEmptied a → IsMovable Version1 a.lines a.current s image
     movable gapless emptied =
         record {
-          holds = subst (λ (q : Record). Holds a.lines q s image) (sym (as_it_is a.current Version1 stand.layout))
-              (record {
-                superblock = keeps.superblock;
-                has_record = keeps.has_record;
-                map = IsMapOf-same a.versions (version_at a.current image) (entries_of a) s (λ i below. sym (keeps.versions i below)) stand.map;
-              });
+          undamaged = subst (λ (q : Record). IsUndamaged a.lines q image) (sym (as_it_is a.current Version1 stand.layout))
+              (lawful_undamaged a image stand.lawful keeps);
+          map = image_map a image stand keeps;
           gapless = gapless;
-          behind = λ i below counted. ((keeps.entries i (old_within i below)).whole counted).above;
           last = λ i low high. uncounted emptied i low (old_within i high) (counts a.current (image (entry_word i 0))) refl;
         }
 

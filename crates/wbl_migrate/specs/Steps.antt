@@ -1,9 +1,10 @@
 -- What the last steps of the migration do to a device.
-use Rattle.std.specs.Prelude.{◌≡◌, ◌⊎◌, ℕ, ◌+◌, []}
+use Rattle.std.specs.Prelude.{◌≡◌, ◌⊎◌, ℕ, ◌+◌, ◌<◌, []}
 use Rattle.kv_types.specs.Keyspace.{Keyspace}
 use Rattle.pmem.specs.Device.{State, MayBe}
 use Rattle.pmem.specs.Crash.{IsImage, image_of}
 use Rattle.pmem.specs.Runs.{Stays}
+use Rattle.model.specs.declared.image.TheConstants.{COUNTER_LIMIT}
 use Rattle.model.specs.declared.layout.Layout.TheVariants.{Version1, Version2, Halfway}
 use Rattle.model.specs.declared.record.Record.{Record}
 use Rattle.model.specs.Image.{Image, HasRecord}
@@ -23,14 +24,15 @@ pub record KeepsOthers (old new : State) (IsWritten : ℕ → Type 0) : Type 0 w
 
 -- ---- the record of version 2
 
--- the record of version 2 that follows: the next number, no gap, and all else as it was
+-- the record of version 2 that follows: the next number, no gap, its position as the floor, and all else as it was
 abbrev pub renewed : Record → Record
-renewed r = record r { layout = Version2; number = r.number + 1; gaps = record { items = [] } }
+renewed r = record r { layout = Version2; number = r.number + 1; gaps = record { items = [] }; floor = r.position }
 
--- halfway, with the record of version 2 written, which nothing reads yet
+-- halfway, with the record of version 2 written, which nothing reads yet, and whose number is below the limit
 pub record IsRenewed (lines : ℕ) (r : Record) (s : Keyspace) (image : Image) : Type 0 where
   pub movable : IsMovable Halfway lines r s image
   pub next : HasRecord lines (renewed r) image
+  pub number : (renewed r).number < COUNTER_LIMIT
 
 -- ---- all steps
 

@@ -90,7 +90,7 @@ fn image_of_both(alloc: Global) -> Result<(SimPmem, Record), Refusal>
     match WblEngine::format(SimPmem::new(alloc, MIN_LINES)?, Role::Primary) {
         Ok(engine) => {
             let mut engine = engine;
-            engine.commit(&group)?;
+            engine.commit(&group, 0)?;
             let device = engine.into_device();
             let current = read_current(&device)?;
             Ok((device, current))

@@ -7,16 +7,15 @@ ghost use Rattle.model.specs.declared.image.TheConstants.{COUNTER_LIMIT, MIN_LIN
 ghost use Rattle.model.specs.declared.layout.Layout.{Layout};
 ghost use Rattle.model.specs.declared.layout.Layout.TheVariants.{Version1, Version2};
 ghost use Rattle.model.specs.declared.record.Record.{Record};
-ghost use Rattle.model.specs.Image.{Image, Holds, counts, directory_end, entries_of_lines, entry_line, entry_word, first_extent_line, slot_line, slots_end};
-ghost use Rattle.heap_layout.specs.Version.{IsUnder};
+ghost use Rattle.model.specs.Image.{Image, counts, directory_end, entries_of_lines, entry_line, entry_word, first_extent_line, slot_line, slots_end};
 ghost use Rattle.wbl_record.specs.Current.{IsLawful};
+ghost use Rattle.wbl_migrate.specs.Migrating.{IsOldImage};
 ghost use Rattle.wbl_migrate.specs.Stage.{HoldsAt, IsMovable};
 ghost use Rattle.wbl_migrate.specs.Steps.{Leaves, renewed};
 
-/// An image of version 1 can be migrated on where its entries break no rule, its record has no gap, and none of its last entries counts.
+/// An image of version 1 can be migrated on where it breaks no rule, its record has no gap, and none of its last entries counts.
 pub fn undamaged_images_are_movable()
-    ensures { (lines : ℕ) (r : Record) (s : Keyspace) (image : Image) → r.layout ≡ Version1 → Holds lines r s image → r.gaps.items ≡ []
-        → ((i : ℕ) → i < entries_of_lines Version1 lines → IsUnder r lines image i)
+    ensures { (lines : ℕ) (r : Record) (s : Keyspace) (image : Image) → IsOldImage lines r s image → r.gaps.items ≡ []
         → ((i : ℕ) → entries_of_lines Version2 lines ≤ i → i < entries_of_lines Version1 lines → counts r (image (entry_word i 0)) ≡ false)
         → IsMovable Version1 lines r s image }
 {}

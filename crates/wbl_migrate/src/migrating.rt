@@ -1,17 +1,17 @@
 //! The migration as a whole, from whatever stage an image is at.
-ghost use Rattle.std.specs.Prelude.{◌≡◌, ◌⊎◌, ◌<◌, ◌≤◌, ℕ, Ok, Err, None, Some, IfOk, IfErr, OnErr, MatchResult};
+ghost use Rattle.std.specs.Prelude.{◌≡◌, ◌⊎◌, ◌<◌, ◌≤◌, ℕ, Ok, Err, None, Some, IfOk, IfErr, IsErrOf, OnOk, MatchResult};
 ghost use Rattle.kv_types.specs.declared.refusal.Refusal.{Refusal as Cause};
 ghost use Rattle.kv_types.specs.Keyspace.{Keyspace};
 ghost use Rattle.pmem.specs.Device.{Only};
 ghost use Rattle.pmem.specs.Crash.{image_of};
 ghost use Rattle.pmem.specs.Runs.{LeavesOnly};
 ghost use Rattle.model.specs.declared.image.TheConstants.{MIN_LINES};
-ghost use Rattle.model.specs.declared.layout.Layout.TheVariants.{Version1, Version2};
+ghost use Rattle.model.specs.declared.layout.Layout.TheVariants.{Version1, Version2, Halfway};
 ghost use Rattle.model.specs.declared.record.Record.{Record as CommitRecord};
 ghost use Rattle.model.specs.Image.{HasSuperblock, Image};
 ghost use Rattle.heap_layout.specs.Superblock.{super_refusal};
 ghost use Rattle.wbl_migrate.specs.Limits.{IsAtLimit};
-ghost use Rattle.wbl_migrate.specs.Migrating.{HasGapless, IsHalfwayImage, IsMigratable, IsMigrated, IsOldImage, StaysMigratable};
+ghost use Rattle.wbl_migrate.specs.Migrating.{CanBeMigrated, HasGapless, IsHalfwayImage, IsMigratable, IsMigrated, IsOldImage, StaysMigratable};
 ghost use Rattle.wbl_migrate.specs.Stage.{KeepsMap, stage_refusal};
 ghost use Rattle.wbl_migrate.specs.Steps.{Leaves};
 ghost use Rattle.wbl_migrate.specs.Vacating.{HasLastEntry, StaysOldWith};
@@ -23,6 +23,7 @@ use kv_types::Refusal;
 use model::{Layout, Record};
 use pmem::Pmem;
 use std::alloc::Global;
+use wbl_engine::inspect;
 use wbl_record::read_current;
 
 /// Makes an image one of version 2: an old one by all steps, one that a crash left halfway by those that are left. One of version 2 it leaves as it is.
@@ -31,16 +32,24 @@ use wbl_record::read_current;
 ///
 /// # Errors
 ///
-/// `WrongSize`, `BadMagic`, `BadVersion` or `Damaged` by the rules of the format, with nothing changed; `Full` where there is no place for a version that has
-/// to move; `Exhausted` where a counter would reach 2^62; `Memory` if an allocation was refused: the image has the version that it had, and the same map.
-/// `Fault` if a fence failed. Each hands the device back.
+/// `WrongSize`, `BadMagic`, `BadVersion` or `Damaged` by the rules of the format, with nothing changed: an old image and one that is halfway are read by all of
+/// them, one of version 2 by those of the superblock. `Full` where there is no place for a version that has to move; `Exhausted` where a counter would reach
+/// 2^62; `Memory` if an allocation was refused: the image has the version that it had, and the same map. `Fault` if a fence failed. Each hands the device back.
 pub fn migrate<P: Pmem>(alloc: Global, device: P) -> Result<P, (Refusal, P)>
     requires settled { (word : ℕ) → Only ((P.state device).words word) (image_of (P.state device).words word) }
     ensures ok { IfOk result (λ after. (r : CommitRecord) (s : Keyspace) → IsMigratable (P.state device).lines r s (image_of (P.state device).words)
         → Leaves (P.state after) (IsMigrated (P.state device).lines r s)) }
+    // only one that can be migrated on, or that is of version 2, is not refused
+    ensures only { OnOk result (HasSuperblock Version2 (P.state device).lines (image_of (P.state device).words)
+        ⊎ CanBeMigrated (P.state device).lines (image_of (P.state device).words)) }
     // of version 2 it is already
     ensures unchanged { HasSuperblock Version2 (P.state device).lines (image_of (P.state device).words) →
         stage_refusal (P.state device).lines (image_of (P.state device).words) ≡ None → result ≡ Ok device }
+    // one that is halfway, and that cannot be migrated on, is refused and left as it was
+    ensures halfway { HasSuperblock Halfway (P.state device).lines (image_of (P.state device).words) →
+        stage_refusal (P.state device).lines (image_of (P.state device).words) ≡ None
+        → ((r : CommitRecord) (s : Keyspace) → ¬ IsHalfwayImage (P.state device).lines r s (image_of (P.state device).words))
+        → (result ≡ Err (Refusal.Damaged, device)) ⊎ (result ≡ Err (Refusal.Memory, device)) }
     ensures line_count { IfOk result (λ after. (P.state after).lines ≡ (P.state device).lines) }
     ensures sound { IfOk result (λ after. (P.state after).failures ≡ (P.state device).failures) }
     ensures causes { IfErr result (λ refused. (stage_refusal (P.state device).lines (image_of (P.state device).words) ≡ Some refused.0)
@@ -68,7 +77,7 @@ pub fn migrate<P: Pmem>(alloc: Global, device: P) -> Result<P, (Refusal, P)>
 {
     match stage_of(&device) {
         Ok(Layout::Version1) => upgrade(alloc, device),
-        Ok(Layout::Halfway) => finish(device),
+        Ok(Layout::Halfway) => finish(alloc, device),
         Ok(Layout::Version2) => Ok(device),
         Err(refusal) => Err((refusal, device)),
     }
@@ -86,6 +95,7 @@ fn upgrade<P: Pmem>(alloc: Global, device: P) -> Result<P, (Refusal, P)>
     requires whole { super_refusal Version1 (P.state device).lines (image_of (P.state device).words) ≡ None }
     ensures ok { IfOk result (λ after. (r : CommitRecord) (s : Keyspace) → IsOldImage (P.state device).lines r s (image_of (P.state device).words)
         → Leaves (P.state after) (IsMigrated (P.state device).lines r s)) }
+    ensures only { OnOk result (CanBeMigrated (P.state device).lines (image_of (P.state device).words)) }
     ensures line_count { IfOk result (λ after. (P.state after).lines ≡ (P.state device).lines) }
     ensures sound { IfOk result (λ after. (P.state after).failures ≡ (P.state device).failures) }
     ensures causes { IfErr result (λ refused. (refused.0 ≡ Refusal.Damaged)
@@ -134,17 +144,26 @@ fn of_its_role(refusal: Refusal) -> Refusal
     }
 }
 
-/// Makes an image that is halfway one of version 2. Errors as at `migrate`, but for those of the superblock and `Full` and `Memory`.
-fn finish<P: Pmem>(device: P) -> Result<P, (Refusal, P)>
+/// Makes an image that is halfway one of version 2, after it has read it by all rules. Errors as at `migrate`, but for those of the superblock and `Full`;
+/// `Memory` comes before anything is changed.
+fn finish<P: Pmem>(alloc: Global, device: P) -> Result<P, (Refusal, P)>
     requires settled { (word : ℕ) → Only ((P.state device).words word) (image_of (P.state device).words word) }
     requires many { MIN_LINES ≤ (P.state device).lines }
+    requires whole { super_refusal Halfway (P.state device).lines (image_of (P.state device).words) ≡ None }
+    requires stage { HasSuperblock Halfway (P.state device).lines (image_of (P.state device).words) }
     ensures ok { IfOk result (λ after. (r : CommitRecord) (s : Keyspace) → IsHalfwayImage (P.state device).lines r s (image_of (P.state device).words)
         → Leaves (P.state after) (IsMigrated (P.state device).lines r s)) }
+    ensures only { OnOk result (CanBeMigrated (P.state device).lines (image_of (P.state device).words)) }
+    // where it breaks a rule, nothing is changed
+    ensures broken { ((r : CommitRecord) (s : Keyspace) → ¬ IsHalfwayImage (P.state device).lines r s (image_of (P.state device).words))
+        → (result ≡ Err (Refusal.Damaged, device)) ⊎ (result ≡ Err (Refusal.Memory, device)) }
     ensures line_count { IfOk result (λ after. (P.state after).lines ≡ (P.state device).lines) }
     ensures sound { IfOk result (λ after. (P.state after).failures ≡ (P.state device).failures) }
-    ensures causes { IfErr result (λ refused. (refused.0 ≡ Refusal.Damaged) ⊎ ((refused.0 ≡ Refusal.Fault) ⊎ (refused.0 ≡ Refusal.Exhausted))) }
+    ensures causes { IfErr result (λ refused. (refused.0 ≡ Refusal.Damaged)
+        ⊎ ((refused.0 ≡ Refusal.Fault) ⊎ ((refused.0 ≡ Refusal.Exhausted) ⊎ (refused.0 ≡ Refusal.Memory)))) }
     ensures damaged { IfErr result (λ refused. refused.0 ≡ Refusal.Damaged → (refused.1 ≡ device)
         × ((r : CommitRecord) (s : Keyspace) → ¬ IsHalfwayImage (P.state device).lines r s (image_of (P.state device).words))) }
+    ensures memory { IfErr result (λ refused. refused.0 ≡ Refusal.Memory → refused.1 ≡ device) }
     // a counter is at its limit
     ensures exhausted { IfErr result (λ refused. refused.0 ≡ Refusal.Exhausted → (r : CommitRecord) (s : Keyspace)
         → IsHalfwayImage (P.state device).lines r s (image_of (P.state device).words)
@@ -156,7 +175,7 @@ fn finish<P: Pmem>(device: P) -> Result<P, (Refusal, P)>
         (λ after. LeavesOnly (P.state device) (P.state after) (StaysMigratable (P.state device).lines r s))
         (λ refused. LeavesOnly (P.state device) (P.state refused.1) (StaysMigratable (P.state device).lines r s)) }
 {
-    let current = match read_halfway(&device) {
+    let current = match read_halfway(alloc, &device) {
         Ok(current) => current,
         Err(refusal) => return Err((refusal, device)),
     };
@@ -167,18 +186,18 @@ fn finish<P: Pmem>(device: P) -> Result<P, (Refusal, P)>
     }
 }
 
-/// Reads the current record of an image that is halfway.
+/// Reads an image that is halfway by all rules of the format, as `inspect` does, and returns its record.
 ///
 /// # Errors
 ///
-/// `Damaged` as at `read_current`, or where the record has a gap, which no migration leaves.
-fn read_halfway<P: Pmem>(device: &P) -> Result<Record, Refusal>
-    requires { MIN_LINES ≤ (P.state device.now).lines }
+/// `Damaged` where a rule is broken, or where the record has a gap, which no migration leaves; `Memory` if an allocation was refused.
+fn read_halfway<P: Pmem>(alloc: Global, device: &P) -> Result<Record, Refusal>
+    requires { super_refusal Halfway (P.state device.now).lines (image_of (P.state device.now).words) ≡ None }
     ensures ok { IfOk result (λ r. HasGapless (P.state device.now).lines (image_of (P.state device.now).words) r) }
-    ensures damaged { OnErr result ((r : CommitRecord) → ¬ HasGapless (P.state device.now).lines (image_of (P.state device.now).words) r) }
-    ensures cause { IfErr result (λ refusal. refusal ≡ Refusal.Damaged) }
+    ensures damaged { IsErrOf result Refusal.Damaged → (r : CommitRecord) → ¬ HasGapless (P.state device.now).lines (image_of (P.state device.now).words) r }
+    ensures causes { IfErr result (λ refusal. (refusal ≡ Refusal.Damaged) ⊎ (refusal ≡ Refusal.Memory)) }
 {
-    let current = read_current(device)?;
+    let (current, _) = inspect(alloc, device, Layout::Halfway)?;
     if current.gaps.is_empty() {
         Ok(current)
     } else {

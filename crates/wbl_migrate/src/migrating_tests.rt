@@ -95,7 +95,7 @@ fn is_old(device: &SimPmem) -> bool {
 }
 
 /// Whether the device has an image of version 2 with both versions, where a crash may have left that which has ended in two places. Its record has the position
-/// 2, the epoch 1, no gap and the role of a primary.
+/// 2, the epoch 1, no gap, the role of a primary and the position as its floor.
 fn is_new(device: &SimPmem) -> bool {
     if device.lines() != MIN_LINES {
         return false;
@@ -108,6 +108,7 @@ fn is_new(device: &SimPmem) -> bool {
         && device.load(record + 4) == 1
         && device.load(record + 5) == 0
         && device.load(record + 70) == 1
+        && device.load(record + 71) == 2
         && count(device, 0, ENTRIES, 2, b'2', false) == 1
         && count(device, 0, ENTRIES, 1, b'1', true) != 0
         && count(device, 0, ENTRIES, 1, b'1', false) == 0

@@ -10,7 +10,7 @@ use heap_layout::{Entry, Versions, lines_for};
 use kv_types::{EntryNo, Extent, Refusal};
 use model::{Part, PlacedChange, Put};
 use std::alloc::Global;
-use wbl_engine::Durable;
+use wbl_engine::{Durable, free_unraised};
 
 /// A place for a version.
 #[derive(Clone, Copy, Debug, PartialEq, Eq)]
@@ -43,7 +43,7 @@ pub fn move_version<E: Durable>(
 {
     let part = make_again(alloc, from, version, place)?;
     engine.relocate(&part)?;
-    engine.free(alloc, &part.ended)?;
+    free_unraised(engine, alloc, &part.ended)?;
     Ok(())
 }
 

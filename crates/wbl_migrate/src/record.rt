@@ -18,8 +18,8 @@ use model::{COUNTER_LIMIT, LINE_WORDS, Layout, Record};
 use pmem::{Fault, Pmem, flush_lines, persist, store_words};
 use wbl_record::words_of;
 
-/// Writes the record of version 2 that follows the current one: the next number, no gap, and all else as it was. First its body, then its number as the root of
-/// version 2, each flushed and fenced. What stood in these words before does not matter. It allocates no memory.
+/// Writes the record of version 2 that follows the current one: the next number, no gap, its position as the floor, and all else as it was. First its body,
+/// then its number as the root of version 2, each flushed and fenced. What stood in these words before does not matter. It allocates no memory.
 ///
 /// The image is halfway: nothing that is written is read there.
 ///
@@ -100,5 +100,6 @@ fn renewed(current: &Record) -> Record
         epoch: current.epoch,
         role: current.role,
         gaps: ArrayVec::new(),
+        floor: current.position,
     }
 }

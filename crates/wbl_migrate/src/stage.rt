@@ -12,9 +12,9 @@ use model::{Layout, MIN_LINES};
 use pmem::Pmem;
 use wbl_engine::layout_in;
 
-/// The stage of an image: the layout of its version. `WrongSize` if the device has fewer than 4,096 lines or more than 2^31; then `BadMagic`; then `BadVersion`,
-/// where it is none of the three; then `WrongSize` if word 2 is not the number of the device's lines; then `Damaged` if word 3 is not how many of them are for
-/// the directory.
+/// The stage of an image: the layout of its version. `WrongSize` if the device has fewer than 4,096 lines or more than 2^31; then `BadMagic`; then
+/// `BadVersion`, where it is none of the three; then `WrongSize` if word 2 is not the number of the device's lines; then `Damaged` if word 3 is not how many
+/// of them are for the directory.
 pub fn stage_of<P: Pmem>(device: &P) -> Result<Layout, Refusal>
     ensures ok { IfOk result (λ layout. HasSuperblock layout (P.state device.now).lines (image_of (P.state device.now).words)) }
     ensures many { OnOk result (MIN_LINES ≤ (P.state device.now).lines) }

@@ -53,7 +53,7 @@ pub fn switch<P: Pmem>(device: &mut P, current: &Record) -> Result<(), Refusal>
 }
 
 /// Makes an image that a crash left halfway one of version 2, under the record that follows the current one, whatever was written of that before. At any
-/// moment a crash leaves the same keyspace at the same position. It allocates no memory.
+/// moment a crash leaves the same keyspace at the same position. It allocates no memory, and reads nothing: `migrate` looks first whether a rule is broken.
 ///
 /// # Errors
 ///

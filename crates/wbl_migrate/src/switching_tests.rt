@@ -21,6 +21,7 @@ fn current() -> Record {
         epoch: 2,
         role: Role::Standby,
         gaps: ArrayVec::new(),
+        floor: 0,
     }
 }
 
@@ -61,7 +62,7 @@ fn is_new(device: &SimPmem) -> bool
     has_words(device, 0, &[MAGIC, 2, MIN_LINES, 512, 3, 4, 0, 0])
         && has_words(device, record, &[4, 7, 9, 4106, 2])
         && has_words(device, record + 5, &[0; 65])
-        && has_words(device, record + 70, &[2, 0])
+        && has_words(device, record + 70, &[2, 7])
         && has_words(device, LINE_WORDS * 8, &[9, 0, 7, 520, 1, 1, 1, 1])
         && has_words(device, LINE_WORDS * 520, &[12641])
 }

@@ -42,6 +42,8 @@ pub fn vacate<P: Pmem>(alloc: Global, device: P, role: Role) -> Result<(P, Recor
     ensures ok { IfOk result (λ o. (r : CommitRecord) (s : Keyspace) → IsOldImage (P.state device).lines r s (image_of (P.state device).words)
         → Leaves (P.state o.0) (IsMovable Version1 (P.state device).lines o.1 s)) }
     ensures lawful { IfOk result (λ o. IsLawful o.1) }
+    // only an image that breaks no rule is not refused
+    ensures only { OnOk result ((r : CommitRecord) × (s : Keyspace) × IsOldImage (P.state device).lines r s (image_of (P.state device).words)) }
     ensures line_count { IfOk result (λ o. (P.state o.0).lines ≡ (P.state device).lines) }
     ensures sound { IfOk result (λ o. (P.state o.0).failures ≡ (P.state device).failures) }
     ensures causes { IfErr result (λ refused.
@@ -140,5 +142,6 @@ fn copy_of(current: &Record) -> Record
         epoch: current.epoch,
         role: current.role,
         gaps: ArrayVec::new(),
+        floor: current.floor,
     }
 }

@@ -48,7 +48,8 @@ fn read_record<P: Pmem>(device: &P) -> Option<Record>
     let first = LINE_WORDS * layout.slot_line(device.lines(), number);
     let gap_count = device.load(first + 5);
     let gaps = read_gaps(device, layout, first + GAPS_WORD, gap_count)?;
-    let role = role_of(device.load(first + layout.role_word()))?;
+    let role_word = first + layout.role_word();
+    let role = role_of(device.load(role_word))?;
     if !is_filled(device, layout, first, number, gap_count) {
         return None;
     }
@@ -61,6 +62,7 @@ fn read_record<P: Pmem>(device: &P) -> Option<Record>
         epoch: device.load(first + 4),
         role,
         gaps,
+        floor: device.load(role_word + 1),
     })
 }
 
@@ -88,16 +90,14 @@ fn read_gaps<P: Pmem>(
     Some(gaps)
 }
 
-/// Whether the slot has this number, and zeros in the room after `gaps` gaps and in its last word.
+/// Whether the slot has this number, and zeros in the room after `gaps` gaps.
 fn is_filled<P: Pmem>(device: &P, layout: Layout, first: u64, number: u64, gaps: u64) -> bool
     requires slot { first + first_word (slot_lines layout) ≤ 8 * (P.state device.now).lines }
     requires few { gaps ≤ max_gaps layout }
     ensures { IsTrue result ↔ IsFilled layout (image_of (P.state device.now).words) first number gaps }
 {
     let room = 2 * (layout.max_gaps() - gaps);
-    device.load(first) == number
-        && device.load(first + layout.role_word() + 1) == 0
-        && are_zero(device, first + GAPS_WORD + 2 * gaps, room)
+    device.load(first) == number && are_zero(device, first + GAPS_WORD + 2 * gaps, room)
 }
 
 /// Whether the `count` words from `first` on are zero.

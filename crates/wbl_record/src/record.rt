@@ -12,7 +12,7 @@ use arrayvec::ArrayVec;
 use model::{GAPS_WORD, Gap, LINE_WORDS, MAX_GAPS, Record, Role};
 use pmem::{Fault, Pmem, flush_lines, persist, store_words};
 
-/// How many words a record has at most: those before its gaps, two for each gap, its role and a zero.
+/// How many words a record has at most: those before its gaps, two for each gap, its role and its floor.
 pub const MAX_RECORD_WORDS: usize = GAPS_WORD as usize + 2 * MAX_GAPS + 2;
 
 /// Writes the next record: its body into the slot that the current one does not use, then its number as the root, each flushed and fenced.
@@ -58,7 +58,7 @@ pub fn words_of(r: &Record) -> ArrayVec<u64, MAX_RECORD_WORDS>
     words.push(r.gaps.len() as u64);
     push_gaps(&mut words, &r.gaps, r.layout.max_gaps());
     words.push(number_of(r.role));
-    words.push(0);
+    words.push(r.floor);
     words
 }
 

@@ -1,5 +1,6 @@
 -- The committer and its engine still refine the machine's after each step.
-use Rattle.std.proofs.Common.{◌≡◌, ◌⊎◌, inl, inr, true≢false, ℕ, ◌+◌, ◌-◌, ◌<◌, ◌≤◌, ◌++◌, Bool, true, false, List, [], ◌∷◌, length, map, Result, Err, IfErr, IsErrOf, refl, sym, ap, ap₂, subst, ◌∙◌, arith}
+use Rattle.std.proofs.Common.{◌≡◌, ◌⊎◌, inl, inr, true≢false, ℕ, ◌+◌, ◌-◌, ◌<◌, ◌≤◌, ◌++◌, Bool, true, false, List, [], ◌∷◌, length, map, Result, Err, IfErr, IsErrOf, refl, sym, ap, ap₂, subst, ◌∙◌, arith, le_refl, max}
+use Rattle.std.proofs.Math.Nat.{le-max_left}
 use Rattle.std.proofs.lemmas.List.{map-append}
 use Rattle.pmem.specs.Device.{State}
 use Rattle.pmem.specs.Crash.{IsImage}
@@ -17,10 +18,12 @@ use Rattle.model.specs.declared.work.Work.TheVariants as work
 use Rattle.model.specs.Call.{position_of}
 use Rattle.model.specs.Image.{Image}
 use Rattle.model.proofs.RecordLemmas.{HasRecord-lines}
+use Rattle.model.specs.Floor.{floored}
 use Rattle.model.specs.Group.{AreParts, Contents, IsConsistent, IsGroup, Versions, after_group, last_position, part_versions}
 use Rattle.model.specs.Standing.{Holder}
 use Rattle.wbl_engine.specs.declared.freeing.Freed.{Freed}
 use Rattle.wbl_engine.specs.Contents.{Exhausts, Keeps, IsDurable, Same}
+use Rattle.wbl_engine.specs.Lawful.{AreLawful}
 use Rattle.wbl_engine.proofs.LawfulLemmas.{group_lawful, same_lawful}
 use Rattle.redis_core.specs.Sequencing.{Sequencing}
 use Rattle.pipes.specs.Waiting.{Waiting}
@@ -41,11 +44,13 @@ use Rattle.connections.specs.Going.{Goes}
 use Rattle.node_steps.specs.GroupSpan.{AreGroupsOf, AreWorkOf, IsGroupOf, positions_of_lists}
 use Rattle.primary.specs.Recalling.{Remembers}
 use Rattle.primary.proofs.RecallParts.{remembers-committed}
-use Rattle.world.specs.Recalling.{past_of}
+use Rattle.world.specs.Recalling.{RemembersFor, past_of}
 use Rattle.world.proofs.EngineLemmas.{AreContentsAt-after_group, Opens-engine, keeps-opens, rests-same}
 use Rattle.node_steps.proofs.CommittingLemmas.{FirstGroup, first-group}
 use Rattle.node_steps.proofs.GroupSpanLemmas.{AreGroupsOf-push, length-groups}
 use Rattle.primary.proofs.LeadsLemmas.{leads-after}
+use Rattle.primary.proofs.NumberedLemmas.{lawful_renumbered, leads_renumbered}
+use Rattle.world.proofs.RecallLemmas.{remembered-from, remembers-raised, remembers-renumbered}
 
 -- ---- a group that waits behind free lists
 
@@ -70,16 +75,40 @@ takes-lawful contents old lists group new s notices taken set_aside leads =
       own = epochs.0;
     }
 
+-- ---- under a record whose floor is this remote mark, or higher
+
+-- what an engine contains once it has committed a group
+abbrev pub made : ℕ → Contents → Group → Contents
+made remote contents group = after_group (floored remote contents) group
+
+made-at : (holder : Holder) (calls : List Call) (p remote : ℕ) (contents : Contents) (group : Group) → AreContentsAt holder calls p (after_group contents group)
+    → AreContentsAt holder calls p (made remote contents group)
+made-at holder calls p remote contents group are = record {
+  at = are.at;
+  role_is = are.role_is;
+  epoch_is = are.epoch_is;
+  lines_are = are.lines_are;
+  consistent = record { free = are.consistent.free; beyond = are.consistent.beyond };
+  map = are.map;
+}
+
+pub made-lawful : (remote : ℕ) (contents : Contents) (group : Group) → AreLawful (after_group contents group) → AreLawful (made remote contents group)
+made-lawful remote contents group are =
+    let number = (after_group contents group).current.number in
+    lawful_renumbered number (max contents.current.floor remote) (after_group contents group) are (le_refl number) are.current.number
+
 -- ---- what is left leads to the sequencer
 
 -- once the group has committed
-pub Leads-committed : (contents contents' : Contents) (old : Committing) (lists : List FreeList) (group : Group) (new : Committing) (s : Sequencing) (notices : List Freed) → IsConsistent contents
-    → TakesLawful contents old lists group new → Same (after_group contents group) contents' → Leads contents old.waiting.items old.aside s notices → Leads contents' new.waiting.items new.aside s notices
-Leads-committed contents contents' old lists group new s notices consistent takes moved leads =
-    subst (λ (c : Contents). Leads c new.waiting.items new.aside s notices) (sym (Same-is (after_group contents group) contents' moved))
-    (subst (λ (aside : List FreeList). Leads (after_group contents group) new.waiting.items aside s notices) (sym takes.set_aside)
+pub Leads-committed : (remote : ℕ) (contents contents' : Contents) (old : Committing) (lists : List FreeList) (group : Group) (new : Committing) (s : Sequencing) (notices : List Freed) → IsConsistent contents
+    → TakesLawful contents old lists group new → Same (made remote contents group) contents' → Leads contents old.waiting.items old.aside s notices → Leads contents' new.waiting.items new.aside s notices
+Leads-committed remote contents contents' old lists group new s notices consistent takes moved leads =
+    let after = after_group contents group in
+    subst (λ (c : Contents). Leads c new.waiting.items new.aside s notices) (sym (Same-is (made remote contents group) contents' moved))
+    (leads_renumbered after.current.number (max contents.current.floor remote) after new.waiting.items new.aside s notices
+    (subst (λ (aside : List FreeList). Leads after new.waiting.items aside s notices) (sym takes.set_aside)
     (leads-after contents lists group new.waiting.items old.aside s notices consistent
-    (subst (λ (items : List Work). Leads contents items old.aside s notices) takes.taken leads)))
+    (subst (λ (items : List Work). Leads contents items old.aside s notices) takes.taken leads))))
 
 -- ---- a commit
 
@@ -102,13 +131,13 @@ next-group holder calls position contents old lists group new machine at takes s
     }
 
 -- the first group that waits is committed, and the lists before it go aside
-pub commit-goes : (holder : Holder) (w : World) (old : Committing) (lists : List FreeList) (group : Group) (new : Committing) (device device' : State) (contents contents' : Contents) (is_faulted is_faulted' : Bool)
+pub commit-goes : (holder : Holder) (w : World) (remote : ℕ) (old : Committing) (lists : List FreeList) (group : Group) (new : Committing) (device device' : State) (contents contents' : Contents) (is_faulted is_faulted' : Bool)
     → TakesLawful contents old lists group new → new.stage ≡ Durable group → new.local ≡ old.local → (is_faulted ≡ false → Exhausts contents group → ⊥)
-    → Same (after_group contents group) contents' → IsDurable device' contents' → is_faulted' ≡ false
+    → Same (made remote contents group) contents' → IsDurable device' contents' → is_faulted' ≡ false
     → CommittingRefines w.primary.calls old w.primary.committer → EngineStands holder w.primary.calls w.primary.committer.position device contents is_faulted
     → CommittingRefines w.primary.calls new (committed_first (from_group w.primary.committer.waiting) w.primary.committer)
     × EngineStands holder w.primary.calls (next_primary w) device' contents' is_faulted'
-commit-goes holder w old lists group new device device' contents contents' is_faulted is_faulted' takes durable local fits moved leaves sound stands engine =
+commit-goes holder w remote old lists group new device device' contents contents' is_faulted is_faulted' takes durable local fits moved leaves sound stands engine =
     let calls = w.primary.calls in
     let committer = w.primary.committer in
     let next = next-group holder calls committer.position contents old lists group new committer engine.contents_at takes stands in
@@ -122,22 +151,24 @@ commit-goes holder w old lists group new device device' contents contents' is_fa
         local_is = local ∙ stands.local_is;
       },
       record {
-        contents_at = subst (AreContentsAt holder calls span.after) (sym (Same-is (after_group contents group) contents' moved)) next.after;
-        lawful = same_lawful (after_group contents group) contents' moved (group_lawful contents group engine.lawful takes.lawful (fits engine.sound));
+        contents_at = subst (AreContentsAt holder calls span.after) (sym (Same-is (made remote contents group) contents' moved)) (made-at holder calls span.after remote contents group next.after);
+        lawful = same_lawful (made remote contents group) contents' moved (made-lawful remote contents group (group_lawful contents group engine.lawful takes.lawful (fits engine.sound)));
         sound = sound;
         durable = leaves;
       },
     )
 
--- what was remembered is so after it
-pub Remembers-committed : (holder : Holder) (w : World) (old : Committing) (lists : List FreeList) (group : Group) (new : Committing) (contents contents' : Contents) (s : Sequencing)
-    → TakesLawful contents old lists group new → Same (after_group contents group) contents' → CommittingRefines w.primary.calls old w.primary.committer
+-- what was remembered is so after it, from its floor on
+pub Remembers-committed : (holder : Holder) (w : World) (remote : ℕ) (old : Committing) (lists : List FreeList) (group : Group) (new : Committing) (contents contents' : Contents) (s : Sequencing)
+    → remote ≤ w.standby.position → TakesLawful contents old lists group new → Same (made remote contents group) contents' → CommittingRefines w.primary.calls old w.primary.committer
     → AreContentsAt holder w.primary.calls w.primary.committer.position contents
-    → Remembers w.standby.position w.primary.committer.position (past_of w.primary.calls) contents old.waiting.items old.aside s
-    → Remembers w.standby.position (next_primary w) (past_of w.primary.calls) contents' new.waiting.items new.aside s
-Remembers-committed holder w old lists group new contents contents' s takes moved stands at remembers =
+    → RemembersFor w.standby.position w.primary.committer.position (past_of w.primary.calls) contents old.waiting.items old.aside s
+    → RemembersFor w.standby.position (next_primary w) (past_of w.primary.calls) contents' new.waiting.items new.aside s
+Remembers-committed holder w remote old lists group new contents contents' s passed takes moved stands at remembers =
     let calls = w.primary.calls in
-    let low = w.standby.position in
+    let low = contents.current.floor in
+    let floor = max low remote in
+    let after_it = after_group contents group in
     let position = w.primary.committer.position in
     let next = next-group holder calls position contents old lists group new w.primary.committer at takes stands in
     let span = next.firsts.first in
@@ -145,18 +176,21 @@ Remembers-committed holder w old lists group new contents contents' s takes move
     next.firsts.is.after ∙ sym (ap (λ works. (committed_first works w.primary.committer).position) next.firsts.from) in
     let past = past_of calls in
     let after = remembers-committed low position past contents lists group new.waiting.items old.aside s at.at at.consistent at.map takes.lawful
-    (subst (λ (items : List Work). Remembers low position past contents items old.aside s) takes.taken remembers) in
-    subst (λ (c : Contents). Remembers low (next_primary w) past c new.waiting.items new.aside s) (sym (Same-is (after_group contents group) contents' moved))
-    (subst (λ (aside : List FreeList). Remembers low (next_primary w) past (after_group contents group) new.waiting.items aside s) (sym takes.set_aside)
-    (subst (λ p. Remembers low p past (after_group contents group) new.waiting.items (old.aside ++ lists) s) ends after))
+    (subst (λ (items : List Work). Remembers low position past contents items old.aside s) takes.taken remembers.remembers) in
+    let behind = subst (λ (aside : List FreeList). Remembers low (next_primary w) past after_it new.waiting.items aside s) (sym takes.set_aside)
+    (subst (λ p. Remembers low p past after_it new.waiting.items (old.aside ++ lists) s) ends after) in
+    subst (λ (c : Contents). RemembersFor w.standby.position (next_primary w) past c new.waiting.items new.aside s) (sym (Same-is (made remote contents group) contents' moved))
+    (remembered-from w.standby.position (next_primary w) past (made remote contents group) new.waiting.items new.aside s (omega (arith, remembers.floored, passed))
+    (remembers-renumbered floor after_it.current.number (next_primary w) past after_it new.waiting.items new.aside s
+    (remembers-raised low floor (next_primary w) past after_it new.waiting.items new.aside s (le-max_left low remote) behind)))
 
 -- at any moment of the engine's call, a crash leaves what was before it or what is after it
-pub commit-moments : (holder : Holder) (w : World) (old : Committing) (lists : List FreeList) (group : Group) (new : Committing) (device device' : State) (contents : Contents) (is_faulted : Bool)
+pub commit-moments : (holder : Holder) (w : World) (remote : ℕ) (old : Committing) (lists : List FreeList) (group : Group) (new : Committing) (device device' : State) (contents : Contents) (is_faulted : Bool)
     → TakesLawful contents old lists group new → (is_faulted ≡ false → ¬ Exhausts contents group)
-    → (is_faulted ≡ false → LeavesOnly device device' (λ image. Keeps contents image ⊎ Keeps (after_group contents group) image))
+    → (is_faulted ≡ false → LeavesOnly device device' (λ image. Keeps contents image ⊎ Keeps (made remote contents group) image))
     → CommittingRefines w.primary.calls old w.primary.committer → EngineStands holder w.primary.calls w.primary.committer.position device contents is_faulted
     → NearOnly holder w.primary.calls w.primary.committer.position (next_primary w) device device'
-commit-moments holder w old lists group new device device' contents is_faulted takes fits moments stands engine =
+commit-moments holder w remote old lists group new device device' contents is_faulted takes fits moments stands engine =
     LeavesOnly-weaken (OpensAtEither holder w.primary.calls w.primary.committer.position (next_primary w)) (λ image. either image) (moments engine.sound)
   where
     next : NextGroup holder w.primary.calls w.primary.committer.position contents lists group new.waiting.items w.primary.committer.waiting
@@ -165,11 +199,12 @@ commit-moments holder w old lists group new device device' contents is_faulted t
     ends : next_primary w ≡ next.firsts.first.after
     ends = ap (λ works. (committed_first works w.primary.committer).position) next.firsts.from
 
-    either : (image : Image) → Keeps contents image ⊎ Keeps (after_group contents group) image → OpensAtEither holder w.primary.calls w.primary.committer.position (next_primary w) image
+    either : (image : Image) → Keeps contents image ⊎ Keeps (made remote contents group) image → OpensAtEither holder w.primary.calls w.primary.committer.position (next_primary w) image
     either image (inl keeps) = inl (keeps-opens holder w.primary.calls w.primary.committer.position contents image engine.contents_at engine.lawful keeps)
     either image (inr keeps) =
-        inr (keeps-opens holder w.primary.calls (next_primary w) (after_group contents group) image (subst (λ p. AreContentsAt holder w.primary.calls p (after_group contents group)) (sym ends) next.after)
-        (group_lawful contents group engine.lawful takes.lawful (fits engine.sound)) keeps)
+        inr (keeps-opens holder w.primary.calls (next_primary w) (made remote contents group) image
+        (made-at holder w.primary.calls (next_primary w) remote contents group (subst (λ p. AreContentsAt holder w.primary.calls p (after_group contents group)) (sym ends) next.after))
+        (made-lawful remote contents group (group_lawful contents group engine.lawful takes.lawful (fits engine.sound))) keeps)
 
 -- where the primary stands once the first group that waits has committed, with these contents
 pub record Lands (holder : Holder) (w : World) (contents : Contents) : Type 0 where
@@ -177,16 +212,16 @@ pub record Lands (holder : Holder) (w : World) (contents : Contents) : Type 0 wh
   pub within : next_primary w ≤ position_of w.primary.calls
   pub after : AreContentsAt holder w.primary.calls (next_primary w) contents
 
-pub commit-lands : (holder : Holder) (w : World) (old : Committing) (lists : List FreeList) (group : Group) (new : Committing) (contents : Contents) → TakesLawful contents old lists group new
-    → CommittingRefines w.primary.calls old w.primary.committer → AreContentsAt holder w.primary.calls w.primary.committer.position contents → Lands holder w (after_group contents group)
-commit-lands holder w old lists group new contents takes stands at =
+pub commit-lands : (holder : Holder) (w : World) (remote : ℕ) (old : Committing) (lists : List FreeList) (group : Group) (new : Committing) (contents : Contents) → TakesLawful contents old lists group new
+    → CommittingRefines w.primary.calls old w.primary.committer → AreContentsAt holder w.primary.calls w.primary.committer.position contents → Lands holder w (made remote contents group)
+commit-lands holder w remote old lists group new contents takes stands at =
     let next = next-group holder w.primary.calls w.primary.committer.position contents old lists group new w.primary.committer at takes stands in
     let ends : next_primary w ≡ next.firsts.first.after = ap (λ works. (committed_first works w.primary.committer).position) next.firsts.from in
     let lies = next.firsts.is.span_within in
     record {
       rises = omega (arith, ends, next.begins, lies.rising);
       within = omega (arith, ends, lies.within);
-      after = subst (λ p. AreContentsAt holder w.primary.calls p (after_group contents group)) (sym ends) next.after;
+      after = made-at holder w.primary.calls (next_primary w) remote contents group (subst (λ p. AreContentsAt holder w.primary.calls p (after_group contents group)) (sym ends) next.after);
     }
 
 -- positions rise by at least one per part
@@ -218,15 +253,15 @@ commit-limit holder w old lists group new device contents is_faulted takes exhau
     reached more exhausts few own = grind (arith, exhausts, takes.own)
 
 -- the engine refused to commit: a fence failed, or a counter is at its limit
-pub commit-ends : (holder : Holder) (w : World) (old : Committing) (lists : List FreeList) (group : Group) (new : Committing) (device device' : State) (contents : Contents) (is_faulted : Bool)
+pub commit-ends : (holder : Holder) (w : World) (remote : ℕ) (old : Committing) (lists : List FreeList) (group : Group) (new : Committing) (device device' : State) (contents : Contents) (is_faulted : Bool)
     (result : Result Done Refusal) (refusal : Refusal) → result ≡ Err refusal
     → TakesLawful contents old lists group new → IfErr result (λ r. (r ≡ Fault) ⊎ (r ≡ Exhausted))
     → (IsErrOf result Fault → (is_faulted ≡ true) ⊎ (device.failures < device'.failures)) → (IsErrOf result Exhausted → Exhausts contents group × (device' ≡ device))
     → (is_faulted ≡ false → Exhausts contents group → result ≡ Err Exhausted)
-    → (is_faulted ≡ false → LeavesOnly device device' (λ image. Keeps contents image ⊎ Keeps (after_group contents group) image))
+    → (is_faulted ≡ false → LeavesOnly device device' (λ image. Keeps contents image ⊎ Keeps (made remote contents group) image))
     → CommittingRefines w.primary.calls old w.primary.committer → EngineStands holder w.primary.calls w.primary.committer.position device contents is_faulted
     → EndsBy refusal Commit (λ last _. last holder w.primary.calls w.primary.committer.position (next_primary w) device device')
-commit-ends holder w old lists group new device device' contents is_faulted result refusal is takes causes fault exhausted exhausts moments stands engine =
+commit-ends holder w remote old lists group new device device' contents is_faulted result refusal is takes causes fault exhausted exhausts moments stands engine =
     by (subst (λ (r : Result Done Refusal). IfErr r (λ e. (e ≡ Fault) ⊎ (e ≡ Exhausted))) is causes)
   where
     rose : (is_faulted ≡ true) ⊎ (device.failures < device'.failures) → device.failures < device'.failures
@@ -237,7 +272,7 @@ commit-ends holder w old lists group new device device' contents is_faulted resu
     by (inl cause) =
         subst (λ (r : Refusal). EndsBy r Commit (λ last _. last holder w.primary.calls w.primary.committer.position (next_primary w) device device')) (sym cause)
         (record {
-          leaves = commit-moments holder w old lists group new device device' contents is_faulted takes (λ sound would. let told = exhausts sound would in cc) moments stands engine;
+          leaves = commit-moments holder w remote old lists group new device device' contents is_faulted takes (λ sound would. let told = exhausts sound would in cc) moments stands engine;
           failures = rose (fault (is ∙ ap Err cause));
         })
     by (inr cause) =

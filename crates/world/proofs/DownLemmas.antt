@@ -28,6 +28,7 @@ use Rattle.wbl_engine.proofs.LawfulLemmas.{lawful_undamaged}
 use Rattle.wbl_engine.proofs.ReopeningLaws.{keeps_through, lawful_refusal, reopening_lawful}
 use Rattle.wbl_engine.proofs.ReadingLemmas.{layout_in_is}
 use Rattle.wbl_engine.proofs.RoomLemmas.{room_cases, room_layout}
+use Rattle.primary.proofs.KeptImages.{reopened-floor}
 use Rattle.world.specs.Committing.{AreContentsAt, EngineStands, IsDown, Moves, Opens, OpensAt, OpensAtEither}
 use Rattle.node_steps.proofs.EngineLemmas.{AreContentsAt-grows}
 use Rattle.world.proofs.EngineLemmas.{Opens-engine, keeps-opens}
@@ -133,6 +134,16 @@ down-gaps holder calls p device contents' counted gapped down reopens =
     subst (λ n. Reopens n image holder.role contents' counted gapped) (sym down.sized) reopens in
     let through = keeps_through down.contents contents' image holder.role counted gapped down.lawful down.keeps own in
     omega (arith, ap (λ (r : Record). length r.gaps.items) through.current, gaps-reopened down.contents.current)
+
+-- and the floor that the image has
+pub down-floor : (holder : Holder) (calls : List Call) (p : ℕ) (device : State) (contents' : Contents) (counted : _) (gapped : List EntryNo) (down : IsDown holder calls p device)
+    → Reopens device.lines (image_of device.words) holder.role contents' counted gapped → contents'.current.floor ≡ down.contents.current.floor
+down-floor holder calls p device contents' counted gapped down reopens =
+    let image = image_of device.words in
+    let own : Reopens down.contents.lines image holder.role contents' counted gapped =
+    subst (λ n. Reopens n image holder.role contents' counted gapped) (sym down.sized) reopens in
+    let through = keeps_through down.contents contents' image holder.role counted gapped down.lawful down.keeps own in
+    ap (λ (r : Record). r.floor) through.current ∙ reopened-floor down.contents.current
 
 -- an image that reopening may leave opens where the first one opened
 readable-opens : (holder : Holder) (calls : List Call) (p : ℕ) (contents : Contents) (image image' : Image) → AreContentsAt holder calls p contents → Keeps contents image

@@ -47,9 +47,8 @@ use Rattle.world.specs.Condition.{has_crashed, life_as, runs, has_stopped}
 use Rattle.world.specs.declared.condition.Condition.TheVariants as condition
 use Rattle.std.proofs.lemmas.List.Elements.{All-nil}
 use Rattle.world.specs.Pair.{NodesRefine, Pair, allowed, primary_number, ClientsRefine, Lives}
-use Rattle.primary.specs.Recalling.{Remembers}
-use Rattle.primary.proofs.RecallLemmas.{remembers-new}
-use Rattle.world.specs.Recalling.{past_of}
+use Rattle.world.proofs.RecallLemmas.{remembered-new}
+use Rattle.world.specs.Recalling.{RemembersFor, past_of}
 use Rattle.world.proofs.OpeningLemmas.{opening-none}
 
 -- ---- the sequencer
@@ -140,11 +139,11 @@ none-seated (code ∷ codes) stand s = absurd stand
 pub pair-starts : (first second : Holder) (pair : Pair) → ClientsRefine pair.clients [] [] → SequencerRefines [] 0 pair.primary.sequencer
     → (pair.primary.sequencer.ended ≡ []) × (pair.primary.sequencer.newest ≡ 0)
     → pair.primary.committing.waiting.items ≡ [] → pair.primary.committing.aside ≡ [] → pair.primary.committing.stage ≡ Ready → pair.primary.committing.local ≡ 0 → pair.primary.notices ≡ [] → EngineStands first [] 0 pair.primary.device pair.primary.contents pair.primary.is_faulted
-    → pair.primary.contents.current.gaps.items ≡ [] → IsAheadOf pair.primary.sequencer pair.primary.contents → Expects pair.primary.sequencer pair.primary.contents [] [] → pair.wire.link ≡ new_stream FIRST_EPOCH → pair.primary.handed.items ≡ [] → pair.wire.remote ≡ 0 → pair.wire.opening.position ≡ 0 → pair.wire.frames ≡ []
+    → pair.primary.contents.current.gaps.items ≡ [] → IsAheadOf pair.primary.sequencer pair.primary.contents → Expects pair.primary.sequencer pair.primary.contents [] [] → pair.wire.link ≡ new_stream FIRST_EPOCH → pair.primary.handed.items ≡ [] → pair.wire.remote ≡ 0 → (pair.wire.opening.position ≡ 0) × (pair.wire.opening.floor ≡ 0) → pair.primary.contents.current.floor ≡ 0 → pair.wire.frames ≡ []
     → ((epoch : ℕ) → ArrivalsRefine epoch [] pair.wire.arrivals [] []) → StandbyStands second pair.wire.link.epoch [] 0 pair.standby
     → first.role ≡ Role.Primary → second.role ≡ Role.Standby → first.epoch ≡ FIRST_EPOCH → second.epoch ≡ FIRST_EPOCH
     → pair.lives ≡ record { primary = condition.Running; standby = condition.Running; asked = record { primary = false; standby = false } } → NodesRefine first second pair start
-pair-starts first second pair sessions sequencer none_ended none none_aside ready mark none_told engine no_gap ahead expects link no_group remote never_opened no_frame arrivals standby first_role second_role first_epoch second_epoch live =
+pair-starts first second pair sessions sequencer none_ended none none_aside ready mark none_told engine no_gap ahead expects link no_group remote never_opened unfreed no_frame arrivals standby first_role second_role first_epoch second_epoch live =
     record {
       sound = sound-start allowed;
       lives = record {
@@ -176,9 +175,10 @@ pair-starts first second pair sessions sequencer none_ended none none_aside read
             notices_are = ap (λ (notices : List Freed). length notices) none_told;
             gaps = ap (λ (gaps : List Gap). length gaps) no_gap;
           };
-          remembers = subst (λ (items : List Work). Remembers 0 0 (past_of []) pair.primary.contents items pair.primary.committing.aside pair.primary.sequencer) (sym none)
-              (subst (λ (lists : List FreeList). Remembers 0 0 (past_of []) pair.primary.contents [] lists pair.primary.sequencer) (sym none_aside) (remembers-new (past_of []) pair.primary.contents pair.primary.sequencer 0));
-          opening = opening-none 0 [] pair.wire.opening never_opened;
+          remembers = subst (λ (items : List Work). RemembersFor 0 0 (past_of []) pair.primary.contents items pair.primary.committing.aside pair.primary.sequencer) (sym none)
+              (subst (λ (lists : List FreeList). RemembersFor 0 0 (past_of []) pair.primary.contents [] lists pair.primary.sequencer) (sym none_aside)
+              (remembered-new (past_of []) pair.primary.contents pair.primary.sequencer unfreed));
+          opening = opening-none 0 [] pair.wire.opening never_opened.0 never_opened.1;
           epoch = ap (λ (s : Stream). s.epoch) link;
           link = subst (λ (s : Stream). LinkRefines [] s pair.primary.handed pair.wire.remote start.primary.link) (sym link)
               (record {

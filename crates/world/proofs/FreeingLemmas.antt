@@ -1,6 +1,7 @@
 -- What freeing, and clearing a gap, leave of the primary's engine.
 use mathlib.Core.Path.{fun_ext}
-use Rattle.std.proofs.Common.{rules, ◌≡◌, ◌⊎◌, ◌+◌, ◌<◌, ℕ, inl, inr, Bool, true, false, ◌||◌, List, refl, sym, ap, subst, ◌∙◌, true≢false, [], ◌∷◌}
+use Rattle.std.proofs.Common.{rules, arith, ◌≡◌, ◌⊎◌, ◌+◌, ◌<◌, ℕ, inl, inr, Bool, true, false, ◌||◌, List, refl, sym, ap, subst, ◌∙◌, true≢false, [], ◌∷◌}
+use Rattle.std.proofs.lemmas.Bool.{cases_lt}
 use Rattle.std.specs.List.{IsDistinct}
 use Rattle.kv_types.specs.declared.place.EntryNo.{EntryNo}
 use Rattle.pmem.specs.Device.{State}
@@ -10,16 +11,19 @@ use Rattle.model.specs.declared.call.Call.{Call}
 use Rattle.model.specs.declared.image.TheConstants.{COUNTER_LIMIT}
 use Rattle.model.specs.declared.record.Record.{Record}
 use Rattle.model.specs.Call.{cut_at, keyspace_after}
+use Rattle.model.specs.Floor.{floor_raised}
 use Rattle.model.specs.Group.{AreEnded, Contents, Versions, after_free, without, entries_of}
-use Rattle.model.specs.Image.{IsMapOf}
+use Rattle.model.specs.Image.{Image, IsMapOf}
 use Rattle.model.proofs.DirectoryLemmas.{entries_same}
 use Rattle.model.specs.Standing.{Holder}
 use Rattle.wbl_engine.specs.Contents.{IsDurable, Keeps, Same}
-use Rattle.wbl_engine.specs.Freeing.{Clears, KeepsWithoutSome, cleared_contents}
+use Rattle.wbl_engine.specs.Freeing.{Clears, KeepsFreed, cleared_contents}
 use Rattle.wbl_engine.specs.Lawful.{AreLawful}
+use Rattle.wbl_engine.specs.Raising.{ExhaustsRaising}
 use Rattle.wbl_engine.proofs.WithoutLemmas.{AllEnded, IsMapOf-contents_without, consistent_cleared, consistent_without, lawful_cleared, lawful_without}
 use Rattle.group_commit.proofs.FreedLemmas.{AllEnded-listed}
 use Rattle.group_commit.proofs.GroupsLemmas.{Same-is}
+use Rattle.primary.proofs.NumberedLemmas.{ended_renumbered, lawful_raised}
 use Rattle.machine.specs.declared.event.Event.{Event}
 use Rattle.machine.specs.Event.{World, Happens, Step, may_happen, At, torn}
 use Rattle.machine.proofs.SoundEvents.{sound-step}
@@ -41,27 +45,55 @@ contents-without holder calls p contents gone ended are =
     let map = IsMapOf-contents_without contents gone _ ended are.map in
     search (rules, consistent_without contents gone are.consistent, map, are)
 
-pub engine-freed : (holder : Holder) (calls : List Call) (p : ℕ) (device device' : State) (contents contents' : Contents) (is_faulted is_faulted' : Bool) (entries : List EntryNo) → AreEnded contents entries
-    → Same (after_free entries contents) contents' → IsDurable device' contents' → is_faulted' ≡ false → EngineStands holder calls p device contents is_faulted
-    → EngineStands holder calls p device' contents' is_faulted'
-engine-freed holder calls p device device' contents contents' is_faulted is_faulted' entries ended moved durable sound engine =
-    let is = Same-is (after_free entries contents) contents' moved in
-    let gone = AllEnded-listed contents entries ended in
+-- a counter of the record would reach the limit, or not
+pub raising-limit : (floor : ℕ) (r : Record) → ExhaustsRaising floor r ⊎ (¬ ExhaustsRaising floor r)
+raising-limit floor r = elim (cases_lt r.floor floor) [
+  | inl rises ↦ elim (cases_lt (r.number + 1) COUNTER_LIMIT) [
+    | inl below ↦ inr (λ reached. omega (arith, below, reached.1))
+    | inr full ↦ inl (rises, full)
+  ]
+  | inr stays ↦ inr (λ reached. omega (arith, stays, reached.0))
+]
+
+-- the contents are at their position under a record that raises the floor
+pub contents-raised : (holder : Holder) (calls : List Call) (p floor : ℕ) (contents : Contents) → AreContentsAt holder calls p contents → AreContentsAt holder calls p (floor_raised floor contents)
+contents-raised holder calls p floor contents are = record {
+  at = are.at;
+  role_is = are.role_is;
+  epoch_is = are.epoch_is;
+  lines_are = are.lines_are;
+  consistent = record { free = are.consistent.free; beyond = are.consistent.beyond };
+  map = are.map;
+}
+
+pub engine-freed : (holder : Holder) (calls : List Call) (p floor : ℕ) (device device' : State) (contents contents' : Contents) (is_faulted is_faulted' : Bool) (entries : List EntryNo) → AreEnded contents entries
+    → Same (after_free entries (floor_raised floor contents)) contents' → (¬ ExhaustsRaising floor contents.current) → IsDurable device' contents' → is_faulted' ≡ false
+    → EngineStands holder calls p device contents is_faulted → EngineStands holder calls p device' contents' is_faulted'
+engine-freed holder calls p floor device device' contents contents' is_faulted is_faulted' entries ended moved fits durable sound engine =
+    let raised = floor_raised floor contents in
+    let is = Same-is (after_free entries raised) contents' moved in
+    let gone = AllEnded-listed raised entries (ended_renumbered raised.current.number raised.current.floor contents entries ended) in
     record {
-      contents_at = subst (AreContentsAt holder calls p) (sym is) (contents-without holder calls p contents _ gone engine.contents_at);
-      lawful = subst AreLawful (sym is) (lawful_without contents _ gone engine.lawful);
+      contents_at = subst (AreContentsAt holder calls p) (sym is) (contents-without holder calls p raised _ gone (contents-raised holder calls p floor contents engine.contents_at));
+      lawful = subst AreLawful (sym is) (lawful_without raised _ gone (lawful_raised floor contents engine.lawful fits));
       sound = sound;
       durable = durable;
     }
 
 -- at any moment of it the image stands where it stood
-pub freed-moments : (holder : Holder) (calls : List Call) (p : ℕ) (device device' : State) (contents : Contents) (entries : List EntryNo) → AreEnded contents entries → AreContentsAt holder calls p contents → AreLawful contents
-    → LeavesOnly device device' (KeepsWithoutSome entries contents) → LeavesOnly device device' (OpensAt holder calls p)
-freed-moments holder calls p device device' contents entries ended are lawful moments =
-    LeavesOnly-weaken (OpensAt holder calls p)
-    (λ image keeps.
-    let gone : AllEnded keeps.0 contents.versions = λ i is. AllEnded-listed contents entries ended i (keeps.1 i is) in
-    keeps-opens holder calls p (without keeps.0 contents) image (contents-without holder calls p contents keeps.0 gone are) (lawful_without contents keeps.0 gone lawful) keeps.2) moments
+pub freed-moments : (holder : Holder) (calls : List Call) (p floor : ℕ) (device device' : State) (contents : Contents) (entries : List EntryNo) → AreEnded contents entries → AreContentsAt holder calls p contents
+    → AreLawful contents → (¬ ExhaustsRaising floor contents.current) → LeavesOnly device device' (KeepsFreed entries contents (floor_raised floor contents)) → LeavesOnly device device' (OpensAt holder calls p)
+freed-moments holder calls p floor device device' contents entries ended are lawful fits moments = LeavesOnly-weaken (OpensAt holder calls p) opens moments
+  where
+    raised : Contents
+    raised = floor_raised floor contents
+
+    opens : (image : Image) → KeepsFreed entries contents raised image → OpensAt holder calls p image
+    opens image (inl was) = keeps-opens holder calls p contents image are lawful was
+    opens image (inr keeps) =
+        let gone : AllEnded keeps.0 raised.versions = λ i is. AllEnded-listed contents entries ended i (keeps.1 i is) in
+        keeps-opens holder calls p (without keeps.0 raised) image (contents-without holder calls p raised keeps.0 gone (contents-raised holder calls p floor contents are))
+        (lawful_without raised keeps.0 gone (lawful_raised floor contents lawful fits)) keeps.2
 
 pub engine-cleared : (holder : Holder) (calls : List Call) (p : ℕ) (device device' : State) (contents contents' : Contents) (is_faulted is_faulted' : Bool) (entries : List EntryNo)
     → Clears contents entries contents' → contents.current.number + 1 < COUNTER_LIMIT → IsDurable device' contents' → is_faulted' ≡ false → EngineStands holder calls p device contents is_faulted

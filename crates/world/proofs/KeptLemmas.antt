@@ -19,7 +19,7 @@ use Rattle.wbl_engine.specs.Lawful.{IsUndamaged}
 use Rattle.machine.specs.Event.{AsPrimary, At, Remains}
 use Rattle.world.specs.Committing.{AreContentsAt, EngineStands, IsDown, NearOnly, OpensAtEither, promoted_holder}
 use Rattle.world.specs.Cutting.{LeavesCut}
-use Rattle.world.specs.Remaining.{KeepsAt, KeepsOne}
+use Rattle.world.specs.Remaining.{KeepsAt, KeepsOne, KeepsPromoted}
 use Rattle.world.proofs.OpenedLemmas.{StaysSo}
 use Rattle.world.proofs.RemainLemmas.{keeps-near}
 
@@ -97,7 +97,7 @@ near-kept holder calls p next old new only = LeavesOnly-weaken (OpensAtEither ho
 
 -- it holds contents of the list at this position as the standby's, or as those of the primary that it becomes
 abbrev pub KeepsAsEither : Holder → List Call → ℕ → Image → Type 0
-KeepsAsEither holder calls position image = KeepsAt holder calls position image ⊎ KeepsAt (promoted_holder holder) calls position image
+KeepsAsEither holder calls position image = KeepsAt holder calls position image ⊎ KeepsPromoted holder calls position image
 
 pub keeps-either : (holder : Holder) (calls : List Call) (p : ℕ) (image : Image) → KeepsAsEither holder calls p image → KeepsOne holder calls p (AsPrimary ∷ []) image
 keeps-either holder calls p image (inl here) = keeps-here holder calls p (AsPrimary ∷ []) image here
@@ -171,3 +171,22 @@ restart-keeps holder calls p old new down moments =
     LeavesOnly-weaken (KeepsAt holder calls p)
     (λ image' stays. readable-keeps holder calls p contents image image' down.contents_at down.lawful down.keeps (subst (λ n. StaysReadable n contents.current image image') (sym down.sized) stays))
     (moments contents.current (subst (λ n. IsUndamaged n contents.current image) down.sized (lawful_undamaged contents image down.lawful down.keeps)))
+
+-- and of a standby's that was promoted, one with the same floor
+pub restart-promoted : (holder : Holder) (calls : List Call) (p : ℕ) (old new : State) → (down : IsDown (promoted_holder holder) calls p old) → down.contents.current.floor ≡ p → StaysSo old new
+    → LeavesOnly old new (KeepsPromoted holder calls p)
+unfolding readable-keeps
+restart-promoted holder calls p old new down floor moments =
+    let image = image_of old.words in
+    let contents = down.contents in
+    LeavesOnly-weaken (KeepsPromoted holder calls p)
+    (λ image' stays.
+    let it : StaysReadable contents.lines contents.current image image' = subst (λ n. StaysReadable n contents.current image image') (sym down.sized) stays in
+    record { kept = readable-keeps (promoted_holder holder) calls p contents image image' down.contents_at down.lawful down.keeps it; floor = it.floor ∙ floor })
+    (moments contents.current (subst (λ n. IsUndamaged n contents.current image) down.sized (lawful_undamaged contents image down.lawful down.keeps)))
+
+-- once it is all that is left of its node
+pub promoted-down : (holder : Holder) (calls : List Call) (p : ℕ) (device : State) → KeepsPromoted holder calls p (image_of device.words) → IsSettled device.words → holder.lines ≡ device.lines
+    → (down : IsDown (promoted_holder holder) calls p device) × (down.contents.current.floor ≡ p)
+unfolding kept-down
+promoted-down holder calls p device held settled lines = (kept-down (promoted_holder holder) calls p device held.kept settled lines, held.floor)

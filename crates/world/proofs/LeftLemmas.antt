@@ -16,17 +16,16 @@ use Rattle.machine.specs.declared.event.Node.TheVariants as node
 use Rattle.machine.specs.Event.{At, Life, Remains, World, halted, is_between, is_crashed, is_running, left_by, may_clear, may_commit, may_cut, may_free, torn, with_life}
 use Rattle.machine.specs.Event as machine
 use Rattle.machine.specs.Sound.{Sound}
-use Rattle.primary.specs.Recalling.{RecallsEach}
-use Rattle.primary.proofs.RecallLemmas.{recalls-each}
 use Rattle.world.specs.Committing.{AreContentsAt, next_primary}
 use Rattle.world.specs.Pair.{Pair, PartsRefine}
-use Rattle.world.specs.Recalling.{past_of}
+use Rattle.world.specs.Recalling.{RecallsFor, past_of}
 use Rattle.world.specs.Remaining.{LeftBy}
 use Rattle.world.proofs.PairLemmas.{primary-within}
+use Rattle.world.proofs.RecallLemmas.{recalled-each}
 
 -- contents where the primary stood before the call
 pub left-there : (holder : Holder) (w : World) (call : Cut) (contents : Contents) (image : Image) → Sound w → AreContentsAt holder w.primary.calls w.primary.committer.position contents → AreLawful contents
-    → RecallsEach w.standby.position w.primary.committer.position (past_of w.primary.calls) contents → Keeps contents image → LeftBy holder w call image
+    → RecallsFor w.standby.position w.primary.committer.position (past_of w.primary.calls) contents → Keeps contents image → LeftBy holder w call image
 left-there holder w call contents image sound are lawful recalls keeps = record {
   position = w.primary.committer.position;
   one = (0, omega arith, refl);
@@ -41,7 +40,7 @@ left-there holder w call contents image sound are lawful recalls keeps = record 
 
 -- contents after the group that it commits next
 pub left-next : (holder : Holder) (w : World) (contents : Contents) (image : Image) → w.primary.life ≡ machine.Running → w.primary.committer.position ≤ next_primary w → next_primary w ≤ position_of w.primary.calls
-    → AreContentsAt holder w.primary.calls (next_primary w) contents → AreLawful contents → RecallsEach w.standby.position (next_primary w) (past_of w.primary.calls) contents → Keeps contents image
+    → AreContentsAt holder w.primary.calls (next_primary w) contents → AreLawful contents → RecallsFor w.standby.position (next_primary w) (past_of w.primary.calls) contents → Keeps contents image
     → LeftBy holder w cut.Commit image
 left-next holder w contents image up rises within are lawful recalls keeps = record {
   position = next_primary w;
@@ -59,7 +58,7 @@ left-next holder w contents image up rises within are lawful recalls keeps = rec
 pub left-running : (first second : Holder) (pair : Pair) (w : World) (call : Cut) (image : Image) → Sound w → PartsRefine first second pair w → Keeps pair.primary.contents image → LeftBy first w call image
 left-running first second pair w call image sound parts keeps =
     left-there first w call pair.primary.contents image sound parts.engine.contents_at parts.engine.lawful
-    (recalls-each w.standby.position w.primary.committer.position (past_of w.primary.calls) pair.primary.contents pair.primary.committing.waiting.items pair.primary.committing.aside pair.primary.sequencer parts.remembers) keeps
+    (recalled-each w.standby.position w.primary.committer.position (past_of w.primary.calls) pair.primary.contents pair.primary.committing.waiting.items pair.primary.committing.aside pair.primary.sequencer parts.remembers) keeps
 
 -- nothing was done to the device
 pub left-still : (first second : Holder) (pair : Pair) (w : World) (call : Cut) (new : State) → Sound w → PartsRefine first second pair w → new ≡ pair.primary.device → LeavesOnly pair.primary.device new (LeftBy first w call)

@@ -23,7 +23,7 @@ use Rattle.wbl_engine.specs.Lawful.{IsUndamaged}
 use Rattle.wbl_engine.specs.Reopening.{ExhaustsReopening, RefusesReopening, StaysReadable, layout_in}
 use Rattle.world.specs.Cause.{Breaks, RestsBeforeReopening}
 use Rattle.world.specs.Committing.{AreContentsAt, EngineStands, IsDown, Moves, Rests, OpensAtEither}
-use Rattle.world.proofs.DownLemmas.{down-gaps, down-reopened, restart-moments, settled-image}
+use Rattle.world.proofs.DownLemmas.{down-floor, down-gaps, down-reopened, restart-moments, settled-image}
 
 -- ---- the image
 
@@ -56,6 +56,11 @@ opened-stands holder calls p old new contents is_faulted down opened =
 pub opened-gaps : (holder : Holder) (calls : List Call) (p : ℕ) (old new : State) (contents : Contents) (is_faulted : Bool) (down : IsDown holder calls p old) → IsOpened holder.role old new contents is_faulted
     → 1 ≤ length contents.current.gaps.items
 opened-gaps holder calls p old new contents is_faulted down opened = down-gaps holder calls p old contents opened.reopens.counted opened.reopens.gapped down opened.reopens.reopens
+
+-- and the floor that the image has
+pub opened-floor : (holder : Holder) (calls : List Call) (p : ℕ) (old new : State) (contents : Contents) (is_faulted : Bool) (down : IsDown holder calls p old) → IsOpened holder.role old new contents is_faulted
+    → contents.current.floor ≡ down.contents.current.floor
+opened-floor holder calls p old new contents is_faulted down opened = down-floor holder calls p old contents opened.reopens.counted opened.reopens.gapped down opened.reopens.reopens
 
 pub opened-moves : (holder : Holder) (calls : List Call) (p : ℕ) (old new : State) → IsDown holder calls p old → StaysSo old new → new.failures ≡ old.failures → Moves holder calls p p old new
 opened-moves holder calls p old new down stays failures =

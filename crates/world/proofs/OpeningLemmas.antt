@@ -17,10 +17,12 @@ use Rattle.standby_stream.specs.Delta.{HaveTheirLines, delta_changes}
 use Rattle.world.specs.Recalling.{OpeningLeads}
 
 -- of a primary that was formatted
-pub opening-none : (low : ℕ) (calls : List Call) (opening : Opening) → opening.position ≡ 0 → OpeningLeads low 0 calls opening
-opening-none low calls opening at = record {
+pub opening-none : (low : ℕ) (calls : List Call) (opening : Opening) → opening.position ≡ 0 → opening.floor ≡ 0 → OpeningLeads low 0 calls opening
+opening-none low calls opening at floor = record {
   within = omega arith;
-  delta = record { position_is = at; leads = λ p from below. absurd (omega (arith, below)) };
+  opened_at = at;
+  floored = omega (arith, floor);
+  leads = λ p from below. absurd (omega (arith, below));
   size = λ p from below. absurd (omega (arith, below));
 }
 
@@ -28,7 +30,9 @@ opening-none low calls opening at = record {
 pub opening-on : (low low' opened : ℕ) (calls : List Call) (opening : Opening) → low ≤ low' → OpeningLeads low opened calls opening → OpeningLeads low' opened calls opening
 opening-on low low' opened calls opening rises leads = record {
   within = leads.within;
-  delta = record { position_is = leads.delta.position_is; leads = λ p from below. leads.delta.leads p (omega (arith, rises, from)) below };
+  opened_at = leads.opened_at;
+  floored = omega (arith, rises, leads.floored);
+  leads = λ p from below. leads.leads p (omega (arith, rises, from)) below;
   size = λ p from below. leads.size p (omega (arith, rises, from)) below;
 }
 
@@ -38,20 +42,22 @@ opening-still low low' opened calls more opening rises leads =
     let on = opening-on low low' opened calls opening rises leads in
     record {
       within = omega (arith, on.within, position_of_grows calls more);
-      delta = record {
-        position_is = on.delta.position_is;
-        leads = λ p from below.
-            ap (λ (s : Keyspace). play_all s (delta_changes opening p)) (keyspace_after-cut_at-append calls more p (omega (arith, below, on.within)))
-            ∙ on.delta.leads p from below ∙ sym (keyspace_after-cut_at-append calls more opened on.within);
-      };
+      opened_at = on.opened_at;
+      floored = on.floored;
+      leads = λ p from below.
+          ap (λ (s : Keyspace). play_all s (delta_changes opening p)) (keyspace_after-cut_at-append calls more p (omega (arith, below, on.within)))
+          ∙ on.leads p from below ∙ sym (keyspace_after-cut_at-append calls more opened on.within);
       size = on.size;
     }
 
 -- it is forgotten once no standby can be below its position
-pub opening-forgotten : (low opened : ℕ) (calls : List Call) (opening new : Opening) → new.position ≡ opening.position → opened ≤ low → OpeningLeads low opened calls opening → OpeningLeads low opened calls new
-opening-forgotten low opened calls opening new at passed leads = record {
+pub opening-forgotten : (low opened : ℕ) (calls : List Call) (opening new : Opening) → new.position ≡ opening.position → new.floor ≡ opening.floor → opened ≤ low
+    → OpeningLeads low opened calls opening → OpeningLeads low opened calls new
+opening-forgotten low opened calls opening new at floor passed leads = record {
   within = leads.within;
-  delta = record { position_is = at ∙ leads.delta.position_is; leads = λ p from below. absurd (omega (arith, passed, from, below)) };
+  opened_at = at ∙ leads.opened_at;
+  floored = omega (arith, floor, leads.floored);
+  leads = λ p from below. absurd (omega (arith, passed, from, below));
   size = λ p from below. absurd (omega (arith, passed, from, below));
 }
 

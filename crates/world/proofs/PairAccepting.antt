@@ -16,7 +16,7 @@ use Rattle.connections.specs.Session.{SeatsFollow, SequencerRefines, seats_of}
 use Rattle.primary.proofs.FreedQueue.{Leads-accepted}
 use Rattle.world.proofs.LivesLemmas.{nodes-refine, own-runs}
 use Rattle.world.proofs.PairLemmas.{goes-steps, none-added, stays-does}
-use Rattle.primary.proofs.RecallLemmas.{remembers-on}
+use Rattle.world.proofs.RecallLemmas.{remembered-on}
 use Rattle.world.specs.Recalling.{past_of}
 
 -- ---- the sequencer is told
@@ -46,7 +46,7 @@ accept-does old sequencer notice rest told takes expected = record { steps = ste
           subst (SeatsFollow calls (seats_of old.clients.sessions.connections.items)) (sym takes.after) (record { by_call = parts.follow.by_call; session = parts.follow.session }),
           Leads-accepted old.primary.contents old.primary.committing.waiting.items old.primary.committing.aside old.primary.sequencer sequencer notice rest
               (subst (Leads old.primary.contents old.primary.committing.waiting.items old.primary.committing.aside old.primary.sequencer) told parts.leads) takes expected,
-          remembers-on w.standby.position w.standby.position w.primary.committer.position (past_of calls) old.primary.contents old.primary.committing.waiting.items old.primary.committing.aside old.primary.sequencer sequencer
+          remembered-on w.standby.position w.standby.position w.primary.committer.position (past_of calls) old.primary.contents old.primary.committing.waiting.items old.primary.committing.aside old.primary.sequencer sequencer
               (le_refl w.standby.position) ended newest parts.remembers,
         )
 

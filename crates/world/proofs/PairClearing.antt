@@ -35,9 +35,8 @@ use Rattle.world.specs.Committing.{CommittingRefines, Leads, OpensAt, StageRefin
 use Rattle.node_steps.specs.GroupSpan.{AreWorkOf, positions_of_lists}
 use Rattle.world.specs.Pair.{Does, FreeingRefines, IsCut, Pair, PairRefines, PartsRefine}
 use Rattle.world.specs.Effect.{ClearsOldest}
-use Rattle.primary.specs.Recalling.{Remembers}
-use Rattle.primary.proofs.RecallLemmas.{recalls-each, remembers-same}
-use Rattle.world.specs.Recalling.{past_of}
+use Rattle.world.proofs.RecallLemmas.{recalled-cleared, recalled-each, remembered-same}
+use Rattle.world.specs.Recalling.{RemembersFor, past_of}
 use Rattle.primary.specs.Standing.{notices_of}
 use Rattle.world.proofs.EngineLemmas.{Opens-engine}
 use Rattle.primary.proofs.FreedQueue.{Leads-cleared}
@@ -129,8 +128,8 @@ module _ {E : Type 0} (device : E → State) (contents : E → Contents) (is_fau
           } in
           let leads : Leads new.primary.contents waiting'.items after.aside.items pair.primary.sequencer new.primary.notices =
           rw (one.left, it.aside) (Leads-cleared from.primary.contents new.primary.contents pair.primary.sequencer pair.primary.notices places (rw (alone.no_work, alone.no_aside) at parts.leads) clears answer.2) in
-          let remembers : Remembers low p (past_of calls) new.primary.contents waiting'.items after.aside.items pair.primary.sequencer =
-          rw (one.left, it.aside) (remembers-same low p (past_of calls) from.primary.contents new.primary.contents [] [] pair.primary.sequencer clears.versions (rw (alone.no_work, alone.no_aside) at parts.remembers)) in
+          let remembers : RemembersFor low p (past_of calls) new.primary.contents waiting'.items after.aside.items pair.primary.sequencer =
+          rw (one.left, it.aside) (remembered-same low p (past_of calls) from.primary.contents new.primary.contents [] [] pair.primary.sequencer (ap (λ (r : Record). r.floor) clears.current) clears.versions (rw (alone.no_work, alone.no_aside) at parts.remembers)) in
           search (
             rules,
             parts,
@@ -210,7 +209,8 @@ module _ {E : Type 0} (device : E → State) (contents : E → Contents) (is_fau
                   | inl keeps ↦ left-running first second from w cut.ClearGap image stands.sound parts keeps
                   | inr keeps ↦ left-there first w cut.ClearGap (cleared_contents from.primary.contents) image stands.sound (contents-cleared first calls p from.primary.contents parts.engine.contents_at)
                       (lawful-cleared from.primary.contents below parts.engine.lawful)
-                      (recalls-each w.standby.position p (past_of calls) from.primary.contents waiting.items before.aside.items pair.primary.sequencer parts.remembers) keeps
+                      (recalled-cleared w.standby.position p (past_of calls) from.primary.contents
+                      (recalled-each w.standby.position p (past_of calls) from.primary.contents waiting.items before.aside.items pair.primary.sequencer parts.remembers)) keeps
                 ]) (clears.moments parts.engine.sound)
             | inr over ↦ left-still first second from w cut.ClearGap (device after.engine) stands.sound parts (ap device (clears.exhausted (clears.exhausts parts.engine.sound over)).1)
           ]

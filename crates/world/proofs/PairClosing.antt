@@ -22,6 +22,7 @@ use Rattle.primary.proofs.LeadsLemmas.{Leads-group, Leads-list}
 use Rattle.node_steps.proofs.ClosingLemmas.{AreWorkOf-push, IsGroupOf-handed, closes-group, closes-list, follow-handed, follow-listed, grouped, may-close, may-not-close, sequencer-handed, sequencer-listed}
 use Rattle.primary.proofs.KeptLemmas.{remembers-group, remembers-list}
 use Rattle.node_steps.proofs.RecallLemmas.{waits-along}
+use Rattle.world.proofs.RecallLemmas.{remembered-from}
 use Rattle.world.proofs.PairLemmas.{cut-same, goes-steps, none-added, stays-does, tells}
 
 -- what waits for the committer, and the sequencer
@@ -65,8 +66,9 @@ group-parts first second old waiting sequencer w chain parts closes =
       follow-handed w.primary.calls (seats_of old.clients.sessions.connections.items) s sequencer closes.group closes.hands parts.follow,
       group-committing first second old waiting sequencer w parts closes,
       Leads-group old.primary.contents old.primary.committing.waiting waiting old.primary.committing.aside s sequencer old.primary.notices parts.engine.contents_at.consistent parts.leads closes,
-      remembers-group w.standby.position w.primary.committer.position (past_of w.primary.calls) old.primary.contents old.primary.committing.waiting waiting old.primary.committing.aside s sequencer old.primary.notices
-          parts.engine.contents_at.at parts.engine.contents_at.consistent parts.leads closes (waits-along w.primary.calls w.primary.committer.closed s parts.sequencer) parts.remembers,
+      remembered-from w.standby.position w.primary.committer.position (past_of w.primary.calls) old.primary.contents waiting.items old.primary.committing.aside sequencer parts.remembers.floored
+          (remembers-group old.primary.contents.current.floor w.primary.committer.position (past_of w.primary.calls) old.primary.contents old.primary.committing.waiting waiting old.primary.committing.aside s sequencer
+          old.primary.notices parts.engine.contents_at.at parts.engine.contents_at.consistent parts.leads closes (waits-along w.primary.calls w.primary.committer.closed s parts.sequencer) parts.remembers.remembers),
     )
 
 -- ---- a free list
@@ -104,8 +106,9 @@ list-parts first second old waiting sequencer w parts closes =
       follow-listed w.primary.calls (seats_of old.clients.sessions.connections.items) s sequencer closes.list closes.hands parts.follow,
       list-committing first second old waiting sequencer w parts closes,
       Leads-list old.primary.contents old.primary.committing.waiting waiting old.primary.committing.aside s sequencer old.primary.notices parts.leads closes,
-      remembers-list w.standby.position w.primary.committer.position (past_of w.primary.calls) old.primary.contents old.primary.committing.waiting waiting old.primary.committing.aside s sequencer old.primary.notices
-          parts.engine.contents_at.at parts.engine.contents_at.consistent parts.leads closes parts.remembers,
+      remembered-from w.standby.position w.primary.committer.position (past_of w.primary.calls) old.primary.contents waiting.items old.primary.committing.aside sequencer parts.remembers.floored
+          (remembers-list old.primary.contents.current.floor w.primary.committer.position (past_of w.primary.calls) old.primary.contents old.primary.committing.waiting waiting old.primary.committing.aside s sequencer
+          old.primary.notices parts.engine.contents_at.at parts.engine.contents_at.consistent parts.leads closes parts.remembers.remembers),
     )
 
 -- ---- one of the two, or none

@@ -17,8 +17,7 @@ use Rattle.node_steps.specs.GroupSpan.{AreGroupsOf}
 use Rattle.world.specs.Cause.{Stretch, Breaks, RestsAtLimit, EndsBy, Resting}
 use Rattle.world.specs.Committing.{Committing, EngineStands, Leads, NearOnly, CommittingRefines, next_primary}
 use Rattle.world.specs.Link.{LinkRefines}
-use Rattle.primary.specs.Recalling.{Remembers}
-use Rattle.world.specs.Recalling.{past_of}
+use Rattle.world.specs.Recalling.{RemembersFor, past_of}
 use Rattle.connections.specs.Session.{SequencerRefines}
 use Rattle.world.specs.Pair.{Pair, PartsRefine, Steps, Does}
 use Rattle.world.proofs.RemainLemmas.{near-from, near-same}
@@ -75,9 +74,9 @@ shown-parts first second old committing w committer parts waiting aside committi
       subst (λ p. EngineStands first w.primary.calls p old.primary.device old.primary.contents old.primary.is_faulted) (sym position) parts.engine,
       subst (λ (waits : Waiting Work). Leads old.primary.contents waits.items committing.aside old.primary.sequencer old.primary.notices) (sym waiting)
           (subst (λ (lists : List FreeList). Leads old.primary.contents old.primary.committing.waiting.items lists old.primary.sequencer old.primary.notices) (sym aside) parts.leads),
-      subst (λ p. Remembers w.standby.position p (past_of w.primary.calls) old.primary.contents committing.waiting.items committing.aside old.primary.sequencer) (sym position)
-          (subst (λ (waits : Waiting Work). Remembers w.standby.position w.primary.committer.position (past_of w.primary.calls) old.primary.contents waits.items committing.aside old.primary.sequencer) (sym waiting)
-          (subst (λ (lists : List FreeList). Remembers w.standby.position w.primary.committer.position (past_of w.primary.calls) old.primary.contents old.primary.committing.waiting.items lists old.primary.sequencer) (sym aside) parts.remembers)),
+      subst (λ p. RemembersFor w.standby.position p (past_of w.primary.calls) old.primary.contents committing.waiting.items committing.aside old.primary.sequencer) (sym position)
+          (subst (λ (waits : Waiting Work). RemembersFor w.standby.position w.primary.committer.position (past_of w.primary.calls) old.primary.contents waits.items committing.aside old.primary.sequencer) (sym waiting)
+          (subst (λ (lists : List FreeList). RemembersFor w.standby.position w.primary.committer.position (past_of w.primary.calls) old.primary.contents old.primary.committing.waiting.items lists old.primary.sequencer) (sym aside) parts.remembers)),
     )
 
 pub raise-does : (old : Pair) (committing : Committing) (did : Bool)

@@ -27,19 +27,19 @@ use Rattle.machine.specs.Event.{Allowed, At, Connection, Step, World, crashed, i
 use Rattle.machine.specs.Sound.{IsFrameWithin, Sound}
 use Rattle.machine.proofs.GroupLemmas.{chain-le, frames_within-weaker}
 use Rattle.machine.proofs.SoundEvents.{sound-step}
-use Rattle.standby_stream.specs.Delta.{Recalls}
 use Rattle.primary.specs.Recalling.{RecallsEach}
 use Rattle.connections.specs.Session.{AddsOne, HasSeat, seats_of}
 use Rattle.world.specs.Committing.{AreContentsAt, IsDown}
 use Rattle.world.specs.Condition.{has_crashed}
 use Rattle.world.specs.Cutting.{CutsPrimary, LeavesCut, LeavesOf, OpensNear}
 use Rattle.world.specs.Pair.{AreLives, DownRefine, EitherRefines, HasWorld, NodesRefine, Pair, Lives, Clients, ClientsRefine, Serving}
-use Rattle.world.specs.Recalling.{past_of}
+use Rattle.world.specs.Recalling.{RecallsFor, past_of}
 use Rattle.world.specs.Step.{CutsOrStays, Leaves}
 use Rattle.world.specs.Stopping.{BreaksPrimary}
-use Rattle.world.proofs.CutLemmas.{AreFramesSent-cut, ArrivalsRefine-cut, IsDown-cut, keyspace_after-cut_at-cut}
+use Rattle.world.proofs.CutLemmas.{AreFramesSent-cut, ArrivalsRefine-cut, IsDown-cut}
 use Rattle.world.proofs.KeptLemmas.{CrashedIn, crash-leaves, leaves-cut, left-is}
 use Rattle.world.specs.Remaining.{LeftBy}
+use Rattle.world.proofs.RecallLemmas.{recalled-cut}
 use Rattle.world.proofs.LeftLemmas.{left-there}
 use Rattle.world.proofs.LivesLemmas.{crashed-as}
 use Rattle.world.proofs.OpenedLemmas.{StaysSo}
@@ -126,7 +126,7 @@ module _ (old : Pair) (call : Cut) (k : ℕ) (picks : Vec ℕ Global) (clients :
         none_told = refl;
         image = IsDown-cut first calls p p serving.device (omega arith) down;
         opened = refl;
-        recalls = λ q from below. subst (Recalls left-it.contents.versions (λ i. Unit {0}) q) (sym (keyspace_after-cut_at-cut calls p q (omega (arith, below)))) (left-it.recalls q from below);
+        recalls = recalled-cut w.standby.position p calls left-it.contents left-it.recalls;
         epoch = epoch;
         own = own-frames stands.parts;
         frames = AreFramesSent-cut old.wire.link.epoch calls p old.wire.frames w.wire.frames
@@ -190,7 +190,7 @@ module _ (old : Pair) (call : Cut) (k : ℕ) (picks : Vec ℕ Global) (kept last
 
 -- at any moment of the opening of its image a crash leaves an image with the same versions
 opening-left : (holder : Holder) (w : World) (device device' : State) → Sound w → (down : IsDown holder w.primary.calls w.primary.committer.position device)
-    → RecallsEach w.standby.position w.primary.committer.position (past_of w.primary.calls) down.contents → StaysSo device device' → LeavesOnly device device' (LeftBy holder w cut.Reopen)
+    → RecallsFor w.standby.position w.primary.committer.position (past_of w.primary.calls) down.contents → StaysSo device device' → LeavesOnly device device' (LeftBy holder w cut.Reopen)
 opening-left holder w device device' sound down recalls stays =
     let calls = w.primary.calls in
     let p = w.primary.committer.position in
@@ -217,7 +217,11 @@ opening-left holder w device device' sound down recalls stays =
       versions = λ i within. let own = subst (λ n. i < n) count within in it.versions i own ∙ down.keeps.versions i own;
       entries = it.undamaged.versions.entries;
     } in
-    left-there holder w cut.Reopen now image sound there (lawful_from c now it.undamaged.current.lawful it.layout refl (λ i. refl) down.lawful) recalls keeps)
+    left-there holder w cut.Reopen now image sound there (lawful_from c now it.undamaged.current.lawful it.layout refl (λ i. refl) down.lawful)
+    (record {
+      floored = subst (λ n. n ≤ w.standby.position) (sym it.floor) recalls.floored;
+      recalls = subst (λ n. RecallsEach n p (past_of calls) now) (sym it.floor) recalls.recalls;
+    }) keeps)
     (stays c.current (subst (λ n. IsUndamaged n c.current (image_of device.words)) down.sized (lawful_undamaged c (image_of device.words) down.lawful down.keeps)))
 
 opens-cut : {first second : Holder} {lives : Lives} {w : World} → AreLives first second lives w → may_cut w node.Primary cut.Reopen ≡ has_crashed lives.primary

@@ -31,10 +31,12 @@ use Rattle.world.specs.declared.condition.Condition.{Condition}
 use Rattle.world.specs.declared.condition.Condition.TheVariants.{Crashed}
 use Rattle.world.specs.Link.{AreAcksSent, AreFramesRead, AreFramesSent}
 use Rattle.world.specs.Pair.{AreLives, DownRefine, EitherRefines, HasStandby, NodesRefine, Pair, first_device, primary_number, second_device, Lives, ClientsRefine}
-use Rattle.world.specs.Remaining.{KeepsAs, KeepsAt, KeepsOne}
+use Rattle.world.specs.Remaining.{KeepsAs, KeepsAt, KeepsOne, KeepsPromoted}
 use Rattle.world.specs.Standby.{Arrived, ArrivalsRefine, Node, StandbyRefines}
 use Rattle.world.proofs.CutLemmas.{IsDown-cut}
-use Rattle.world.proofs.KeptLemmas.{kept-down}
+use Rattle.world.proofs.KeptLemmas.{kept-down, promoted-down}
+use Rattle.world.proofs.RecallLemmas.{recalled-none}
+use Rattle.world.specs.Recalling.{past_of}
 use Rattle.world.proofs.PairCrash.{with_crashed_standby}
 use Rattle.world.proofs.PairLemmas.{none-added, sessions-stand, standby-within}
 use Rattle.world.proofs.PairStandby.{arrivals-stand, frames-stand, link-epoch, standby-either}
@@ -68,12 +70,12 @@ pub record HasFallen (old : Pair) (call : Cut) (k : ℕ) (picks : Vec ℕ Global
 pub devices-are : (pair : Pair) → HasStandby pair → (first_device pair ≡ pair.primary.device) × (second_device pair ≡ pair.standby.device)
 devices-are pair whole = (ap (λ b. if b then pair.standby.device else pair.primary.device) whole, ap (λ b. if b then pair.primary.device else pair.standby.device) whole)
 
-one_at : (holder : Holder) (calls : List Call) (p : ℕ) (image : Image) (one : Remains) → KeepsAs holder calls p one image → (KeepsAt (promoted_holder holder) calls p image → ⊥) → (q : ℕ) × (one ≡ At q)
+one_at : (holder : Holder) (calls : List Call) (p : ℕ) (image : Image) (one : Remains) → KeepsAs holder calls p one image → (KeepsPromoted holder calls p image → ⊥) → (q : ℕ) × (one ≡ At q)
 one_at holder calls p image (At q) held never = (q, refl)
 one_at holder calls p image AsPrimary held never = absurd (never held)
 
 one_ahead : (holder : Holder) (calls : List Call) (p : ℕ) (image : Image) (one : Remains) → KeepsAs holder calls p one image → ((q : ℕ) → KeepsAt holder calls q image → ⊥)
-    → (one ≡ AsPrimary) × KeepsAt (promoted_holder holder) calls p image
+    → (one ≡ AsPrimary) × KeepsPromoted holder calls p image
 one_ahead holder calls p image (At q) held never = absurd (never q held)
 one_ahead holder calls p image AsPrimary held never = (refl, held)
 
@@ -195,7 +197,7 @@ comes-forward old node' call k picks new found r fallen finds is_found own comes
 
     -- in each world it is that of the primary
     ahead : (first second : Holder) (w : World) → (stands : NodesRefine first second old w)
-        → ((fallen.falls first second w stands).held.one ≡ AsPrimary) × KeepsAt (promoted_holder second) w.primary.calls w.standby.position (image_of node'.device.words)
+        → ((fallen.falls first second w stands).held.one ≡ AsPrimary) × KeepsPromoted second w.primary.calls w.standby.position (image_of node'.device.words)
     ahead first second w stands =
         let it = fallen.falls first second w stands in
         one_ahead second w.primary.calls w.standby.position (image_of node'.device.words) it.held.one it.held.keeps
@@ -211,10 +213,13 @@ comes-forward old node' call k picks new found r fallen finds is_found own comes
         let lives = stands.lives in
         let sound = stands.sound in
         let it = fallen.falls first second w stands in
-        let held = (ahead first second w stands).1 in
+        let ahead_held = (ahead first second w stands).1 in
+        let held = ahead_held.kept in
         let told_as = same_found found r held.contents.current is_found (finds-kept (promoted_holder second) calls p found node'.device finds it.lines_are held) in
-        let image : IsDown (promoted_holder second) calls p new.primary.device =
-        subst (IsDown (promoted_holder second) calls p) (sym comes.taken) (kept-down (promoted_holder second) calls p node'.device held fallen.settled it.lines_are) in
+        let fell : (down : IsDown (promoted_holder second) calls p new.primary.device) × (down.contents.current.floor ≡ p) =
+        subst (λ (d : State). (down : IsDown (promoted_holder second) calls p d) × (down.contents.current.floor ≡ p)) (sym comes.taken)
+        (promoted-down second calls p node'.device ahead_held fallen.settled it.lines_are) in
+        let image = fell.0 in
         let here : r.position ≡ p = ap (λ (one : Record). one.position) told_as ∙ held.contents_at.at in
         let epoch : second.epoch + 1 ≡ w.standby.epoch + 1 = ap (λ n. n + 1) (lives.second_epoch ∙ sym sound.standby.epoch_is) in
         let ours : new.wire.link.epoch ≡ w.standby.epoch + 1 = comes.epoch_is ∙ ap (λ (one : Record). one.epoch) told_as ∙ held.contents_at.epoch_is ∙ epoch in
@@ -231,7 +236,7 @@ comes-forward old node' call k picks new found r fallen finds is_found own comes
           none_told = refl;
           image = IsDown-cut (promoted_holder second) calls p p new.primary.device (omega arith) image;
           opened = refl;
-          recalls = λ q from below. absurd (omega (arith, from, below));
+          recalls = recalled-none p p (past_of (cut_at calls p)) image.contents (omega (arith, fell.1)) (omega (arith, fell.1));
           epoch = ours;
           frames = frames-earlier old.wire.link.epoch new.wire.link.epoch sound.sent calls (cut_at calls p) new.wire.frames w.wire.frames less
               (subst (λ e. All (IsFrameWithin e sound.sent) w.wire.frames) (sym (link-epoch stands.parts)) sound.wire.frames)
@@ -297,7 +302,7 @@ pub goes-by-image : (old : Pair) (node' : Node) (call : Cut) (k : ℕ) (picks : 
 goes-by-image old node' call k picks new fallen goes = by goes.found refl
   where
     behind : FallsBehind (record old { standby = node' }) new
-        → ((first second : Holder) (w : World) → NodesRefine first second old w → KeepsAt (promoted_holder second) w.primary.calls w.standby.position (image_of node'.device.words) → ⊥)
+        → ((first second : Holder) (w : World) → NodesRefine first second old w → KeepsPromoted second w.primary.calls w.standby.position (image_of node'.device.words) → ⊥)
         → Cuts old (events.Crash node.Standby call k picks) (Ok true) new
     behind falls never =
         subst (λ (pair : Pair). Cuts old (events.Crash node.Standby call k picks) (Ok true) pair) (sym falls.falls)
@@ -312,12 +317,12 @@ goes-by-image old node' call k picks new fallen goes = by goes.found refl
         finds-kept (promoted_holder second) w.primary.calls w.standby.position goes.found node'.device goes.finds (fallen.falls first second w stands).lines_are held
 
     by : (found : Option Record) → goes.found ≡ found → Cuts old (events.Crash node.Standby call k picks) (Ok true) new
-    by None is = behind (goes.none is) (λ first second w stands held. none_found goes.found held.contents.current is (finds first second w stands held))
+    by None is = behind (goes.none is) (λ first second w stands held. none_found goes.found held.kept.contents.current is (finds first second w stands held.kept))
     by (Some r) is = elim (which r.role) [
       | inl own ↦ comes-forward old node' call k picks new goes.found r fallen goes.finds is own (goes.serving r is own)
       | inr other ↦
           behind (goes.following r is other)
           (λ first second w stands held.
-          let told_as = same_found goes.found r held.contents.current is (finds first second w stands held) in
-          other (ap (λ (one : Record). one.role) told_as ∙ held.contents_at.role_is))
+          let told_as = same_found goes.found r held.kept.contents.current is (finds first second w stands held.kept) in
+          other (ap (λ (one : Record). one.role) told_as ∙ held.kept.contents_at.role_is))
     ]

@@ -1,20 +1,25 @@
 -- What freeing a list does to the pair, of what it does to its parts.
-use Rattle.std.proofs.Common.{rules, ◌≡◌, ◌⊎◌, ◌<◌, ◌≤◌, inl, inr, Bool, true, false, cond, List, ◌∷◌, ◌++◌, length, drop, Result, Ok, Err, refl, sym, ap, subst, ◌∙◌, arith, length-append, true≢false, []}
+use Rattle.std.proofs.Common.{rules, ◌≡◌, ◌⊎◌, ◌-◌, ◌<◌, ◌≤◌, ℕ, inl, inr, Bool, true, false, cond, List, ◌∷◌, ◌++◌, length, drop, Result, Ok, Err, refl, sym, ap, subst, ◌∙◌, arith, length-append, true≢false, []}
 use Rattle.kv_types.specs.declared.refusal.Refusal.{Refusal}
-use Rattle.kv_types.specs.declared.refusal.Refusal.TheVariants.{Memory, Fault}
+use Rattle.kv_types.specs.declared.refusal.Refusal.TheVariants.{Memory, Exhausted, Fault}
+use Rattle.std.proofs.Math.Nat.{le-max_left, le-max_right}
+use Rattle.pmem.specs.Crash.{IsImage}
 use Rattle.pmem.specs.Device.{State}
 use Rattle.pmem.specs.Runs.{LeavesOnly}
-use Rattle.pmem.proofs.Leaving.{LeavesOnly-weaken}
+use Rattle.pmem.proofs.Leaving.{LeavesOnly-weaken, none_leaves}
 use Rattle.model.specs.declared.call.Call.{Call}
 use Rattle.model.specs.declared.group.Group.{Group}
 use Rattle.model.specs.declared.record.Record.{Record}
 use Rattle.model.specs.declared.work.FreeList.{FreeList}
 use Rattle.model.specs.declared.work.Work.{Work}
+use Rattle.model.specs.Floor.{floor_raised}
 use Rattle.model.specs.Group.{AreEnded, Contents, after_free, without}
 use Rattle.model.specs.Image.{Image}
 use Rattle.model.specs.Standing.{Holder}
 use Rattle.wbl_engine.specs.declared.freeing.Freed.{Freed}
-use Rattle.wbl_engine.specs.Freeing.{KeepsWithoutSome}
+use Rattle.model.proofs.RecordLemmas.{HasRecord-lines}
+use Rattle.wbl_engine.specs.Freeing.{KeepsFreed, KeepsWithoutSome}
+use Rattle.wbl_engine.specs.Raising.{ExhaustsRaising}
 use Rattle.wbl_engine.proofs.WithoutLemmas.{AllEnded, lawful_without}
 use Rattle.pipes.specs.Waiting.{Waiting}
 use Rattle.group_commit.specs.Due.{due_now, left_by}
@@ -31,7 +36,7 @@ use Rattle.machine.specs.declared.event.Event.{Event}
 use Rattle.machine.specs.declared.event.Event.TheVariants as events
 use Rattle.machine.specs.Event.{Work as MachineWork, World, has_room, may_happen, reached_lists}
 use Rattle.machine.specs.Event as machine
-use Rattle.world.specs.Cause.{Breaks, EndsBy, Resting, asks_memory}
+use Rattle.world.specs.Cause.{Breaks, EndsBy, IsAtLimit, Resting, RestsAtLimit, asks_memory}
 use Rattle.world.specs.Committing.{CommittingRefines, Leads, OpensAt, OpensAtEither, StageRefines, link_has_room, next_primary, reached_now}
 use Rattle.node_steps.specs.GroupSpan.{AreWorkOf, positions_of_lists}
 use Rattle.world.specs.Pair.{Does, FreeingRefines, IsCut, Pair, PairRefines, PartsRefine}
@@ -40,19 +45,22 @@ use Rattle.primary.specs.Recalling.{Remembers}
 use Rattle.primary.proofs.KeptTurns.{remembers-reached}
 use Rattle.primary.proofs.RecallLemmas.{recalls-without, remembers-freed}
 use Rattle.primary.proofs.RecallParts.{recalls-more}
-use Rattle.world.specs.Recalling.{past_of}
+use Rattle.world.specs.Recalling.{RemembersFor, past_of}
 use Rattle.primary.specs.Leading.{AreLaid}
 use Rattle.primary.specs.Standing.{notices_of}
 use Rattle.primary.proofs.AheadLemmas.{laid-engine}
+use Rattle.primary.proofs.NumberedLemmas.{consistent_renumbered, laid_renumbered, lawful_raised, leads_renumbered}
 use Rattle.primary.proofs.FreedQueue.{Leads-freed}
 use Rattle.primary.proofs.TurnedLemmas.{Leads-reached}
 use Rattle.world.proofs.LivesLemmas.{enabled-is, is_own, nodes-refine, own-runs}
-use Rattle.world.proofs.PairLemmas.{Led, cut-for, cut-same, none-added, rests-standby, stays-does, tells}
+use Rattle.world.proofs.EngineLemmas.{Opens-engine}
+use Rattle.world.proofs.PairLemmas.{Led, cut-for, cut-same, none-added, rests-running, rests-standby, stays-does, tells}
 use Rattle.world.proofs.QueueLemmas.{free-disabled, free-enabled, reached-positions, room-link}
 use Rattle.world.proofs.PairTurns.{Took, Waiting-same, pair_of, pair_with}
-use Rattle.world.proofs.FreeingLemmas.{contents-without, engine-freed, freed-moments, primary-steps}
+use Rattle.world.proofs.FreeingLemmas.{contents-raised, contents-without, engine-freed, freed-moments, primary-steps, raising-limit}
 use Rattle.world.specs.Remaining.{LeftBy}
-use Rattle.world.proofs.LeftLemmas.{left-still, left-there}
+use Rattle.world.proofs.LeftLemmas.{left-running, left-still, left-there}
+use Rattle.world.proofs.RecallLemmas.{remembered-from, remembers-raised, remembers-renumbered}
 
 -- ---- what a turn reaches
 
@@ -124,6 +132,10 @@ module _ {E : Type 0} (device : E → State) (contents : E → Contents) (is_fau
     abbrev old : Pair
     old = freed_of before waiting handed
 
+    -- the contents under a record whose floor is the list's position, or higher
+    abbrev raised : FreeList → Contents
+    raised list = floor_raised list.position old.primary.contents
+
     free_may : (first second : Holder) (w : World) → PairRefines first second old w → may_happen w events.Free ≡ true
     free_may first second w stands =
         free-enabled w old.primary.committing handed.items stands.parts.committing stands.parts.link.waiting pair.wire.remote (length (contents before.engine).current.gaps.items) stands.parts.link.remote_is is
@@ -148,34 +160,61 @@ module _ {E : Type 0} (device : E → State) (contents : E → Contents) (is_fau
       ended-then result frees first second w parts =
           AreEnded-first old.primary.contents frees.list.entries.items (entries_of_lists frees.rest) (leads-then result frees first second w parts).aside_ended
 
-      -- the standby has passed it
-      passed-then : (result : Result Done Refusal) (frees : Frees after waiting' result) (first second : Holder) (w : World) → PairRefines first second old w → frees.list.position ≤ w.standby.position
-      passed-then result frees first second w stands =
-          let due = frees.passed in
-          omega (arith, due, stands.parts.link.remote_is, stands.sound.link.remote, stands.sound.standby.known)
+      -- the standby stands no lower than the floor then
+      floored-then : (result : Result Done Refusal) (frees : Frees after waiting' result) (first second : Holder) (w : World) → PairRefines first second old w → (raised frees.list).current.floor ≤ w.standby.position
+      floored-then result frees first second w stands =
+          omega (arith, frees.passed, stands.parts.remembers.floored, stands.parts.link.remote_is, stands.sound.link.remote, stands.sound.standby.known)
+
+      -- the list is one of what ended no higher
+      passed-then : (result : Result Done Refusal) (frees : Frees after waiting' result) → frees.list.position ≤ (raised frees.list).current.floor
+      passed-then result frees = le-max_right old.primary.contents.current.floor frees.list.position
+
+      -- what is remembered from there on, once the lists are reached
+      remembers-then : (result : Result Done Refusal) (frees : Frees after waiting' result) (first second : Holder) (w : World) → PartsRefine first second old w
+          → Remembers (raised frees.list).current.floor w.primary.committer.position (past_of w.primary.calls) old.primary.contents waiting'.items (frees.list ∷ frees.rest) pair.primary.sequencer
+      remembers-then result frees first second w parts =
+          let p = w.primary.committer.position in
+          let past = past_of w.primary.calls in
+          let c = old.primary.contents in
+          let low = c.current.floor in
+          remembers-raised low (raised frees.list).current.floor p past c waiting'.items (frees.list ∷ frees.rest) pair.primary.sequencer (le-max_left low frees.list.position)
+          (rw frees.left
+          (subst (λ (xs : List FreeList). Remembers low p past c (left_by (link_has_room handed.items) waiting.items) xs pair.primary.sequencer) frees.reached
+          (remembers-reached (link_has_room handed.items) low p past c waiting.items before.aside.items pair.primary.sequencer may.none parts.remembers.remembers)))
 
       moments-then : (result : Result Done Refusal) (frees : Frees after waiting' result) (first second : Holder) (w : World) → PartsRefine first second old w
           → LeavesOnly (device before.engine) (device after.engine) (OpensAt first w.primary.calls w.primary.committer.position)
       moments-then result frees first second w parts =
-          freed-moments first w.primary.calls w.primary.committer.position (device before.engine) (device after.engine) old.primary.contents frees.list.entries.items
-          (ended-then result frees first second w parts) parts.engine.contents_at parts.engine.lawful (frees.frees.moments parts.engine.sound)
+          let calls = w.primary.calls in
+          let p = w.primary.committer.position in
+          elim (raising-limit frees.list.position old.primary.contents.current) [
+            | inl full ↦ subst (λ (e : E). LeavesOnly (device before.engine) (device e) (OpensAt first calls p))
+                (sym (frees.frees.exhausted (frees.frees.exhausts parts.engine.sound full)).1)
+                (none_leaves (device before.engine) (OpensAt first calls p) (Opens-engine first calls p (device before.engine) old.primary.contents (is_faulted before.engine) parts.engine))
+            | inr fits ↦ freed-moments first calls p frees.list.position (device before.engine) (device after.engine) old.primary.contents frees.list.entries.items
+                (ended-then result frees first second w parts) parts.engine.contents_at parts.engine.lawful fits (frees.frees.moments parts.engine.sound)
+          ]
 
       free-parts : (ok : Done) (frees : Frees after waiting' (Ok ok)) (first second : Holder) (w : World) → PairRefines first second old w
           → PartsRefine first second (freed_with after waiting' (pair.primary.notices ++ frees.frees.answer.0 ∷ []) handed) (machine.freed w)
       free-parts ok frees first second w stands =
           let parts = stands.parts in
           let calls = w.primary.calls in
-          let low = w.standby.position in
           let p = w.primary.committer.position in
           let it = frees.frees in
           let entries = frees.list.entries.items in
           let answer = it.answer in
           let places = answer.0 in
-          let consistent = parts.engine.contents_at.consistent in
-          let laid : AreLaid old.primary.contents = laid-engine old.primary.device old.primary.contents consistent parts.engine.lawful parts.engine.durable in
+          let c = old.primary.contents in
+          let made = raised frees.list in
+          let number = made.current.number in
+          let floor = made.current.floor in
+          let consistent = consistent_renumbered number floor c parts.engine.contents_at.consistent in
+          let laid : AreLaid made = laid_renumbered number floor c (laid-engine old.primary.device c parts.engine.contents_at.consistent parts.engine.lawful parts.engine.durable) in
           let ended = ended-then (Ok ok) frees first second w parts in
           let new = freed_with after waiting' (pair.primary.notices ++ places ∷ []) handed in
-          let moved = Same-is (after_free entries old.primary.contents) (contents after.engine) it.moved in
+          let moved = Same-is (after_free entries made) (contents after.engine) it.moved in
+          let fits : ¬ ExhaustsRaising frees.list.position c.current = λ full. let no = it.exhausts parts.engine.sound full in cc in
           let reached_is : positions_of_lists (frees.list ∷ frees.rest) ≡ reached_lists w =
           ap positions_of_lists (sym frees.reached) ∙ reached-positions w old.primary.committing handed.items parts.committing parts.link.waiting in
           let many = parts.freeing.notices_are in
@@ -197,19 +236,19 @@ module _ {E : Type 0} (device : E → State) (contents : E → Contents) (is_fau
           } in
           let leads : Leads new.primary.contents waiting'.items after.aside.items pair.primary.sequencer new.primary.notices =
           rw (moved, it.aside)
-          (Leads-freed old.primary.contents waiting'.items frees.list frees.rest pair.primary.sequencer pair.primary.notices places consistent laid (leads-then (Ok ok) frees first second w parts) answer.2 answer.3) in
-          let remembers : Remembers low p (past_of calls) new.primary.contents waiting'.items after.aside.items pair.primary.sequencer =
+          (Leads-freed made waiting'.items frees.list frees.rest pair.primary.sequencer pair.primary.notices places consistent laid
+          (leads_renumbered number floor c waiting'.items (frees.list ∷ frees.rest) pair.primary.sequencer pair.primary.notices (leads-then (Ok ok) frees first second w parts)) answer.2 answer.3) in
+          let remembers : RemembersFor w.standby.position p (past_of calls) new.primary.contents waiting'.items after.aside.items pair.primary.sequencer =
           rw (moved, it.aside)
-          (remembers-freed low p (past_of calls) old.primary.contents waiting'.items frees.list frees.rest pair.primary.sequencer (passed-then (Ok ok) frees first second w stands) ended
-          (rw frees.left
-          (subst (λ (xs : List FreeList). Remembers low p (past_of calls) old.primary.contents (left_by (link_has_room handed.items) waiting.items) xs pair.primary.sequencer) frees.reached
-          (remembers-reached (link_has_room handed.items) low p (past_of calls) old.primary.contents waiting.items before.aside.items pair.primary.sequencer may.none parts.remembers)))) in
+          (remembered-from w.standby.position p (past_of calls) (after_free entries made) waiting'.items frees.rest pair.primary.sequencer (floored-then (Ok ok) frees first second w stands)
+          (remembers-renumbered floor number p (past_of calls) (after_free entries c) waiting'.items frees.rest pair.primary.sequencer
+          (remembers-freed floor p (past_of calls) c waiting'.items frees.list frees.rest pair.primary.sequencer (passed-then (Ok ok) frees) ended (remembers-then (Ok ok) frees first second w parts)))) in
           search (
             rules,
             parts,
             committing,
-            engine-freed first calls p (device before.engine) (device after.engine) old.primary.contents (contents after.engine) (is_faulted before.engine) (is_faulted after.engine) entries
-                ended it.moved it.durable it.sound.0 parts.engine,
+            engine-freed first calls p frees.list.position (device before.engine) (device after.engine) c (contents after.engine) (is_faulted before.engine) (is_faulted after.engine) entries
+                ended it.moved fits it.durable it.sound.0 parts.engine,
             leads,
             freeing,
             remembers,
@@ -230,8 +269,25 @@ module _ {E : Type 0} (device : E → State) (contents : E → Contents) (is_fau
       broke-does refusal frees = elim frees.frees.causes [
         | inl fault ↦ fault-does events.Free refl before after waiting waiting' handed refusal fault (λ first second w old' new leads. leads) (frees.frees.fault (ap Err fault)) free_may
             (moments-then (Err refusal) frees)
-        | inr memory ↦ refused-does events.Free refl refl before after waiting waiting' pair.primary.notices handed handed refusal memory (frees.frees.memory (ap Err memory)) free_may
+        | inr (inl limit) ↦ record { steps = tt; cut = λ first second w stands. ends first second w stands limit; calls = none-added _ _ refl }
+        | inr (inr memory) ↦ refused-does events.Free refl refl before after waiting waiting' pair.primary.notices handed handed refusal memory (frees.frees.memory (ap Err memory)) free_may
       ]
+        where
+          new : Pair
+          new = freed_of after waiting' handed
+
+          ends : (first second : Holder) (w : World) → PairRefines first second old w → refusal ≡ Exhausted → IsCut first second events.Free refusal old new w
+          ends first second w stands limit =
+              let told = frees.frees.exhausted (ap Err limit) in
+              let same : new.primary.device ≡ old.primary.device = ap device told.1 in
+              let at : (image : Image) → IsImage old.primary.device.words image → IsAtLimit first.lines (next_primary w - w.primary.committer.position) (next_primary w - w.primary.committer.position) image =
+              λ image is. record { current = old.primary.contents.current; has_record = HasRecord-lines stands.parts.engine.contents_at.lines_are (stands.parts.engine.durable image is).has_record; reached = inr (inr told.0.1) } in
+              cut-for first second events.Free refusal old new w (nodes-refine stands) (tells pair.clients.transcript) refl (enabled-is (own-runs stands events.Free refl) ∙ free_may first second w stands)
+              (subst (λ (r : Refusal). EndsBy r events.Free (Led first second old new w)) (sym limit) (
+                inl (subst (λ (d : State). RestsAtLimit first w.primary.calls w.primary.committer.position (next_primary w) old.primary.device d) (sym same)
+                    (record { rests = rests-running first second old w stands.parts; limit = at })),
+                rests-standby first second old w (nodes-refine stands),
+              ))
 
       -- it did so, and tells of that
       pub free-done : (handed' : Waiting Group) (answer : Done) → Took device contents is_faulted due.Free (link_has_room handed.items) pair.wire.remote before waiting handed (Ok answer) after waiting' handed'
@@ -261,27 +317,37 @@ module _ {E : Type 0} (device : E → State) (contents : E → Contents) (is_fau
           → (first second : Holder) (w : World) → PairRefines first second old w → LeavesOnly (device before.engine) (device after.engine) (LeftBy first w cut.Free)
       free-left handed' result (offered, came) first second w stands =
           elim came [
-            | inl frees ↦ LeavesOnly-weaken (LeftBy first w cut.Free) (some frees) (frees.frees.moments stands.parts.engine.sound)
+            | inl frees ↦ elim (raising-limit frees.list.position old.primary.contents.current) [
+              | inl full ↦ left-still first second old w cut.Free (device after.engine) stands.sound stands.parts
+                  (ap device (frees.frees.exhausted (frees.frees.exhausts stands.parts.engine.sound full)).1)
+              | inr fits ↦ LeavesOnly-weaken (LeftBy first w cut.Free) (either frees fits) (frees.frees.moments stands.parts.engine.sound)
+            ]
             | inr lacks ↦ left-still first second old w cut.Free (device after.engine) stands.sound stands.parts (ap device lacks.engine)
           ]
         where
-          some : (frees : Frees after waiting' result) (image : Image) → KeepsWithoutSome frees.list.entries.items old.primary.contents image → LeftBy first w cut.Free image
-          some frees image (gone, listed, held) =
+          some : (frees : Frees after waiting' result) → ¬ ExhaustsRaising frees.list.position old.primary.contents.current → (image : Image) → KeepsWithoutSome frees.list.entries.items (raised frees.list) image → LeftBy first w cut.Free image
+          some frees fits image (gone, listed, held) =
               let parts = stands.parts in
               let calls = w.primary.calls in
-              let low = w.standby.position in
+              let c = old.primary.contents in
+              let made = raised frees.list in
+              let floor = made.current.floor in
               let p = w.primary.committer.position in
               let ended = ended-then result frees first second w parts in
-              let all : AllEnded gone old.primary.contents.versions = λ i is. AllEnded-listed old.primary.contents frees.list.entries.items ended i (listed i is) in
-              let remembers : Remembers low p (past_of calls) old.primary.contents waiting'.items (frees.list ∷ frees.rest) pair.primary.sequencer =
-              rw frees.left
-              (subst (λ (xs : List FreeList). Remembers low p (past_of calls) old.primary.contents (left_by (link_has_room handed.items) waiting.items) xs pair.primary.sequencer) frees.reached
-              (remembers-reached (link_has_room handed.items) low p (past_of calls) old.primary.contents waiting.items before.aside.items pair.primary.sequencer may.none parts.remembers)) in
-              left-there first w cut.Free (without gone old.primary.contents) image stands.sound (contents-without first calls p old.primary.contents gone all parts.engine.contents_at)
-              (lawful_without old.primary.contents gone all parts.engine.lawful)
-              (λ q from below.
-              recalls-more (without gone old.primary.contents).versions _ (λ i. Unit {0}) q (past_of calls q) (λ i held. tt)
-              (recalls-without low p (past_of calls) old.primary.contents waiting'.items frees.list frees.rest pair.primary.sequencer (passed-then result frees first second w stands) ended remembers gone listed q from below)) held
+              let all : AllEnded gone made.versions = λ i is. AllEnded-listed c frees.list.entries.items ended i (listed i is) in
+              let remembers = remembers-then result frees first second w parts in
+              left-there first w cut.Free (without gone made) image stands.sound (contents-without first calls p made gone all (contents-raised first calls p frees.list.position c parts.engine.contents_at))
+              (lawful_without made gone all (lawful_raised frees.list.position c parts.engine.lawful fits))
+              (record {
+                floored = floored-then result frees first second w stands;
+                recalls = λ q from below.
+                    recalls-more (without gone c).versions _ (λ i. Unit {0}) q (past_of calls q) (λ i held. tt)
+                    (recalls-without floor p (past_of calls) c waiting'.items frees.list frees.rest pair.primary.sequencer (passed-then result frees) ended remembers gone listed q from below);
+              }) held
+
+          either : (frees : Frees after waiting' result) → ¬ ExhaustsRaising frees.list.position old.primary.contents.current → (image : Image) → KeepsFreed frees.list.entries.items old.primary.contents (raised frees.list) image → LeftBy first w cut.Free image
+          either frees fits image (inl was) = left-running first second old w cut.Free image stands.sound stands.parts was
+          either frees fits image (inr left) = some frees fits image left
 
   -- room for the notice was refused
   pub free-roomless : (before : Committer E) (waiting : Waiting Work) (notices' : List Freed) (handed : Waiting Group) (refusal : Refusal) → refusal ≡ Memory

@@ -33,7 +33,7 @@ use Rattle.connections.proofs.SessionLemmas.{length-released, released-told}
 use Rattle.connections.proofs.SeatLemmas.{follow-kept}
 use Rattle.connections.proofs.SequencerLemmas.{still-same}
 use Rattle.node_steps.proofs.StillLemmas.{freeing-still, leads-still}
-use Rattle.primary.proofs.RecallLemmas.{remembers-on}
+use Rattle.world.proofs.RecallLemmas.{remembered-from, remembered-on}
 use Rattle.world.specs.Recalling.{past_of}
 use Rattle.node_steps.proofs.RecallLemmas.{remembers-still}
 use Rattle.world.proofs.OpeningLemmas.{opening-still}
@@ -239,7 +239,7 @@ seats-parts first second old clients sequencer connections w parts stand sequenc
       rules,
       leads-still old.primary.contents old.primary.committing.waiting.items old.primary.committing.aside old.primary.sequencer sequencer old.primary.notices still parts.leads,
       freeing-still old.primary.sequencer sequencer old.primary.notices old.primary.contents w.primary (with_connections connections w).primary still refl refl refl refl parts.freeing,
-      remembers-on w.standby.position w.standby.position w.primary.committer.position (past_of w.primary.calls) old.primary.contents old.primary.committing.waiting.items old.primary.committing.aside old.primary.sequencer sequencer (le_refl w.standby.position) still.ended still.newest parts.remembers,
+      remembered-on w.standby.position w.standby.position w.primary.committer.position (past_of w.primary.calls) old.primary.contents old.primary.committing.waiting.items old.primary.committing.aside old.primary.sequencer sequencer (le_refl w.standby.position) still.ended still.newest parts.remembers,
     )
 
 sessions-parts : (first second : Holder) (old : Pair) (clients : Clients) (connections : List Connection) (w : World) → PartsRefine first second old w
@@ -364,8 +364,9 @@ called-parts first second old clients sequencer w c call stands sessions_stand s
       engine = EngineStands-grows first w.primary.calls (call ∷ []) w.primary.committer.position old.primary.device old.primary.contents old.primary.is_faulted (primary-within w stands.sound) parts.engine;
       leads = leads-still old.primary.contents old.primary.committing.waiting.items old.primary.committing.aside old.primary.sequencer sequencer old.primary.notices still parts.leads;
       freeing = freeing-still old.primary.sequencer sequencer old.primary.notices old.primary.contents w.primary (called c call w).primary still refl refl refl refl parts.freeing;
-      remembers = remembers-still w.standby.position w.primary.committer.position w.primary.committer.closed w.primary.calls (call ∷ []) old.primary.contents old.primary.committing.waiting.items old.primary.committing.aside old.primary.sequencer sequencer
-          old.primary.notices parts.engine.contents_at.at parts.sequencer parts.leads still.ended still.newest parts.remembers;
+      remembers = remembered-from w.standby.position w.primary.committer.position (past_of (w.primary.calls ++ call ∷ [])) old.primary.contents old.primary.committing.waiting.items old.primary.committing.aside sequencer parts.remembers.floored
+          (remembers-still old.primary.contents.current.floor w.primary.committer.position w.primary.committer.closed w.primary.calls (call ∷ []) old.primary.contents old.primary.committing.waiting.items old.primary.committing.aside old.primary.sequencer sequencer
+          old.primary.notices parts.engine.contents_at.at parts.sequencer parts.leads still.ended still.newest parts.remembers.remembers);
       opening = opening-still w.standby.position w.standby.position w.primary.opened w.primary.calls (call ∷ []) old.wire.opening (le_refl w.standby.position) parts.opening;
       epoch = parts.epoch;
       link = LinkRefines-grows w.primary.calls (call ∷ []) old.wire.link old.primary.handed old.wire.remote w.primary.link parts.link;

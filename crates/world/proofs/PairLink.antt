@@ -237,17 +237,18 @@ with_learned link opening pair = record pair { wire = record pair.wire { link = 
 
 -- what `Notes` says of the two parts: the frames up to the position go, and what is told of the opening goes once its position is known
 abbrev pub Learns : ℕ → Pair → Stream → Opening → Type 0
-Learns position old link opening = (link ≡ acknowledged position old.wire.link) × (opening.position ≡ old.wire.opening.position) × (link.known < old.wire.opening.position → opening ≡ old.wire.opening)
+Learns position old link opening = (link ≡ acknowledged position old.wire.link) × (opening.position ≡ old.wire.opening.position) × (opening.floor ≡ old.wire.opening.floor)
+    × (link.known < old.wire.opening.position → opening ≡ old.wire.opening)
 
 -- what a standby is told that is behind is as it was, or the standby is not
-opening-parts : (first second : Holder) (old : Pair) (known : ℕ) (opening : Opening) (w : World) → known ≤ w.standby.position → opening.position ≡ old.wire.opening.position
+opening-parts : (first second : Holder) (old : Pair) (known : ℕ) (opening : Opening) (w : World) → known ≤ w.standby.position → opening.position ≡ old.wire.opening.position → opening.floor ≡ old.wire.opening.floor
     → (known < old.wire.opening.position → opening ≡ old.wire.opening) → PartsRefine first second old w → PartsRefine first second (with_opening opening old) w
-opening-parts first second old known opening w behind same kept parts =
+opening-parts first second old known opening w behind same floor kept parts =
     let told : OpeningLeads w.standby.position w.primary.opened w.primary.calls opening =
     elim (cases_lt known old.wire.opening.position) [
       | inl below ↦ subst (OpeningLeads w.standby.position w.primary.opened w.primary.calls) (sym (kept below)) parts.opening
-      | inr passed ↦ opening-forgotten w.standby.position w.primary.opened w.primary.calls old.wire.opening opening same
-          (let at = parts.opening.delta.position_is in omega (arith, passed, at, behind)) parts.opening
+      | inr passed ↦ opening-forgotten w.standby.position w.primary.opened w.primary.calls old.wire.opening opening same floor
+          (let at = parts.opening.opened_at in omega (arith, passed, at, behind)) parts.opening
     ] in
     search (rules, told)
 
@@ -308,7 +309,7 @@ ack-does old n bytes ack link opening within found reads learns refuses =
         (knows w.primary.calls old.wire.link old.primary.handed old.wire.remote ack.position w.primary.link chain.kept_from stands.sound.sent parts.link chain.kept)) in
         let highest : link.known ≡ max old.wire.link.known ack.position = ap (λ (s : Stream). s.known) learned.0 in
         let behind : link.known ≤ w.standby.position = omega (arith, highest, below, stands.sound.standby.known, parts.link.known) in
-        let tells : PartsRefine first second (with_opening opening old) w = opening-parts first second old link.known opening w behind learned.1 learned.2 parts in
+        let tells : PartsRefine first second (with_opening opening old) w = opening-parts first second old link.known opening w behind learned.1 learned.2 learned.3 parts in
         goes-steps first second w (with_link machine w) (events.AckDelivered n) true old (with_learned link opening old) refl refl (nodes-refine stands) (own-runs stands (events.AckDelivered n) refl) stands.serves refl refl
         (record {
           done = done w there;

@@ -36,13 +36,15 @@ use Rattle.world.specs.Pair.{Acts, AreLives, DownRefine, EitherRefines, HasStand
 use Rattle.world.specs.Standby.{Arrived, Node}
 use Rattle.world.proofs.CutLemmas.{IsDown-cut}
 use Rattle.world.proofs.KeptLemmas.{KeepsAsEither}
+use Rattle.world.proofs.RecallLemmas.{recalled-none}
+use Rattle.world.specs.Recalling.{past_of}
 use Rattle.world.proofs.LivesLemmas.{not-over, retired-as, running-as}
 use Rattle.world.proofs.OpenedLemmas.{IsNotOpened, IsOpened, opened-stands}
 use Rattle.world.proofs.PairFallen.{devices-are}
 use Rattle.world.proofs.PairLemmas.{none-added, sessions-stand, standby-within}
 use Rattle.world.proofs.PairReopen.{Begins, primary-reopens, with_opened_primary}
 use Rattle.world.proofs.PairStandby.{arrivals-stand, follower, frames-stand, link-epoch}
-use Rattle.world.proofs.PromotionLemmas.{OpensAt-uncut, PromotesUnder, WasNotPromoted, WasPromoted, down-promoted, former_holder, frames-earlier, not-opened-ends, not-opened-keeps, not-promoted-ends, opened-leaves, same-failures}
+use Rattle.world.proofs.PromotionLemmas.{OpensAt-uncut, PromotesUnder, WasNotPromoted, WasPromoted, down-promoted, former_holder, frames-earlier, not-opened-ends, not-opened-keeps, not-promoted-ends, opened-leaves, promoted-floor, same-failures}
 
 -- ---- the pair
 
@@ -194,6 +196,7 @@ module _ (old : Pair) (fenced : has_ended old.lives.primary ≡ true) (follows :
           let stood = follower follows stands.parts in
           let made = was first second w stands in
           let image = down-promoted second calls p old.standby.device between crashed old.standby.contents after old.standby.is_faulted stood.engine made.1 made.0 in
+          let floor : after.current.floor ≡ p = promoted-floor second calls p old.standby.device between crashed old.standby.contents after old.standby.is_faulted stood.engine made.1 made.0 in
           let here : position ≡ p = at ∙ image.contents_at.at in
           let epoch : second.epoch + 1 ≡ w.standby.epoch + 1 = ap (λ n. n + 1) (lives.second_epoch ∙ sym sound.standby.epoch_is) in
           let engine = opened-stands (promoted_holder second) calls p crashed serving.device serving.contents serving.is_faulted image opened in
@@ -211,7 +214,7 @@ module _ (old : Pair) (fenced : has_ended old.lives.primary ≡ true) (follows :
             none_told = refl;
             image = IsDown-cut (promoted_holder second) calls p p crashed (omega arith) image;
             opened = refl;
-            recalls = λ q from below. absurd (omega (arith, from, below));
+            recalls = recalled-none p p (past_of (cut_at calls p)) after (omega (arith, floor)) (omega (arith, floor));
             epoch = ours;
             frames = frames-earlier old.wire.link.epoch link.epoch sound.sent calls (cut_at calls p) old.wire.frames w.wire.frames less
                 (subst (λ e. All (IsFrameWithin e sound.sent) w.wire.frames) (sym (link-epoch stands.parts)) sound.wire.frames) (frames-stand stands.parts);

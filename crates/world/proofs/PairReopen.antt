@@ -1,6 +1,7 @@
 -- What the reopening of a node that crashed does to the pair.
 use Rattle.std.proofs.Common.{All, cond, rules, le_refl, ◌≡◌, inl, inr, Bool, true, false, ◌&&◌, List, length, Result, Ok, Err, refl, sym, ap, subst, ◌∙◌, arith, true≢false, []}
 use Rattle.kv_types.specs.declared.refusal.Refusal.{Refusal}
+use Rattle.kv_types.specs.Keyspace.{play_all}
 use Rattle.kv_types.specs.declared.refusal.Refusal.TheVariants.{Fault, Memory}
 use Rattle.pmem.specs.Device.{State}
 use Rattle.pmem.specs.Crash.{image_of}
@@ -18,7 +19,7 @@ use Rattle.redis_core.specs.Sequencing.{Sequencing}
 use Rattle.standby.specs.Following.{Follows}
 use Rattle.placing.specs.Read.{Shows}
 use Rattle.standby_stream.specs.declared.opening.Opening.{Opening}
-use Rattle.standby_stream.specs.Delta.{IsOpening}
+use Rattle.standby_stream.specs.Delta.{IsOpening, delta_changes}
 use Rattle.standby_stream.specs.Stream.{Stream, new_stream}
 use Rattle.standby_stream.proofs.FitLemmas.{deltas_fit}
 use Rattle.wbl_engine.specs.declared.freeing.Freed.{Freed}
@@ -32,10 +33,11 @@ use Rattle.world.specs.Cause.{EndsBy, Stretch}
 use Rattle.world.specs.Committing.{CommittingRefines, next_primary, next_standby}
 use Rattle.node_steps.specs.GroupSpan.{AreGroupsOf}
 use Rattle.world.specs.Link.{AreFramesSent, IsOwn, LinkRefines}
-use Rattle.primary.specs.Recalling.{AreKeyspaces, DeltaLeads, RecallsEach, Remembers}
+use Rattle.primary.specs.Recalling.{AreKeyspaces, RecallsEach, Remembers}
 use Rattle.primary.proofs.KeptImages.{delta-leads, keeps-opened, recalls-of}
 use Rattle.primary.proofs.OpenedLemmas.{leads_to}
-use Rattle.world.specs.Recalling.{OpeningLeads, past_of}
+use Rattle.world.specs.Recalling.{OpeningLeads, RemembersFor, past_of}
+use Rattle.world.proofs.RecallLemmas.{remembered-from}
 use Rattle.primary.specs.Resuming.{IsOver}
 use Rattle.connections.specs.Session.{SequencerRefines}
 use Rattle.world.specs.Standby.{ArrivalsRefine, Node, StandbyRefines, StandbyStands}
@@ -43,7 +45,7 @@ use Rattle.world.specs.Pair.{Acts, AreLives, DownRefine, EitherRefines, IsCut, N
 use Rattle.world.proofs.DownLemmas.{restart-refused}
 use Rattle.world.proofs.FormLemmas.{committing-nothing, leads-nothing}
 use Rattle.world.proofs.PairLemmas.{Led, cut-for, none-added, primary-stands, rests-primary, rests-standby, standby-stands, tells, standby-refines}
-use Rattle.world.proofs.OpenedLemmas.{IsNotOpened, IsOpened, opened-breaks, opened-gaps, opened-limit, opened-moves, opened-rests, opened-stands, table-there}
+use Rattle.world.proofs.OpenedLemmas.{IsNotOpened, IsOpened, opened-breaks, opened-floor, opened-gaps, opened-limit, opened-moves, opened-rests, opened-stands, table-there}
 use Rattle.world.proofs.OpeningLemmas.{have_their_lines, in_order}
 use Rattle.world.proofs.PairLives.{stays-acts}
 use Rattle.world.proofs.PairStandby.{arrivals-stand, link-epoch, standby-either}
@@ -183,6 +185,7 @@ pub record Begins (serving : Serving) (link : Stream) (opening : Opening) : Type
   pub none_handed : serving.handed.items ≡ []
   pub link_is : link ≡ new_stream serving.contents.current.epoch
   pub opened_at : opening.position ≡ serving.contents.current.position
+  pub floor : opening.floor ≡ serving.contents.current.floor
   pub tells : IsOpening serving.contents opening
   pub image : Image
   pub shows : Shows serving.contents image
@@ -236,20 +239,29 @@ primary-reopens old serving link opening fallen opened begins = record { steps =
         let past = past_of calls in
         let here = lost.image.contents_at in
         let recalled =
-        recalls-of low past lost.image.contents (image_of old.primary.device.words) here.consistent
+        recalls-of past lost.image.contents (image_of old.primary.device.words) here.consistent
         (subst (λ n. IsMapOf lost.image.contents.versions (entries_of lost.image.contents) (past n)) (sym here.at) here.map)
-        (subst (λ n. RecallsEach low n past lost.image.contents) (sym here.at) lost.recalls) lost.image.keeps in
+        (subst (λ n. RecallsEach lost.image.contents.current.floor n past lost.image.contents) (sym here.at) lost.recalls.recalls) lost.image.keeps in
         let keyspaces : AreKeyspaces past = λ q. IsKeyspace-keyspace_after (cut_at calls q) in
         let lines = old.primary.device.lines in
-        let kept = keeps-opened low past lines (image_of old.primary.device.words) first.role serving.contents recalled mine.reopens serving.sequencer over at.consistent keyspaces in
-        let remembered : Remembers low p past serving.contents serving.committing.waiting.items serving.committing.aside serving.sequencer =
-        rw (begins.no_work, begins.none_aside) (subst (λ n. Remembers low n past serving.contents [] [] serving.sequencer) at.at kept.remembers) in
+        let kept = keeps-opened past lines (image_of old.primary.device.words) first.role serving.contents recalled mine.reopens serving.sequencer over at.consistent keyspaces in
+        let floor = serving.contents.current.floor in
+        let floor_is : floor ≡ lost.image.contents.current.floor = opened-floor first calls p old.primary.device serving.device serving.contents serving.is_faulted lost.image mine in
+        let remembered : RemembersFor low p past serving.contents serving.committing.waiting.items serving.committing.aside serving.sequencer =
+        rw (begins.no_work, begins.none_aside)
+        (remembered-from low p past serving.contents [] [] serving.sequencer (omega (arith, floor_is, lost.recalls.floored))
+        (subst (λ n. Remembers floor n past serving.contents [] [] serving.sequencer) at.at kept.remembers)) in
+        let delta =
+        delta-leads past lines (image_of old.primary.device.words) first.role serving.contents recalled mine.reopens serving.sequencer over at.consistent keyspaces opening begins.opened_at begins.floor
+        (leads_to serving.contents serving.sequencer opening at.consistent over begins.tells) in
         let told : OpeningLeads low p calls opening =
         record {
           within = omega (arith, lost.ends);
-          delta = subst (λ n. DeltaLeads low n past opening) at.at
-              (delta-leads low past lines (image_of old.primary.device.words) first.role serving.contents recalled mine.reopens serving.sequencer over at.consistent keyspaces opening begins.opened_at
-              (leads_to serving.contents serving.sequencer opening at.consistent over begins.tells));
+          opened_at = begins.opened_at ∙ at.at;
+          floored = omega (arith, begins.floor, floor_is, lost.recalls.floored);
+          leads = λ q from below.
+              subst (λ n. play_all (past q) (delta_changes opening q) ≡ past n) at.at
+              (delta.leads q (omega (arith, from, begins.floor, floor_is, lost.recalls.floored)) (omega (arith, below, at.at)));
           size = λ q from below. deltas_fit serving.contents opening q begins.tells (in_order serving.contents begins.image begins.shows) (have_their_lines serving.contents begins.image begins.shows) engine.lawful.few;
         } in
         let ended = length serving.sequencer.ended in

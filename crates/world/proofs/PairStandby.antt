@@ -11,7 +11,7 @@ use Rattle.model.specs.Call.{cut_at, keyspace_after}
 use Rattle.frames.specs.declared.ack.Ack.{Ack}
 use Rattle.frames.specs.declared.frame.Frame.{Frame}
 use Rattle.standby_stream.specs.declared.opening.Opening.{Opening}
-use Rattle.standby_stream.specs.Delta.{IsDelta}
+use Rattle.standby_stream.specs.Delta.{IsDelta, IsServed}
 use Rattle.stream_codec.specs.declared.message.TheConstants.{MAX_BODY_BYTES}
 use Rattle.standby_stream.specs.Stream.{Stream}
 use Rattle.machine.specs.declared.event.Event.{Event}
@@ -33,7 +33,7 @@ use Rattle.world.proofs.FrameLemmas.{length-sent}
 use Rattle.world.proofs.PairLemmas.{Led, cut-for, cut-same, goes-either, goes-map, goes-steps, none-added, primary-stands, rests-primary, standby-refines, tells, untouched}
 use Rattle.world.proofs.PairLink.{link-alone}
 use Rattle.world.proofs.OpeningLemmas.{opening-on}
-use Rattle.primary.proofs.RecallLemmas.{recalls-still, remembers-on}
+use Rattle.world.proofs.RecallLemmas.{recalled-on, remembered-on}
 use Rattle.world.specs.Condition.{has_ended, runs}
 use Rattle.world.specs.declared.condition.Condition.{Condition}
 use Rattle.world.proofs.RemainLemmas.{near-rest, near-from, left-later}
@@ -57,7 +57,7 @@ standby-parts first second old arrivals node condition w machine told whole late
     search (
       rules,
       λ (still : has_ended condition ≡ false). parts.own whole,
-      remembers-on w.standby.position machine.position w.primary.committer.position (past_of w.primary.calls) old.primary.contents old.primary.committing.waiting.items old.primary.committing.aside old.primary.sequencer old.primary.sequencer later refl refl parts.remembers,
+      remembered-on w.standby.position machine.position w.primary.committer.position (past_of w.primary.calls) old.primary.contents old.primary.committing.waiting.items old.primary.committing.aside old.primary.sequencer old.primary.sequencer later refl refl parts.remembers,
       opening-on w.standby.position machine.position w.primary.opened w.primary.calls old.wire.opening later parts.opening,
     )
 
@@ -69,7 +69,7 @@ standby-either first second old arrivals node condition w machine told whole lat
   | inl up ↦ inl (up.0, standby-parts first second old arrivals node condition w machine told whole later up.1 arrivals_stand node_stands)
   | inr (inl down) ↦
       let lost = down.1 in
-      inr (inl (down.0, search (rules, λ (still : has_ended condition ≡ false). lost.own whole, recalls-still w.standby.position machine.position w.primary.committer.position (past_of w.primary.calls) lost.image.contents later lost.recalls)))
+      inr (inl (down.0, search (rules, λ (still : has_ended condition ≡ false). lost.own whole, recalled-on w.standby.position machine.position w.primary.committer.position (past_of w.primary.calls) lost.image.contents later lost.recalls)))
   | inr (inr idle) ↦
       let still = idle.1 in
       inr (inr (
@@ -158,7 +158,7 @@ record IsDue (epoch : ℕ) (opening : Opening) (position : ℕ) (delta : Option 
 -- what `Outgoing::open_at` says of a link that was opened
 pub record Reopens (old : Stream) (opening : Opening) (position : ℕ) (new : Stream) : Type 0 where
   pub behind : position < opening.position → old.known < opening.position → (frame : Frame) × IsDelta old.epoch opening position frame × (new ≡ record old { next = 0; delta = Some frame })
-  pub level : opening.position ≤ position → new ≡ record old { next = 0; delta = None }
+  pub level : opening.position ≤ position → old.known ≤ position → new ≡ record old { next = 0; delta = None }
 
 -- where no higher position is known, it is to send what the standby is due
 reopens-due : (old : Stream) (opening : Opening) (position : ℕ) (new : Stream) → old.known ≤ position → Reopens old opening position new
@@ -167,7 +167,7 @@ reopens-due old opening position new known reopens = elim (cases_lt position ope
   | inl below ↦
       let one = reopens.behind below (omega (arith, known, below)) in
       (Some one.0, record { due = λ _. (one.0, refl, one.1); none = λ level. absurd (omega (arith, below, level)) }, one.2)
-  | inr level ↦ (None, record { due = λ below. absurd (omega (arith, below, level)); none = λ _. refl }, reopens.level level)
+  | inr level ↦ (None, record { due = λ below. absurd (omega (arith, below, level)); none = λ _. refl }, reopens.level level known)
 ]
 
 -- the delta is the frame of its span
@@ -178,8 +178,8 @@ delta-frame epoch low opened calls opening frame leads below is =
       span_within = record { rising = below; within = leads.within };
       epoch_is = is.epoch_is;
       before = is.before;
-      after = is.after ∙ leads.delta.position_is;
-      plays = ap (play_all (keyspace_after (cut_at calls low))) is.changes ∙ leads.delta.leads low (le_refl low) below;
+      after = is.after ∙ leads.opened_at;
+      plays = ap (play_all (keyspace_after (cut_at calls low))) is.changes ∙ leads.leads low (le_refl low) below;
       size = subst (λ (changes : List Change). changes_size changes ≤ MAX_BODY_BYTES) (sym is.changes) (leads.size low (le_refl low) below);
     }
 
@@ -187,13 +187,13 @@ delta-frames : (epoch low opened : ℕ) (calls : List Call) (opening : Opening) 
     → AreFramesOf epoch calls (option_items delta) (due_delta low opened)
 delta-frames epoch low opened calls opening delta leads is = elim (cases_lt low opened) [
   | inl below ↦
-      let one = is.due (omega (arith, below, leads.delta.position_is)) in
+      let one = is.due (omega (arith, below, leads.opened_at)) in
       subst (λ (spans : List Span). AreFramesOf epoch calls (option_items delta) spans) (sym (ap (λ b. cond b (record { before = low; after = opened } ∷ []) []) (lt-ltb low opened below)))
       (subst (λ (d : Option Frame). AreFramesOf epoch calls (option_items d) (record { before = low; after = opened } ∷ [])) (sym one.1)
       (delta-frame epoch low opened calls opening one.0 leads below one.2, tt))
   | inr passed ↦
       subst (λ (spans : List Span). AreFramesOf epoch calls (option_items delta) spans) (sym (ap (λ b. cond b (record { before = low; after = opened } ∷ []) []) (le-ltb low opened passed)))
-      (subst (λ (d : Option Frame). AreFramesOf epoch calls (option_items d) []) (sym (is.none (omega (arith, passed, leads.delta.position_is)))) tt)
+      (subst (λ (d : Option Frame). AreFramesOf epoch calls (option_items d) []) (sym (is.none (omega (arith, passed, leads.opened_at)))) tt)
 ]
 
 -- the position that the standby tells is its own
@@ -259,15 +259,16 @@ pub open-cut : (old : Pair) (wire : Wire) (result : Result Bool Refusal) (refusa
     → Does old events.OpenLink result (record old { wire = wire })
 open-cut old wire result refusal follows is memory = open-lacks old wire result refusal follows is (λ first second w stands. memory)
 
--- For the delta. It is never refused as forgotten: what is told of the opening is there as long as the standby may be behind.
+-- For the delta. It is never refused as forgotten, nor as freed: what is told of the opening is there as long as the standby may be behind, which is no lower than the
+-- floor.
 pub open-refused : (old : Pair) (wire : Wire) (ack : Ack) (result : Result Bool Refusal) (refusal : Refusal) → runs old.lives.standby ≡ true
-    → ack ≡ record { epoch = old.standby.epoch; position = old.standby.contents.current.position } → result ≡ Err refusal → (old.wire.opening.position ≤ ack.position → ⊥)
-    → (old.wire.link.known < old.wire.opening.position → refusal ≡ Memory) → Does old events.OpenLink result (record old { wire = wire })
+    → ack ≡ record { epoch = old.standby.epoch; position = old.standby.contents.current.position } → result ≡ Err refusal → (old.wire.opening.position ≤ ack.position → old.wire.link.known ≤ ack.position → ⊥)
+    → (old.wire.link.known < old.wire.opening.position → IsServed old.wire.opening.floor ack.position → refusal ≡ Memory) → Does old events.OpenLink result (record old { wire = wire })
 open-refused old wire ack result refusal follows is refused behind cause =
     open-lacks old wire result refusal follows refused
     (λ first second w stands. elim (cases_lt old.wire.link.known old.wire.opening.position) [
-      | inl below ↦ cause below
-      | inr passed ↦ absurd (behind (omega (arith, passed, known-within old ack follows is stands)))
+      | inl below ↦ cause below (inr (omega (arith, own-position old ack follows is stands, stands.parts.opening.floored)))
+      | inr passed ↦ absurd (behind (omega (arith, passed, known-within old ack follows is stands)) (known-within old ack follows is stands))
     ])
 
 pub deliver-acts : (old : Pair) (arrivals : Arrived) (texts : List (Vec ℕ Global)) (frame piece : ℕ) (result : Result Bool Refusal) → runs old.lives.standby ≡ true → texts ≡ old.wire.frames

@@ -75,7 +75,7 @@ module _ {E : Type 0} (device : E → State) (contents : E → Contents) (is_fau
   pub step-lines : (step : Due) (result : Result Done Refusal) → is_between (cut_of step) ≡ false → Came step result → (contents after.engine).lines ≡ (contents before.engine).lines
   step-lines due.Commit result inside (none, inl took) = by result took
     where
-      by : (result : Result Done Refusal) → TakesGroup device contents is_faulted before works result after works' → (contents after.engine).lines ≡ (contents before.engine).lines
+      by : (result : Result Done Refusal) → TakesGroup device contents is_faulted pair.wire.remote before works result after works' → (contents after.engine).lines ≡ (contents before.engine).lines
       by (Ok done) took = took.commits.moved.lines
       by (Err refusal) took = took.commits.stays.lines
   step-lines due.Commit result inside (none, inr lacks) = ap (λ (e : E). (contents e).lines) lacks.engine

@@ -13,7 +13,7 @@ use Rattle.model.specs.declared.group.Group.{Group}
 use Rattle.model.specs.declared.record.Record.{Record}
 use Rattle.model.specs.declared.work.FreeList.{FreeList}
 use Rattle.model.specs.declared.work.Work.{Work}
-use Rattle.model.specs.Group.{Contents, after_group}
+use Rattle.model.specs.Group.{Contents}
 use Rattle.model.specs.Standing.{Holder}
 use Rattle.wbl_engine.specs.Contents.{Exhausts, Same}
 use Rattle.wbl_engine.proofs.LawfulLemmas.{group_lawful}
@@ -34,13 +34,12 @@ use Rattle.machine.specs.declared.event.Event.{Event}
 use Rattle.machine.specs.declared.event.Event.TheVariants as events
 use Rattle.machine.specs.Event.{World, Committer as MachineCommitter, committed_first, from_group, may_happen, with_committer}
 use Rattle.world.specs.Committing.{EngineStands, CommittingRefines, link_has_room, next_primary}
-use Rattle.primary.specs.Recalling.{Remembers}
-use Rattle.primary.proofs.RecallLemmas.{recalls-each}
-use Rattle.world.specs.Recalling.{past_of}
+use Rattle.world.proofs.RecallLemmas.{recalled-each}
+use Rattle.world.specs.Recalling.{RemembersFor, past_of}
 use Rattle.connections.specs.Session.{SequencerRefines}
 use Rattle.world.specs.Pair.{FreeingRefines, Pair, PartsRefine, PairRefines, Steps, Does}
 use Rattle.world.specs.Parts.{serving_by}
-use Rattle.world.proofs.CommittingLemmas.{Leads-committed, Remembers-committed, TakesLawful, commit-ends, commit-goes, commit-lands, commit-moments, hand-goes, hand-none, hand-room, raise-goes, raise-none, takes-lawful}
+use Rattle.world.proofs.CommittingLemmas.{Leads-committed, Remembers-committed, TakesLawful, commit-ends, commit-goes, commit-lands, commit-moments, hand-goes, hand-none, hand-room, made, made-lawful, raise-goes, raise-none, takes-lawful}
 use Rattle.world.specs.Remaining.{LeftBy}
 use Rattle.world.proofs.LeftLemmas.{left-next, left-running, left-still}
 use Rattle.world.proofs.LivesLemmas.{enabled-is, nodes-refine, own-runs, serving}
@@ -137,20 +136,24 @@ module _ {E : Type 0} (device : E → State) (contents : E → Contents) (is_fau
   abbrev now-due : Committer E → Waiting Work → Waiting Group → Due
   now-due before works handed = due_now contents before works (link_has_room handed.items) pair.wire.remote
 
+  -- the standby has passed the remote mark
+  passed-remote : {first second : Holder} {p : Pair} {w : World} → PairRefines first second p w → p.wire.remote ≤ w.standby.position
+  passed-remote stands = omega (arith, stands.parts.link.remote_is, stands.sound.link.remote, stands.sound.standby.known)
+
   may-commit : (before : Committer E) (works : Waiting Work) (handed : Waiting Group) → now-due before works handed ≡ due.Commit → (first second : Holder) (w : World) → PartsRefine first second (pair_of before works handed) w
       → may_happen w events.Commit ≡ true
   may-commit before works handed is first second w parts =
       commit-enabled w (pair_of before works handed).primary.committing handed.items parts.committing parts.link.waiting pair.wire.remote (length (contents before.engine).current.gaps.items) is
 
   -- the free lists that waited first were taken, and the group behind them
-  takes-first : (before after : Committer E) (works works' : Waiting Work) (handed : Waiting Group) (result : Result Done Refusal) (took : TakesGroup device contents is_faulted before works result after works')
+  takes-first : (before after : Committer E) (works works' : Waiting Work) (handed : Waiting Group) (result : Result Done Refusal) (took : TakesGroup device contents is_faulted pair.wire.remote before works result after works')
       → (first second : Holder) (w : World) → PartsRefine first second (pair_of before works handed) w
       → TakesLawful (contents before.engine) (pair_of before works handed).primary.committing took.lists took.group (pair_of after works' handed).primary.committing
   takes-first before after works works' handed result took first second w parts =
       takes-lawful (contents before.engine) (pair_of before works handed).primary.committing took.lists took.group (pair_of after works' handed).primary.committing pair.primary.sequencer pair.primary.notices took.taken took.set_aside parts.leads
 
   committed : (before after : Committer E) (works works' : Waiting Work) (handed : Waiting Group) (done : Done) → now-due before works handed ≡ due.Commit
-      → TakesGroup device contents is_faulted before works (Ok done) after works' → Does (pair_of before works handed) events.Commit (Ok true) (pair_of after works' handed)
+      → TakesGroup device contents is_faulted pair.wire.remote before works (Ok done) after works' → Does (pair_of before works handed) events.Commit (Ok true) (pair_of after works' handed)
   committed before after works works' handed done is took =
       record { steps = steps; cut = tt; calls = none-added _ _ refl }
     where
@@ -166,12 +169,12 @@ module _ {E : Type 0} (device : E → State) (contents : E → Contents) (is_fau
       group : Group
       group = took.group
 
-      commits : Commits device contents is_faulted before took.group (Ok done) after
+      commits : Commits device contents is_faulted pair.wire.remote before took.group (Ok done) after
       commits = took.commits
 
       parts-after : (first second : Holder) (w : World) (committer : MachineCommitter) → PartsRefine first second old w → TakesLawful old.primary.contents old.primary.committing took.lists took.group new.primary.committing
           → CommittingRefines w.primary.calls new.primary.committing committer × EngineStands first w.primary.calls committer.position new.primary.device new.primary.contents new.primary.is_faulted
-          → committer.closed ≡ w.primary.committer.closed → Remembers w.standby.position committer.position (past_of w.primary.calls) new.primary.contents new.primary.committing.waiting.items new.primary.committing.aside pair.primary.sequencer
+          → committer.closed ≡ w.primary.committer.closed → RemembersFor w.standby.position committer.position (past_of w.primary.calls) new.primary.contents new.primary.committing.waiting.items new.primary.committing.aside pair.primary.sequencer
           → PartsRefine first second new (with_committer committer w)
       parts-after first second w committer parts takes stand closed remembers =
           let freeing : FreeingRefines new.primary.sequencer new.primary.notices new.primary.contents w.primary =
@@ -181,7 +184,7 @@ module _ {E : Type 0} (device : E → State) (contents : E → Contents) (is_fau
             parts,
             stand,
             subst (λ n. SequencerRefines w.primary.calls n pair.primary.sequencer) (sym closed) parts.sequencer,
-            Leads-committed old.primary.contents new.primary.contents old.primary.committing took.lists took.group new.primary.committing pair.primary.sequencer pair.primary.notices parts.engine.contents_at.consistent takes took.commits.moved parts.leads,
+            Leads-committed pair.wire.remote old.primary.contents new.primary.contents old.primary.committing took.lists took.group new.primary.committing pair.primary.sequencer pair.primary.notices parts.engine.contents_at.consistent takes took.commits.moved parts.leads,
             freeing,
             remembers,
           )
@@ -192,16 +195,16 @@ module _ {E : Type 0} (device : E → State) (contents : E → Contents) (is_fau
           let commits = took.commits in
           let takes = takes-first before after works works' handed (Ok done) took first second w parts in
           let fits = λ (sound : is_faulted before.engine ≡ false) (would : Exhausts (contents before.engine) took.group). committed_not_refused (commits.exhausts sound would) in
-          let stand = commit-goes first w old.primary.committing took.lists took.group new.primary.committing old.primary.device new.primary.device old.primary.contents new.primary.contents old.primary.is_faulted new.primary.is_faulted
+          let stand = commit-goes first w pair.wire.remote old.primary.committing took.lists took.group new.primary.committing old.primary.device new.primary.device old.primary.contents new.primary.contents old.primary.is_faulted new.primary.is_faulted
           takes commits.in_hand commits.local fits commits.moved commits.durable commits.sound.0 parts.committing parts.engine in
           commit-steps first second w old new refl refl stands.sound (own-runs stands events.Commit refl) stands.serves commits.sound.1
-          (commit-moments first w old.primary.committing took.lists took.group new.primary.committing old.primary.device new.primary.device old.primary.contents old.primary.is_faulted takes fits commits.moments parts.committing parts.engine)
+          (commit-moments first w pair.wire.remote old.primary.committing took.lists took.group new.primary.committing old.primary.device new.primary.device old.primary.contents old.primary.is_faulted takes fits commits.moments parts.committing parts.engine)
           (sym (may-commit before works handed is first second w parts))
           (parts-after first second w (committed_first (from_group w.primary.committer.waiting) w.primary.committer) parts takes stand (same_closed (from_group w.primary.committer.waiting) w)
-          (Remembers-committed first w old.primary.committing took.lists took.group new.primary.committing old.primary.contents new.primary.contents pair.primary.sequencer takes commits.moved parts.committing parts.engine.contents_at parts.remembers))
+          (Remembers-committed first w pair.wire.remote old.primary.committing took.lists took.group new.primary.committing old.primary.contents new.primary.contents pair.primary.sequencer (passed-remote stands) takes commits.moved parts.committing parts.engine.contents_at parts.remembers))
 
   refused : (before after : Committer E) (works works' : Waiting Work) (handed : Waiting Group) (refusal : Refusal) → now-due before works handed ≡ due.Commit
-      → TakesGroup device contents is_faulted before works (Err refusal) after works' → Does (pair_of before works handed) events.Commit (Err refusal) (pair_of after works' handed)
+      → TakesGroup device contents is_faulted pair.wire.remote before works (Err refusal) after works' → Does (pair_of before works handed) events.Commit (Err refusal) (pair_of after works' handed)
   refused before after works works' handed refusal is took =
       record {
         steps = tt;
@@ -215,7 +218,7 @@ module _ {E : Type 0} (device : E → State) (contents : E → Contents) (is_fau
             (enabled-is (own-runs stands events.Commit refl) ∙ may-commit before works handed is first second w parts)
             (ends-commit refusal (λ last _. last first w.primary.calls w.primary.committer.position (next_primary w) old.primary.device new.primary.device) (Led first second old new w)
             (λ last broken. (inl broken, rests-standby first second old w (nodes-refine stands)))
-            (commit-ends first w old.primary.committing took.lists took.group new.primary.committing old.primary.device new.primary.device old.primary.contents old.primary.is_faulted (Err refusal) refusal refl takes
+            (commit-ends first w pair.wire.remote old.primary.committing took.lists took.group new.primary.committing old.primary.device new.primary.device old.primary.contents old.primary.is_faulted (Err refusal) refusal refl takes
             commits.causes commits.fault (λ cause. let told = commits.exhausted cause in (told.0, ap (λ (e : E). device e) told.1))
             commits.exhausts commits.moments parts.committing parts.engine));
         calls = none-added _ _ refl;
@@ -244,7 +247,7 @@ module _ {E : Type 0} (device : E → State) (contents : E → Contents) (is_fau
         | inr lacking ↦ without-room before after works works' handed result is lacking
       ])
     where
-      by : (result : Result Done Refusal) → TakesGroup device contents is_faulted before works result after works' → Does (pair_of before works handed) events.Commit (went result) (pair_of after works' handed)
+      by : (result : Result Done Refusal) → TakesGroup device contents is_faulted pair.wire.remote before works result after works' → Does (pair_of before works handed) events.Commit (went result) (pair_of after works' handed)
       by (Ok done) took = committed before after works works' handed done is took
       by (Err refusal) took = refused before after works works' handed refusal is took
 
@@ -275,23 +278,23 @@ module _ {E : Type 0} (device : E → State) (contents : E → Contents) (is_fau
       still : after.engine ≡ before.engine → LeavesOnly (device before.engine) (device after.engine) (LeftBy first w cut.Commit)
       still same = left-still first second old w cut.Commit (device after.engine) stands.sound stands.parts (ap device same)
 
-      whole : (result : Result Done Refusal) (took : TakesGroup device contents is_faulted before works result after works') → (Exhausts (contents before.engine) took.group → ⊥)
+      whole : (result : Result Done Refusal) (took : TakesGroup device contents is_faulted pair.wire.remote before works result after works') → (Exhausts (contents before.engine) took.group → ⊥)
           → LeavesOnly (device before.engine) (device after.engine) (LeftBy first w cut.Commit)
       whole result took fits =
           let parts = stands.parts in
-          let then = after_group old.primary.contents took.group in
+          let then = made pair.wire.remote old.primary.contents took.group in
           let takes = takes-first before after works works' handed result took first second w parts in
-          let lands = commit-lands first w old.primary.committing took.lists took.group new.primary.committing old.primary.contents takes parts.committing parts.engine.contents_at in
+          let lands = commit-lands first w pair.wire.remote old.primary.committing took.lists took.group new.primary.committing old.primary.contents takes parts.committing parts.engine.contents_at in
           let same : Same then then = record { current = refl; lines = refl; versions = λ i. refl; is_free = λ i. refl } in
-          let remembers = Remembers-committed first w old.primary.committing took.lists took.group new.primary.committing old.primary.contents then pair.primary.sequencer takes same parts.committing parts.engine.contents_at parts.remembers in
+          let remembers = Remembers-committed first w pair.wire.remote old.primary.committing took.lists took.group new.primary.committing old.primary.contents then pair.primary.sequencer (passed-remote stands) takes same parts.committing parts.engine.contents_at parts.remembers in
           LeavesOnly-weaken (LeftBy first w cut.Commit)
           (λ image either. elim either [
             | inl keeps ↦ left-running first second old w cut.Commit image stands.sound parts keeps
-            | inr keeps ↦ left-next first w then image (serving stands) lands.rises lands.within lands.after (group_lawful old.primary.contents took.group parts.engine.lawful takes.lawful fits)
-                (recalls-each w.standby.position (next_primary w) (past_of w.primary.calls) then new.primary.committing.waiting.items new.primary.committing.aside pair.primary.sequencer remembers) keeps
+            | inr keeps ↦ left-next first w then image (serving stands) lands.rises lands.within lands.after (made-lawful pair.wire.remote old.primary.contents took.group (group_lawful old.primary.contents took.group parts.engine.lawful takes.lawful fits))
+                (recalled-each w.standby.position (next_primary w) (past_of w.primary.calls) then new.primary.committing.waiting.items new.primary.committing.aside pair.primary.sequencer remembers) keeps
           ]) (took.commits.moments parts.engine.sound)
 
-      by : (result : Result Done Refusal) → TakesGroup device contents is_faulted before works result after works' → LeavesOnly (device before.engine) (device after.engine) (LeftBy first w cut.Commit)
+      by : (result : Result Done Refusal) → TakesGroup device contents is_faulted pair.wire.remote before works result after works' → LeavesOnly (device before.engine) (device after.engine) (LeftBy first w cut.Commit)
       by (Ok done) took = whole (Ok done) took (λ would. committed_not_refused (took.commits.exhausts stands.parts.engine.sound would))
       by (Err refusal) took = elim took.commits.causes [
         | inl fault ↦ whole (Err refusal) took (λ would. let told = took.commits.exhausts stands.parts.engine.sound would in cc)

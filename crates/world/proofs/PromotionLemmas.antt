@@ -31,7 +31,7 @@ use Rattle.world.specs.Link.{AreFramesSent}
 use Rattle.world.proofs.CutLemmas.{keyspace_after-cut_at-cut}
 use Rattle.world.proofs.DownLemmas.{restart-moments, restart-refused, settled-image}
 use Rattle.world.proofs.EngineLemmas.{Opens-engine}
-use Rattle.world.proofs.KeptLemmas.{KeepsAsEither, engine-keeps, restart-keeps}
+use Rattle.world.proofs.KeptLemmas.{KeepsAsEither, engine-keeps, restart-promoted}
 use Rattle.world.proofs.OpenedLemmas.{IsNotOpened, StaysSo}
 use Rattle.world.proofs.RemainLemmas.{kept-opens}
 
@@ -105,10 +105,13 @@ either-keeps : (holder : Holder) (calls : List Call) (p : ℕ) (device : State) 
     → (¬ ExhaustsPromotion contents.current) → (image : Image) → IsBeforeOrPromoted contents image → KeepsAsEither holder calls p image
 either-keeps holder calls p device contents is_faulted stands fits image (inl before) = inl (record { contents = contents; contents_at = stands.contents_at; lawful = stands.lawful; keeps = before })
 either-keeps holder calls p device contents is_faulted stands fits image (inr after) = inr (record {
-  contents = promoted_contents contents;
-  contents_at = contents-promoted holder calls p contents (promoted_contents contents) stands.contents_at (record { current = refl; lines = refl; versions = λ i. refl; is_free = λ i. refl });
-  lawful = lawful_promoted contents stands.lawful fits;
-  keeps = after;
+  kept = record {
+    contents = promoted_contents contents;
+    contents_at = contents-promoted holder calls p contents (promoted_contents contents) stands.contents_at (record { current = refl; lines = refl; versions = λ i. refl; is_free = λ i. refl });
+    lawful = lawful_promoted contents stands.lawful fits;
+    keeps = after;
+  };
+  floor = stands.contents_at.at;
 })
 
 limit : (r : Record) → ExhaustsPromotion r ⊎ (¬ ExhaustsPromotion r)
@@ -133,7 +136,7 @@ promotion-keeps holder calls p old new contents is_faulted stands full only = el
 -- it opens as the standby's or as the primary's
 either-kept : (holder : Holder) (calls : List Call) (p : ℕ) (image : Image) → KeepsAsEither holder calls p image → OpensAsEither holder calls p image
 either-kept holder calls p image (inl before) = inl (kept-opens holder calls p image before)
-either-kept holder calls p image (inr after) = inr (kept-opens (promoted_holder holder) calls p image after)
+either-kept holder calls p image (inr after) = inr (kept-opens (promoted_holder holder) calls p image after.kept)
 
 module _ (holder : Holder) (calls : List Call) (p : ℕ) (old between new : State) (contents after : Contents) (is_faulted : Bool) (stands : EngineStands holder calls p old contents is_faulted)
     (fits : ¬ ExhaustsPromotion contents.current) (was : WasPromoted old between new contents after) where
@@ -148,14 +151,20 @@ module _ (holder : Holder) (calls : List Call) (p : ℕ) (old between new : Stat
     sized = was.sized ∙ sym was.lines_are;
   }
 
+  -- with its position as the floor
+  pub promoted-floor : after.current.floor ≡ p
+  promoted-floor = ap (λ (r : Record). r.floor) was.moved.current ∙ stands.contents_at.at
+
   -- what a crash leaves up to then
   promoted-keeps : LeavesOnly old new (KeepsAsEither holder calls p)
   promoted-keeps =
       LeavesOnly-then
       (LeavesOnly-weaken (KeepsAsEither holder calls p) (either-keeps holder calls p old contents is_faulted stands fits) was.promoting)
       (LeavesOnly-weaken (KeepsAsEither holder calls p)
-      (λ image is. inr (record { contents = after; contents_at = contents-promoted holder calls p contents after stands.contents_at was.moved; lawful = was.lawful stands.lawful; keeps = was.durable image is }))
-      was.moments)
+      (λ image is. inr (record {
+        kept = record { contents = after; contents_at = contents-promoted holder calls p contents after stands.contents_at was.moved; lawful = was.lawful stands.lawful; keeps = was.durable image is };
+        floor = promoted-floor;
+      })) was.moments)
 
   promoted-leaves : LeavesOnly old new (OpensAsEither holder calls p)
   promoted-leaves = LeavesOnly-weaken (OpensAsEither holder calls p) (either-kept holder calls p) promoted-keeps
@@ -165,7 +174,7 @@ module _ (holder : Holder) (calls : List Call) (p : ℕ) (old between new : Stat
   opened-leaves last only = LeavesOnly-then promoted-leaves (LeavesOnly-weaken (OpensAsEither holder calls p) (λ image is. inr is) only)
 
   opened-keeps : (last : State) → StaysSo new last → LeavesOnly old last (KeepsAsEither holder calls p)
-  opened-keeps last stays = LeavesOnly-then promoted-keeps (LeavesOnly-weaken (KeepsAsEither holder calls p) (λ image is. inr is) (restart-keeps (promoted_holder holder) calls p new last down-promoted stays))
+  opened-keeps last stays = LeavesOnly-then promoted-keeps (LeavesOnly-weaken (KeepsAsEither holder calls p) (λ image is. inr is) (restart-promoted holder calls p new last down-promoted promoted-floor stays))
 
   pub same-failures : new.failures ≡ old.failures
   same-failures = was.failures ∙ was.promoting_failures

@@ -1,5 +1,5 @@
 -- What the image of a node may hold in which a fence failed: how it opens, and while the list grows or is cut.
-use Rattle.std.proofs.Common.{◌≡◌, ◌⊎◌, inl, inr, ℕ, zero, suc, ◌<◌, ◌≤◌, List, [], ◌∷◌, ◌++◌, length, get_or, append-nil, refl, sym, subst, arith, le_refl}
+use Rattle.std.proofs.Common.{◌≡◌, ◌⊎◌, inl, inr, ℕ, zero, suc, ◌<◌, ◌≤◌, List, [], ◌∷◌, ◌++◌, length, get_or, append-nil, refl, sym, ap, subst, ◌∙◌, arith, le_refl}
 use Rattle.std.specs.Prelude.{All, Contains}
 use Rattle.std.proofs.lemmas.List.Elements.{All-cons, All-contains}
 use Rattle.pmem.specs.Crash.{IsImage}
@@ -7,6 +7,7 @@ use Rattle.pmem.specs.Device.{State}
 use Rattle.pmem.proofs.Leaving.{LeavesOnly-weaken, none_leaves}
 use Rattle.model.specs.declared.call.Call.{Call}
 use Rattle.model.specs.Call.{cut_at, position_of}
+use Rattle.model.specs.Group.{Contents}
 use Rattle.model.specs.Image.{Image}
 use Rattle.model.specs.Standing.{Holder}
 use Rattle.machine.specs.declared.event.Cut.{Cut}
@@ -15,14 +16,13 @@ use Rattle.machine.specs.declared.event.Node.TheVariants as node
 use Rattle.machine.specs.Event.{AsPrimary, At, Primary, Remains, World, left_by, may_remain, torn}
 use Rattle.machine.specs.Sound.{IsStandbyLeft}
 use Rattle.world.specs.Cause.{OrLies, Resting}
-use Rattle.primary.specs.Recalling.{RecallsEach}
-use Rattle.primary.proofs.RecallLemmas.{recalls-still}
-use Rattle.world.specs.Recalling.{past_of}
+use Rattle.world.specs.Recalling.{RecallsFor, past_of}
 use Rattle.world.specs.Committing.{AreContentsAt, Moves, Opens, OpensAt, OpensAtEither, promoted_holder}
 use Rattle.world.specs.Remaining.{KeepsAs, KeepsAt, KeepsOne, LeavesOne, LeftBy, MovesNear, OpensAs, OpensAsOne, OpensNear, Remain}
 use Rattle.world.proofs.CutLemmas.{AreContentsAt-cut}
 use Rattle.node_steps.proofs.EngineLemmas.{AreContentsAt-grows}
 use Rattle.world.proofs.EngineLemmas.{keeps-opens, rests-same}
+use Rattle.world.proofs.RecallLemmas.{recalled-on}
 
 -- ---- how it opens
 
@@ -55,7 +55,7 @@ kept-opens holder calls p image held = keeps-opens holder calls p held.contents 
 
 kept-as : (holder : Holder) (calls : List Call) (p : ℕ) (one : Remains) (image : Image) → KeepsAs holder calls p one image → OpensAs holder calls p image one
 kept-as holder calls p (At q) image held = kept-opens holder calls q image held
-kept-as holder calls p AsPrimary image held = kept-opens (promoted_holder holder) calls p image held
+kept-as holder calls p AsPrimary image held = kept-opens (promoted_holder holder) calls p image held.kept
 
 -- a standby's
 pub keeps-near : (holder : Holder) (calls : List Call) (p : ℕ) (others : List Remains) (image : Image) → KeepsOne holder calls p others image → OpensNear holder calls p others image
@@ -84,8 +84,8 @@ left-later holder w w' image same later left = record {
   contents_at = subst (λ (x : Primary). AreContentsAt holder x.calls left.position left.contents) (sym same) left.contents_at;
   lawful = left.lawful;
   keeps = left.keeps;
-  recalls = subst (λ (x : Primary). RecallsEach w'.standby.position left.position (past_of x.calls) left.contents) (sym same)
-      (recalls-still w.standby.position w'.standby.position left.position (past_of w.primary.calls) left.contents later left.recalls);
+  recalls = subst (λ (x : Primary). RecallsFor w'.standby.position left.position (past_of x.calls) left.contents) (sym same)
+      (recalled-on w.standby.position w'.standby.position left.position (past_of w.primary.calls) left.contents later left.recalls);
 }
 
 -- ---- of a device
@@ -129,15 +129,17 @@ remain-from holder calls p others device opens = λ image is. inl (opens image i
 
 -- another list is as this one up to there
 keeps-like : (holder : Holder) (calls calls' : List Call) (p high : ℕ) (others : List Remains) (image : Image) → p ≤ high → All (IsStandbyLeft p high) others
-    → ((h : Holder) (q : ℕ) → q ≤ high → KeepsAt h calls q image → KeepsAt h calls' q image) → KeepsOne holder calls p others image → KeepsOne holder calls' p others image
+    → ((h : Holder) (q : ℕ) → q ≤ high → (keeps : KeepsAt h calls q image) → (there : KeepsAt h calls' q image) × (there.contents ≡ keeps.contents)) → KeepsOne holder calls p others image → KeepsOne holder calls' p others image
 keeps-like holder calls calls' p high others image le within like held = record { one = held.one; is_one = held.is_one; keeps = by held.one bounded held.keeps }
   where
     bounded : IsStandbyLeft p high held.one
     bounded = All-contains (IsStandbyLeft p high) (At p ∷ others) held.one (All-cons (IsStandbyLeft p high) (At p) others (le_refl p, le) within) held.is_one
 
     by : (one : Remains) → IsStandbyLeft p high one → KeepsAs holder calls p one image → KeepsAs holder calls' p one image
-    by (At q) bound keeps = like holder q bound.1 keeps
-    by AsPrimary bound keeps = like (promoted_holder holder) p le keeps
+    by (At q) bound keeps = (like holder q bound.1 keeps).0
+    by AsPrimary bound keeps =
+        let there = like (promoted_holder holder) p le keeps.kept in
+        record { kept = there.0; floor = ap (λ (c : Contents). c.current.floor) there.1 ∙ keeps.floor }
 
 pub KeepsAt-grows : (holder : Holder) (calls more : List Call) (p : ℕ) (image : Image) → p ≤ position_of calls → KeepsAt holder calls p image → KeepsAt holder (calls ++ more) p image
 KeepsAt-grows holder calls more p image le held = record { contents = held.contents; contents_at = AreContentsAt-grows holder calls more p held.contents le held.contents_at; lawful = held.lawful; keeps = held.keeps }
@@ -147,14 +149,16 @@ KeepsAt-cut holder calls n p image le held = record { contents = held.contents; 
 
 pub LeavesOne-grows : (holder : Holder) (calls more : List Call) (p high : ℕ) (others : List Remains) (device : State) → p ≤ high → high ≤ position_of calls → All (IsStandbyLeft p high) others
     → LeavesOne holder calls p others device → LeavesOne holder (calls ++ more) p others device
+unfolding KeepsAt-grows
 LeavesOne-grows holder calls more p high others device le within bound left = record {
   lines_are = left.lines_are;
-  each = λ image is. keeps-like holder calls (calls ++ more) p high others image le bound (λ h q below. KeepsAt-grows h calls more q image (omega (arith, below, within))) (left.each image is);
+  each = λ image is. keeps-like holder calls (calls ++ more) p high others image le bound (λ h q below keeps. (KeepsAt-grows h calls more q image (omega (arith, below, within)) keeps, refl)) (left.each image is);
 }
 
 pub LeavesOne-cut : (holder : Holder) (calls : List Call) (n p high : ℕ) (others : List Remains) (device : State) → p ≤ high → high ≤ n → All (IsStandbyLeft p high) others
     → LeavesOne holder calls p others device → LeavesOne holder (cut_at calls n) p others device
+unfolding KeepsAt-cut
 LeavesOne-cut holder calls n p high others device le within bound left = record {
   lines_are = left.lines_are;
-  each = λ image is. keeps-like holder calls (cut_at calls n) p high others image le bound (λ h q below. KeepsAt-cut h calls n q image (omega (arith, below, within))) (left.each image is);
+  each = λ image is. keeps-like holder calls (cut_at calls n) p high others image le bound (λ h q below keeps. (KeepsAt-cut h calls n q image (omega (arith, below, within)) keeps, refl)) (left.each image is);
 }

@@ -226,6 +226,7 @@ ends-as Fault Apply P Q so ends = so Resting Breaks resting-from breaks-from end
 ends-as Fault Free P Q so ends = so Breaks Resting breaks-from resting-from ends
 ends-as Fault ClearGap P Q so ends = so Breaks Resting breaks-from resting-from ends
 ends-as Exhausted Commit P Q so ends = so RestsAtLimit Resting limit-from resting-from ends
+ends-as Exhausted Free P Q so ends = so RestsAtLimit Resting limit-from resting-from ends
 ends-as Exhausted ClearGap P Q so ends = so RestsAtLimit Resting limit-from resting-from ends
 ends-as Exhausted Apply P Q so ends = so Resting RestsAtFrameLimit resting-from frame-limit-from ends
 ends-as Fault (Reopen node.Primary) P Q so ends = so Breaks Resting breaks-from resting-from ends

@@ -8,6 +8,7 @@ use Rattle.pmem.specs.Device.Fences.{Sure}
 use Rattle.pmem.specs.Crash.{IsImage, IsSettled, image_of, picked}
 use Rattle.model.specs.declared.work.FreeList.{FreeList}
 use Rattle.model.specs.declared.record.Role.TheVariants as Role
+use Rattle.model.specs.Floor.{floor_raised}
 use Rattle.model.specs.Group.{Contents}
 use Rattle.placing.specs.Place.{HasRoomFor}
 use Rattle.wbl_engine.specs.declared.freeing.Freed.{Freed}
@@ -37,12 +38,12 @@ AddsMessage old new = (bytes : Vec ℕ Global) × (new ≡ old ++ bytes ∷ [])
 
 -- ---- what has ended
 
--- All of the first of these free lists was freed, and nothing else, and a notice of that waits behind the others.
+-- All of the first of these free lists was freed, and nothing else; the record's floor is its position, or as high as it was; and a notice of that waits behind the others.
 pub record FreesOldest (lists : List FreeList) (old : Contents) (notices : List Freed) (new : Contents) (notices' : List Freed) : Type 0 where
   pub list : FreeList
   pub rest : List FreeList
   pub lists_are : lists ≡ list ∷ rest
-  pub freed : Same (after_free list.entries.items old) new
+  pub freed : Same (after_free list.entries.items (floor_raised list.position old)) new
   pub places : Freed
   pub told : notices' ≡ notices ++ places ∷ []
   pub entries : places.entries.items ≡ list.entries.items

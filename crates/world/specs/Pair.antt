@@ -31,8 +31,7 @@ use Rattle.world.specs.declared.condition.AskedFences.{AskedFences}
 use Rattle.world.specs.declared.condition.Condition.{Condition}
 pub use Rattle.node_steps.specs.Node.{FreeingRefines}
 use Rattle.world.specs.Link.{IsOwn, AreFramesSent, LinkRefines}
-use Rattle.primary.specs.Recalling.{RecallsEach, Remembers}
-use Rattle.world.specs.Recalling.{OpeningLeads, past_of}
+use Rattle.world.specs.Recalling.{OpeningLeads, RecallsFor, RemembersFor, past_of}
 use Rattle.world.specs.Remaining.{LeftBy, MovesNear}
 use Rattle.connections.specs.Session.{SessionsRefine, SequencerRefines, SeatsFollow, HasSeat, AddsOne, released_of, seats_of}
 use Rattle.world.specs.Standby.{Arrived, Node, StandbyRefines, ArrivalsRefine}
@@ -105,7 +104,7 @@ pub record PartsRefine (first second : Holder) (pair : Pair) (w : World) : Type 
   pub engine : EngineStands first w.primary.calls w.primary.committer.position pair.primary.device pair.primary.contents pair.primary.is_faulted
   pub leads : Leads pair.primary.contents pair.primary.committing.waiting.items pair.primary.committing.aside pair.primary.sequencer pair.primary.notices
   pub freeing : FreeingRefines pair.primary.sequencer pair.primary.notices pair.primary.contents w.primary
-  pub remembers : Remembers w.standby.position w.primary.committer.position (past_of w.primary.calls) pair.primary.contents pair.primary.committing.waiting.items pair.primary.committing.aside pair.primary.sequencer
+  pub remembers : RemembersFor w.standby.position w.primary.committer.position (past_of w.primary.calls) pair.primary.contents pair.primary.committing.waiting.items pair.primary.committing.aside pair.primary.sequencer
   pub opening : OpeningLeads w.standby.position w.primary.opened w.primary.calls pair.wire.opening
   pub epoch : pair.wire.link.epoch ≡ w.primary.epoch
   pub link : LinkRefines w.primary.calls pair.wire.link pair.primary.handed pair.wire.remote w.primary.link
@@ -127,7 +126,7 @@ pub record DownRefine (first second : Holder) (pair : Pair) (w : World) : Type 0
   pub none_told : w.primary.notices ≡ 0
   pub image : IsDown first w.primary.calls w.primary.committer.position pair.primary.device
   pub opened : w.primary.opened ≡ w.primary.committer.position
-  pub recalls : RecallsEach w.standby.position w.primary.committer.position (past_of w.primary.calls) image.contents
+  pub recalls : RecallsFor w.standby.position w.primary.committer.position (past_of w.primary.calls) image.contents
   pub epoch : pair.wire.link.epoch ≡ w.primary.epoch
   pub frames : AreFramesSent pair.wire.link.epoch w.primary.calls pair.wire.frames w.wire.frames
   -- while there is a standby, nothing of an earlier epoch is on the way to it

@@ -1,16 +1,34 @@
 -- What a primary's image still tells of the keyspaces that the standby may stand at, over the list of calls.
-use Rattle.std.specs.Prelude.{ℕ, ◌<◌, ◌≤◌, List}
+use Rattle.std.specs.Prelude.{◌≡◌, ℕ, ◌<◌, ◌≤◌, List}
 use Rattle.kv_types.specs.Change.{changes_size}
+use Rattle.kv_types.specs.Keyspace.{play_all}
 use Rattle.model.specs.declared.call.Call.{Call}
+use Rattle.model.specs.declared.work.FreeList.{FreeList}
+use Rattle.model.specs.declared.work.Work.{Work}
 use Rattle.model.specs.Call.{position_of}
+use Rattle.model.specs.Group.{Contents}
+use Rattle.redis_core.specs.Sequencing.{Sequencing}
 use Rattle.standby_stream.specs.declared.opening.Opening.{Opening}
 use Rattle.standby_stream.specs.Delta.{delta_changes}
 use Rattle.stream_codec.specs.declared.message.TheConstants.{MAX_BODY_BYTES}
 pub use Rattle.node_steps.specs.Node.{past_of}
-use Rattle.primary.specs.Recalling.{DeltaLeads}
+use Rattle.primary.specs.Recalling.{Past, RecallsEach, Remembers}
 
--- From each position that the standby may stand at, the delta leads to the keyspace at which the primary was opened, and one frame has room for it.
+-- The contents, at this position, remember each keyspace from their record's floor on, and the standby stands no lower.
+pub record RemembersFor (standby position : ℕ) (past : Past) (contents : Contents) (items : List Work) (aside : List FreeList) (s : Sequencing) : Type 0 where
+  pub floored : contents.current.floor ≤ standby
+  pub remembers : Remembers contents.current.floor position past contents items aside s
+
+-- The contents of an image recall each keyspace from their record's floor on up to this position, and the standby stands no lower.
+pub record RecallsFor (standby position : ℕ) (past : Past) (contents : Contents) : Type 0 where
+  pub floored : contents.current.floor ≤ standby
+  pub recalls : RecallsEach contents.current.floor position past contents
+
+-- From each position that the standby may stand at, which is no lower than the opening's floor, the delta leads to the keyspace at which the primary was opened, and
+-- one frame has room for it.
 pub record OpeningLeads (low opened : ℕ) (calls : List Call) (opening : Opening) : Type 0 where
   pub within : opened ≤ position_of calls
-  pub delta : DeltaLeads low opened (past_of calls) opening
+  pub opened_at : opening.position ≡ opened
+  pub floored : opening.floor ≤ low
+  pub leads : (p : ℕ) → low ≤ p → p < opened → play_all (past_of calls p) (delta_changes opening p) ≡ past_of calls opened
   pub size : (p : ℕ) → low ≤ p → p < opened → changes_size (delta_changes opening p) ≤ MAX_BODY_BYTES

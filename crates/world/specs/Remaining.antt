@@ -13,9 +13,8 @@ use Rattle.wbl_engine.specs.Lawful.{AreLawful}
 use Rattle.machine.specs.declared.event.Cut.{Cut}
 use Rattle.machine.specs.declared.event.Node.TheVariants as node
 use Rattle.machine.specs.Event.{At, AsPrimary, Remains, World, may_remain}
-use Rattle.primary.specs.Recalling.{RecallsEach}
 use Rattle.world.specs.Committing.{AreContentsAt, OpensAt, promoted_holder}
-use Rattle.world.specs.Recalling.{past_of}
+use Rattle.world.specs.Recalling.{RecallsFor, past_of}
 
 -- ---- how an image opens
 
@@ -62,12 +61,17 @@ pub record LeftBy (holder : Holder) (w : World) (call : Cut) (image : Image) : T
   pub contents_at : AreContentsAt holder w.primary.calls position contents
   pub lawful : AreLawful contents
   pub keeps : Keeps contents image
-  pub recalls : RecallsEach w.standby.position position (past_of w.primary.calls) contents
+  pub recalls : RecallsFor w.standby.position position (past_of w.primary.calls) contents
+
+-- The image holds contents of the list at this position as those of the primary which this standby becomes. Its floor is there: a standby has freed what ended.
+pub record KeepsPromoted (holder : Holder) (calls : List Call) (position : ℕ) (image : Image) : Type 0 where
+  pub kept : KeepsAt (promoted_holder holder) calls position image
+  pub floor : kept.contents.current.floor ≡ position
 
 -- A standby's: at this position, or as that of the primary which it becomes.
 abbrev pub KeepsAs : Holder → List Call → ℕ → Remains → Image → Type 0
 KeepsAs holder calls position (At p) image = KeepsAt holder calls p image
-KeepsAs holder calls position AsPrimary image = KeepsAt (promoted_holder holder) calls position image
+KeepsAs holder calls position AsPrimary image = KeepsPromoted holder calls position image
 
 -- what it may hold where it stands at this position, and a call may have left one of these
 pub record KeepsOne (holder : Holder) (calls : List Call) (position : ℕ) (others : List Remains) (image : Image) : Type 0 where

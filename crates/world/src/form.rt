@@ -72,7 +72,7 @@ fn make_between<K: Keyspace + Drop>(
     ensures ended { IfOk result (λ between. (between.sequencer.ended ≡ []) × (between.sequencer.newest ≡ 0)) }
     ensures no_work { IfOk result (λ between. between.work.items ≡ []) }
     ensures link { IfOk result (λ between. between.outgoing.link ≡ new_stream FIRST_EPOCH) }
-    ensures opening { IfOk result (λ between. between.outgoing.opening.position ≡ 0) }
+    ensures opening { IfOk result (λ between. (between.outgoing.opening.position ≡ 0) × (between.outgoing.opening.floor ≡ 0)) }
     ensures handed { IfOk result (λ between. between.handed.items ≡ []) }
     ensures arrivals { IfOk result (λ between. (epoch : ℕ) → ArrivalsRefine epoch [] (arrived_with between.arrivals between.history.acknowledgements) [] []) }
     ensures free_lines { IfOk result (λ between. (line : ℕ) → IsTrue (is_free_line between.room.heap line) ↔ ((first_extent_line lines.1 ≤ line) × (line < lines.1))) }

@@ -41,4 +41,5 @@ returns c =
     IsRecordOf-read (line_count c.args.words.now) image c.word_at-number.result (first_word c.slot_line-first.result) c.word_at-gap_count.result _
     sought refl (sym c.word_at-3.ensures) (sym c.word_at-4.ensures) (sym c.word_at-5.ensures) (sym c.word_at-6.ensures)
     (sym c.word_at-gap_count.ensures) c.in_ok-gaps.ensures.0 c.in_ok-gaps.ensures.1
-    (sym (ap (λ k. image (first_word c.slot_line-first.result + k)) c.role_word.ensures) ∙ sym c.word_at-2.ensures ∙ sym c.in_ok-role.ensures) (c.if-not-is_filled.ensures.0 refl)
+    (sym (ap (λ k. image (first_word c.slot_line-first.result + k)) c.role_word.ensures) ∙ sym c.word_at-2.ensures ∙ sym c.in_ok-role.ensures)
+    (sym (ap (λ k. image (first_word c.slot_line-first.result + k + 1)) c.role_word.ensures) ∙ sym c.word_at-7.ensures) (c.if-not-is_filled.ensures.0 refl)

@@ -22,6 +22,7 @@ returns g c =
     let over = resumed.sequencer contents layout lines position (sym epoch) c.requires.read in
     let consistent = consistent-read contents _ _ c.requires.read in
     let at = resumed.opening.0 ∙ c.position.ensures in
+    let floor = resumed.floor ∙ ap (λ (r : Record). r.floor) c.record-3.ensures in
     let leads = leads_to contents _ _ consistent over (resumed.opening.1 contents layout lines c.requires.read) in
     record {
       stands = made.stands over consistent (laid-read contents _ _ c.requires.read) c.requires.durable;
@@ -29,6 +30,7 @@ returns g c =
       opened = rw made.sequencer (record {
         over = over;
         opened_at = at;
+        floor = floor;
         opening_is = resumed.opening.1 contents layout lines c.requires.read;
         leads = leads;
         fits = λ from. deltas_fit contents _ from (resumed.opening.1 contents layout lines c.requires.read) c.requires.read.lawful c.requires.lines c.requires.size;
@@ -37,9 +39,9 @@ returns g c =
         keys_are = resumed.keys;
       });
       ready = (made.ready.0, made.ready.1, made.ready.2, made.ready.3 ∙ position);
-      keeps = λ low past of image keyspaces recalled reopened. (
-        rw (made.sequencer, made.engine, made.ready.0, made.ready.2) (keeps-opened low past of image role.Primary contents recalled reopened _ over consistent keyspaces),
-        rw c.position.ensures (delta-leads low past of image role.Primary contents recalled reopened _ over consistent keyspaces _ at leads),
+      keeps = λ past of image keyspaces recalled reopened. (
+        rw (made.sequencer, made.engine, made.ready.0, made.ready.2) (keeps-opened past of image role.Primary contents recalled reopened _ over consistent keyspaces),
+        rw c.position.ensures (delta-leads past of image role.Primary contents recalled reopened _ over consistent keyspaces _ at floor leads),
       );
       cause = tt;
     }

@@ -28,9 +28,9 @@ assemble-requires-clause-size g c =
 pub returns-in-Ok-clause-keeps : goal.returns-in-Ok-clause-keeps
 returns-in-Ok-clause-keeps g c =
     IfOk-weaker c.assemble.result _ _
-    (λ opened all low past keyspaces recalled. (all low past _ _ keyspaces recalled (record { counted = _; gapped = _; reopens = c.in-Ok.ensures.reopens })).0) c.assemble.ensures.keeps
+    (λ opened all past keyspaces recalled. (all past _ _ keyspaces recalled (record { counted = _; gapped = _; reopens = c.in-Ok.ensures.reopens })).0) c.assemble.ensures.keeps
 
 pub returns-in-Ok-clause-delta : goal.returns-in-Ok-clause-delta
 returns-in-Ok-clause-delta g c =
     IfOk-weaker c.assemble.result _ _
-    (λ opened all low past keyspaces recalled. (all low past _ _ keyspaces recalled (record { counted = _; gapped = _; reopens = c.in-Ok.ensures.reopens })).1) c.assemble.ensures.keeps
+    (λ opened all past keyspaces recalled. (all past _ _ keyspaces recalled (record { counted = _; gapped = _; reopens = c.in-Ok.ensures.reopens })).1) c.assemble.ensures.keeps

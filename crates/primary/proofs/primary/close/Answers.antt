@@ -11,10 +11,10 @@ returns-clause-stands g c = λ over.
     c.close_next.result closed.closed closed.none closed.refused over
 
 pub returns-clause-keeps : goal.returns-clause-keeps
-returns-clause-keeps g c = λ low past over keeps.
+returns-clause-keeps g c = λ past over keeps.
     let b = c.args.back.now in
     let closed = c.close_next.ensures in
-    close-keeps low past (g.E.Durable.contents b.committer.engine) b.work c.close_next.new.work b.committer.aside.items c.args.front.now.sequencer c.close_next.new.sequencer [] over.consistent over.leads keeps
+    close-keeps (g.E.Durable.contents b.committer.engine).current.floor past (g.E.Durable.contents b.committer.engine) b.work c.close_next.new.work b.committer.aside.items c.args.front.now.sequencer c.close_next.new.sequencer [] over.consistent over.leads keeps
     c.close_next.result closed.closed closed.none closed.refused
 
 pub returns-clause-at : goal.returns-clause-at

@@ -60,16 +60,16 @@ returns-in_err-is_listed-clause-lacks g c =
 -- ---- the past
 
 pub returns-in_err-is_closed-clause-past : goal.returns-in_err-is_closed-clause-past
-returns-in_err-is_closed-clause-past g c = λ low past kept. c.close_group.ensures.past low past c.requires kept
+returns-in_err-is_closed-clause-past g c = λ past kept. c.close_group.ensures.past past c.requires kept
 
 pub returns-in_err-is_listed-clause-past : goal.returns-in_err-is_listed-clause-past
-returns-in_err-is_listed-clause-past g c = λ low past kept.
-    let stood = c.close_group.ensures.stands c.requires in c.close_list.ensures.past low past stood (c.close_group.ensures.past low past c.requires kept)
+returns-in_err-is_listed-clause-past g c = λ past kept.
+    let stood = c.close_group.ensures.stands c.requires in c.close_list.ensures.past past stood (c.close_group.ensures.past past c.requires kept)
 
 pub returns-then-is_closed-2-clause-past : goal.returns-then-is_closed-2-clause-past
-returns-then-is_closed-2-clause-past g c = λ low past kept.
-    let stood = c.close_group.ensures.stands c.requires in c.close_list.ensures.past low past stood (c.close_group.ensures.past low past c.requires kept)
+returns-then-is_closed-2-clause-past g c = λ past kept.
+    let stood = c.close_group.ensures.stands c.requires in c.close_list.ensures.past past stood (c.close_group.ensures.past past c.requires kept)
 
 pub returns-else-is_closed-2-clause-past : goal.returns-else-is_closed-2-clause-past
-returns-else-is_closed-2-clause-past g c = λ low past kept.
-    let stood = c.close_group.ensures.stands c.requires in c.close_list.ensures.past low past stood (c.close_group.ensures.past low past c.requires kept)
+returns-else-is_closed-2-clause-past g c = λ past kept.
+    let stood = c.close_group.ensures.stands c.requires in c.close_list.ensures.past past stood (c.close_group.ensures.past past c.requires kept)

@@ -10,4 +10,4 @@ pub returns-in-Ok-clause-at : goal.returns-in-Ok-clause-at
 returns-in-Ok-clause-at g c = told-at _ c.args.front.now.sequencer c.take_back.new.front.sequencer c.take_back.ensures.taken
 
 pub returns-in-Ok-clause-past : goal.returns-in-Ok-clause-past
-returns-in-Ok-clause-past g c = λ low past kept. c.take_back.ensures.keeps low past _ _ _ kept
+returns-in-Ok-clause-past g c = λ past kept. c.take_back.ensures.keeps _ past _ _ _ kept

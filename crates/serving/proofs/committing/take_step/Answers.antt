@@ -13,9 +13,9 @@ returns-in-Err-Memory-clause-stands g c = λ s over. c.commit.ensures.again (c.i
 
 pub returns-in-Ok-clause-past : goal.returns-in-Ok-clause-past
 returns-in-Ok-clause-past g c = record {
-  kept = λ s low past passed over kept. c.in-Ok.ensures.keeps s [] low past passed over kept;
+  kept = λ s past over kept. c.in-Ok.ensures.keeps s [] past over kept;
   sound = c.in-Ok.ensures.sound;
-  leaves = λ sound s low past passed over kept. c.commit.ensures.leaves sound s [] low past passed over kept;
+  leaves = λ sound s past over kept. c.commit.ensures.leaves sound s [] past over kept;
 }
 
 pub returns-in-Err-Memory-clause-past : goal.returns-in-Err-Memory-clause-past
@@ -23,14 +23,14 @@ returns-in-Err-Memory-clause-past g c =
     let refused = c.in-Err-Memory.is ∙ ap Err c.in-Err-Memory.field-0-is in
     let same = c.commit.ensures.unmoved refused in
     record {
-      kept = λ s low past passed over kept. c.commit.ensures.still refused s [] low past passed over kept;
+      kept = λ s past over kept. c.commit.ensures.still refused s [] past over kept;
       sound = λ sound. ap g.E.Durable.is_faulted same ∙ sound;
-      leaves = λ sound s low past passed over kept. c.commit.ensures.leaves sound s [] low past passed over kept;
+      leaves = λ sound s past over kept. c.commit.ensures.leaves sound s [] past over kept;
     }
 
 pub returns-in-Err-clause-past : goal.returns-in-Err-clause-past
 returns-in-Err-clause-past g c = record {
-  kept = λ s low past passed over kept. tt;
+  kept = λ s past over kept. tt;
   sound = λ sound. tt;
-  leaves = λ sound s low past passed over kept. c.commit.ensures.leaves sound s [] low past passed over kept;
+  leaves = λ sound s past over kept. c.commit.ensures.leaves sound s [] past over kept;
 }

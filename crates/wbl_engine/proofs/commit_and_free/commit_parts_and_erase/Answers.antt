@@ -38,7 +38,7 @@ pub returns-in_err-stage_and_erase-clause-moments : goal.returns-in_err-stage_an
 returns-in_err-stage_and_erase-clause-moments g c =
     let begun = committing c.args.next.now c.requires.rest c.requires.asked c.in_err-stage_and_erase.ensures.writable in
     let old = contents_of c.args.current.now (g.P.Pmem.state c.args.device.now) in
-    LeavesOnly-weaken (KeepsFreedOr c.args.entries.now old (after_parts (after_free c.args.entries.now old) c.args.parts.now c.args.next.now.position c.args.next.now.epoch))
+    LeavesOnly-weaken (KeepsFreedOr c.args.entries.now old (after_parts (after_free c.args.entries.now old) c.args.parts.now c.args.next.now.position c.args.next.now.epoch c.args.next.now.floor))
     (λ image partly. inl (both_partly c.args.entries.now begun c.requires.ended image partly)) c.in_err-stage_and_erase.ensures.err.moments
 
 pub returns-clause-rest : goal.returns-clause-rest

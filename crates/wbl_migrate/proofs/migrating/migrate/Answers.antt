@@ -1,4 +1,5 @@
 use Rattle.std.proofs.Common.{subst}
+use Rattle.std.proofs.lemmas.Result.{IfOk-weaker}
 use Rattle.pmem.specs.Crash.{image_of}
 use Rattle.model.specs.declared.layout.Layout.TheVariants.{Version1, Version2, Halfway}
 use Rattle.model.specs.declared.layout.Layout.{Layout}
@@ -38,3 +39,10 @@ returns-in-Ok-Halfway-clause-exhausted g c =
     let halfway : HasSuperblock Halfway d.lines (image_of d.words) =
     subst (λ (layout : Layout). HasSuperblock layout d.lines (image_of d.words)) c.in-Ok-Halfway.field-0-is c.in-Ok-Halfway.ensures.ok in
     if_err c.finish.result c.finish.ensures.exhausted (λ refused told is r s migratable. told is r s (only_halfway d.lines r s (image_of d.words) halfway migratable))
+
+pub returns-in-Ok-Halfway-clause-ok : goal.returns-in-Ok-Halfway-clause-ok
+returns-in-Ok-Halfway-clause-ok g c =
+    let d = g.P.Pmem.state c.args.device in
+    let halfway : HasSuperblock Halfway d.lines (image_of d.words) =
+    subst (λ (layout : Layout). HasSuperblock layout d.lines (image_of d.words)) c.in-Ok-Halfway.field-0-is c.in-Ok-Halfway.ensures.ok in
+    IfOk-weaker c.finish.result _ _ (λ after told r s migratable. told r s (only_halfway d.lines r s (image_of d.words) halfway migratable)) c.finish.ensures.ok

@@ -1,4 +1,4 @@
-use Rattle.std.proofs.Common.{Err, ap}
+use Rattle.std.proofs.Common.{Err, inl, ap}
 use Rattle.kv_types.specs.declared.refusal.Refusal.TheVariants.{Exhausted, Full}
 use Rattle.pmem.specs.Crash.{image_of}
 use Rattle.wbl_migrate.proofs.Limits.{switching_exhausts, told_cause, vacating_exhausts}
@@ -15,13 +15,13 @@ pub returns-in-Ok-switch-clause-moments : goal.returns-in-Ok-switch-clause-momen
 returns-in-Ok-switch-clause-moments g c r s old =
     let vacated = c.in-Ok-vacate.ensures in
     upgrading (g.P.Pmem.state c.args.device) (g.P.Pmem.state c.in-Ok-vacate.device) (g.P.Pmem.state c.switch.new.device) r c.in-Ok-vacate.current s
-    vacated.line_count (vacated.goes_on r s old) vacated.lawful (vacated.ok r s old) (vacated.moments r s old) (c.switch.ensures.unmarked s)
+    vacated.line_count (vacated.goes_on r s old) (vacated.ok r s old) (vacated.moments r s old) (c.switch.ensures.unmarked s)
 
 pub returns-in-Err-switch-clause-moments : goal.returns-in-Err-switch-clause-moments
 returns-in-Err-switch-clause-moments g c r s old =
     let vacated = c.in-Ok-vacate.ensures in
     upgrading (g.P.Pmem.state c.args.device) (g.P.Pmem.state c.in-Ok-vacate.device) (g.P.Pmem.state c.switch.new.device) r c.in-Ok-vacate.current s
-    vacated.line_count (vacated.goes_on r s old) vacated.lawful (vacated.ok r s old) (vacated.moments r s old) (c.switch.ensures.unmarked s)
+    vacated.line_count (vacated.goes_on r s old) (vacated.ok r s old) (vacated.moments r s old) (c.switch.ensures.unmarked s)
 
 pub returns-in-Err-vacate-clause-damaged : goal.returns-in-Err-vacate-clause-damaged
 returns-in-Err-vacate-clause-damaged g c =
@@ -50,3 +50,8 @@ returns-in-Err-switch-clause-exhausted g c is r s old =
     let vacated = c.in-Ok-vacate.ensures in
     switching_exhausts (g.P.Pmem.state c.args.device).lines r c.in-Ok-vacate.current s (g.P.Pmem.state c.in-Ok-vacate.device) (g.P.Pmem.state c.switch.new.device)
     (vacated.goes_on r s old) (vacated.ok r s old) (c.in-Err-switch.ensures.exhausted (ap Err is))
+
+pub returns-in-Ok-switch-clause-only : goal.returns-in-Ok-switch-clause-only
+returns-in-Ok-switch-clause-only g c =
+    let old = c.in-Ok-vacate.ensures.only in
+    record { current = old.0; keyspace = old.1; is = inl old.2 }

@@ -14,7 +14,7 @@ use Rattle.wbl_migrate.proofs.MoveSteps.{mid_ended, moved_has, moved_step, moves
 use Rattle.wbl_migrate.proofs.StepLemmas.{no_step, ok_no_error}
 use Rattle.wbl_migrate.proofs.moving.move_version.Given.{Over}
 use Rattle.wbl_migrate.proofs.moving.move_version.Goals as goal
-use Rattle.wbl_migrate.proofs.moving.move_version.Goals.{After-deref, After-free, After-relocate}
+use Rattle.wbl_migrate.proofs.moving.move_version.Goals.{After-deref, After-free_unraised, After-relocate}
 
 pub returns-in_err-part-clause-step : goal.returns-in_err-part-clause-step
 returns-in_err-part-clause-step g c =
@@ -69,29 +69,29 @@ returns-in_err-relocate-clause-step g c =
 room : (g : Over) (c : After-deref g) → ¬ ExhaustsRelocation (g.E.Durable.contents c.args.engine.now).current
 room g c = λ exhausts. ok_no_error c.in_ok-relocate.field-0 Exhausted (c.in_ok-relocate.ensures.exhausts c.requires.ready.sound exhausts)
 
-pub free-requires : goal.free-requires
-free-requires g c =
-    let at = goal.at.free-requires g c in
+pub free_unraised-requires : goal.free_unraised-requires
+free_unraised-requires g c =
+    let at = goal.at.free_unraised-requires g c in
     let told = c.in_ok-relocate.ensures in
     subst (AreEnded (g.E.Durable.contents c.relocate.new.self)) (sym (c.deref.ensures.value ∙ c.in_ok-part.ensures.ended))
     (mid_ended g.E.Durable.device g.E.Durable.contents g.E.Durable.is_faulted c.args.engine.now c.requires.ready (move g at.After-relocate) (asked g at.After-relocate) c.relocate.new.self (room g at.After-deref)
     told.moved told.durable told.fences.sound told.fences.asked_moment (told.moments c.requires.ready.sound))
 
-pub returns-in_err-free-clause-step : goal.returns-in_err-free-clause-step
-returns-in_err-free-clause-step g c =
-    let exit = err_from_is_err_and c.from_residual-in_err-free.result c.from_residual-in_err-free.ensures.1 in
-    let at = goal.at.returns-in_err-free-clause-step g c in
+pub returns-in_err-free_unraised-clause-step : goal.returns-in_err-free_unraised-clause-step
+returns-in_err-free_unraised-clause-step g c =
+    let exit = err_from_is_err_and c.from_residual-in_err-free_unraised.result c.from_residual-in_err-free_unraised.ensures.1 in
+    let at = goal.at.returns-in_err-free_unraised-clause-step g c in
     let ready = c.requires.ready in
     let told = c.in_ok-relocate.ensures in
-    let last = c.in_err-free.ensures in
+    let last = c.in_err-free_unraised.ensures in
     let entries : c.deref.result.now ≡ c.args.from ∷ [] = c.deref.ensures.value ∙ c.in_ok-part.ensures.ended in
     rw (exit.1 ∙ ap Err exit.2)
     (unfreed_step g.E.Durable.device g.E.Durable.contents g.E.Durable.is_faulted c.args.engine.now ready (move g at.After-relocate) (asked g at.After-relocate) c.relocate.new.self (room g at.After-deref)
-    told.moved told.durable told.fences.sound told.fences.asked_moment (told.moments ready.sound) c.free.new.self last.fences.asked_moment
-    (subst (λ (xs : List EntryNo). LeavesOnly (g.E.Durable.device c.relocate.new.self) (g.E.Durable.device c.free.new.self) (KeepsWithoutSome xs (g.E.Durable.contents c.relocate.new.self))) entries
+    told.moved told.durable told.fences.sound told.fences.asked_moment (told.moments ready.sound) c.free_unraised.new.engine last.fences.asked_moment
+    (subst (λ (xs : List EntryNo). LeavesOnly (g.E.Durable.device c.relocate.new.self) (g.E.Durable.device c.free_unraised.new.engine) (KeepsWithoutSome xs (g.E.Durable.contents c.relocate.new.self))) entries
     (last.moments told.fences.sound.0))
-    c.in_err-free.field-0.0 last.causes (λ memory. last.memory (ap Err memory))
-    (λ fault. subst (λ (xs : List EntryNo). Same (after_free xs (g.E.Durable.contents c.relocate.new.self)) (g.E.Durable.contents c.free.new.self)) entries (last.stays (ap Err fault) told.fences.sound.0))
+    c.in_err-free_unraised.field-0.0 last.causes (λ memory. last.memory (ap Err memory))
+    (λ fault. subst (λ (xs : List EntryNo). Same (after_free xs (g.E.Durable.contents c.relocate.new.self)) (g.E.Durable.contents c.free_unraised.new.engine)) entries (last.stays (ap Err fault) told.fences.sound.0))
     (λ fault. (last.fences.stopped (ap Err fault), failed_now (g.E.Durable.is_faulted c.relocate.new.self) (last.fences.fault (ap Err fault)) told.fences.sound.0)))
 
 pub returns-clause-moved : goal.returns-clause-moved
@@ -99,23 +99,23 @@ returns-clause-moved g c =
     let at = goal.at.returns-clause-moved g c in
     let ready = c.requires.ready in
     let told = c.in_ok-relocate.ensures in
-    let last = c.in_ok-free.ensures in
+    let last = c.in_ok-free_unraised.ensures in
     let entries : c.deref.result.now ≡ c.args.from ∷ [] = c.deref.ensures.value ∙ c.in_ok-part.ensures.ended in
     moved_has g.E.Durable.device g.E.Durable.contents g.E.Durable.is_faulted c.args.engine.now ready (move g at.After-relocate) (asked g at.After-relocate) c.relocate.new.self (room g at.After-deref)
-    told.moved told.durable told.fences.sound told.fences.asked_moment (told.moments ready.sound) c.free.new.self last.fences.asked_moment
-    (subst (λ (xs : List EntryNo). LeavesOnly (g.E.Durable.device c.relocate.new.self) (g.E.Durable.device c.free.new.self) (KeepsWithoutSome xs (g.E.Durable.contents c.relocate.new.self))) entries
+    told.moved told.durable told.fences.sound told.fences.asked_moment (told.moments ready.sound) c.free_unraised.new.engine last.fences.asked_moment
+    (subst (λ (xs : List EntryNo). LeavesOnly (g.E.Durable.device c.relocate.new.self) (g.E.Durable.device c.free_unraised.new.engine) (KeepsWithoutSome xs (g.E.Durable.contents c.relocate.new.self))) entries
     (last.moments told.fences.sound.0))
-    (subst (λ (xs : List EntryNo). Same (after_free xs (g.E.Durable.contents c.relocate.new.self)) (g.E.Durable.contents c.free.new.self)) entries last.moved)
+    (subst (λ (xs : List EntryNo). Same (after_free xs (g.E.Durable.contents c.relocate.new.self)) (g.E.Durable.contents c.free_unraised.new.engine)) entries last.moved)
 
 pub returns-clause-step : goal.returns-clause-step
 returns-clause-step g c =
     let at = goal.at.returns-clause-step g c in
     let ready = c.requires.ready in
     let told = c.in_ok-relocate.ensures in
-    let last = c.in_ok-free.ensures in
+    let last = c.in_ok-free_unraised.ensures in
     let entries : c.deref.result.now ≡ c.args.from ∷ [] = c.deref.ensures.value ∙ c.in_ok-part.ensures.ended in
     moved_step g.E.Durable.device g.E.Durable.contents g.E.Durable.is_faulted c.args.engine.now ready (move g at.After-relocate) (asked g at.After-relocate) c.relocate.new.self (room g at.After-deref)
-    told.moved told.durable told.fences.sound told.fences.asked_moment (told.moments ready.sound) c.free.new.self last.fences.asked_moment
-    (subst (λ (xs : List EntryNo). LeavesOnly (g.E.Durable.device c.relocate.new.self) (g.E.Durable.device c.free.new.self) (KeepsWithoutSome xs (g.E.Durable.contents c.relocate.new.self))) entries
+    told.moved told.durable told.fences.sound told.fences.asked_moment (told.moments ready.sound) c.free_unraised.new.engine last.fences.asked_moment
+    (subst (λ (xs : List EntryNo). LeavesOnly (g.E.Durable.device c.relocate.new.self) (g.E.Durable.device c.free_unraised.new.engine) (KeepsWithoutSome xs (g.E.Durable.contents c.relocate.new.self))) entries
     (last.moments told.fences.sound.0))
-    (subst (λ (xs : List EntryNo). Same (after_free xs (g.E.Durable.contents c.relocate.new.self)) (g.E.Durable.contents c.free.new.self)) entries last.moved) last.durable last.fences.sound
+    (subst (λ (xs : List EntryNo). Same (after_free xs (g.E.Durable.contents c.relocate.new.self)) (g.E.Durable.contents c.free_unraised.new.engine)) entries last.moved) last.durable last.fences.sound

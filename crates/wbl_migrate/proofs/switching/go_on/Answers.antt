@@ -1,3 +1,5 @@
+use Rattle.kv_types.specs.declared.refusal.Refusal.TheVariants.{Exhausted}
+use Rattle.wbl_migrate.proofs.StepLemmas.{ok_no_error}
 use Rattle.wbl_migrate.proofs.SwitchLemmas.{record_moments, renewed_images, new_images, mark_moments, halfway_map}
 use Rattle.wbl_migrate.proofs.switching.go_on.Goals as goal
 
@@ -20,7 +22,8 @@ returns-in-Ok-clause-ok g c s all =
     let b = g.P.Pmem.state c.write_new_record.new.device in
     let current = c.args.current.now in
     let lines = c.write_new_record.ensures.elsewhere.stays.lines in
-    let renewed = renewed_images a b a.lines current s lines (c.write_new_record.ensures.moments current s all) c.in_ok-write_new_record.ensures.ok in
+    let renewed = renewed_images a b a.lines current s lines (c.write_new_record.ensures.moments current s all) c.in_ok-write_new_record.ensures.ok
+    (λ last. ok_no_error c.in_ok-write_new_record.field-0 Exhausted (c.in_ok-write_new_record.ensures.exhausts last)) in
     new_images b (g.P.Pmem.state c.mark_new.new.device) a.lines current s lines (c.in-Ok.ensures.ok current s renewed)
 
 pub returns-in-Ok-clause-moments : goal.returns-in-Ok-clause-moments
@@ -30,7 +33,8 @@ returns-in-Ok-clause-moments g c s all =
     let current = c.args.current.now in
     let lines = c.write_new_record.ensures.elsewhere.stays.lines in
     let moments = c.write_new_record.ensures.moments current s all in
-    let renewed = renewed_images a b a.lines current s lines moments c.in_ok-write_new_record.ensures.ok in
+    let renewed = renewed_images a b a.lines current s lines moments c.in_ok-write_new_record.ensures.ok
+    (λ last. ok_no_error c.in_ok-write_new_record.field-0 Exhausted (c.in_ok-write_new_record.ensures.exhausts last)) in
     mark_moments a b (g.P.Pmem.state c.mark_new.new.device) a.lines current s lines moments (c.mark_new.ensures.moments current s renewed)
 
 pub returns-in-Ok-clause-map : goal.returns-in-Ok-clause-map
@@ -45,7 +49,8 @@ returns-in-Err-clause-moments g c s all =
     let current = c.args.current.now in
     let lines = c.write_new_record.ensures.elsewhere.stays.lines in
     let moments = c.write_new_record.ensures.moments current s all in
-    let renewed = renewed_images a b a.lines current s lines moments c.in_ok-write_new_record.ensures.ok in
+    let renewed = renewed_images a b a.lines current s lines moments c.in_ok-write_new_record.ensures.ok
+    (λ last. ok_no_error c.in_ok-write_new_record.field-0 Exhausted (c.in_ok-write_new_record.ensures.exhausts last)) in
     mark_moments a b (g.P.Pmem.state c.mark_new.new.device) a.lines current s lines moments (c.mark_new.ensures.moments current s renewed)
 
 pub returns-in-Err-clause-map : goal.returns-in-Err-clause-map

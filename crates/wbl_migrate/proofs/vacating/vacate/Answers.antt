@@ -8,8 +8,8 @@ use Rattle.model.specs.Image.{Image}
 use Rattle.wbl_engine.specs.Relocating.{ExhaustsRelocation}
 use Rattle.wbl_engine.specs.Reopening.{RefusesReopening}
 use Rattle.wbl_migrate.specs.Vacating.{HasLastEntry}
-use Rattle.wbl_migrate.proofs.VacatingImages.{left_counts, never_full, opened_contents, opened_stand, readable_moments, stopped_old, vacated_goes_on}
-use Rattle.wbl_migrate.proofs.VacatingImages.{vacated_movable, vacating_moments}
+use Rattle.wbl_migrate.proofs.VacatingImages.{left_counts, never_full, on_ok, opened_contents, opened_old, opened_stand, readable_moments}
+use Rattle.wbl_migrate.proofs.VacatingImages.{stopped_old, vacated_goes_on, vacated_movable, vacating_moments}
 use Rattle.wbl_migrate.proofs.vacating.vacate.Goals as goal
 
 pub vacate_engine-requires-clause-ready : goal.vacate_engine-requires-clause-ready
@@ -97,3 +97,8 @@ returns-in-Err-clause-exhausted g c exhausted r s old =
       | inl fault ↦ absurd (let both : Fault ≡ Exhausted = sym fault ∙ exhausted in cc)
       | inr refuses ↦ inl (subst (RefusesReopening Version1 a.lines (image_of a.words) c.args.role) exhausted refuses.0)
     ]
+
+pub returns-in-Ok-clause-only : goal.returns-in-Ok-clause-only
+returns-in-Ok-clause-only g c =
+    let told = c.in-Ok.ensures in
+    on_ok c.vacate_engine.result (opened_old told.reopens told.layout)

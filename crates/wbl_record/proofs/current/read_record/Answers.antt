@@ -44,4 +44,4 @@ returns g c =
     IsRecordOf-read state.lines image c.load-number.result (first_word c.slot_line-first.result) c.load-gap_count.result _ sought refl
     (sym c.load-3.ensures) (sym c.load-4.ensures) (sym c.load-5.ensures) (sym c.load-6.ensures) (sym c.load-gap_count.ensures) c.in_ok-gaps.ensures.0
     c.in_ok-gaps.ensures.1 (sym (ap (λ k. image (first_word c.slot_line-first.result + k)) c.role_word.ensures) ∙ sym c.load-2.ensures ∙ sym c.in_ok-role.ensures)
-    (c.if-not-is_filled.ensures.0 refl)
+    (sym (ap (λ k. image (first_word c.slot_line-first.result + k + 1)) c.role_word.ensures) ∙ sym c.load-7.ensures) (c.if-not-is_filled.ensures.0 refl)

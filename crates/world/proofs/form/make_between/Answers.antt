@@ -9,4 +9,7 @@ pub returns-clause-arrivals : goal.returns-clause-arrivals
 returns-clause-arrivals g c = λ epoch. c.new-4.ensures epoch _ c.in_ok-history.ensures.none_sent.1
 
 pub returns-clause-opening : goal.returns-clause-opening
-returns-clause-opening g c = ap (λ (o : Opening). o.position) c.in_ok-handed.ensures.opening ∙ c.none.ensures.position
+returns-clause-opening g c = (
+  ap (λ (o : Opening). o.position) c.in_ok-handed.ensures.opening ∙ c.none.ensures.position,
+  ap (λ (o : Opening). o.floor) c.in_ok-handed.ensures.opening ∙ c.none.ensures.floor,
+)

@@ -12,7 +12,7 @@ returns-in-Some-clause-takes g c =
       group = c.in-Some.group;
       taken = sets.taken;
       set_aside = ap (λ lists. lists.items) c.commit.ensures.aside ∙ sets.set_aside;
-      commits = commits-from E.device E.contents E.is_faulted c.args.self.now c.set_aside.new.aside c.in-Some.group c.commit.result c.commit.new.self c.commit.ensures.commits;
+      commits = commits-from E.device E.contents E.is_faulted c.args.self.now c.set_aside.new.aside c.args.remote c.in-Some.group c.commit.result c.commit.new.self c.commit.ensures.commits;
     })
 
 pub returns-in-None-clause-takes : goal.returns-in-None-clause-takes

@@ -35,6 +35,8 @@ returns-clause-frees g c = λ list rest is.
       causes = tt;
       kept = tt;
       memory = λ of. cc;
+      exhausted = λ of. cc;
+      exhausts = λ sound reached. let told = engine.exhausts sound reached in cc;
       fault = λ of. cc;
       stopped = λ of. cc;
       lines = engine.moved.lines;

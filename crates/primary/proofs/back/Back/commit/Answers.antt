@@ -59,18 +59,18 @@ returns-clause-keeps g c =
     (nat_lt 0 (O.known_room c.turn.new.link)) c.args.remote c.turn.result c.turn.ensures.takes
 
 pub returns-clause-still : goal.returns-clause-still
-returns-clause-still g c = λ refused s notices low past passed stands keeps.
+returns-clause-still g c = λ refused s notices past stands keeps.
     let E = g.E.Durable in
     let O = g.O.Outlet in
-    refused-keeps E.device E.contents E.is_faulted low past s notices O.offered O.known_room c.args.self.now.committer c.turn.new.self c.args.self.now.work c.turn.new.work c.args.link.now c.turn.new.link
-    (nat_lt 0 (O.known_room c.turn.new.link)) c.args.remote passed stands keeps c.turn.result c.turn.ensures.takes refused
+    refused-keeps E.device E.contents E.is_faulted past s notices O.offered O.known_room c.args.self.now.committer c.turn.new.self c.args.self.now.work c.turn.new.work c.args.link.now c.turn.new.link
+    (nat_lt 0 (O.known_room c.turn.new.link)) c.args.remote stands keeps c.turn.result c.turn.ensures.takes refused
 
 pub returns-clause-leaves : goal.returns-clause-leaves
-returns-clause-leaves g c = λ sound s notices low past passed stands keeps.
+returns-clause-leaves g c = λ sound s notices past stands keeps.
     let E = g.E.Durable in
     let O = g.O.Outlet in
-    turn-leaves E.device E.contents E.is_faulted low past s notices O.offered O.known_room c.args.self.now.committer c.turn.new.self c.args.self.now.work c.turn.new.work c.args.link.now c.turn.new.link
-    (nat_lt 0 (O.known_room c.turn.new.link)) c.args.remote c.turn.result passed sound stands keeps c.turn.ensures.takes
+    turn-leaves E.device E.contents E.is_faulted past s notices O.offered O.known_room c.args.self.now.committer c.turn.new.self c.args.self.now.work c.turn.new.work c.args.link.now c.turn.new.link
+    (nat_lt 0 (O.known_room c.turn.new.link)) c.args.remote c.turn.result sound stands keeps c.turn.ensures.takes
 
 pub returns-clause-sound : goal.returns-clause-sound
 returns-clause-sound g c =

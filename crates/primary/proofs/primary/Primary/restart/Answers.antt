@@ -62,17 +62,17 @@ returns-clause-leads g c =
     leads_to contents _ _ (consistent-read contents _ _ are) (made.sequencer contents (sym c.layout-layout.ensures) lines position (sym c.epoch.ensures) are) (made.opening.1 contents (sym c.layout-layout.ensures) lines are)
 
 pub returns-clause-keeps : goal.returns-clause-keeps
-returns-clause-keeps g c = λ low past keyspaces recalled.
+returns-clause-keeps g c = λ past keyspaces recalled.
     let device = g.E.Durable.device c.args.self.now.back.committer.engine in
     let contents = g.E.Durable.contents c.restart.new.self.engine in
     let are = are_of g (goal.at.returns-clause-keeps g c).After-epoch in
     let over = c.in_ok-sequencer.ensures.sequencer contents (sym c.layout-layout.ensures) (sym c.lines-lines.ensures) (sym c.position.ensures) (sym c.epoch.ensures) are in
     let opened = c.in_ok-versions.ensures in
     rw (opened.ready.2, c.drop_all.ensures)
-    (keeps-opened low past device.lines (image_of device.words) role.Primary contents recalled (record { counted = c.in_ok-versions.versions.counted.items; gapped = c.in_ok-versions.versions.gapped.items; reopens = opened.reopens }) _ over (consistent-read contents _ _ are) keyspaces)
+    (keeps-opened past device.lines (image_of device.words) role.Primary contents recalled (record { counted = c.in_ok-versions.versions.counted.items; gapped = c.in_ok-versions.versions.gapped.items; reopens = opened.reopens }) _ over (consistent-read contents _ _ are) keyspaces)
 
 pub returns-clause-delta : goal.returns-clause-delta
-returns-clause-delta g c = λ low past keyspaces recalled.
+returns-clause-delta g c = λ past keyspaces recalled.
     let device = g.E.Durable.device c.args.self.now.back.committer.engine in
     let contents = g.E.Durable.contents c.restart.new.self.engine in
     let are = are_of g (goal.at.returns-clause-delta g c).After-epoch in
@@ -80,8 +80,8 @@ returns-clause-delta g c = λ low past keyspaces recalled.
     let lines = sym c.lines-lines.ensures in
     let over = made.sequencer contents (sym c.layout-layout.ensures) lines (sym c.position.ensures) (sym c.epoch.ensures) are in
     let consistent = consistent-read contents _ _ are in
-    delta-leads low past device.lines (image_of device.words) role.Primary contents recalled (record { counted = c.in_ok-versions.versions.counted.items; gapped = c.in_ok-versions.versions.gapped.items; reopens = c.in_ok-versions.ensures.reopens }) _ over consistent keyspaces _
-    (made.opening.0 ∙ c.position.ensures) (leads_to contents _ _ consistent over (made.opening.1 contents (sym c.layout-layout.ensures) lines are))
+    delta-leads past device.lines (image_of device.words) role.Primary contents recalled (record { counted = c.in_ok-versions.versions.counted.items; gapped = c.in_ok-versions.versions.gapped.items; reopens = c.in_ok-versions.ensures.reopens }) _ over consistent keyspaces _
+    (made.opening.0 ∙ c.position.ensures) (made.floor ∙ c.floor-floor.ensures) (leads_to contents _ _ consistent over (made.opening.1 contents (sym c.layout-layout.ensures) lines are))
 
 pub returns-in_err-sequencer-clause-refused : goal.returns-in_err-sequencer-clause-refused
 returns-in_err-sequencer-clause-refused g c =
@@ -89,13 +89,13 @@ returns-in_err-sequencer-clause-refused g c =
     rw exit.1 (inr (inl (exit.2 ∙ c.in_err-sequencer.ensures.cause)))
 
 pub returns-clause-leaves : goal.returns-clause-leaves
-returns-clause-leaves g c = λ r low past undamaged recalled.
-    reopening-leaves low past (g.E.Durable.device c.args.self.now.back.committer.engine) (g.E.Durable.device c.restart.new.self.engine) _ r recalled undamaged (c.restart.ensures.moments r undamaged)
+returns-clause-leaves g c = λ r past undamaged recalled.
+    reopening-leaves past (g.E.Durable.device c.args.self.now.back.committer.engine) (g.E.Durable.device c.restart.new.self.engine) _ r recalled undamaged (c.restart.ensures.moments r undamaged)
 
 pub returns-in_err-sequencer-clause-leaves : goal.returns-in_err-sequencer-clause-leaves
-returns-in_err-sequencer-clause-leaves g c = λ r low past undamaged recalled.
-    reopening-leaves low past (g.E.Durable.device c.args.self.now.back.committer.engine) (g.E.Durable.device c.restart.new.self.engine) _ r recalled undamaged (c.restart.ensures.moments r undamaged)
+returns-in_err-sequencer-clause-leaves g c = λ r past undamaged recalled.
+    reopening-leaves past (g.E.Durable.device c.args.self.now.back.committer.engine) (g.E.Durable.device c.restart.new.self.engine) _ r recalled undamaged (c.restart.ensures.moments r undamaged)
 
 pub returns-in_err-versions-clause-leaves : goal.returns-in_err-versions-clause-leaves
-returns-in_err-versions-clause-leaves g c = λ r low past undamaged recalled.
-    reopening-leaves low past (g.E.Durable.device c.args.self.now.back.committer.engine) (g.E.Durable.device c.restart.new.self.engine) _ r recalled undamaged (c.restart.ensures.moments r undamaged)
+returns-in_err-versions-clause-leaves g c = λ r past undamaged recalled.
+    reopening-leaves past (g.E.Durable.device c.args.self.now.back.committer.engine) (g.E.Durable.device c.restart.new.self.engine) _ r recalled undamaged (c.restart.ensures.moments r undamaged)

@@ -1,4 +1,4 @@
-use Rattle.std.proofs.Common.{◌≡◌, ◌<◌, [], ◌∷◌, ◌++◌, List, inl, refl, sym, ap, subst, subst₂, ◌∙◌}
+use Rattle.std.proofs.Common.{◌≡◌, ◌<◌, [], ◌∷◌, ◌++◌, List, arith, inl, refl, sym, ap, subst, subst₂, ◌∙◌}
 use Rattle.std.specs.Option.{option_to_list}
 use Rattle.kv_types.specs.declared.place.EntryNo.{EntryNo}
 use Rattle.kv_types.specs.declared.place.Extent.{Extent}
@@ -7,10 +7,11 @@ use Rattle.pmem.specs.Runs.{LeavesOnly}
 use Rattle.pmem.proofs.Leaving.{none_leaves}
 use Rattle.model.specs.declared.group.Group.{Group}
 use Rattle.model.specs.declared.group.Part.{Part}
-use Rattle.model.specs.Group.{IsGroup, after_group}
+use Rattle.model.specs.Group.{Contents, IsGroup, after_group}
 use Rattle.placing.specs.Back.{CanGiveAll, GivesAll}
 use Rattle.wbl_engine.specs.Contents.{Same}
 use Rattle.wbl_engine.specs.Freeing.{KeepsFreedOr, after_free, extents_of}
+use Rattle.wbl_engine.proofs.RaisingLemmas.{group_reached}
 use Rattle.standby.specs.Following.{Follows}
 use Rattle.standby.proofs.BesideLemmas.{AreGone-beside, CanGiveAll-beside, Follows-then, HasTaken-beside, IsGroup-beside, IsGroup-freed, LeavesOnly-beside, lawful_beside}
 use Rattle.standby.proofs.EndedLemmas.{KeepsWithoutSome-none}
@@ -75,7 +76,8 @@ returns-in_err-commit_and_free-clause-moments g c =
     c.in_ok-part.part c.make_part.new.heap c.in_ok-part.ensures.ok.places c.in_ok-part.ensures.ok.ended (the_group g prefix) (one g prefix) c.requires.next.next.joined c.requires.next.epoch (later g prefix)
     c.args.frame c.in_ok-part.ensures.ok.changes_are c.in_ok-part.ensures.ok.position_is refl c.requires.counters device device'
     (subst (λ (entries : List EntryNo). LeavesOnly device device' (KeepsFreedOr entries contents (after_group (after_free entries contents) (the_group g prefix)))) c.deref-2.ensures.value
-    (c.commit_and_free.ensures.moments c.requires.sound))
+    (subst (λ (there : Contents). LeavesOnly device device' (KeepsFreedOr c.deref-2.result.now contents there)) (group_reached 0 (after_free c.deref-2.result.now contents) (the_group g prefix) (omega arith))
+    (c.commit_and_free.ensures.moments c.requires.sound)))
 
 pub returns-clause-moments : goal.returns-clause-moments
 returns-clause-moments g c =
@@ -88,7 +90,8 @@ returns-clause-moments g c =
     c.in_ok-part.part c.make_part.new.heap c.in_ok-part.ensures.ok.places c.in_ok-part.ensures.ok.ended (the_group g prefix) (one g prefix) c.requires.next.next.joined c.requires.next.epoch (later g prefix)
     c.args.frame c.in_ok-part.ensures.ok.changes_are c.in_ok-part.ensures.ok.position_is refl c.requires.counters device device'
     (subst (λ (entries : List EntryNo). LeavesOnly device device' (KeepsFreedOr entries contents (after_group (after_free entries contents) (the_group g prefix)))) c.deref-2.ensures.value
-    (c.commit_and_free.ensures.moments c.requires.sound))
+    (subst (λ (there : Contents). LeavesOnly device device' (KeepsFreedOr c.deref-2.result.now contents there)) (group_reached 0 (after_free c.deref-2.result.now contents) (the_group g prefix) (omega arith))
+    (c.commit_and_free.ensures.moments c.requires.sound)))
 
 -- ---- what comes back
 
@@ -117,7 +120,8 @@ returns-clause-still g c =
     let extents : c.deref-4.result.now ≡ extents_of contents.versions c.args.self.now.ended.items =
     c.deref-4.ensures.value ∙ c.in_ok-extents.ensures ∙ ap (extents_of contents.versions) c.deref.ensures.value in
     let gives = subst₂ (λ (entries : List EntryNo) (extents : List Extent). GivesAll c.make_part.new.heap entries extents c.give_all.new.heap) c.deref-3.ensures.value extents c.give_all.ensures in
-    let same = subst (λ (entries : List EntryNo). Same (after_group (after_free entries contents) (the_group g prefix)) new) c.deref-2.ensures.value c.in_ok-commit_and_free.ensures.moved in
+    let same = subst (λ (entries : List EntryNo). Same (after_group (after_free entries contents) (the_group g prefix)) new) c.deref-2.ensures.value
+    (subst (λ (there : Contents). Same there new) (group_reached 0 (after_free c.deref-2.result.now contents) (the_group g prefix) (omega arith)) c.in_ok-commit_and_free.ensures.moved) in
     let part : c.unwrap-part.result ≡ c.in_ok-part.part =
     alone c.pop.new.self.items c.in_ok-part.part c.unwrap-part.result
     (sym (one g prefix) ∙ c.pop.ensures.items ∙ ap (λ last. c.pop.new.self.items ++ option_to_list last) c.unwrap-part.ensures) in
@@ -133,7 +137,8 @@ returns-clause-taken g c =
     let contents = g.E.Durable.contents c.args.self.now.engine in
     let new = g.E.Durable.contents c.commit_and_free.new.self in
     let image = image_of (g.E.Durable.device c.args.self.now.engine).words in
-    let same = subst (λ (entries : List EntryNo). Same (after_group (after_free entries contents) (the_group g prefix)) new) c.deref-2.ensures.value c.in_ok-commit_and_free.ensures.moved in
+    let same = subst (λ (entries : List EntryNo). Same (after_group (after_free entries contents) (the_group g prefix)) new) c.deref-2.ensures.value
+    (subst (λ (there : Contents). Same there new) (group_reached 0 (after_free c.deref-2.result.now contents) (the_group g prefix) (omega arith)) c.in_ok-commit_and_free.ensures.moved) in
     HasTaken-beside contents (g.K.Keyspace.table c.args.self.now.keyspace) c.args.self.now.heap c.args.self.now.ended.items c.requires.follows image (c.requires.durable image (λ word. inl refl))
     c.in_ok-part.part c.make_part.new.heap c.in_ok-part.ensures.ok.places c.in_ok-part.ensures.ok.ended (the_group g prefix) (one g prefix) c.requires.next.next.joined c.requires.next.epoch (later g prefix)
     c.args.frame c.in_ok-part.ensures.ok.changes_are c.in_ok-part.ensures.ok.position_is refl new (g.K.Keyspace.table c.make_part.new.keyspace) same c.in_ok-part.ensures.ok.table_is
@@ -144,7 +149,8 @@ returns-clause-gone g c =
     let contents = g.E.Durable.contents c.args.self.now.engine in
     let new = g.E.Durable.contents c.commit_and_free.new.self in
     let image = image_of (g.E.Durable.device c.args.self.now.engine).words in
-    let same = subst (λ (entries : List EntryNo). Same (after_group (after_free entries contents) (the_group g prefix)) new) c.deref-2.ensures.value c.in_ok-commit_and_free.ensures.moved in
+    let same = subst (λ (entries : List EntryNo). Same (after_group (after_free entries contents) (the_group g prefix)) new) c.deref-2.ensures.value
+    (subst (λ (there : Contents). Same there new) (group_reached 0 (after_free c.deref-2.result.now contents) (the_group g prefix) (omega arith)) c.in_ok-commit_and_free.ensures.moved) in
     AreGone-beside contents (g.K.Keyspace.table c.args.self.now.keyspace) c.args.self.now.heap c.args.self.now.ended.items c.requires.follows image (c.requires.durable image (λ word. inl refl))
     c.in_ok-part.part c.make_part.new.heap c.in_ok-part.ensures.ok.places c.in_ok-part.ensures.ok.ended (the_group g prefix) (one g prefix) c.requires.next.next.joined c.requires.next.epoch (later g prefix)
     c.args.frame c.in_ok-part.ensures.ok.changes_are c.in_ok-part.ensures.ok.position_is refl new same
@@ -155,7 +161,8 @@ returns-clause-lawful g c = λ lawful.
     let contents = g.E.Durable.contents c.args.self.now.engine in
     let new = g.E.Durable.contents c.commit_and_free.new.self in
     let image = image_of (g.E.Durable.device c.args.self.now.engine).words in
-    let same = subst (λ (entries : List EntryNo). Same (after_group (after_free entries contents) (the_group g prefix)) new) c.deref-2.ensures.value c.in_ok-commit_and_free.ensures.moved in
+    let same = subst (λ (entries : List EntryNo). Same (after_group (after_free entries contents) (the_group g prefix)) new) c.deref-2.ensures.value
+    (subst (λ (there : Contents). Same there new) (group_reached 0 (after_free c.deref-2.result.now contents) (the_group g prefix) (omega arith)) c.in_ok-commit_and_free.ensures.moved) in
     lawful_beside contents (g.K.Keyspace.table c.args.self.now.keyspace) c.args.self.now.heap c.args.self.now.ended.items c.requires.follows image (c.requires.durable image (λ word. inl refl))
     c.in_ok-part.part c.make_part.new.heap c.in_ok-part.ensures.ok.places c.in_ok-part.ensures.ok.ended (the_group g prefix) (one g prefix) c.requires.next.next.joined c.requires.next.epoch (later g prefix)
     c.args.frame c.in_ok-part.ensures.ok.changes_are c.in_ok-part.ensures.ok.position_is refl c.requires.counters new same lawful

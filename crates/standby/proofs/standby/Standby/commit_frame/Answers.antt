@@ -1,13 +1,16 @@
-use Rattle.std.proofs.Common.{◌≡◌, ◌<◌, [], ◌∷◌, ◌++◌, List, Err, inl, inr, refl, sym, ap, subst, ◌∙◌}
+use Rattle.std.proofs.Common.{◌≡◌, ◌<◌, [], ◌∷◌, ◌++◌, List, Err, arith, inl, inr, refl, sym, ap, subst, ◌∙◌}
 use Rattle.std.proofs.lemmas.Result.{err_from_is_err_and}
 use Rattle.std.specs.Option.{option_to_list}
+use Rattle.pmem.specs.Runs.{LeavesOnly}
 use Rattle.pmem.proofs.Leaving.{none_leaves}
 use Rattle.model.specs.declared.group.Group.{Group}
 use Rattle.model.specs.declared.group.Part.{Part}
-use Rattle.model.specs.Group.{IsGroup, after_group, puts_of_part}
+use Rattle.model.specs.Group.{Contents, IsGroup, after_group, puts_of_part}
 use Rattle.mv_keyspace.specs.Table.{place_all}
-use Rattle.wbl_engine.specs.Contents.{Exhausts, IsDurable}
+use Rattle.wbl_engine.specs.Contents.{Exhausts, IsDurable, Same}
+use Rattle.wbl_engine.proofs.Committing.{KeepsEither}
 use Rattle.wbl_engine.proofs.LawfulLemmas.{group_lawful, same_lawful}
+use Rattle.wbl_engine.proofs.RaisingLemmas.{group_reached}
 use Rattle.standby.specs.Following.{Follows}
 use Rattle.standby.proofs.EndedLemmas.{KeepsWithoutSome-none}
 use Rattle.std.proofs.lemmas.Bool.{true≢false}
@@ -53,26 +56,30 @@ returns-in_err-commit-clause-moments g c =
     let prefix = (goal.at.returns-in_err-commit-clause-moments g c).After-push_reserved in
     LeavesOnly-group (g.E.Durable.contents c.args.self.now.engine) (g.K.Keyspace.table c.args.self.now.keyspace) c.args.frame c.in_ok-part.part c.in_ok-part.ensures.ok.changes_are c.in_ok-part.ensures.ok.position_is
     (the_group g prefix) (one g prefix) refl c.make_part.new.heap c.in_ok-part.part.ended.items (follows_after g prefix) (is_group g prefix) c.requires.counters
-    (g.E.Durable.device c.args.self.now.engine) (g.E.Durable.device c.commit.new.self) (c.commit.ensures.moments c.requires.sound)
+    (g.E.Durable.device c.args.self.now.engine) (g.E.Durable.device c.commit.new.self) (subst (λ (there : Contents). LeavesOnly (g.E.Durable.device c.args.self.now.engine) (g.E.Durable.device c.commit.new.self) (KeepsEither (g.E.Durable.contents c.args.self.now.engine) there))
+    (group_reached 0 (g.E.Durable.contents c.args.self.now.engine) (the_group g prefix) (omega arith)) (c.commit.ensures.moments c.requires.sound))
 
 pub returns-clause-moments : goal.returns-clause-moments
 returns-clause-moments g c =
     let prefix = (goal.at.returns-clause-moments g c).After-push_reserved in
     LeavesOnly-group (g.E.Durable.contents c.args.self.now.engine) (g.K.Keyspace.table c.args.self.now.keyspace) c.args.frame c.in_ok-part.part c.in_ok-part.ensures.ok.changes_are c.in_ok-part.ensures.ok.position_is
     (the_group g prefix) (one g prefix) refl c.make_part.new.heap c.in_ok-part.part.ended.items (follows_after g prefix) (is_group g prefix) c.requires.counters
-    (g.E.Durable.device c.args.self.now.engine) (g.E.Durable.device c.commit.new.self) (c.commit.ensures.moments c.requires.sound)
+    (g.E.Durable.device c.args.self.now.engine) (g.E.Durable.device c.commit.new.self) (subst (λ (there : Contents). LeavesOnly (g.E.Durable.device c.args.self.now.engine) (g.E.Durable.device c.commit.new.self) (KeepsEither (g.E.Durable.contents c.args.self.now.engine) there))
+    (group_reached 0 (g.E.Durable.contents c.args.self.now.engine) (the_group g prefix) (omega arith)) (c.commit.ensures.moments c.requires.sound))
 
 pub returns-clause-taken : goal.returns-clause-taken
 returns-clause-taken g c =
     let prefix = (goal.at.returns-clause-taken g c).After-push_reserved in
     HasTaken-group (g.E.Durable.contents c.args.self.now.engine) (g.K.Keyspace.table c.args.self.now.keyspace) c.args.frame c.in_ok-part.part c.in_ok-part.ensures.ok.changes_are c.in_ok-part.ensures.ok.position_is
-    (the_group g prefix) (one g prefix) refl (g.E.Durable.contents c.commit.new.self) (g.K.Keyspace.table c.make_part.new.keyspace) c.in_ok-commit.ensures.moved c.in_ok-part.ensures.ok.table_is
+    (the_group g prefix) (one g prefix) refl (g.E.Durable.contents c.commit.new.self) (g.K.Keyspace.table c.make_part.new.keyspace)
+    (subst (λ (there : Contents). Same there (g.E.Durable.contents c.commit.new.self)) (group_reached 0 (g.E.Durable.contents c.args.self.now.engine) (the_group g prefix) (omega arith)) c.in_ok-commit.ensures.moved) c.in_ok-part.ensures.ok.table_is
 
 pub returns-clause-gone : goal.returns-clause-gone
 returns-clause-gone g c =
     let prefix = (goal.at.returns-clause-gone g c).After-push_reserved in
     gone-group (g.E.Durable.contents c.args.self.now.engine) (the_group g prefix) c.in_ok-part.part c.args.frame.after (one g prefix) c.in_ok-part.ensures.ok.position_is
-    (λ i ended. true≢false (sym (c.requires.follows.all i ended))) (g.E.Durable.contents c.commit.new.self) c.in_ok-commit.ensures.moved
+    (λ i ended. true≢false (sym (c.requires.follows.all i ended))) (g.E.Durable.contents c.commit.new.self)
+    (subst (λ (there : Contents). Same there (g.E.Durable.contents c.commit.new.self)) (group_reached 0 (g.E.Durable.contents c.args.self.now.engine) (the_group g prefix) (omega arith)) c.in_ok-commit.ensures.moved)
 
 pub returns-in_err-commit-clause-durable : goal.returns-in_err-commit-clause-durable
 returns-in_err-commit-clause-durable g c = λ no_fault.
@@ -98,7 +105,8 @@ returns-clause-still g c =
     alone c.pop.new.self.items c.in_ok-part.part c.unwrap-part.result
     (sym (one g prefix) ∙ c.pop.ensures.items ∙ ap (λ last. c.pop.new.self.items ++ option_to_list last) c.unwrap-part.ensures) in
     subst (λ (last : Part). Follows after table c.make_part.new.heap last.ended.items) (sym part)
-    (Follows-same (after_group contents (the_group g prefix)) after table c.make_part.new.heap c.in_ok-part.part.ended.items c.in_ok-commit.ensures.moved
+    (Follows-same (after_group contents (the_group g prefix)) after table c.make_part.new.heap c.in_ok-part.part.ended.items
+    (subst (λ (there : Contents). Same there (g.E.Durable.contents c.commit.new.self)) (group_reached 0 (g.E.Durable.contents c.args.self.now.engine) (the_group g prefix) (omega arith)) c.in_ok-commit.ensures.moved)
     (subst (λ rows. Follows (after_group contents (the_group g prefix)) rows c.make_part.new.heap c.in_ok-part.part.ended.items) (sym c.in_ok-part.ensures.ok.table_is) (follows_after g prefix)))
 
 pub returns-clause-lawful : goal.returns-clause-lawful
@@ -106,4 +114,5 @@ returns-clause-lawful g c = λ lawful _.
     let prefix = (goal.at.returns-clause-lawful g c).After-push_reserved in
     let contents = g.E.Durable.contents c.args.self.now.engine in
     let fits : ¬ Exhausts contents (the_group g prefix) = λ reached. let told = c.in_ok-commit.ensures.exhausts c.requires.sound reached in cc in
-    same_lawful (after_group contents (the_group g prefix)) (g.E.Durable.contents c.commit.new.self) c.in_ok-commit.ensures.moved (group_lawful contents (the_group g prefix) lawful (is_group g prefix) fits)
+    same_lawful (after_group contents (the_group g prefix)) (g.E.Durable.contents c.commit.new.self)
+    (subst (λ (there : Contents). Same there (g.E.Durable.contents c.commit.new.self)) (group_reached 0 (g.E.Durable.contents c.args.self.now.engine) (the_group g prefix) (omega arith)) c.in_ok-commit.ensures.moved) (group_lawful contents (the_group g prefix) lawful (is_group g prefix) fits)

@@ -46,7 +46,7 @@ pub returns-clause-still : goal.returns-clause-still
 returns-clause-still g c = λ _.
     let prefix = (goal.at.returns-clause-still g c).After-deref-3 in
     let contents = g.E.Durable.contents c.args.self.now.engine in
-    let new = g.E.Durable.contents c.free.new.self in
+    let new = g.E.Durable.contents c.free_unraised.new.engine in
     let table = g.K.Keyspace.table c.args.self.now.keyspace in
     let image = image_of (g.E.Durable.device c.args.self.now.engine).words in
     let gives = subst₂ (λ (entries : List EntryNo) (extents : List Extent). GivesAll c.args.self.now.heap entries extents c.give_all.new.heap) (entries_are g prefix) (extents_are g prefix) c.give_all.ensures in
@@ -57,6 +57,6 @@ returns-clause-still g c = λ _.
 pub returns-clause-lawful : goal.returns-clause-lawful
 returns-clause-lawful g c = λ lawful _.
     let contents = g.E.Durable.contents c.args.self.now.engine in
-    let new = g.E.Durable.contents c.free.new.self in
+    let new = g.E.Durable.contents c.free_unraised.new.engine in
     lawful_freed contents new c.args.self.now.ended.items c.requires.follows.listed
     (subst (λ (entries : List EntryNo). Same (after_free entries contents) new) c.deref.ensures.value c.in_ok-freed.ensures.moved) lawful

@@ -39,5 +39,5 @@ returns-clause-does g c =
     (λ sent may text. ap sent_of (sym c.in-Ack.is) ∙ c.in_ok-ack.ensures.read sent may (c.as_slice.ensures.value ∙ text))
     (λ counts low.
     let notes = (c.on_ack.ensures.counted counts (subst (λ (own : ℕ). c.in-Ack.ack.position ≤ own) (sym c.position.ensures) low)).1 in
-    (notes.link, notes.opened_at, notes.kept))
+    (notes.link, notes.opened_at, notes.floor, notes.kept))
     (λ stale. let same = (c.on_ack.ensures.stale stale).1 in (ap (λ (o : Outgoing). o.link) same, ap (λ (o : Outgoing). o.opening) same))

@@ -177,6 +177,7 @@ returns g c =
             none_handed = link.handed;
             link_is = link.link ∙ ap new_stream c.epoch-2.ensures;
             opened_at = ap (λ (o : Opening). o.position) link.opening ∙ told.opening.0;
+            floor = ap (λ (o : Opening). o.floor) link.opening ∙ told.floor;
             tells = subst (IsOpening (E.contents committer.engine)) (sym link.opening) told.opening.1;
             image = image_of (E.device committer.engine).words;
             shows = told.shows;

@@ -68,6 +68,7 @@ returns-clause-does g c = λ history.
       none_handed = made.handed;
       link_is = made.link ∙ ap new_stream c.epoch.ensures;
       opened_at = ap (λ (o : Opening). o.position) made.opening ∙ told.opening.0;
+      floor = ap (λ (o : Opening). o.floor) made.opening ∙ told.floor;
       tells = subst (IsOpening (E.contents committer.engine)) (sym made.opening) told.opening.1;
       image = image_of (E.device committer.engine).words;
       shows = told.shows;
