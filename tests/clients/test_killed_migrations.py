@@ -16,7 +16,7 @@ import plain_image
 from common import drawn, tell
 from noted_calls import Noting
 from old_images import LINES as FEW_LINES, OldWriter, held, with_all_last_entries
-from pair import LINES, PairCases, run
+from pair import LINES, PairCases, run, wait_until
 from plain_image import MOST_VALUE_BYTES, PRIMARY, STANDBY, VERSION_1, VERSION_2, Words
 from plain_keyspace import Drop, DropKey, Put
 from plain_replies import OK, bulk, integer
@@ -111,7 +111,7 @@ class Pairs(PairCases):
         return nodes
 
     def migrated(self, lines, *images):
-        """A pair over images of these words, the primary's first, which are brought to version 2."""
+        """A pair over images of these words, the primary's first, which were brought to version 2."""
         nodes = self.pair(lines=lines)
         nodes.end()
         for node, words in zip((nodes.primary, nodes.standby), images):
@@ -121,7 +121,6 @@ class Pairs(PairCases):
             self.assertEqual(node.inspect()["position"], before["position"])
         for node in (nodes.standby, nodes.primary):
             node.start()
-        nodes.wait()
         return nodes
 
     def assert_holds(self, nodes, wanted):
@@ -144,6 +143,7 @@ class Pairs(PairCases):
         wanted = dict(held(LINES, primary.words)[2].map)
         self.assertEqual(held(LINES, standby.words)[2].map, wanted)
         nodes = self.migrated(LINES, primary.words, standby.words)
+        nodes.wait()
         self.assert_holds(nodes, wanted)
         with nodes.client() as client:
             for name, value in [((b"new",), b"1"), ((b"long",), MOST_VALUE_BYTES * b"2"), ((b"b",), b"3")]:
@@ -156,8 +156,8 @@ class Pairs(PairCases):
         self.assert_same(nodes, wanted)
 
     def test_a_standby_that_is_behind(self):
-        """It is told what was removed and replaced meanwhile, whose versions had to leave the last entries of the primary's image; and nothing wrong of a
-        version that a cut of the power left in both of its places."""
+        """It is refused by both: what was removed and replaced meanwhile had to leave the last entries of the primary's image, and a cut of the power may leave
+        a version in both of its places. A new one gets all."""
         primary, standby = self.former(FEW_LINES, behind=1)
         wanted = held(FEW_LINES, primary.words)[2].map
         self.assertTrue({(b"c",), (b"d",)} <= held(FEW_LINES, standby.words)[2].map.keys() - wanted.keys())
@@ -166,6 +166,13 @@ class Pairs(PairCases):
         for name, words in images.items():
             with self.case(name):
                 nodes = self.migrated(FEW_LINES, words, standby.words)
+                for node in (nodes.primary, nodes.standby):
+                    wait_until(lambda told=node: b"refusal 12: position gap" in told.errors.read_bytes(), f"the word of the {node.role}")
+                nodes.standby.end()
+                nodes.standby.image.unlink()
+                nodes.standby.format(FEW_LINES)
+                nodes.restart(nodes.standby, nodes.primary)
+                nodes.wait()
                 self.assert_holds(nodes, wanted)
                 nodes.fail_over()
                 self.assert_holds(nodes, wanted)

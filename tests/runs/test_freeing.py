@@ -166,16 +166,28 @@ class Freeing(Runs):
                     self.assertEqual(trace.records["primary"], [((b"a",), b"2"), ((b"b",), b"3")])
 
     def test_a_fence_of_a_free_fails(self):
-        # formatting made three fences, and each commit three more; the version is there or not, and it is not handed out
+        # formatting made three fences, each commit three more, and the record with the floor two; the version is there or not, and it is not handed out
         for picks, is_free in [("0", False), ("1", True), ("0 1", False), ("1 0", True)]:
             with self.case("picks", picks=picks):
                 schedule = overwritten()
                 schedule.free()
-                trace = self.play(schedule, fail=(10, 0), crash=f"primary {picks}")
+                trace = self.play(schedule, fail=(12, 0), crash=f"primary {picks}")
                 at = schedule.events.index("free")
                 self.assertEqual(trace.ended, f"at event {at}, line {at + 2}: refusal 1: device fault")
                 self.assertEqual(self.versions(trace, "primary"), ([(1, 0)], 0) if is_free else ([(0, 2), (1, 0)], 2))
                 self.assertEqual((trace.records["primary"], trace.nodes["primary"].position), ([((b"a",), b"2")], 2))
+
+    def test_a_fence_of_its_floor_fails(self):
+        # nothing is freed before the record is there
+        for fence in (10, 11):
+            for picks in ("0", "1"):
+                with self.case("fence", fence=fence, picks=picks):
+                    schedule = overwritten()
+                    schedule.free()
+                    trace = self.play(schedule, fail=(fence, 0), crash=f"primary {picks}")
+                    at = schedule.events.index("free")
+                    self.assertEqual(trace.ended, f"at event {at}, line {at + 2}: refusal 1: device fault")
+                    self.assertEqual(self.versions(trace, "primary"), ([(0, 2), (1, 0)], 2))
 
     def test_what_an_earlier_life_ended(self):
         # it counts as ended at the position of the reopening: the standby has to tell that it is there
