@@ -11,7 +11,7 @@ use Rattle.machine.specs.Promise.{fed_by}
 use Rattle.machine.specs.Sound.{HasNothing, Sound}
 use Rattle.machine.proofs.FedLemmas.{FeedsNothing, fed_in, fed-behind, fed-nothing, fed-same}
 use Rattle.machine.proofs.GrowKinds.{grows-changed, grows-unmoved}
-use Rattle.machine.proofs.SoundNodes.{sound-Fails}
+use Rattle.machine.proofs.SoundCrashes.{sound-Fails}
 use Rattle.machine.proofs.StandingLemmas.{Behind, Stays, Unmoved, keeps-itself, unmoved-Fails}
 use Rattle.machine.proofs.StayLemmas.{count, few-behind, few-changed, stays-behind, stays-changed}
 use Rattle.machine.proofs.WritesLemmas.{Writes, unwritten-behind, unwritten-changed}

@@ -1,25 +1,28 @@
 -- The table of events: what each owes to the laws of every run, in one entry. Most are of a kind that `EventKinds` has.
 use Rattle.std.proofs.Common.{◌≡◌, true, refl, sym, ap, subst, ◌∙◌, arith, le_refl, slice_get, take, inl, inr}
 use Rattle.std.proofs.lemmas.List.Elements.{All-nil}
+use Rattle.model.specs.Call.{calls_of}
 use Rattle.model.proofs.PrefixLemmas.{IsPrefix-itself, IsPrefix-of_append}
 use Rattle.machine.specs.declared.event.Cut.TheVariants as cut
 use Rattle.machine.specs.declared.event.Event.{Event}
-use Rattle.machine.specs.declared.event.Event.TheVariants.{Enter, Feed, Offer, Turn, CloseGroup, Commit, RaiseLocal, Hand, Free, AcceptFreed, ClearGap, OpenLink, Send, Deliver, Apply, AckDelivered, RaiseRemote, Hold, Read, Release, Write, Leave, FailFence, Crash, Reopen, Fence, Promote}
+use Rattle.machine.specs.declared.event.Event.TheVariants.{Enter, Feed, Offer, Turn, CloseGroup, Commit, RaiseLocal, Hand, Free, AcceptFreed, ClearGap, OpenLink, Send, Deliver, Apply, AckDelivered, RaiseRemote, Newcomer, PinCopy, SendCopy, Hold, Read, Release, Write, Leave, FailFence, Crash, Reopen, Fence, Promote}
 use Rattle.machine.specs.declared.event.Node.TheVariants as nodes
-use Rattle.machine.specs.Event.{Retired, Running, World, Happens, Step, connection_of, fed_with, having_read, having_released, held_first, is_enabled, is_open, left, may_happen, nodes_run, offered_next, promoted, seen_of, torn, with_inbound, with_outbound, written}
+use Rattle.machine.specs.Event.{Retired, Running, reach, opened_to, acknowledged_of, told, sent_one, World, Happens, Step, connection_of, fed_with, having_read, having_released, held_first, is_enabled, is_open, left, may_happen, nodes_run, offered_next, promoted, seen_of, torn, with_inbound, with_outbound, written}
 use Rattle.machine.specs.Law.{Grows}
 use Rattle.machine.specs.Sound.{IsStandbyLeft, Sound}
 use Rattle.machine.proofs.AnswerLemmas.{outbound-held, outbound-having_released, outbound-read, outbound-written}
 use Rattle.machine.proofs.ConnectionLemmas.{open-lt}
 use Rattle.machine.proofs.EventKinds.{Owes, or-fails, owes-behind, owes-changed, owes-quiet, owes-unmoved}
 use Rattle.machine.proofs.FedLemmas.{fed-Feed, fed-called, fed-crashed, fed-entered, fed-nothing, fed-over, fed-same, fed_in}
-use Rattle.machine.proofs.GrowKinds.{grows-Commit, grows-applied, grows-called, grows-crashed, grows-entered, grows-itself, grows-linked, grows-opens, grows-promoted, grows-sent, grows-told}
+use Rattle.machine.proofs.GrowKinds.{grows-Commit, grows-applied, grows-called, grows-crashed, grows-entered, grows-itself, grows-joined, grows-linked, grows-relinked, grows-opens, grows-promoted, grows-sent, grows-wired}
 use Rattle.machine.proofs.SoundConnection.{both, four, three, sound-Enter, sound-Feed, sound-Leave, sound-Offer, sound-called, sound-outbound}
-use Rattle.machine.proofs.SoundNodes.{committer-freed_first, sent-marks, sound-AckDelivered, sound-Apply, sound-CloseGroup, sound-Commit, sound-Deliver, sound-Hand, sound-OpenLink, sound-RaiseLocal, sound-RaiseRemote, sound-Send, sound-asked, sound-crashed, sound-opened, sound-primary_life, sound-promoted, sound-standby_life}
-use Rattle.machine.proofs.StandingLemmas.{Stays, Unmoved, after-crash, behind-applied, behind-itself, keeps-itself, remote-crashed, told-remote, unmoved-asked, unmoved-itself}
+use Rattle.machine.proofs.SoundNodes.{committer-freed_first, opened-remote, sent-remote, sound-AckDelivered, sound-Apply, sound-CloseGroup, sound-Commit, sound-Deliver, sound-Hand, sound-OpenLink, sound-RaiseLocal, sound-RaiseRemote, sound-Send}
+use Rattle.machine.proofs.SoundNewcomer.{sound-Newcomer, sound-PinCopy, sound-SendCopy}
+use Rattle.machine.proofs.SoundCrashes.{sound-asked, sound-crashed, sound-opened, sound-primary_life, sound-promoted, sound-standby_life}
+use Rattle.machine.proofs.StandingLemmas.{Behind, behind-sent, Stays, Unmoved, after-crash, behind-applied, behind-itself, keeps-itself, remote-crashed, told-remote, unmoved-asked, unmoved-itself}
 use Rattle.machine.proofs.StayLemmas.{count, few-called, few-crashed, few-entered, few-promoted, stays-called, stays-crashed, stays-entered, stays-opens, stays-promoted}
 use Rattle.machine.proofs.WorkLemmas.{closes-queues}
-use Rattle.machine.proofs.WritesLemmas.{keeps-read, unwritten-called, unwritten-changed, unwritten-crashed, unwritten-entered, unwritten-opens, unwritten-promoted, writes-written}
+use Rattle.machine.proofs.WritesLemmas.{keeps-read, unchanged, unwritten-called, unwritten-changed, unwritten-crashed, unwritten-entered, unwritten-opens, unwritten-promoted, writes-written}
 
 -- `r` says that its nodes run, `e` that it has something to do, and `h` what it did
 pub owed : (w : World) (event : Event) (new : World) → nodes_run w event ≡ true → may_happen w event ≡ true → Happens w event new → Owes w event new
@@ -63,9 +66,10 @@ owed w AcceptFreed new r e h = subst (Owes w AcceptFreed) (sym h) (owes-unmoved 
 owed w ClearGap new r e h =
     or-fails w ClearGap new nodes.Primary cut.ClearGap (λ c. refl) (λ now. subst (Owes w ClearGap) (sym now) (owes-unmoved w ClearGap _ (search (unmoved-itself w)) (λ c. refl) (λ s. search s))) h
 owed w OpenLink new r e h =
-    subst (Owes w OpenLink) (sym h) (owes-behind w OpenLink _ (search (behind-itself w)) (λ c. refl) (λ raises. le_refl w.primary.link.remote) (sound-OpenLink w) (λ s. grows-linked w))
+    subst (Owes w OpenLink) (sym h) (owes-behind w OpenLink _ (search (behind-itself w)) (λ c. refl) (λ raises. omega (arith, opened-remote w)) (sound-OpenLink w)
+    (λ s. grows-linked w (opened_to w.standby.role w.standby.position w.primary) (acknowledged_of w.standby.role w.standby)))
 owed w Send new r e h =
-    subst (Owes w Send) (sym h) (owes-behind w Send _ (search (behind-itself w)) (λ c. refl) (λ raises. omega (arith, (sent-marks w.primary.link.delta w.primary.link).1)) (sound-Send w e) (λ s. grows-sent w))
+    subst (Owes w Send) (sym h) (owes-behind w Send _ (behind-sent w) (λ c. refl) (λ raises. omega (arith, sent-remote w)) (sound-Send w e) (λ s. grows-sent w))
 owed w (Deliver frame piece) new r e h =
     subst (Owes w (Deliver frame piece)) (sym h) (owes-unmoved w (Deliver frame piece) _ (search (unmoved-itself w)) (λ c. refl) (sound-Deliver w frame))
 owed w Apply new r e h =
@@ -74,9 +78,25 @@ owed w Apply new r e h =
 owed w (AckDelivered a) new r e h =
     let ack = slice_get w.wire.acknowledgements a in
     subst (Owes w (AckDelivered a)) (sym h) (owes-behind w (AckDelivered a) _ (search (behind-itself w)) (λ c. refl) (λ raises. omega (arith, told-remote w.primary.epoch w.primary.committer.position ack w.primary.link))
-    (sound-AckDelivered w a) (λ s. grows-told w ack))
+    (sound-AckDelivered w a) (λ s. grows-relinked w (told w.primary.epoch w.primary.committer.position ack w.primary.link)))
 owed w RaiseRemote new r e h =
     subst (Owes w RaiseRemote) (sym h) (owes-behind w RaiseRemote _ (search (behind-itself w)) (λ c. refl) (λ raises. absurd raises) (sound-RaiseRemote w) (λ s. search (grows-itself w)))
+owed w Newcomer new r e h =
+    subst (Owes w Newcomer) (sym h) (record {
+      sound = sound-Newcomer w;
+      grows = λ s. grows-joined w;
+      over = λ c nothing lt shut. record { entered = lt; connection = refl; calls = IsPrefix-itself (calls_of c w.primary.calls) };
+      few = omega arith;
+      writes = λ c. inl (search (unchanged c w));
+      fed = λ c. fed-nothing Newcomer c (λ d. refl) refl;
+      remote = λ raises. le_refl w.primary.link.remote;
+      nodes = inr (inr refl);
+    })
+owed w PinCopy new r e h =
+    owes-behind w PinCopy new (subst (Behind w) (sym h.now) (search (behind-itself w))) (λ c. refl) (λ raises. omega (arith, ap (λ x. x.primary.link.remote) h.now)) (sound-PinCopy w new e h) (λ s. subst (Grows w) (sym h.now) (grows-relinked w _))
+owed w SendCopy new r e h =
+    subst (Owes w SendCopy) (sym h) (owes-behind w SendCopy _ (search (behind-itself w)) (λ c. refl) (λ raises. le_refl w.primary.link.remote) (sound-SendCopy w e)
+    (λ s. grows-wired w (record w.primary.link { copying = sent_one w.primary.link.copying }) _))
 owed w (Hold c) new r e h =
     let is_one = (both (is_open w c) _ e).0 in
     subst (Owes w (Hold c)) (sym h) (owes-quiet w (Hold c) c (with_outbound held_first) is_one (λ connection. refl) (λ connection. refl) (λ d. refl)
@@ -111,7 +131,7 @@ owed w (Reopen nodes.Primary) new r e h =
     (λ opens. owes-unmoved w (Reopen nodes.Primary) new (subst (Unmoved w) (sym opens.now) (search (unmoved-itself w))) (λ c. refl) (sound-opened w new opens)) h
 owed w (Reopen nodes.Standby) new r e h =
     or-fails w (Reopen nodes.Standby) new nodes.Standby cut.Reopen (λ c. refl) (λ now. subst (Owes w (Reopen nodes.Standby)) (sym now) (owes-unmoved w (Reopen nodes.Standby) _ (search (unmoved-itself w)) (λ c. refl)
-    (λ s. sound-standby_life w Running w.standby.disk s (All-nil (IsStandbyLeft w.standby.position s.sent))))) h
+    (λ s. sound-standby_life w Running w.standby.disk s (All-nil (IsStandbyLeft w.standby.role w.standby.position (reach w)))))) h
 owed w Fence new r e h =
     subst (Owes w Fence) (sym h) (owes-unmoved w Fence _ (search (unmoved-itself w)) (λ c. refl) (λ s. sound-primary_life w (Retired (torn w.primary.life)) w.primary.disk s.primary_left s))
 owed w Promote new r e h =
@@ -123,7 +143,7 @@ owed w Promote new r e h =
       writes = λ c. inl (unwritten-opens c w (promoted w) new opens (unwritten-promoted c w));
       fed = λ c. fed-nothing Promote c (λ d. refl) (ap (λ x. fed_in x c) opens.now ∙ fed-over w c);
       remote = λ raises. omega (arith, ap (λ x. x.primary.link.remote) opens.now);
-      nodes = subst (Stays w) (sym opens.now) (inr refl);
+      nodes = subst (Stays w) (sym opens.now) (inr (inl refl));
     }) h
 
 -- ---- a step

@@ -6,11 +6,11 @@ use Rattle.kv_types.specs.Reading.{items_at}
 use Rattle.model.specs.declared.call.Call.{Call}
 use Rattle.model.specs.Call.{Serves, is_nonempty, state_after, position_of}
 use Rattle.machine.specs.declared.event.Event.{Event}
-use Rattle.machine.specs.Event.{Allowed, World, Connection, connection_of, Life, Retired, is_open, Run, start_with, last_world, asked, Span, Frame, Link, next_to_send, nodes_run, may_happen, may_cut, is_between, is_enabled, is_retired, is_running, promoted, OpensPrimary, with_primary}
+use Rattle.machine.specs.Event.{Role, Follower, due_from, is_follower, may_send, opened_to, reach, with_link, Allowed, World, Connection, connection_of, Life, Retired, is_open, Run, start_with, last_world, asked, Span, Frame, Link, next_to_send, nodes_run, may_happen, may_cut, is_between, is_enabled, is_retired, is_running, promoted, OpensPrimary, with_primary}
 use Rattle.machine.specs.Event.{Step}
 use Rattle.machine.specs.Promise.{Tells, IsPromised, EveryRunIsPromised, fed_by, fed_to, SomeWorld, HasMarks}
 use Rattle.machine.proofs.GroupLemmas.{chain-le, frames_within-weaker}
-use Rattle.machine.proofs.SoundNodes.{sound-items}
+use Rattle.machine.proofs.SoundCrashes.{sound-items}
 use Rattle.machine.proofs.RunLemmas.{kept-later, sound-run, sound-start}
 use Rattle.machine.proofs.FedLemmas.{fed_in}
 use Rattle.machine.proofs.StayLemmas.{count, stays-itself, stays-trans}
@@ -23,13 +23,13 @@ use Rattle.model.specs.State.{start_state}
 use Rattle.machine.specs.declared.event.Event.TheVariants.{Feed, OpenLink, Send, Deliver, Apply, AckDelivered, RaiseRemote, FailFence, Crash, Reopen, Fence, Promote}
 use Rattle.machine.specs.declared.event.TheConstants.{KEPT_GROUPS}
 use Rattle.machine.specs.Sound.{IsFrameWithin, Sound, answers_from}
-use Rattle.machine.specs.Law.{IsInOrder, StaysOver, IsSucceededBy, NothingHappensFenced, OnlyFencedIsSucceeded, PromotionsSucceed, FramesAreCommitted, AnswersBearPositions, RaisesNoRemote, NothingIsReleasedUnacknowledged, OnlyWhatWasMadeIsDelivered, WhoIsBehindGetsADelta}
+use Rattle.machine.specs.Law.{IsInOrder, StaysOver, IsSucceededBy, NothingHappensFenced, NoNewcomerIsPromoted, OnlyFencedIsSucceeded, PromotionsSucceed, FramesAreCommitted, AnswersBearPositions, RaisesNoRemote, NothingIsReleasedUnacknowledged, OnlyWhatWasMadeIsDelivered, WhoIsBehindGetsADelta}
 use Rattle.machine.proofs.AnswerLemmas.{answers_from-append, answers_to-push_own}
 use Rattle.machine.specs.declared.event.Cut.{Cut}
 use Rattle.machine.specs.declared.event.Cut.TheVariants as cut
 use Rattle.machine.specs.declared.event.Node.TheVariants as nodes
 use Rattle.machine.proofs.CrashLemmas.{all-over, get-over}
-use Rattle.machine.proofs.SoundConnection.{both, both_ways}
+use Rattle.machine.proofs.SoundConnection.{both, both_ways, reach-low}
 use Rattle.machine.proofs.GrowLemmas.{released-stays}
 
 -- ---- what was fed
@@ -68,7 +68,7 @@ every_run_is_promised allowed events done worlds run =
       covered = covered-run allowed events done worlds run;
       stays = λ prefix call some. released-stays (start_with allowed) events done worlds prefix call run (sound-start allowed) some;
       held = λ prefix call released. (released-held w s prefix call released).1;
-      behind = omega (arith, s.standby.behind, chain-le _ _ _ s.link.waiting);
+      behind = omega (arith, s.standby.behind, reach-low w.primary.link.copying w.primary.committer.position);
       within = omega (arith, s.committer.closed, chain-le _ _ _ s.committer.waiting);
     }
 
@@ -85,8 +85,8 @@ in_order w s =
     search (
       arith,
       chain-le _ _ _ s.committer.waiting,
-      chain-le _ _ _ s.link.waiting,
-      All-weaker (IsFrameWithin w.primary.epoch s.sent) (λ (frame : Frame). frame.epoch ≤ w.primary.epoch) (λ frame h. h.epoch_is) w.wire.frames s.wire.frames,
+      reach-low w.primary.link.copying w.primary.committer.position,
+      All-weaker (IsFrameWithin w.primary.epoch w.standby.role w.standby.position (reach w)) (λ (frame : Frame). frame.epoch ≤ w.primary.epoch) (λ frame h. h.epoch_is) w.wire.frames s.wire.frames,
       λ (c : ℕ) (is_one : is_open w c ≡ true). (s.outbound c is_one).local_read,
       λ (c : ℕ) (is_one : is_open w c ≡ true). (s.outbound c is_one).remote_read,
     )
@@ -95,8 +95,9 @@ pub frames_are_committed : FramesAreCommitted
 frames_are_committed allowed events done worlds run =
     let w = last_world (start_with allowed) worlds in
     let s = sound-run allowed events done worlds run in
-    let le = chain-le _ _ _ s.link.waiting in
-    (frames_within-weaker w.primary.epoch s.sent w.primary.committer.position w.wire.frames le s.wire.frames, frames_within-weaker w.primary.epoch s.sent w.primary.committer.position w.standby.waiting le s.standby.frames)
+    let le = reach-low w.primary.link.copying w.primary.committer.position in
+    let frames = λ (xs : List Frame). frames_within-weaker w.primary.epoch w.standby.role w.standby.position (reach w) w.primary.committer.position xs le in
+    (frames w.wire.frames s.wire.frames, frames w.standby.waiting s.standby.frames)
 
 pub answers_bear_positions : AnswersBearPositions
 answers_bear_positions prefix call rest =
@@ -182,13 +183,15 @@ delta-first : (position opened : ℕ) (link : Link) (later : Bool) → position 
 delta-first position opened link later behind = subst (SendsFirst position opened link later) (sym (lt-ltb position opened behind)) (refl, refl)
 
 pub who_is_behind_gets_a_delta : WhoIsBehindGetsADelta
-who_is_behind_gets_a_delta old new step behind =
+who_is_behind_gets_a_delta old new step follows behind =
     let position = old.standby.position in
-    let opened = old.primary.opened in
+    let due = due_from old.primary in
     let link = old.primary.link in
-    let delta : Span = record { before = position; after = opened } in
-    subst (λ (w : World). (next_to_send w.primary.link ≡ delta ∷ []) × (may_happen w Send ≡ true)) (sym (step.happens refl))
-    (delta-first position opened link (is_nonempty link.kept || (is_nonempty link.waiting && nat_lt (length link.kept) KEPT_GROUPS)) behind)
+    let delta : Span = record { before = position; after = due } in
+    let leads : (role : Role) → role ≡ Follower → let w = with_link (opened_to role position old.primary) old in (next_to_send w.primary.link ≡ delta ∷ []) × (may_send w.primary.link.copying w.primary.link ≡ true) =
+    λ role same. subst (λ role. let w = with_link (opened_to role position old.primary) old in (next_to_send w.primary.link ≡ delta ∷ []) × (may_send w.primary.link.copying w.primary.link ≡ true)) (sym same)
+    (delta-first position due link (is_nonempty link.kept || (is_nonempty link.waiting && nat_lt (length link.kept) KEPT_GROUPS)) behind) in
+    subst (λ (w : World). (next_to_send w.primary.link ≡ delta ∷ []) × (may_happen w Send ≡ true)) (sym (step.happens refl)) (leads old.standby.role follows)
 
 -- ---- fenced failover
 
@@ -235,7 +238,10 @@ nothing_happens_fenced w Promote fenced other = cc
 nothing_happens_fenced w event fenced other = not-run w event (retired-stands w.primary.life fenced)
 
 pub only_fenced_is_succeeded : OnlyFencedIsSucceeded
-only_fenced_is_succeeded w unfenced = not-enabled w Promote (and-false w.allowed.promotions _ unfenced)
+only_fenced_is_succeeded w unfenced = not-enabled w Promote (and-false w.allowed.promotions _ (and-false (is_follower w.standby.role) _ unfenced))
+
+pub no_newcomer_is_promoted : NoNewcomerIsPromoted
+no_newcomer_is_promoted w newcomer = not-enabled w Promote (and-false w.allowed.promotions _ (ap (λ role. is_follower role && is_retired w.primary.life) newcomer))
 
 succeeded-by : (w : World) → Sound w → (new : World) → OpensPrimary 0 (promoted w) new → IsSucceededBy w new
 succeeded-by w s new opens =
@@ -252,7 +258,7 @@ succeeded-by w s new opens =
 pub promotions_succeed : PromotionsSucceed
 promotions_succeed allowed events done worlds run new step runs =
     let w = last_world (start_with allowed) worlds in
-    let fenced = (both w.allowed.promotions (is_retired w.primary.life) (enabled-may w Promote (sym step.done))).1 in
+    let fenced = (both (is_follower w.standby.role) (is_retired w.primary.life) (both w.allowed.promotions (is_follower w.standby.role && is_retired w.primary.life) (enabled-may w Promote (sym step.done))).1).1 in
     elim (step.happens refl) [
       | inl opens ↦ succeeded-by w (sound-run allowed events done worlds run) new opens
       | inr fails ↦ absurd (both_ways (is_running new.primary.life) runs (ap (λ (x : World). is_running x.primary.life) fails.now ∙ retired-stands w.primary.life fenced))

@@ -4,7 +4,7 @@ use Rattle.machine.specs.declared.event.Node.{Node}
 use Rattle.machine.specs.declared.event.Node.TheVariants as nodes
 use Rattle.machine.specs.declared.event.Event.{Event}
 use Rattle.machine.specs.declared.event.Event.TheVariants.{Feed}
-use Rattle.machine.specs.Event.{Connection, Remains, At, AsPrimary, World, get_connection, crashed, entered, Turns, connection_of, changed_at, with_connections, with_inbound, with_outbound, on_inbound, with_call, fed_with, taken_first, left}
+use Rattle.machine.specs.Event.{Connection, Remains, At, AsPrimary, AsFollower, World, get_connection, crashed, entered, Turns, connection_of, changed_at, with_connections, with_inbound, with_outbound, on_inbound, with_call, fed_with, taken_first, left}
 use Rattle.machine.specs.Promise.{fed_by}
 use Rattle.machine.proofs.ConnectionLemmas.{each-changed, get-entered, same-changed}
 use Rattle.machine.proofs.CrashLemmas.{get-over}
@@ -45,6 +45,8 @@ fed-crashed w d nodes.Primary (At position) = fed-over w d
 fed-crashed w d nodes.Primary AsPrimary = refl
 fed-crashed w d nodes.Standby (At position) = refl
 fed-crashed w d nodes.Standby AsPrimary = fed-over w d
+fed-crashed w d nodes.Primary (AsFollower position) = refl
+fed-crashed w d nodes.Standby (AsFollower position) = refl
 
 -- ---- the one that does
 

@@ -10,6 +10,7 @@ use Rattle.machine.specs.Promise.{IsReleasedIn, SomeWorld}
 use Rattle.machine.specs.Sound.{Sound}
 use Rattle.machine.specs.Law.{Grows}
 use Rattle.machine.proofs.GroupLemmas.{chain-le}
+use Rattle.machine.proofs.SoundConnection.{reach-low}
 use Rattle.machine.proofs.SoundEvents.{sound-step}
 use Rattle.machine.proofs.PromiseLemmas.{released-held}
 use Rattle.machine.proofs.RunLemmas.{kept-later}
@@ -40,7 +41,7 @@ pub keyspace-stays : (old new : World) (p : ℕ) → Sound old → Grows old new
 keyspace-stays old new p s g low =
     let within : old.primary.committer.position ≤ position_of old.primary.calls = omega (arith, s.committer.closed, chain-le _ _ _ s.committer.waiting) in
     elim low [
-      | inl safe ↦ image-stays old.primary.calls new.primary.calls old.standby.position p (omega (arith, within, s.standby.behind, chain-le _ _ _ s.link.waiting)) g.kept safe
+      | inl safe ↦ image-stays old.primary.calls new.primary.calls old.standby.position p (omega (arith, within, s.standby.behind, reach-low old.primary.link.copying old.primary.committer.position)) g.kept safe
       | inr same ↦ image-stays old.primary.calls new.primary.calls old.primary.committer.position p within (g.within same.0).0 same.1
     ]
 

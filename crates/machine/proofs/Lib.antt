@@ -9,6 +9,8 @@ pub mod StandingLemmas
 pub mod StandbyLemmas
 pub mod SoundConnection
 pub mod SoundNodes
+pub mod SoundNewcomer
+pub mod SoundCrashes
 pub mod GrowKinds
 pub mod StayLemmas
 pub mod WritesLemmas
@@ -26,3 +28,4 @@ pub mod ItemLemmas
 pub mod TransactionLemmas
 pub mod WatchedLemmas
 pub mod WorkedRun
+pub mod NewcomerRun

@@ -12,7 +12,7 @@ use Rattle.machine.specs.Promise.{IsReleased, HasMarks, released_in}
 use Rattle.machine.specs.Sound.{IsCoveredBy, IsHeldAt, Sound, answers_from, answers_to}
 use Rattle.machine.proofs.AnswerLemmas.{answers_from-append, answers_to-push_own, texts_of-answers_to, texts_of-append}
 use Rattle.machine.proofs.OverLemmas.{sound-released}
-use Rattle.machine.proofs.GroupLemmas.{chain-le}
+use Rattle.machine.proofs.SoundConnection.{reach-low}
 
 -- ---- what was released
 
@@ -47,7 +47,7 @@ pub released-held : (w : World) → Sound w → (prefix : List Call) (call : Cal
 released-held w s prefix call released =
     let r = sound-released w s call.connection in
     let low = released-reply (IsHeldAt w.standby.position) w prefix call r.out released r.replies r.texts r.held in
-    (omega (arith, low, s.standby.behind, chain-le _ _ _ s.link.waiting), low)
+    (omega (arith, low, s.standby.behind, reach-low w.primary.link.copying w.primary.committer.position), low)
 
 -- while its connection is open, both marks are at least at its position
 pub released-covered : (w : World) → Sound w → (prefix : List Call) (call : Call) → is_open w call.connection ≡ true → IsReleased w.primary.calls (released_in w) prefix call → HasMarks prefix call w

@@ -10,8 +10,8 @@ use Rattle.model.specs.Call.{IsPrefix, MayReply, is_nonempty, items_of, state_af
 use Rattle.model.proofs.CallsLemmas.{IsLegal-push, position_of-push, position_of_grows}
 use Rattle.machine.specs.declared.event.TheConstants.{SEATS, PIPE_ITEMS, OPEN_CHANGES}
 use Rattle.machine.specs.declared.event.Event.TheVariants.{Enter, Feed, Offer, Turn, Leave}
-use Rattle.machine.specs.Event.{Inbound, Outbound, Connection, Remains, At, AsPrimary, World, torn, no_connection, connection_of, count_open, changed_at, with_inbound, with_outbound, with_connections, on_inbound, on_outbound, asked, is_closed_by, is_open, seen_of, open_changes, has_room, may_happen, entered, with_call, fed_with, offered_next, taken_first, with_made, called, left}
-use Rattle.machine.specs.Sound.{IsPrimaryLeft, IsStandbyLeft, SoundInbound, SoundOutbound, SoundOver, Sound}
+use Rattle.machine.specs.Event.{Inbound, Outbound, Connection, Role, Copying, Follows, Awaited, Sending, reach_of, Remains, At, AsPrimary, AsFollower, World, torn, no_connection, connection_of, count_open, changed_at, with_inbound, with_outbound, with_connections, on_inbound, on_outbound, asked, is_closed_by, is_open, seen_of, open_changes, has_room, may_happen, entered, with_call, fed_with, offered_next, taken_first, with_made, called, left}
+use Rattle.machine.specs.Sound.{IsPinnedWithin, IsPrimaryLeft, IsStandbyLeft, SoundInbound, SoundOutbound, SoundOver, Sound}
 use Rattle.machine.proofs.ConnectionLemmas.{changed-twice, get-past, each-changed, each-entered, open-lt, count-entered, count-changed, count-left}
 use Rattle.machine.proofs.InboundLemmas.{inbound-new, inbound-fed, inbound-offered, inbound-called_own, inbound-called_other}
 use Rattle.machine.proofs.AnswerLemmas.{outbound-called_own, outbound-called_other}
@@ -133,14 +133,32 @@ primary_left-grown low high high' remains le all = All-weaker (IsPrimaryLeft low
     weaker : (low high high' : ℕ) → high ≤ high' → (remain : Remains) → IsPrimaryLeft low high remain → IsPrimaryLeft low high' remain
     weaker low high high' le (At position) h = (h.0, omega (arith, h.1, le))
     weaker low high high' le AsPrimary h = h
+    weaker low high high' le (AsFollower position) h = h
 
 -- and what one of the standby may have left, where more was sent
-pub standby_left-grown : (low high high' : ℕ) (remains : List Remains) → high ≤ high' → All (IsStandbyLeft low high) remains → All (IsStandbyLeft low high') remains
-standby_left-grown low high high' remains le all = All-weaker (IsStandbyLeft low high) (IsStandbyLeft low high') (weaker low high high' le) remains all
+pub standby_left-grown : (role : Role) (low high high' : ℕ) (remains : List Remains) → high ≤ high' → All (IsStandbyLeft role low high) remains → All (IsStandbyLeft role low high') remains
+standby_left-grown role low high high' remains le all = All-weaker (IsStandbyLeft role low high) (IsStandbyLeft role low high') (weaker role low high high' le) remains all
   where
-    weaker : (low high high' : ℕ) → high ≤ high' → (remain : Remains) → IsStandbyLeft low high remain → IsStandbyLeft low high' remain
-    weaker low high high' le (At position) h = (h.0, omega (arith, h.1, le))
-    weaker low high high' le AsPrimary h = h
+    weaker : (role : Role) (low high high' : ℕ) → high ≤ high' → (remain : Remains) → IsStandbyLeft role low high remain → IsStandbyLeft role low high' remain
+    weaker role low high high' le (At position) h = (h.0, omega (arith, h.1, le), h.2)
+    weaker role low high high' le AsPrimary h = h
+    weaker role low high high' le (AsFollower position) h = (h.0, omega (arith, h.1, le))
+
+-- all that was sent lies within the primary's record
+pub reach-low : (copying : Copying) (committed : ℕ) → reach_of copying committed ≤ committed
+reach-low Follows committed = le_refl committed
+reach-low Awaited committed = le_refl committed
+reach-low (Sending pinned) committed = omega arith
+
+pub reach-grown : (copying : Copying) (low high : ℕ) → low ≤ high → reach_of copying low ≤ reach_of copying high
+reach-grown Follows low high le = le
+reach-grown Awaited low high le = le
+reach-grown (Sending pinned) low high le = omega (arith, le)
+
+pub pinned-grown : (copying : Copying) (low high : ℕ) → low ≤ high → IsPinnedWithin low copying → IsPinnedWithin high copying
+pinned-grown Follows low high le s = s
+pinned-grown Awaited low high le s = s
+pinned-grown (Sending pinned) low high le s = omega (arith, le, s)
 
 position_of-push_le : (calls : List Call) (call : Call) → position_of (calls ++ call ∷ []) ≤ position_of calls + 1
 position_of-push_le calls call = grind (arith, position_of-push calls call)

@@ -1,5 +1,6 @@
 -- Each event keeps what holds of the pair of nodes.
-pub use Rattle.machine.proofs.SoundNodes.{applies-well, sound-promoted}
+pub use Rattle.machine.proofs.SoundNodes.{applies-well}
+pub use Rattle.machine.proofs.SoundCrashes.{sound-promoted}
 use Rattle.std.proofs.Common.{Bool, true, false, refl, sym, subst}
 use Rattle.machine.specs.declared.event.Event.{Event}
 use Rattle.machine.specs.Event.{World, Step}

@@ -1,29 +1,20 @@
 -- What each event of the nodes leaves sound.
-use Rattle.std.proofs.Common.{◌≡◌, ℕ, ◌+◌, ◌<◌, ◌≤◌, max, true, false, not, ◌||◌, cond, nat_lt, List, [], ◌∷◌, ◌++◌, length, map, drop, All, Option, Some, None, slice_get, refl, sym, ap, ◌∙◌, subst, arith, le_refl, inl, inr}
-use Rattle.std.specs.Prelude.{Contains}
-use Rattle.std.proofs.lemmas.Bool.{cases_Bool, ltb-true}
-use Rattle.std.proofs.lemmas.List.Elements.{All-append, All-cons, All-contains, All-drop, All-head, All-weaker, All-nil}
-use Rattle.model.specs.declared.call.Call.{Call}
+use Rattle.std.proofs.Common.{◌≡◌, ℕ, ◌+◌, ◌<◌, ◌≤◌, max, true, false, not, ◌||◌, cond, nat_le, nat_lt, List, [], ◌∷◌, ◌++◌, length, map, drop, All, Option, Some, None, slice_get, refl, sym, ap, ◌∙◌, subst, arith, le_refl, inl, inr}
+use Rattle.std.proofs.lemmas.Bool.{ltb-true}
+use Rattle.std.proofs.lemmas.List.Elements.{All-append, All-drop, All-head, All-weaker, All-nil}
 use Rattle.kv_types.specs.declared.seen.Seen.{Seen}
-use Rattle.model.specs.Call.{IsPrefix, cut_at, is_nonempty, items_of, position_of}
-use Rattle.model.proofs.CallsLemmas.{IsLegal-cut_at, position_of-cut_at}
-use Rattle.machine.specs.declared.event.Cut.{Cut}
-use Rattle.machine.specs.declared.event.Cut.TheVariants as cut
-use Rattle.machine.specs.declared.event.Node.{Node}
-use Rattle.machine.specs.declared.event.Node.TheVariants as nodes
+use Rattle.model.specs.Call.{is_nonempty, position_of}
 use Rattle.machine.specs.declared.event.TheConstants.{PIPE_ITEMS}
 use Rattle.machine.specs.declared.event.Event.TheVariants.{CloseGroup, Commit, Hand, Free, Send}
-use Rattle.machine.specs.Event.{Span, Work, Commits, Frees, Acknowledgement, Link, Remains, At, AsPrimary, Life, Running, Stopped, Disk, World, connection_of, get_connection, with_committer, with_link, with_primary, with_standby, on_disk, is_running, torn, asked_to_fail, failed, halted, Fails, OpensPrimary, crashed_primary, crashed_standby, promoted, next_primary, next_standby, left_by, may_remain, left, open_changes, has_room, spans_of, from_group, is_ready, may_commit, reached_lists, first_is_within, may_happen, Closes, committed_first, freed_first, acknowledgement_of, sent_next, next_to_send, framed, sent, without_first, Applies, counts, told, knowing, option_items, asked, crashed, is_open, seen_of, new_committer, delivered, handed, due_delta, handed_to, opened_link, raised_local, raised_remote, ready_again, with_acknowledged}
-use Rattle.machine.specs.Sound.{IsChain, IsFrameWithin, IsHeldAt, IsPrimaryLeft, IsStandbyLeft, IsToldWithin, SoundOutbound, SoundOver, SoundCommitter, SoundStandby, Sound}
-use Rattle.machine.proofs.GroupLemmas.{chain-le, framed-within, frames_within-weaker, frames-earlier, due_delta-within, link-new, link-committed, link-raised, link-handed, link-opened, link-sent, link-knowing}
+use Rattle.machine.specs.Event.{Span, Work, Commits, Frees, Acknowledgement, Link, Changes, Role, Follower, Uncopied, Copying, Follows, Awaited, Sending, Frame, reach, reach_of, Remains, Life, Running, World, connection_of, with_committer, with_link, with_standby, is_running, torn, due_from, ended_at, may_send, sent_with, keeps_group, may_take, above, taken_group, opened_to, acknowledged_of, wanted_by, with_sent, left, open_changes, has_room, spans_of, from_group, is_ready, may_commit, reached_lists, first_is_within, may_happen, Closes, committed_first, freed_first, sent_next, next_to_send, framed, sent, without_first, Applies, counts, told, knowing, option_items, is_open, seen_of, delivered, handed, due_delta, handed_to, opened_link, raised_local, raised_remote, ready_again, with_acknowledged}
+use Rattle.machine.specs.Sound.{IsChain, IsPinnedWithin, IsFrameWithin, IsHeldAt, IsPrimaryLeft, IsStandbyLeft, IsToldWithin, SoundOutbound, SoundOver, SoundCommitter, SoundLink, SoundStandby, Sound}
+use Rattle.machine.proofs.GroupLemmas.{chain-le, deltas-weaker, framed-within, frames_within-weaker, due_delta-within, link-committed, link-raised, link-handed, link-opened, link-sent, link-taken, link-knowing, link-wanted, newcomer-itself}
 use Rattle.machine.proofs.AnswerLemmas.{outbound-marked}
-use Rattle.machine.proofs.OverLemmas.{sound-released}
-use Rattle.machine.proofs.InboundLemmas.{inbound-items}
-use Rattle.machine.proofs.CrashLemmas.{all-over, count-over, get-over, over-crashed}
-use Rattle.machine.proofs.WorkLemmas.{none-waits, spans_of-from_group, spans_of-none, committer-new, committer-closed_group, committer-closed_list, committer-committed, committer-listed, shown-raised}
+use Rattle.machine.proofs.WorkLemmas.{none-waits, spans_of-from_group, spans_of-none, committer-closed_group, committer-closed_list, committer-committed, committer-listed, shown-raised}
 use Rattle.machine.proofs.WorkLemmas.{shown-hand}
-use Rattle.machine.proofs.StandbyLemmas.{TakesWell, all-at, counted-within, next-within, told-earlier, standby-sent, standby-first, standby-takes, told-one, wire-sent, wire-told}
-use Rattle.machine.proofs.SoundConnection.{both, both_ways, standby_left-grown, three}
+use Rattle.machine.proofs.StandbyLemmas.{TakesWell, all-at, counted-within, standby-sent, standby-first, standby-takes, told-opening, wire-grown, wire-sent, wire-told}
+use Rattle.machine.proofs.StandingLemmas.{ended-marks}
+use Rattle.machine.proofs.SoundConnection.{both, pinned-grown, reach-grown, reach-low, standby_left-grown, three}
 
 -- ---- the committer
 
@@ -33,7 +24,7 @@ sound-CloseGroup w new e closes s =
     let position = position_of w.primary.calls in
     let room = ltb-true (length committer.waiting) PIPE_ITEMS (both (nat_lt 0 (open_changes w) || nat_lt 0 w.primary.ended) (has_room committer.waiting) e).1 in
     elim closes [
-      | inl group ↦ subst Sound (sym group.1.now) (search (committer-closed_group position committer (ltb-true 0 (open_changes w) group.0) room s.committer))
+      | inl group ↦ subst Sound (sym group.1.now) (search (committer-closed_group position committer (ltb-true 0 (open_changes w) group.0) room s.committer, pinned-grown w.primary.link.copying committer.closed position s.committer.closed s.pinned))
       | inr list ↦ subst Sound (sym list.1) (search (committer-closed_list position w.primary.newest committer room s.committer))
     ]
 
@@ -51,7 +42,16 @@ sound-committed : (w : World) (works : List Work) → is_running w.primary.life 
 sound-committed w [] runs chain ready room committer s = s
 sound-committed w (Frees newest ∷ works) runs chain ready room committer s = s
 sound-committed w (Commits group ∷ works) runs chain ready room committer s =
-    search (committer, torn-all (IsPrimaryLeft group.after (position_of w.primary.calls)) w.primary.life runs, link-committed w.primary.committer.stage w.primary.committer.position group s.sent w.primary.link ready room chain.0 chain.1 s.link)
+    let copying = w.primary.link.copying in
+    let le : reach w ≤ reach_of copying group.after = reach-grown copying w.primary.committer.position group.after (omega (arith, chain.0, chain.1)) in
+    search (
+      committer,
+      standby-sent w.primary.epoch (reach w) (reach_of copying group.after) w.primary.link.known w.standby le s.standby,
+      wire-grown w.primary.epoch w.standby.role w.standby.position (reach w) (reach_of copying group.after) w.wire le s.wire,
+      standby_left-grown w.standby.role w.standby.position (reach w) (reach_of copying group.after) (torn w.standby.life) le s.standby_left,
+      torn-all (IsPrimaryLeft group.after (position_of w.primary.calls)) w.primary.life runs,
+      link-committed w.primary.committer.stage w.primary.committer.position group s.sent w.primary.link ready room chain.0 chain.1 s.link,
+    )
 
 pub sound-Commit : (w : World) → is_running w.primary.life ≡ true → may_happen w Commit ≡ true → Sound w → Sound (with_committer (committed_first (from_group w.primary.committer.waiting) w.primary.committer) w)
 sound-Commit w runs e s =
@@ -78,25 +78,111 @@ committer-freed_first w may s =
 
 -- ---- the link and the standby
 
--- what is sent changes neither mark
-pub sent-marks : (deltas : List Span) (link : Link) → ((sent_next deltas link).known ≡ link.known) × ((sent_next deltas link).remote ≡ link.remote)
+-- what is sent changes neither mark, nor whether a copy is awaited
+pub sent-marks : (deltas : List Span) (link : Link) → ((sent_next deltas link).known ≡ link.known) × ((sent_next deltas link).remote ≡ link.remote) × ((sent_next deltas link).copying ≡ link.copying)
 sent-marks [] link = grind arith
-sent-marks (delta ∷ deltas) link = (refl, refl)
+sent-marks (delta ∷ deltas) link = (refl, refl, refl)
+
+-- The link is another one: it knows no more than what the node has that follows, and no less was sent.
+pub sound-relinked : (w : World) (link : Link) (after : ℕ) → SoundLink w.primary.opened w.primary.committer.stage w.primary.committer.position after link → link.known ≤ w.standby.position → link.remote ≡ w.primary.link.remote
+    → IsPinnedWithin w.primary.committer.closed link.copying → reach w ≤ reach_of link.copying w.primary.committer.position → Sound w → Sound (with_link link w)
+sound-relinked w link after sound known remote pinned le s =
+    let high = reach_of link.copying w.primary.committer.position in
+    let epoch = w.primary.epoch in
+    record {
+      connections = s.connections;
+      legal = s.legal;
+      inbound = s.inbound;
+      outbound = subst (λ mark. (c : ℕ) → is_open w c ≡ true → SoundOutbound w.primary.calls c (record { local = w.primary.committer.local; remote = mark }) (connection_of w c).outbound) (sym remote) s.outbound;
+      over = s.over;
+      committer = s.committer;
+      sent = after;
+      link = sound;
+      pinned = pinned;
+      standby = record {
+        epoch_is = s.standby.epoch_is;
+        frames = frames_within-weaker epoch w.standby.role w.standby.position (reach w) high w.standby.waiting le s.standby.frames;
+        behind = omega (arith, le, s.standby.behind);
+        known = known;
+      };
+      wire = wire-grown epoch w.standby.role w.standby.position (reach w) high w.wire le s.wire;
+      primary_left = s.primary_left;
+      standby_left = standby_left-grown w.standby.role w.standby.position (reach w) high (torn w.standby.life) le s.standby_left;
+    }
+
+-- these frames were sent too
+pub sound-wired : (w : World) (frames : List Frame) → All (IsFrameWithin w.primary.epoch w.standby.role w.standby.position (reach w)) frames → Sound w → Sound (with_sent frames w)
+sound-wired w frames within s = search (wire-sent w.primary.epoch w.standby.role w.standby.position (reach w) (reach w) frames w.wire (le_refl (reach w)) within s.wire)
+
+-- and this was acknowledged
+sound-acknowledged : (w : World) (told : List Acknowledgement) → All (IsToldWithin w.primary.epoch w.standby.position) told → Sound w → Sound (with_acknowledged told w)
+sound-acknowledged w told within s =
+    search (wire-told w.primary.epoch (reach w) w.standby.role w.standby.position w.standby.role w.standby.position told w.wire (newcomer-itself w.standby.role w.standby.position) (le_refl w.standby.position) within s.wire)
+
+-- where a standby follows
+sound-follows : (w : World) → w.primary.link.copying ≡ Follows → may_send Follows w.primary.link ≡ true → Sound w → Sound (sent_with Follows w)
+sound-follows w follows e s =
+    let link = w.primary.link in
+    let epoch = w.primary.epoch in
+    let position = w.primary.committer.position in
+    let sends = link-sent w.primary.opened w.primary.committer.stage position s.sent link s.link e in
+    let new = sent_next link.delta link in
+    let marks = sent-marks link.delta link in
+    let same : new.copying ≡ Follows = marks.2 ∙ follows in
+    let high : reach_of new.copying position ≡ position = ap (λ copying. reach_of copying position) same in
+    let pinned : IsPinnedWithin w.primary.committer.closed new.copying = subst (IsPinnedWithin w.primary.committer.closed) (sym same) tt in
+    let le : reach w ≤ reach_of new.copying position = omega (arith, high, reach-low link.copying position) in
+    let known : new.known ≤ w.standby.position = omega (arith, marks.0, s.standby.known) in
+    let groups = next_to_send link in
+    let within = deltas-weaker sends.after (reach_of new.copying position) groups (omega (arith, high, chain-le _ _ _ sends.sound.waiting)) sends.within in
+    sound-wired (with_link new w) (framed epoch (map Changes groups)) (framed-within epoch w.standby.role w.standby.position (reach_of new.copying position) groups within)
+    (sound-relinked w new sends.after sends.sound known marks.1 pinned le s)
+
+-- a group that is taken changes no mark
+taken-marks : (copying : Copying) (groups : List Span) (link : Link)
+    → ((taken_group copying groups link).known ≡ link.known) × ((taken_group copying groups link).remote ≡ link.remote) × ((taken_group copying groups link).copying ≡ link.copying)
+taken-marks copying [] link = (refl, refl, refl)
+taken-marks copying (group ∷ groups) link =
+    elim (keeps_group copying group) as (λ b. let new = cond b (record link { waiting = groups; kept = link.kept ++ group ∷ []; again = [] }) (record link { waiting = groups; kept = []; again = []; dropped = group.after }) in
+    (new.known ≡ link.known) × (new.remote ≡ link.remote) × (new.copying ≡ link.copying)) [ true ↦ (refl, refl, refl) | false ↦ (refl, refl, refl) ]
+
+-- while a copy is awaited
+sound-takes : (w : World) (copying : Copying) → may_take copying w.primary.link.kept w.primary.link.waiting ≡ true → Sound w → Sound (with_link (taken_group copying w.primary.link.waiting w.primary.link) w)
+sound-takes w copying e s =
+    let link = w.primary.link in
+    let position = w.primary.committer.position in
+    let new = taken_group copying link.waiting link in
+    let marks = taken-marks copying link.waiting link in
+    let takes = link-taken w.primary.opened w.primary.committer.stage position s.sent link s.link copying link.waiting e s.link.waiting s.link.few in
+    let same : reach w ≡ reach_of new.copying position = ap (λ copying. reach_of copying position) (sym marks.2) in
+    sound-relinked w new takes.after takes.sound (omega (arith, marks.0, s.standby.known)) marks.1 (subst (IsPinnedWithin w.primary.committer.closed) (sym marks.2) s.pinned) (omega (arith, same)) s
 
 pub sound-Send : (w : World) → may_happen w Send ≡ true → Sound w → Sound (sent w)
 sound-Send w e s =
-    let link = w.primary.link in
-    let epoch = w.primary.epoch in
-    let sends = link-sent w.primary.opened w.primary.committer.stage w.primary.committer.position s.sent link s.link e in
-    let out : (c : ℕ) → is_open w c ≡ true → SoundOutbound w.primary.calls c (record { local = w.primary.committer.local; remote = (sent_next link.delta link).remote }) (connection_of w c).outbound =
-    subst (λ remote. (c : ℕ) → is_open w c ≡ true → SoundOutbound w.primary.calls c (record { local = w.primary.committer.local; remote = remote }) (connection_of w c).outbound) (sym (sent-marks link.delta link).1) s.outbound in
-    search (
-      out,
-      sends,
-      standby_left-grown w.standby.position s.sent sends.after (torn w.standby.life) sends.later s.standby_left,
-      subst (λ known. SoundStandby epoch sends.after known w.standby) (sym (sent-marks link.delta link).0) (standby-sent epoch s.sent sends.after link.known w.standby sends.later s.standby),
-      wire-sent epoch s.sent sends.after w.standby.position (framed epoch (next_to_send link)) w.wire sends.later (framed-within epoch sends.after (next_to_send link) sends.within) s.wire,
-    )
+    (elim w.primary.link.copying as (λ copying. w.primary.link.copying ≡ copying → may_send copying w.primary.link ≡ true → Sound (sent_with copying w)) [
+      | Follows ↦ λ same e. sound-follows w same e s
+      | Awaited ↦ λ same e. sound-takes w Awaited e s
+      | Sending pinned ↦ λ same e. sound-takes w (Sending pinned) e s
+    ]) refl e
+
+-- what is sent raises no remote mark
+pub sent-remote : (w : World) → (sent w).primary.link.remote ≡ w.primary.link.remote
+sent-remote w = elim w.primary.link.copying as (λ copying. (sent_with copying w).primary.link.remote ≡ w.primary.link.remote) [
+  | Follows ↦ (sent-marks w.primary.link.delta w.primary.link).1
+  | Awaited ↦ (taken-marks Awaited w.primary.link.waiting w.primary.link).1
+  | Sending pinned ↦ (taken-marks (Sending pinned) w.primary.link.waiting w.primary.link).1
+]
+
+-- the end of a copy leaves nothing pinned, or what was, and no less was sent
+ended-copying : (position closed committed : ℕ) (copying : Copying) (link : Link) → link.copying ≡ copying → IsPinnedWithin closed copying
+    → let new = ended_at position copying link in IsPinnedWithin closed new.copying × (reach_of copying committed ≤ reach_of new.copying committed)
+ended-copying position closed committed Follows link same pinned = (subst (IsPinnedWithin closed) (sym same) pinned, omega (arith, ap (λ c. reach_of c committed) same))
+ended-copying position closed committed Awaited link same pinned = (subst (IsPinnedWithin closed) (sym same) pinned, omega (arith, ap (λ c. reach_of c committed) same))
+ended-copying position closed committed (Sending one) link same pinned =
+    elim (nat_le one.position position) as (λ b. let new = cond b (record link { again = link.kept; copying = Follows }) link in IsPinnedWithin closed new.copying × (reach_of (Sending one) committed ≤ reach_of new.copying committed)) [
+      | true ↦ (tt, reach-low (Sending one) committed)
+      | false ↦ (subst (IsPinnedWithin closed) (sym same) pinned, omega (arith, ap (λ c. reach_of c committed) same))
+    ]
 
 sound-told : (w : World) (ack : Option Acknowledgement) → All (IsToldWithin w.primary.epoch w.standby.position) (option_items ack) → Sound w → Sound (with_link (told w.primary.epoch w.primary.committer.position ack w.primary.link) w)
 sound-told w None all s = s
@@ -105,193 +191,38 @@ sound-told w (Some ack) all s =
     let ever = All-head (IsToldWithin w.primary.epoch w.standby.position) ack [] all in
     let test = counts w.primary.epoch w.primary.committer.position ack in
     elim test as (λ b. test ≡ b → Sound (with_link (cond b (knowing ack.position link) link) w)) [
-      | true ↦ λ e. let within = counted-within w.primary.epoch w.primary.committer.position w.standby.position ack e ever in let known : max link.known ack.position ≤ w.standby.position = omega (arith, within, s.standby.known) in search (
-        known,
-        link-knowing w.primary.opened w.primary.committer.stage w.primary.committer.position s.sent link s.link ack.position (omega (arith, within, s.standby.behind)),
-      )
+      | true ↦ λ e.
+          let within = counted-within w.primary.epoch w.primary.committer.position w.standby.position ack e ever in
+          let knows : Link = record link { kept = above ack.position link.kept; again = above ack.position link.again; known = max link.known ack.position } in
+          let marks = ended-marks ack.position link.copying knows in
+          let known : (knowing ack.position link).known ≤ w.standby.position = omega (arith, marks.0, within, s.standby.known) in
+          let ended = ended-copying ack.position w.primary.committer.closed w.primary.committer.position link.copying knows refl s.pinned in
+          sound-relinked w (knowing ack.position link) s.sent (link-knowing w.primary.opened w.primary.committer.stage w.primary.committer.position s.sent link s.link ack.position) known marks.1 ended.0 ended.1 s
       | false ↦ λ e. s
     ] refl
 
-pub applies-well : (w new : World) (applies : Applies w new) (s : Sound w) → TakesWell w.primary.epoch s.sent w.primary.link.known (without_first w.standby) applies.standby applies.told
+pub applies-well : (w new : World) (applies : Applies w new) (s : Sound w) → TakesWell w.primary.epoch (reach w) w.primary.link.known (without_first w.standby) applies.standby applies.told
 applies-well w new applies s =
     let epoch = w.primary.epoch in
     let known = w.primary.link.known in
-    let first = standby-first epoch s.sent known applies.frame w.standby applies.first s.standby in
-    standby-takes epoch s.sent known applies.frame (without_first w.standby) applies.standby applies.told first applies.takes
-    (search (All-drop (IsFrameWithin epoch s.sent) 1 w.standby.waiting s.standby.frames))
+    let P = IsFrameWithin epoch w.standby.role w.standby.position (reach w) in
+    let first = standby-first epoch (reach w) known applies.frame w.standby applies.first s.standby in
+    let stands : SoundStandby epoch (reach w) known (without_first w.standby) = record { epoch_is = s.standby.epoch_is; frames = All-drop P 1 w.standby.waiting s.standby.frames; behind = s.standby.behind; known = s.standby.known } in
+    standby-takes epoch (reach w) known applies.frame (without_first w.standby) applies.standby applies.told first applies.takes stands
 
 pub sound-Apply : (w new : World) → is_running w.standby.life ≡ true → Applies w new → Sound w → Sound new
 sound-Apply w new runs applies s =
     let takes = applies-well w new applies s in
-    let left = torn-all (IsStandbyLeft applies.standby.position s.sent) applies.standby.life (ap is_running takes.runs ∙ runs) in
+    let left = torn-all (IsStandbyLeft applies.standby.role applies.standby.position (reach w)) applies.standby.life (ap is_running takes.runs ∙ runs) in
     let over : (c : ℕ) → is_open w c ≡ false → SoundOver w.primary.calls c applies.standby.position (connection_of w c) =
     λ c shut. let o = s.over c shut in
     search (o, All-weaker (IsHeldAt w.standby.position) (IsHeldAt applies.standby.position) (λ reply h. omega (arith, h, takes.later)) o.released.out o.released.held) in
-    subst Sound (sym applies.now) (search (over, left, takes.standby, wire-told w.primary.epoch s.sent w.standby.position applies.standby.position applies.told w.wire takes.later takes.told_within s.wire))
-
--- ---- crashes
-
--- each connection's calls take its items in order
-pub sound-items : (w : World) → Sound w → (c : ℕ) → IsPrefix (items_of c w.primary.calls) (asked (connection_of w c).inbound.fed)
-sound-items w s c = elim (cases_Bool (is_open w c)) [ inl e ↦ inbound-items w.primary.calls c (connection_of w c).inbound (s.inbound c e) | inr e ↦ (s.over c e).items ]
-
--- the list is cut where an image stands that holds what the standby does, and the primary is opened from it as of this epoch
-sound-over : (w : World) (position : ℕ) → w.standby.position ≤ position → position ≤ position_of w.primary.calls → Sound w
-    → (c : ℕ) → SoundOver (cut_at w.primary.calls position) c w.standby.position (get_connection (map left w.primary.connections) c)
-sound-over w position held within s c =
-    subst (SoundOver (cut_at w.primary.calls position) c w.standby.position) (sym (get-over w.primary.connections c))
-    (over-crashed w.primary.calls c w.standby.position position (connection_of w c) held (sound-items w s c) (sound-released w s c))
-
-committer-cut : (calls : List Call) (position : ℕ) → position ≤ position_of calls → SoundCommitter (position_of (cut_at calls position)) (new_committer position)
-committer-cut calls position within =
-    let there : position ≡ position_of (cut_at calls position) = omega (arith, position_of-cut_at calls position, within) in subst (λ p. SoundCommitter p (new_committer position)) there (committer-new position)
-
--- a primary's image that a crash leaves at this position
-sound-crashed_primary : (w : World) (position : ℕ) → w.primary.committer.position ≤ position → position ≤ position_of w.primary.calls → Sound w → Sound (with_primary (crashed_primary position w.primary) w)
-sound-crashed_primary w position low within s =
-    let epoch = w.primary.epoch in
-    let later : s.sent ≤ position = omega (arith, chain-le _ _ _ s.link.waiting, low) in
-    let held : w.standby.position ≤ position = omega (arith, s.standby.behind, later) in
-    record {
-      connections = record { seats = omega (arith, count-over w.primary.connections) };
-      legal = IsLegal-cut_at w.primary.calls position s.legal;
-      inbound = λ c is_one. absurd (both_ways _ is_one (all-over w.primary.connections c));
-      outbound = λ c is_one. absurd (both_ways _ is_one (all-over w.primary.connections c));
-      over = λ c shut. sound-over w position held within s c;
-      committer = committer-cut w.primary.calls position within;
-      sent = position;
-      link = link-new position;
-      standby = search (arith, held, frames_within-weaker epoch s.sent position w.standby.waiting later s.standby.frames);
-      wire = record { frames = frames_within-weaker epoch s.sent position w.wire.frames later s.wire.frames; acknowledged = s.wire.acknowledged };
-      primary_left = All-nil (IsPrimaryLeft position (position_of (cut_at w.primary.calls position)));
-      standby_left = standby_left-grown w.standby.position s.sent position (torn w.standby.life) later s.standby_left;
-    }
-
--- a standby's image that a crash leaves at this position
-sound-crashed_standby : (w : World) (s : Sound w) (position : ℕ) → w.standby.position ≤ position → position ≤ s.sent → Sound (with_standby (crashed_standby position w.standby) w)
-sound-crashed_standby w s position low within =
-    let epoch = w.primary.epoch in
-    let over : (c : ℕ) → is_open w c ≡ false → SoundOver w.primary.calls c position (connection_of w c) =
-    λ c shut. let o = s.over c shut in
-    search (o, All-weaker (IsHeldAt w.standby.position) (IsHeldAt position) (λ reply h. omega (arith, h, low)) o.released.out o.released.held) in
-    let told : All (IsToldWithin epoch position) w.wire.acknowledgements =
-    All-weaker (IsToldWithin epoch w.standby.position) (IsToldWithin epoch position) (λ ack h. record { epoch_is = h.epoch_is; within = λ same. let high = h.within same in omega (arith, high, low) }) w.wire.acknowledgements s.wire.acknowledged in
-    record {
-      connections = s.connections;
-      legal = s.legal;
-      inbound = s.inbound;
-      outbound = s.outbound;
-      over = over;
-      committer = s.committer;
-      sent = s.sent;
-      link = s.link;
-      standby = record { epoch_is = s.standby.epoch_is; frames = All-nil (IsFrameWithin epoch s.sent); behind = within; known = omega (arith, s.standby.known, low) };
-      wire = record { frames = s.wire.frames; acknowledged = told };
-      primary_left = s.primary_left;
-      standby_left = All-nil (IsStandbyLeft position s.sent);
-    }
-
--- the standby's image is that of a primary of the next epoch
-pub sound-promoted : (w : World) → Sound w → Sound (promoted w)
-sound-promoted w s =
-    let epoch = w.primary.epoch in
-    let later = w.standby.epoch + 1 in
-    let position = w.standby.position in
-    let next : epoch < later = omega (arith, s.standby.epoch_is) in
-    let within : position ≤ position_of w.primary.calls = omega (arith, s.standby.behind, chain-le _ _ _ s.link.waiting, s.committer.closed, chain-le _ _ _ s.committer.waiting) in
-    record {
-      connections = record { seats = omega (arith, count-over w.primary.connections) };
-      legal = IsLegal-cut_at w.primary.calls position s.legal;
-      inbound = λ c is_one. absurd (both_ways _ is_one (all-over w.primary.connections c));
-      outbound = λ c is_one. absurd (both_ways _ is_one (all-over w.primary.connections c));
-      over = λ c shut. sound-over w position (le_refl position) within s c;
-      committer = committer-cut w.primary.calls position within;
-      sent = position;
-      link = link-new position;
-      standby = record { epoch_is = refl; frames = All-nil (IsFrameWithin later position); behind = le_refl position; known = omega arith };
-      wire = record {
-        frames = frames-earlier epoch s.sent later position w.wire.frames next s.wire.frames;
-        acknowledged = told-earlier epoch position later position w.wire.acknowledgements next s.wire.acknowledged;
-      };
-      primary_left = All-nil (IsPrimaryLeft position (position_of (cut_at w.primary.calls position)));
-      standby_left = All-nil (IsStandbyLeft position position);
-    }
-
--- the primary commits up to a position of the list
-pub next_primary-within : (w : World) → Sound w → (w.primary.committer.position ≤ next_primary w) × (next_primary w ≤ position_of w.primary.calls)
-next_primary-within w s =
-    let committer = w.primary.committer in
-    go (from_group committer.waiting) (subst (λ groups. IsChain committer.position groups committer.closed) (sym (spans_of-from_group committer.waiting)) s.committer.waiting)
-  where
-    go : (works : List Work) → IsChain w.primary.committer.position (spans_of works) w.primary.committer.closed
-        → let next = (committed_first works w.primary.committer).position in (w.primary.committer.position ≤ next) × (next ≤ position_of w.primary.calls)
-    go [] chain = (le_refl _, omega (arith, s.committer.closed, chain-le _ _ _ s.committer.waiting))
-    go (Frees newest ∷ works) chain = (le_refl _, omega (arith, s.committer.closed, chain-le _ _ _ s.committer.waiting))
-    go (Commits group ∷ works) chain = (omega (arith, chain.1), omega (arith, s.committer.closed, chain-le _ _ _ chain.2))
-
--- what a call of the primary that is cut leaves lies within the list
-primary_left-by : (w : World) (call : Cut) → Sound w → All (IsPrimaryLeft w.primary.committer.position (position_of w.primary.calls)) (left_by w nodes.Primary call)
-primary_left-by w cut.Commit s =
-    let P = IsPrimaryLeft w.primary.committer.position (position_of w.primary.calls) in
-    All-cons P (At (next_primary w)) [] (next_primary-within w s) (All-nil P)
-primary_left-by w _ s = All-nil (IsPrimaryLeft w.primary.committer.position (position_of w.primary.calls))
-
-standby_left-by : (w : World) (call : Cut) (s : Sound w) → All (IsStandbyLeft w.standby.position s.sent) (left_by w nodes.Standby call)
-standby_left-by w cut.Apply s =
-    let P = IsStandbyLeft w.standby.position s.sent in
-    All-cons P (At (next_standby w)) [] (next-within w.primary.epoch s.sent w.standby w.standby.waiting s.standby.epoch_is s.standby.behind s.standby.frames) (All-nil P)
-standby_left-by w cut.Promote s = let P = IsStandbyLeft w.standby.position s.sent in All-cons P AsPrimary [] tt (All-nil P)
-standby_left-by w _ s = All-nil (IsStandbyLeft w.standby.position s.sent)
-
--- what a crash may leave of either node
-pub primary-remains : (w : World) (call : Cut) (remain : Remains) → Contains (may_remain w nodes.Primary call) remain → Sound w → IsPrimaryLeft w.primary.committer.position (position_of w.primary.calls) remain
-primary-remains w call remain one s =
-    let P = IsPrimaryLeft w.primary.committer.position (position_of w.primary.calls) in
-    let own : IsPrimaryLeft w.primary.committer.position (position_of w.primary.calls) (At w.primary.committer.position) =
-    (le_refl w.primary.committer.position, omega (arith, s.committer.closed, chain-le _ _ _ s.committer.waiting)) in
-    let others = torn w.primary.life ++ left_by w nodes.Primary call in
-    All-contains P (may_remain w nodes.Primary call) remain (All-cons P (At w.primary.committer.position) others own (All-append P (torn w.primary.life) (left_by w nodes.Primary call) s.primary_left (primary_left-by w call s))) one
-
-pub standby-remains : (w : World) (call : Cut) (remain : Remains) → Contains (may_remain w nodes.Standby call) remain → (s : Sound w) → IsStandbyLeft w.standby.position s.sent remain
-standby-remains w call remain one s =
-    let P = IsStandbyLeft w.standby.position s.sent in
-    let own : IsStandbyLeft w.standby.position s.sent (At w.standby.position) = (le_refl w.standby.position, s.standby.behind) in
-    let others = torn w.standby.life ++ left_by w nodes.Standby call in
-    All-contains P (may_remain w nodes.Standby call) remain (All-cons P (At w.standby.position) others own (All-append P (torn w.standby.life) (left_by w nodes.Standby call) s.standby_left (standby_left-by w call s))) one
-
-pub sound-crashed : (w : World) (node : Node) (call : Cut) (remain : Remains) → Contains (may_remain w node call) remain → Sound w → Sound (crashed node remain w)
-sound-crashed w nodes.Primary call (At position) one s = let at = primary-remains w call (At position) one s in sound-crashed_primary w position at.0 at.1 s
-sound-crashed w nodes.Primary call AsPrimary one s = s
-sound-crashed w nodes.Standby call (At position) one s = let at = standby-remains w call (At position) one s in sound-crashed_standby w s position at.0 at.1
-sound-crashed w nodes.Standby call AsPrimary one s = sound-promoted w s
-
--- ---- the condition of a node and of its device
-
-pub sound-primary_life : (w : World) (life : Life) (disk : Disk) → All (IsPrimaryLeft w.primary.committer.position (position_of w.primary.calls)) (torn life) → Sound w → Sound (with_primary (record w.primary { life = life; disk = disk }) w)
-sound-primary_life w life disk left s = search (left, s)
-
-pub sound-standby_life : (w : World) (life : Life) (disk : Disk) (s : Sound w) → All (IsStandbyLeft w.standby.position s.sent) (torn life) → Sound (with_standby (record w.standby { life = life; disk = disk }) w)
-sound-standby_life w life disk s left = search (left, s)
-
-pub sound-asked : (w : World) (node : Node) (n : ℕ) → Sound w → Sound (on_disk node (asked_to_fail n) w)
-sound-asked w nodes.Primary n s = sound-primary_life w w.primary.life (asked_to_fail n w.primary.disk) s.primary_left s
-sound-asked w nodes.Standby n s = sound-standby_life w w.standby.life (asked_to_fail n w.standby.disk) s s.standby_left
-
-sound-failed : (w : World) (node : Node) (call : Cut) → Sound w → Sound (halted node (left_by w node call) w)
-sound-failed w nodes.Primary call s = sound-primary_life w (Stopped (left_by w nodes.Primary call)) (failed w.primary.disk) (primary_left-by w call s) s
-sound-failed w nodes.Standby call s =
-    let left = standby_left-by w call s in
-    let none = All-nil (IsFrameWithin w.primary.epoch s.sent) in
-    search (left, none, s)
-
-pub sound-Fails : (w new : World) (node : Node) (call : Cut) → Fails w node call new → Sound w → Sound new
-sound-Fails w new node call fails s = subst Sound (sym fails.now) (sound-failed w node call s)
-
--- the primary's image is opened
-pub sound-opened : {made : ℕ} (w new : World) → OpensPrimary made w new → Sound w → Sound new
-sound-opened w new opens s =
-    let left = All-nil (IsPrimaryLeft w.primary.committer.position (position_of w.primary.calls)) in
-    subst Sound (sym opens.now) (search (left, s))
+    subst Sound (sym applies.now) (search (
+      over,
+      left,
+      takes.standby,
+      wire-told w.primary.epoch (reach w) w.standby.role w.standby.position applies.standby.role applies.standby.position applies.told w.wire takes.stays takes.later takes.told_within s.wire,
+    ))
 
 -- ---- marks and frames
 
@@ -312,27 +243,83 @@ sound-RaiseLocal w s =
 pub sound-RaiseRemote : (w : World) → Sound w → Sound (with_link (raised_remote w.primary.link) w)
 sound-RaiseRemote w s =
     let link = w.primary.link in
-    search (
-      outbound-grown w (record { local = w.primary.committer.local; remote = link.known }) (le_refl w.primary.committer.local) s.link.remote s,
-      le_refl link.known,
-    )
+    let raised : SoundLink w.primary.opened w.primary.committer.stage w.primary.committer.position s.sent (raised_remote link) =
+    record {
+      kept_from = s.link.kept_from;
+      known = s.link.known;
+      kept = s.link.kept;
+      waiting = s.link.waiting;
+      sent_again = s.link.sent_again;
+      again = s.link.again;
+      remote = le_refl link.known;
+      sent_from = s.link.sent_from;
+      delta = s.link.delta;
+      few = s.link.few;
+      few_kept = s.link.few_kept;
+    } in
+    record {
+      connections = s.connections;
+      legal = s.legal;
+      inbound = s.inbound;
+      outbound = outbound-grown w (record { local = w.primary.committer.local; remote = link.known }) (le_refl w.primary.committer.local) s.link.remote s;
+      over = s.over;
+      committer = s.committer;
+      sent = s.sent;
+      link = raised;
+      pinned = s.pinned;
+      standby = s.standby;
+      wire = s.wire;
+      primary_left = s.primary_left;
+      standby_left = s.standby_left;
+    }
 
 pub sound-Hand : (w : World) → may_happen w Hand ≡ true → Sound w → Sound (with_link (handed_to (handed w.primary.committer.stage) w.primary.link) (with_committer (ready_again w.primary.committer) w))
 sound-Hand w e s =
     let committer = w.primary.committer in
     search (shown-hand committer.stage committer.position committer.local e s.committer.shown, link-handed committer.stage committer.position s.sent w.primary.link e s.link)
 
-pub sound-OpenLink : (w : World) → Sound w → Sound (with_link (opened_link (due_delta w.standby.position w.primary.opened) w.primary.link) (with_acknowledged (acknowledgement_of w.standby ∷ []) w))
+-- what a newcomer wants changes no mark, leaves nothing pinned, or what was, and no less was sent
+wanted-marks : (closed committed : ℕ) (copying : Copying) (link : Link) → IsPinnedWithin closed copying
+    → let new = wanted_by copying link in (new.known ≡ link.known) × (new.remote ≡ link.remote) × IsPinnedWithin closed new.copying × (reach_of copying committed ≤ reach_of new.copying committed)
+wanted-marks closed committed Follows link pinned = (refl, refl, tt, le_refl committed)
+wanted-marks closed committed Awaited link pinned = (refl, refl, tt, le_refl committed)
+wanted-marks closed committed (Sending one) link pinned = (refl, refl, pinned, omega arith)
+
+wanted-remote : (copying : Copying) (link : Link) → (wanted_by copying link).remote ≡ link.remote
+wanted-remote Follows link = refl
+wanted-remote Awaited link = refl
+wanted-remote (Sending pinned) link = refl
+
+-- the opening of the link raises no remote mark
+pub opened-remote : (w : World) → (opened_to w.standby.role w.standby.position w.primary).remote ≡ w.primary.link.remote
+opened-remote w = elim w.standby.role as (λ role. (opened_to role w.standby.position w.primary).remote ≡ w.primary.link.remote) [
+  | Follower ↦ refl
+  | Uncopied ↦ wanted-remote w.primary.link.copying w.primary.link
+]
+
+pub sound-OpenLink : (w : World) → Sound w → Sound (with_link (opened_to w.standby.role w.standby.position w.primary) (with_acknowledged (acknowledged_of w.standby.role w.standby) w))
 sound-OpenLink w s =
-    search (
-      link-opened w.primary.committer.stage w.primary.committer.position s.sent _ w.primary.link (due_delta-within w.standby.position w.primary.opened) s.link,
-      wire-told w.primary.epoch s.sent w.standby.position w.standby.position (acknowledgement_of w.standby ∷ []) w.wire (le_refl w.standby.position) (told-one w.primary.epoch s.sent w.primary.link.known w.standby s.standby) s.wire,
-    )
+    let link = w.primary.link in
+    let stage = w.primary.committer.stage in
+    let position = w.primary.committer.position in
+    let told : (role : Role) → Sound (with_acknowledged (acknowledged_of role w.standby) w) = λ role. sound-acknowledged w (acknowledged_of role w.standby) (told-opening w.primary.epoch (reach w) link.known role w.standby s.standby) s in
+    elim w.standby.role as (λ role. Sound (with_link (opened_to role w.standby.position w.primary) (with_acknowledged (acknowledged_of role w.standby) w))) [
+      | Follower ↦
+          let due = due_from w.primary in
+          let delta = due_delta w.standby.position due in
+          let opened = link-opened stage position s.sent delta link (deltas-weaker due s.sent delta s.link.sent_from (due_delta-within w.standby.position due)) s.link in
+          sound-relinked (with_acknowledged (acknowledged_of Follower w.standby) w) (opened_link delta link) s.sent opened s.standby.known refl tt (reach-low link.copying position) (told Follower)
+      | Uncopied ↦
+          let marks = wanted-marks w.primary.committer.closed position link.copying link s.pinned in
+          sound-relinked (with_acknowledged (acknowledged_of Uncopied w.standby) w) (wanted_by link.copying link) s.sent (link-wanted w.primary.opened stage position s.sent link.copying link s.link) (omega (arith, marks.0, s.standby.known)) marks.1 marks.2 marks.3
+          (told Uncopied)
+    ]
 
 pub sound-Deliver : (w : World) (frame : ℕ) → Sound w → Sound (with_standby (delivered (option_items (slice_get w.wire.frames frame)) w.standby) w)
 sound-Deliver w frame s =
-    let frames = all-at (IsFrameWithin w.primary.epoch s.sent) w.wire.frames frame s.wire.frames in
-    search (All-append (IsFrameWithin w.primary.epoch s.sent) w.standby.waiting (option_items (slice_get w.wire.frames frame)) s.standby.frames frames)
+    let P = IsFrameWithin w.primary.epoch w.standby.role w.standby.position (reach w) in
+    let frames = all-at P w.wire.frames frame s.wire.frames in
+    search (All-append P w.standby.waiting (option_items (slice_get w.wire.frames frame)) s.standby.frames frames)
 
 pub sound-AckDelivered : (w : World) (a : ℕ) → Sound w → Sound (with_link (told w.primary.epoch w.primary.committer.position (slice_get w.wire.acknowledgements a) w.primary.link) w)
 sound-AckDelivered w a s =

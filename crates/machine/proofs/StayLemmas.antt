@@ -8,7 +8,7 @@ use Rattle.model.proofs.PrefixLemmas.{IsPrefix-itself, IsPrefix-trans}
 use Rattle.model.proofs.ServesLemmas.{IsPrefix-calls_of, calls_of-push_other}
 use Rattle.machine.specs.declared.event.Node.{Node}
 use Rattle.machine.specs.declared.event.Node.TheVariants as nodes
-use Rattle.machine.specs.Event.{Connection, Remains, At, AsPrimary, World, get_connection, crashed, promoted, entered, OpensPrimary, new_connection, connection_of, changed_at, with_inbound, with_outbound, with_connections, is_open, taken_first, Turns, with_made, left}
+use Rattle.machine.specs.Event.{Connection, Remains, At, AsPrimary, AsFollower, World, get_connection, crashed, promoted, entered, OpensPrimary, new_connection, connection_of, changed_at, with_inbound, with_outbound, with_connections, is_open, taken_first, Turns, with_made, left}
 use Rattle.machine.specs.Law.{StaysOver}
 use Rattle.machine.specs.Sound.{HasNothing}
 use Rattle.machine.proofs.ConnectionLemmas.{get-before, get-changed_other, length-changed_at}
@@ -90,6 +90,8 @@ stays-crashed c w nodes.Primary (At position) nothing lt shut = stays-cut c posi
 stays-crashed c w nodes.Primary AsPrimary nothing lt shut = stays-itself c w lt
 stays-crashed c w nodes.Standby (At position) nothing lt shut = search (stays-itself c w lt)
 stays-crashed c w nodes.Standby AsPrimary nothing lt shut = stays-promoted c w nothing lt shut
+stays-crashed c w nodes.Primary (AsFollower position) nothing lt shut = stays-itself c w lt
+stays-crashed c w nodes.Standby (AsFollower position) nothing lt shut = search (stays-itself c w lt)
 
 pub stays-opens : {made : ℕ} (c : ℕ) (old w new : World) → OpensPrimary made w new → StaysOver c old w → StaysOver c old new
 stays-opens c old w new opens stays = subst (StaysOver c old) (sym opens.now) (search stays)
@@ -119,3 +121,5 @@ few-crashed w nodes.Primary (At position) = omega (arith, length-map w.primary.c
 few-crashed w nodes.Primary AsPrimary = omega arith
 few-crashed w nodes.Standby (At position) = omega arith
 few-crashed w nodes.Standby AsPrimary = omega (arith, length-map w.primary.connections left)
+few-crashed w nodes.Primary (AsFollower position) = omega arith
+few-crashed w nodes.Standby (AsFollower position) = omega arith

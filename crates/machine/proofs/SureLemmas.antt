@@ -9,7 +9,7 @@ use Rattle.machine.specs.declared.event.Event.{Event}
 use Rattle.machine.specs.declared.event.Event.TheVariants.{Apply, FailFence, Crash, Reopen, Promote}
 use Rattle.machine.specs.declared.event.Node.{Node}
 use Rattle.machine.specs.declared.event.Node.TheVariants as nodes
-use Rattle.machine.specs.Event.{Life, Running, Stopped, Crashed, Retired, Remains, At, AsPrimary, World, Fails, Step, crashed, is_between, is_crashed, is_enabled, is_retired, is_running, is_stopped, left_by, life_of, may_cut, may_happen, may_remain, next_primary, promoted, torn}
+use Rattle.machine.specs.Event.{Life, Running, Stopped, Crashed, Retired, Remains, At, AsPrimary, AsFollower, World, Fails, Step, crashed, is_between, is_crashed, is_enabled, is_follower, is_retired, is_running, is_stopped, left_by, life_of, may_cut, may_happen, may_remain, next_primary, promoted, torn}
 use Rattle.machine.specs.Row.{touches}
 use Rattle.machine.specs.Sound.{IsPrimaryLeft, Sound}
 use Rattle.model.specs.Call.{is_nonempty, position_of}
@@ -32,6 +32,7 @@ unfailed w node call new on happens = elim happens [
 abbrev pub IsAt : Remains → Type 0
 IsAt (At position) = Unit {0}
 IsAt AsPrimary = ⊥
+IsAt (AsFollower position) = ⊥
 
 left-primary : (w : World) (call : Cut) → All IsAt (left_by w nodes.Primary call)
 left-primary w cut.Commit = All-cons IsAt (At (next_primary w)) [] tt (All-nil IsAt)
@@ -40,6 +41,7 @@ left-primary w call = All-nil IsAt
 at-left : (low high : ℕ) (remain : Remains) → IsPrimaryLeft low high remain → IsAt remain
 at-left low high (At position) left = tt
 at-left low high AsPrimary left = absurd left
+at-left low high (AsFollower position) left = absurd left
 
 -- a crash leaves a primary's image of a primary
 pub remains-primary : (w : World) (call : Cut) (remain : Remains) → Sound w → Contains (may_remain w nodes.Primary call) remain → IsAt remain
@@ -52,6 +54,7 @@ remains-primary w call remain sound one =
 pub crashed-ahead : (w new : World) (remain : Remains) → new ≡ crashed nodes.Standby remain w → (new.primary.disk.number ≡ w.primary.disk.number → ⊥) → new ≡ promoted w
 crashed-ahead w new (At position) now other = absurd (other (ap (λ (x : World). x.primary.disk.number) now))
 crashed-ahead w new AsPrimary now other = now
+crashed-ahead w new (AsFollower position) now other = absurd (other (ap (λ (x : World). x.primary.disk.number) now))
 
 -- ---- an event
 
@@ -85,7 +88,7 @@ retired-still w (Crash nodes.Standby call k picks) retired touched = dead w.allo
     uncut-standby cut.Free = refl
     uncut-standby cut.ClearGap = refl
     uncut-standby cut.Reopen = (idle w.standby.life retired).2
-    uncut-standby cut.Promote = ap (λ b. b && is_retired w.primary.life) (idle w.standby.life retired).0
+    uncut-standby cut.Promote = ap (λ b. b && (is_follower w.standby.role && is_retired w.primary.life)) (idle w.standby.life retired).0
 retired-still w (Reopen nodes.Standby) retired touched = dead w.allowed.restarts _ (idle w.standby.life retired).2
 retired-still w Promote retired touched = ap (λ b. b && may_happen w Promote) (idle w.standby.life retired).0
 retired-still w event retired touched = absurd (true≢false (sym touched))

@@ -17,7 +17,7 @@ use Rattle.machine.specs.declared.event.Cut.TheVariants as cut
 use Rattle.std.specs.Prelude.{Vec}
 use Rattle.std.specs.Global.{Global}
 use Rattle.model.specs.declared.record.TheConstants.{FIRST_EPOCH}
-use Rattle.machine.specs.Event.{Frame, World, all_allowed, At, AsPrimary, Retired, Run, Happens, Crashes, is_enabled, Turns, Closes, Applies, start, start_with, last_world, asked_to_fail, crashed, halted, left_by, on_disk, promoted, reopened_primary, reopened_standby, with_life, with_primary, entered, changed_at, with_connections, with_committer, with_link, with_standby, with_acknowledged, with_ended, on_inbound, on_outbound, fed_with, offered_next, called, closed_group, committed_first, raised_local, handed, handed_to, ready_again, opened_link, acknowledgement_of, sent, delivered, option_items, moved_to, without_first, told, raised_remote, held_first, having_read, having_released, written, left, torn}
+use Rattle.machine.specs.Event.{Changes, acknowledged_of, opened_to, Frame, World, all_allowed, At, AsPrimary, Retired, Run, Happens, Crashes, is_enabled, Turns, Closes, Applies, start, start_with, last_world, asked_to_fail, crashed, halted, left_by, on_disk, promoted, reopened_primary, reopened_standby, with_life, with_primary, entered, changed_at, with_connections, with_committer, with_link, with_standby, with_acknowledged, with_ended, on_inbound, on_outbound, fed_with, offered_next, called, closed_group, committed_first, raised_local, handed, handed_to, ready_again, acknowledgement_of, sent, delivered, option_items, moved_to, without_first, told, raised_remote, held_first, having_read, having_released, written, left, torn}
 use Rattle.machine.specs.Promise.{released_in}
 use Rattle.machine.proofs.RunLemmas.{step-does, step-stays}
 use Rattle.machine.specs.Worked.{worked_events, worked_done, FirstCaseIsARun, failover_events, failover_done, FailoverIsARun}
@@ -43,7 +43,7 @@ after w CloseGroup = with_ended 0 0 (with_committer (closed_group (position_of w
 after w Commit = with_committer (committed_first w.primary.committer.waiting w.primary.committer) w
 after w RaiseLocal = with_committer (raised_local w.primary.committer) w
 after w Hand = with_link (handed_to (handed w.primary.committer.stage) w.primary.link) (with_committer (ready_again w.primary.committer) w)
-after w OpenLink = with_link (opened_link [] w.primary.link) (with_acknowledged (acknowledgement_of w.standby ∷ []) w)
+after w OpenLink = with_link (opened_to w.standby.role w.standby.position w.primary) (with_acknowledged (acknowledged_of w.standby.role w.standby) w)
 after w Send = sent w
 after w (Deliver frame piece) = with_standby (delivered (option_items (slice_get w.wire.frames frame)) w.standby) w
 after w Apply = let standby = moved_to 1 (without_first w.standby) in with_acknowledged (acknowledgement_of standby ∷ []) (with_standby standby w)
@@ -103,8 +103,8 @@ closes_one = inl (refl, record { ends = 0; newest = 0; none = λ e. refl; some =
 applies : Applies (world 19) (world 20)
 unfolding items_at outcome_of_words verb_of closes is_named
 applies =
-    let frame : Frame = record { epoch = FIRST_EPOCH; span = record { before = 0; after = 1 } } in
-    record { frame = frame; first = refl; standby = moved_to 1 (without_first (world 19).standby); told = _; takes = inr (inr (inl (refl, omega arith, refl, refl, refl))); now = refl }
+    let frame : Frame = record { epoch = FIRST_EPOCH; told = Changes (record { before = 0; after = 1 }) } in
+    record { frame = frame; first = refl; standby = moved_to 1 (without_first (world 19).standby); told = _; takes = inr (refl, inr (inl (omega arith, refl, refl, refl))); now = refl }
 
 commits : Happens (world 10) Commit (world 11)
 unfolding items_at outcome_of_words verb_of closes is_named

@@ -9,7 +9,7 @@ use Rattle.machine.specs.declared.event.Node.{Node}
 use Rattle.machine.specs.declared.event.Node.TheVariants as nodes
 use Rattle.machine.specs.declared.event.Mark.{Mark}
 use Rattle.machine.specs.declared.event.Mark.TheVariants.{Local, Remote}
-use Rattle.machine.specs.Event.{Connection, Remains, At, AsPrimary, World, get_connection, crashed, promoted, entered, Turns, on_outbound, OpensPrimary, is_open, changed_at, with_inbound, with_outbound, with_connections, on_inbound, with_call, taken_first, having_read, written, left}
+use Rattle.machine.specs.Event.{Connection, Remains, At, AsPrimary, AsFollower, World, get_connection, crashed, promoted, entered, Turns, on_outbound, OpensPrimary, is_open, changed_at, with_inbound, with_outbound, with_connections, on_inbound, with_call, taken_first, having_read, written, left}
 use Rattle.machine.specs.Promise.{released_in}
 use Rattle.machine.proofs.ConnectionLemmas.{get-changed_other, get-entered, same-changed}
 use Rattle.machine.proofs.CrashLemmas.{get-over}
@@ -24,7 +24,7 @@ pub record Unwritten (c : ℕ) (old new : World) : Type 0 where
   pub calls : Moved old.primary.calls new.primary.calls
   pub released : released_in new c ≡ released_in old c
 
-unchanged : (c : ℕ) (w : World) → Unwritten c w w
+pub unchanged : (c : ℕ) (w : World) → Unwritten c w w
 unchanged c w = record { calls = inl (IsPrefix-itself w.primary.calls); released = refl }
 
 -- a change to one connection that writes nothing
@@ -68,6 +68,8 @@ unwritten-crashed c w nodes.Primary (At position) = unwritten-over c position w 
 unwritten-crashed c w nodes.Primary AsPrimary = unchanged c w
 unwritten-crashed c w nodes.Standby (At position) = search (unchanged c w)
 unwritten-crashed c w nodes.Standby AsPrimary = unwritten-promoted c w
+unwritten-crashed c w nodes.Primary (AsFollower position) = unchanged c w
+unwritten-crashed c w nodes.Standby (AsFollower position) = search (unchanged c w)
 
 -- a primary's image that is opened
 pub unwritten-opens : {made : ℕ} (c : ℕ) (old w new : World) → OpensPrimary made w new → Unwritten c old w → Unwritten c old new

@@ -8,7 +8,7 @@ use Rattle.model.specs.Call.{IsLegal, IsPrefix, Serves, calls_of, cut_at, items_
 use Rattle.machine.specs.declared.event.Event.{Event}
 use Rattle.machine.specs.declared.event.Event.TheVariants.{AckDelivered, Apply, Crash, Deliver, FailFence, OpenLink, Promote, RaiseRemote, Reopen, Send}
 use Rattle.machine.specs.declared.event.Node.TheVariants as node
-use Rattle.machine.specs.Event.{Allowed, World, Span, Step, may_happen, next_to_send, Run, start_with, last_world, connection_of, is_open, count_open, asked, spans_of, texts_of, is_enabled, is_retired, is_running, safe_position}
+use Rattle.machine.specs.Event.{Follower, Uncopied, due_from, Allowed, World, Span, Step, may_happen, next_to_send, Run, start_with, last_world, connection_of, is_open, count_open, asked, spans_of, texts_of, is_enabled, is_retired, is_running, safe_position}
 use Rattle.machine.specs.Promise.{IsReleased, released_in, fed_to}
 use Rattle.machine.specs.Sound.{HasNothing, IsChain, IsFrameWithin, IsToldWithin, Sound, answers_to}
 use Rattle.machine.specs.declared.event.TheConstants.{SEATS}
@@ -45,8 +45,10 @@ pub record Grows (old new : World) : Type 0 where
   pub safe : safe_position old ≤ safe_position new
   pub kept : IsPrefix (cut_at old.primary.calls (safe_position old)) new.primary.calls
   pub released : (c : ℕ) → IsPrefix (released_in old c) (released_in new c)
-  pub frames : IsPrefix old.wire.frames new.wire.frames
-  pub acknowledgements : IsPrefix old.wire.acknowledgements new.wire.acknowledgements
+  pub came : old.came ≤ new.came
+  -- while the same node follows
+  pub frames : new.came ≡ old.came → IsPrefix old.wire.frames new.wire.frames
+  pub acknowledgements : new.came ≡ old.came → IsPrefix old.wire.acknowledgements new.wire.acknowledgements
   -- of the same primary
   pub within : new.primary.epoch ≡ old.primary.epoch → GrowsWithin old new
 
@@ -159,13 +161,15 @@ GroupsAreInOrder = AfterEveryRun (λ w. IsChain w.primary.committer.position (sp
 
 -- each frame of the primary's epoch, sent or waiting at the standby, tells only changes that the primary committed
 abbrev pub FramesAreCommitted : Type 0
-FramesAreCommitted = AfterEveryRun (λ w. All (IsFrameWithin w.primary.epoch w.primary.committer.position) w.wire.frames × All (IsFrameWithin w.primary.epoch w.primary.committer.position) w.standby.waiting)
+FramesAreCommitted =
+    AfterEveryRun (λ w. let within = IsFrameWithin w.primary.epoch w.standby.role w.standby.position w.primary.committer.position in All within w.wire.frames × All within w.standby.waiting)
 
--- where the link opens to a standby that is behind the position at which the primary was opened, what is sent next leads it from where it stands to there
+-- where the link opens to a standby that is behind the position at which the primary was opened, or to which groups were dropped, what is sent next leads it from where
+-- it stands to there
 abbrev pub WhoIsBehindGetsADelta : Type 0
 WhoIsBehindGetsADelta =
-    (old new : World) → Step old OpenLink true new → old.standby.position < old.primary.opened
-    → let delta : Span = record { before = old.standby.position; after = old.primary.opened } in
+    (old new : World) → Step old OpenLink true new → old.standby.role ≡ Follower → old.standby.position < due_from old.primary
+    → let delta : Span = record { before = old.standby.position; after = due_from old.primary } in
     (next_to_send new.primary.link ≡ delta ∷ []) × (may_happen new Send ≡ true)
 
 -- ---- what has not happened
@@ -207,6 +211,10 @@ NothingHappensFenced = (w : World) (event : Event) → is_retired w.primary.life
 -- a standby is promoted only where its primary was fenced
 abbrev pub OnlyFencedIsSucceeded : Type 0
 OnlyFencedIsSucceeded = (w : World) → is_retired w.primary.life ≡ false → is_enabled w Promote ≡ false
+
+-- and one that has no copy yet is not
+abbrev pub NoNewcomerIsPromoted : Type 0
+NoNewcomerIsPromoted = (w : World) → w.standby.role ≡ Uncopied → is_enabled w Promote ≡ false
 
 -- What a promotion makes: the list up to the standby's position, no open connection, no reply that is covered yet, and the next epoch.
 pub record IsSucceededBy (old new : World) : Type 0 where

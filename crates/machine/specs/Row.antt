@@ -1,7 +1,7 @@
 -- The table of events, one row an event: the nodes that take part, the device that it touches, and what may end a run there.
 use Rattle.std.specs.Prelude.{Bool, true, false, ◌&&◌, Option, Some, None}
 use Rattle.machine.specs.declared.event.Event.{Event}
-use Rattle.machine.specs.declared.event.Event.TheVariants.{Enter, Feed, Offer, Turn, CloseGroup, Commit, RaiseLocal, Hand, Free, AcceptFreed, ClearGap, OpenLink, Send, Deliver, Apply, AckDelivered, RaiseRemote, Hold, Read, Release, Write, Leave, FailFence, Crash, Reopen, Fence, Promote}
+use Rattle.machine.specs.declared.event.Event.TheVariants.{Enter, Feed, Offer, Turn, CloseGroup, Commit, RaiseLocal, Hand, Free, AcceptFreed, ClearGap, OpenLink, Send, Deliver, Apply, AckDelivered, RaiseRemote, Newcomer, PinCopy, SendCopy, Hold, Read, Release, Write, Leave, FailFence, Crash, Reopen, Fence, Promote}
 use Rattle.machine.specs.declared.event.Node.{Node}
 use Rattle.machine.specs.declared.event.Node.TheVariants as node
 use Rattle.machine.specs.declared.event.Runners.{Runners}
@@ -55,6 +55,10 @@ row (Deliver frame piece) = record (plain true) { runners = runners.Standby }
 row Apply = record { runners = runners.Standby; touches = Some node.Standby; asks_memory = true; may_fail = true; limit = Some OneStamp }
 row (AckDelivered a) = plain true
 row RaiseRemote = plain false
+-- (the device that it formats is no node's before)
+row Newcomer = plain true
+row PinCopy = plain true
+row SendCopy = plain true
 row (Hold c) = plain true
 row (Read c mark) = plain false
 row (Release c) = plain false

@@ -6,7 +6,7 @@ use Rattle.model.specs.declared.call.Call.{Call}
 use Rattle.model.specs.State.{State, start_state}
 use Rattle.model.specs.Call.{IsLegal, IsPrefix, after_call, is_changing, items_of, position_of}
 use Rattle.machine.specs.declared.event.TheConstants.{SEATS, PIPE_ITEMS, OPEN_CHANGES, KEPT_GROUPS}
-use Rattle.machine.specs.Event.{Span, Frame, Acknowledgement, Stage, Ready, Durable, Shown, Inbound, Outbound, Connection, Committer, Link, Remains, At, AsPrimary, Standby, Wire, World, asked, connection_of, is_open, count_open, safe_position, seen_of, spans_of, texts_of, torn}
+use Rattle.machine.specs.Event.{Span, Told, Changes, Part, End, Role, Uncopied, Copying, Follows, Awaited, Sending, reach, Frame, Acknowledgement, Stage, Ready, Durable, Shown, Inbound, Outbound, Connection, Committer, Link, Remains, At, AsPrimary, AsFollower, Standby, Wire, World, asked, connection_of, is_open, count_open, safe_position, seen_of, spans_of, texts_of, torn}
 
 -- ---- replies
 
@@ -43,10 +43,22 @@ pub record IsGroupWithin (position : ℕ) (group : Span) : Type 0 where
   pub rising : group.before < group.after
   pub within : group.after ≤ position
 
--- a frame of this epoch, whose span ends at this position or below, or one of an earlier epoch
-pub record IsFrameWithin (epoch position : ℕ) (frame : Frame) : Type 0 where
+-- A copy at this position may be taken: it ends at the position up to which all was sent or below, and a newcomer, which stands for another standby at its own
+-- position, falls behind that one by it nowhere.
+pub record IsCopyWithin (role : Role) (low reach copied : ℕ) : Type 0 where
+  pub above : role ≡ Uncopied → low ≤ copied
+  pub within : copied ≤ reach
+
+-- changes that end at the position up to which all was sent or below, or something of a copy that may be taken
+abbrev pub IsToldOf : Role → ℕ → ℕ → Told → Type 0
+IsToldOf role low reach (Changes span) = IsGroupWithin reach span
+IsToldOf role low reach (Part position number) = IsCopyWithin role low reach position
+IsToldOf role low reach (End position parts) = IsCopyWithin role low reach position
+
+-- a frame of this epoch that tells no more than what was sent, or one of an earlier epoch
+pub record IsFrameWithin (epoch : ℕ) (role : Role) (low reach : ℕ) (frame : Frame) : Type 0 where
   pub epoch_is : frame.epoch ≤ epoch
-  pub span : frame.epoch ≡ epoch → IsGroupWithin position frame.span
+  pub told : frame.epoch ≡ epoch → IsToldOf role low reach frame.told
 
 -- an acknowledgement of this epoch, with this position or one below it, or one of an earlier epoch
 pub record IsToldWithin (epoch position : ℕ) (acknowledgement : Acknowledgement) : Type 0 where
@@ -130,10 +142,10 @@ pub record SoundCommitter (position : ℕ) (committer : Committer) : Type 0 wher
 -- what holds of the link, given the position at which the primary was opened, the committer's stage, the position of the primary's record, and the one
 -- up to which groups were sent
 pub record SoundLink (opened : ℕ) (stage : Stage) (position sent : ℕ) (link : Link) : Type 0 where
-  -- The kept groups lead to the position up to which groups were sent: from the one that the link knows, or one below it, or from the one at which the
-  -- primary was opened.
+  -- The kept groups lead to the position up to which groups were sent or dropped: from the one that the link knows, or one below it, or from the one at which the
+  -- primary was opened, or to which groups were dropped.
   pub kept_from : ℕ
-  pub known : kept_from ≤ max link.known opened
+  pub known : kept_from ≤ max link.known (max opened link.dropped)
   pub kept : IsChain kept_from link.kept sent
   -- those that wait and the one in the committer's hand are the other committed groups
   pub waiting : IsChain sent (link.waiting ++ in_hand stage) position
@@ -141,23 +153,29 @@ pub record SoundLink (opened : ℕ) (stage : Stage) (position sent : ℕ) (link 
   pub sent_again : List Span
   pub again : sent_again ++ link.again ≡ link.kept
   pub remote : link.remote ≤ link.known
-  -- groups were sent from the position on at which the primary was opened, and a delta leads no further
-  pub sent_from : opened ≤ sent
-  pub delta : All (IsGroupWithin opened) link.delta
+  -- groups were sent or dropped from the position on at which the primary was opened, and a delta leads no further than they
+  pub sent_from : max opened link.dropped ≤ sent
+  pub delta : All (IsGroupWithin sent) link.delta
   pub few : HasRoomFor stage link.waiting
   pub few_kept : length link.kept ≤ KEPT_GROUPS
 
--- what holds of the standby, given the epoch of the pair, the position up to which the link has sent groups, and the one that it knows
-pub record SoundStandby (epoch sent link_knows : ℕ) (standby : Standby) : Type 0 where
+-- what holds of the node that follows, given the epoch of the pair, the position at or below which all lies that was sent, and the one that the link knows
+pub record SoundStandby (epoch reach link_knows : ℕ) (standby : Standby) : Type 0 where
   pub epoch_is : standby.epoch ≡ epoch
-  pub frames : All (IsFrameWithin epoch sent) standby.waiting
-  pub behind : standby.position ≤ sent
+  pub frames : All (IsFrameWithin epoch standby.role standby.position reach) standby.waiting
+  pub behind : standby.position ≤ reach
   pub known : link_knows ≤ standby.position
 
--- what holds of the wire, given the epoch of the pair, the position up to which the link has sent groups, and that of the standby's record
-pub record SoundWire (epoch sent position : ℕ) (wire : Wire) : Type 0 where
-  pub frames : All (IsFrameWithin epoch sent) wire.frames
+-- what holds of the wire, given the epoch of the pair, the position at or below which all lies that was sent, and the role and the position of the node that follows
+pub record SoundWire (epoch reach : ℕ) (role : Role) (position : ℕ) (wire : Wire) : Type 0 where
+  pub frames : All (IsFrameWithin epoch role position reach) wire.frames
   pub acknowledged : All (IsToldWithin epoch position) wire.acknowledgements
+
+-- what is pinned is of the list, given the position up to which groups were closed
+abbrev pub IsPinnedWithin : ℕ → Copying → Type 0
+IsPinnedWithin closed Follows = Unit {0}
+IsPinnedWithin closed Awaited = Unit {0}
+IsPinnedWithin closed (Sending pinned) = pinned.position ≤ closed
 
 -- there is a seat for each open connection
 pub record SoundConnections (connections : List Connection) : Type 0 where
@@ -167,11 +185,13 @@ pub record SoundConnections (connections : List Connection) : Type 0 where
 abbrev pub IsPrimaryLeft : ℕ → ℕ → Remains → Type 0
 IsPrimaryLeft low high (At position) = (low ≤ position) × (position ≤ high)
 IsPrimaryLeft low high AsPrimary = ⊥
+IsPrimaryLeft low high (AsFollower position) = ⊥
 
--- what a call of the standby may have left, given the position of its record and the one up to which the link has sent groups
-abbrev pub IsStandbyLeft : ℕ → ℕ → Remains → Type 0
-IsStandbyLeft low high (At position) = (low ≤ position) × (position ≤ high)
-IsStandbyLeft low high AsPrimary = Unit {0}
+-- what a call of the node that follows may have left, given its position and the one at or below which all lies that was sent
+abbrev pub IsStandbyLeft : Role → ℕ → ℕ → Remains → Type 0
+IsStandbyLeft role low high (At position) = (low ≤ position) × (position ≤ high) × (role ≡ Uncopied → position ≤ low)
+IsStandbyLeft role low high AsPrimary = Unit {0}
+IsStandbyLeft role low high (AsFollower position) = (low ≤ position) × (position ≤ high)
 
 pub record Sound (w : World) : Type 0 where
   pub connections : SoundConnections w.primary.connections
@@ -180,10 +200,11 @@ pub record Sound (w : World) : Type 0 where
   pub outbound : (c : ℕ) → is_open w c ≡ true → SoundOutbound w.primary.calls c (seen_of w) (connection_of w c).outbound
   pub over : (c : ℕ) → is_open w c ≡ false → SoundOver w.primary.calls c (safe_position w) (connection_of w c)
   pub committer : SoundCommitter (position_of w.primary.calls) w.primary.committer
-  -- groups were sent up to this position
+  -- groups were sent or dropped up to this position
   pub sent : ℕ
   pub link : SoundLink w.primary.opened w.primary.committer.stage w.primary.committer.position sent w.primary.link
-  pub standby : SoundStandby w.primary.epoch sent w.primary.link.known w.standby
-  pub wire : SoundWire w.primary.epoch sent w.standby.position w.wire
+  pub pinned : IsPinnedWithin w.primary.committer.closed w.primary.link.copying
+  pub standby : SoundStandby w.primary.epoch (reach w) w.primary.link.known w.standby
+  pub wire : SoundWire w.primary.epoch (reach w) w.standby.role w.standby.position w.wire
   pub primary_left : All (IsPrimaryLeft w.primary.committer.position (position_of w.primary.calls)) (torn w.primary.life)
-  pub standby_left : All (IsStandbyLeft w.standby.position sent) (torn w.standby.life)
+  pub standby_left : All (IsStandbyLeft w.standby.role w.standby.position (reach w)) (torn w.standby.life)

@@ -1,14 +1,15 @@
--- Two cases as runs written out. The first: one connection sends SET a 1. Each kind of event happens in it but those that free what has ended, and those of failing
+-- Three cases as runs written out. The first: one connection sends SET a 1. Each kind of event happens in it but those that free what has ended, and those of failing
 -- fences, crashes and failover. The second: its change is durable on the primary alone, the primary is fenced, and the standby promoted, at the second attempt.
+-- The third: a newcomer takes the place of the standby, and gets a copy.
 use Rattle.std.specs.Prelude.{◌≡◌, ℕ, Bool, true, false, List, [], ◌∷◌, take, codes, All, Vec}
 use Rattle.std.specs.Global.{Global}
 use Rattle.machine.specs.declared.event.Event.{Event}
-use Rattle.machine.specs.declared.event.Event.TheVariants.{Enter, Feed, Offer, Turn, CloseGroup, Commit, RaiseLocal, Hand, OpenLink, Send, Deliver, Apply, AckDelivered, RaiseRemote, Hold, Read, Release, Write, Leave, FailFence, Crash, Reopen, Fence, Promote}
+use Rattle.machine.specs.declared.event.Event.TheVariants.{Enter, Feed, Offer, Turn, CloseGroup, Commit, RaiseLocal, Hand, OpenLink, Send, Deliver, Apply, AckDelivered, RaiseRemote, Newcomer, PinCopy, SendCopy, Hold, Read, Release, Write, Leave, FailFence, Crash, Reopen, Fence, Promote}
 use Rattle.machine.specs.declared.event.Node.TheVariants as node
 use Rattle.machine.specs.declared.event.Cut.TheVariants as cut
 use Rattle.machine.specs.declared.event.Mark.TheVariants.{Local, Remote}
 use Rattle.model.specs.Call.{position_of}
-use Rattle.machine.specs.Event.{World, Run, all_allowed, start, start_with, last_world, count_open, is_open}
+use Rattle.machine.specs.Event.{World, Run, all_allowed, allowed_with, start, start_with, last_world, count_open, is_open}
 use Rattle.machine.specs.Promise.{released_in}
 
 abbrev pub set_request : List ℕ
@@ -87,3 +88,36 @@ pub record FailoverIsARun (picks : Vec ℕ Global) : Type 0 where
   pub released : released_in (last_world (start_with all_allowed) worlds) 0 ≡ []
   pub over : is_open (last_world (start_with all_allowed) worlds) 0 ≡ false
   pub entered : is_open (last_world (start_with all_allowed) worlds) 1 ≡ true
+
+-- ---- a new standby by a copy
+
+abbrev pub newcomer_events : List Event
+newcomer_events =
+    -- the call is durable on the primary, and its group waits for the link
+    Enter ∷ Feed 0 set_request ∷ Offer 0 ∷ Turn 0 ∷ CloseGroup ∷ Commit ∷ RaiseLocal ∷ Hand
+    -- a newcomer comes; the link awaits its copy, and drops the group
+    ∷ Newcomer ∷ OpenLink ∷ Send ∷ Send
+    -- the copy is pinned, and sent as one part and its end; the newcomer can't be promoted, also where its primary is fenced, which it is not here
+    ∷ PinCopy ∷ PinCopy ∷ SendCopy ∷ SendCopy ∷ SendCopy ∷ Promote
+    -- its end comes too soon; then it is a standby, and acknowledges the copy's position
+    ∷ Deliver 1 0 ∷ Apply ∷ Deliver 0 0 ∷ Apply ∷ Deliver 1 0 ∷ Apply ∷ AckDelivered 0 ∷ RaiseRemote
+    -- which covers the call
+    ∷ Hold 0 ∷ Read 0 Local ∷ Read 0 Remote ∷ Release 0 ∷ Write 0 5 ∷ []
+
+abbrev pub newcomer_done : List Bool
+newcomer_done =
+    true ∷ true ∷ true ∷ true ∷ true ∷ true ∷ true ∷ true
+    ∷ true ∷ true ∷ true ∷ false
+    ∷ true ∷ false ∷ true ∷ true ∷ false ∷ false
+    ∷ true ∷ true ∷ true ∷ true ∷ true ∷ true ∷ true ∷ true
+    ∷ true ∷ true ∷ true ∷ true ∷ true ∷ []
+
+-- The newcomer, on the third device, is a standby at position 1 in the end, and the call is released.
+pub record NewcomerIsARun : Type 0 where
+  pub worlds : List World
+  pub run : Run (start_with (allowed_with 1)) newcomer_events newcomer_done worlds
+  pub position : (last_world (start_with (allowed_with 1)) worlds).standby.position ≡ 1
+  pub disk : (last_world (start_with (allowed_with 1)) worlds).standby.disk.number ≡ 2
+  pub remote : (last_world (start_with (allowed_with 1)) worlds).primary.link.remote ≡ 1
+  pub nothing_kept : (last_world (start_with (allowed_with 1)) worlds).primary.link.kept ≡ []
+  pub reply : released_in (last_world (start_with (allowed_with 1)) worlds) 0 ≡ codes "+OK\r\n"

@@ -1,7 +1,8 @@
 -- The state of the pair of nodes and their connections (this project's profile), and definitions on it. Calls are appended to the list as the
 -- sequencer runs them; groups and frames are named by the positions of the list that they lie between.
+pub use Rattle.machine.specs.Newcomer.{Span, Told, Changes, Part, End, Role, Follower, Uncopied, Half, Pinned, Copying, Follows, Awaited, Sending, TakesPart, has_all, is_follower, is_awaited, may_send_copy, told_next, next_of_copy, sent_one, keeps_group, dropped_with, reach_of}
 pub use Rattle.machine.specs.Connection.{Inbound, Outbound, Connection, no_connection, new_connection, get_connection, is_open_at, count_open, changed_at, with_inbound, with_outbound, asked, is_closed_by, has_room, is_covered, covered_prefix, uncovered_rest, texts_of}
-use Rattle.std.specs.Prelude.{◌≡◌, ℕ, Bool, true, false, List, [], ◌∷◌, ◌++◌, ◌-◌}
+use Rattle.std.specs.Prelude.{◌≡◌, ℕ, Bool, true, false, List, [], ◌∷◌, ◌++◌, ◌-◌, Option, None}
 use Rattle.kv_types.specs.declared.seen.Seen.{Seen}
 use Rattle.model.specs.declared.call.Call.{Call}
 use Rattle.model.specs.Call.{position_of}
@@ -9,15 +10,10 @@ use Rattle.model.specs.declared.record.TheConstants.{FIRST_EPOCH}
 
 -- ---- the state
 
--- a group, or what a frame tells: the changes of the list between two positions, call by call
-pub record Span : Type 0 where
-  pub before : ℕ
-  pub after : ℕ
-
--- what is sent to the standby: a span of the list, with an epoch
+-- what is sent to the node that follows, with an epoch
 pub record Frame : Type 0 where
   pub epoch : ℕ
-  pub span : Span
+  pub told : Told
 
 -- what the standby answers: the position of its record, with its epoch
 pub record Acknowledgement : Type 0 where
@@ -68,6 +64,10 @@ pub record Link : Type 0 where
   pub known : ℕ
   -- the remote mark
   pub remote : ℕ
+  -- whether it awaits or sends a copy
+  pub copying : Copying
+  -- where the last group ends that was dropped while a copy was awaited; 0, where none was since the primary was opened
+  pub dropped : ℕ
 
 -- what a crash may leave of a node
 pub data Remains : Type 0 where
@@ -75,6 +75,8 @@ pub data Remains : Type 0 where
   At : ℕ → Remains
   -- of a standby that was being promoted: the image of a primary of the next epoch, at the standby's position
   AsPrimary : Remains
+  -- of a newcomer that had its copy: the image of a standby at the copy's position
+  AsFollower : ℕ → Remains
 
 -- the condition of a node
 pub data Life : Type 0 where
@@ -116,17 +118,20 @@ pub record Primary : Type 0 where
   pub gaps : ℕ
 
 -- The node that follows it. Of one that was promoted nothing happens any more; its position stays the one at which it was promoted, and its epoch is that of the
--- primary which it became.
+-- primary which it became. A newcomer's image has position 0 until it has its copy.
 pub record Standby : Type 0 where
   pub life : Life
   pub disk : Disk
   pub epoch : ℕ
   -- frames that arrived and have not been taken yet
   pub waiting : List Frame
-  -- the position of its record
+  -- the position of its record; of a newcomer the one at or below which all lies that was released before it came, at which the standby before it stood
   pub position : ℕ
+  pub role : Role
+  -- what a newcomer has of its copy
+  pub half : Option Half
 
--- all that was ever sent between the two nodes, in order, whatever has become of it since
+-- all that was sent between the two nodes since this one follows, in order, whatever has become of it since
 pub record Wire : Type 0 where
   pub frames : List Frame
   pub acknowledgements : List Acknowledgement
@@ -143,12 +148,16 @@ pub record Allowed : Type 0 where
   pub failures : Bool
   -- they may crash inside a call
   pub cuts : Bool
+  -- so many newcomers may come: there are as many devices more than two
+  pub newcomers : ℕ
 
 pub record World : Type 0 where
   pub allowed : Allowed
   pub primary : Primary
   pub standby : Standby
   pub wire : Wire
+  -- how many newcomers have come
+  pub came : ℕ
 
 -- ---- the start
 
@@ -158,7 +167,7 @@ new_committer position = record { closed = position; waiting = []; aside = []; s
 
 -- a link that has sent nothing and knows of no acknowledgement
 abbrev pub new_link : Link
-new_link = record { delta = []; waiting = []; kept = []; again = []; known = 0; remote = 0 }
+new_link = record { delta = []; waiting = []; kept = []; again = []; known = 0; remote = 0; copying = Follows; dropped = 0 }
 
 -- the device with this number, of which no fence was asked to fail
 abbrev pub new_disk : ℕ → Disk
@@ -182,18 +191,23 @@ start_at epoch allowed = record {
     notices = 0;
     gaps = 0;
   };
-  standby = record { life = Running; disk = new_disk 1; epoch = epoch; waiting = []; position = 0 };
+  standby = record { life = Running; disk = new_disk 1; epoch = epoch; waiting = []; position = 0; role = Follower; half = None };
   wire = record { frames = []; acknowledgements = [] };
+  came = 0;
 }
 
 abbrev pub start_with : Allowed → World
 start_with allowed = start_at FIRST_EPOCH allowed
 
 abbrev pub none_allowed : Allowed
-none_allowed = record { restarts = false; fencing = false; promotions = false; failures = false; cuts = false }
+none_allowed = record { restarts = false; fencing = false; promotions = false; failures = false; cuts = false; newcomers = 0 }
+
+-- over two devices and so many more
+abbrev pub allowed_with : ℕ → Allowed
+allowed_with newcomers = record { restarts = true; fencing = true; promotions = true; failures = true; cuts = true; newcomers = newcomers }
 
 abbrev pub all_allowed : Allowed
-all_allowed = record { restarts = true; fencing = true; promotions = true; failures = true; cuts = true }
+all_allowed = allowed_with 0
 
 -- two nodes of which none crashes, is fenced or is promoted, and whose devices' fences do not fail
 abbrev pub start : World
@@ -232,9 +246,19 @@ torn (Stopped remains) = remains
 torn Crashed = []
 torn (Retired remains) = remains
 
--- Whatever crash or failover comes, the list keeps its calls up to this position: that of the standby's record, or the one at which it was promoted.
+-- Whatever crash or failover comes, the list keeps its calls up to this position: that of the standby's record, or the one at which it was promoted; and while a
+-- newcomer has no copy, the one at which the standby before it stood.
 abbrev pub safe_position : World → ℕ
 safe_position w = w.standby.position
+
+-- the position of the record of the node that follows
+abbrev pub stands_at : Role → ℕ → ℕ
+stands_at Follower position = position
+stands_at Uncopied position = 0
+
+-- the position at or below which all lies that was sent to the node that follows
+abbrev pub reach : World → ℕ
+reach w = reach_of w.primary.link.copying w.primary.committer.position
 
 -- connection c, or `no_connection` where there is none
 abbrev pub connection_of : World → ℕ → Connection

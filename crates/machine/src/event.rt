@@ -129,6 +129,13 @@ pub enum Event {
     AckDelivered(u64),
     /// The link shows what was acknowledged by raising the remote mark.
     RaiseRemote,
+    /// A new standby by a copy comes in the place of the one that there is, if any: the next unused device has a new image for the primary's epoch. Whatever
+    /// passed between the nodes before is gone.
+    Newcomer,
+    /// The sequencer pins the copy that the link awaits: the keyspace at the position of the list.
+    PinCopy,
+    /// The link sends the next frame of the pinned copy.
+    SendCopy,
     /// A connection's gate takes the first waiting reply.
     Hold(u64),
     /// A connection's gate reads a mark.
@@ -179,6 +186,9 @@ impl Event {
             | Event::Send
             | Event::AckDelivered(_)
             | Event::RaiseRemote
+            | Event::Newcomer
+            | Event::PinCopy
+            | Event::SendCopy
             | Event::Hold(_)
             | Event::Read(_, _)
             | Event::Release(_)
@@ -213,6 +223,9 @@ impl Event {
             Event::Apply => Ok(Event::Apply),
             Event::AckDelivered(number) => Ok(Event::AckDelivered(*number)),
             Event::RaiseRemote => Ok(Event::RaiseRemote),
+            Event::Newcomer => Ok(Event::Newcomer),
+            Event::PinCopy => Ok(Event::PinCopy),
+            Event::SendCopy => Ok(Event::SendCopy),
             Event::Hold(connection) => Ok(Event::Hold(*connection)),
             Event::Read(connection, mark) => Ok(Event::Read(*connection, *mark)),
             Event::Release(connection) => Ok(Event::Release(*connection)),

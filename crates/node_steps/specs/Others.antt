@@ -5,7 +5,7 @@ use Rattle.machine.specs.declared.event.Event.{Event}
 use Rattle.machine.specs.declared.event.Event.TheVariants as events
 use Rattle.machine.specs.Event.{Run, World, last_world}
 
--- events of clients, of their connections, of the link and of the standby
+-- events of clients, of their connections, of the link and of the node that follows (to pin a copy changes nothing that the thread has)
 abbrev pub is_others : Event → Bool
 is_others events.Enter = true
 is_others (events.Feed c piece) = true
@@ -20,6 +20,9 @@ is_others (events.Deliver frame piece) = true
 is_others events.Apply = true
 is_others (events.AckDelivered a) = true
 is_others events.RaiseRemote = true
+is_others events.Newcomer = true
+is_others events.PinCopy = true
+is_others events.SendCopy = true
 is_others event = false
 
 abbrev pub AreOthers : List Event → Type 0

@@ -3,7 +3,7 @@ use Rattle.std.proofs.Common.{◌≡◌, inl, inr, ℕ, zero, suc, ◌-◌, ◌<
 use Rattle.std.proofs.lemmas.Bool.{cases_lt, lt-ltb, le-ltb, le-leb, lt-leb}
 use Rattle.model.specs.declared.call.Call.{Call}
 use Rattle.model.specs.declared.group.Group.{Group}
-use Rattle.machine.specs.Event.{Link as Machine, Span, above, knowing}
+use Rattle.machine.specs.Event.{Copying, Link as Machine, Span, above, ended_at, knowing}
 use Rattle.machine.specs.Sound.{IsChain}
 use Rattle.pipes.specs.Waiting.{Waiting}
 use Rattle.frames.specs.declared.frame.Frame.{Frame}
@@ -79,6 +79,10 @@ frames-above epoch calls position from (frame ∷ frames) (group ∷ groups) to 
 ]
 frames-above epoch calls position from frames groups to are chain = absurd are
 
+-- the link without the groups up to the position, which it knows
+abbrev without : ℕ → Machine → Machine
+without position machine = record machine { kept = above position machine.kept; again = above position machine.again; known = max machine.known position }
+
 pub knows : (calls : List Call) (code : Stream) (handed : Waiting Group) (remote position : ℕ) (machine : Machine) (from to : ℕ) → LinkRefines calls code handed remote machine
     → IsChain from machine.kept to
     → LinkRefines calls (acknowledged position code) handed remote (knowing position machine)
@@ -86,7 +90,7 @@ knows calls code handed remote position machine from to stands chain =
     let kept = frames-above code.epoch calls position from code.kept machine.kept to stands.kept chain in
     let count = length-frames code.epoch calls code.kept machine.kept stands.kept in
     let left = length-frames code.epoch calls (frames_above position code.kept) (above position machine.kept) kept in
-    record {
+    subst (λ (copying : Copying). LinkRefines calls (acknowledged position code) handed remote (ended_at position copying (without position machine))) (sym stands.copying_is) (record {
       waiting = stands.waiting;
       none_pending = stands.none_pending;
       delta = stands.delta;
@@ -96,4 +100,17 @@ knows calls code handed remote position machine from to stands chain =
           ∙ ap (above position) stands.again;
       known = ap (λ n. max n position) stands.known;
       remote_is = stands.remote_is;
-    }
+      copying_is = stands.copying_is;
+      dropped_is = stands.dropped_is;
+    })
+
+-- one that tells nothing takes nothing
+pub knows-nothing : (calls : List Call) (code : Stream) (handed : Waiting Group) (remote : ℕ) (machine : Machine) (from to : ℕ) → LinkRefines calls code handed remote machine → IsChain from machine.kept to
+    → knowing 0 machine ≡ machine
+knows-nothing calls code handed remote machine from to stands chain =
+    let kept : above 0 machine.kept ≡ machine.kept = above-all 0 from machine.kept to (omega arith) chain in
+    let again : above 0 machine.again ≡ machine.again =
+    subst (λ (groups : List Span). above 0 groups ≡ groups) stands.again (above-drop 0 from code.next machine.kept to (omega arith) chain) in
+    let known : max machine.known 0 ≡ machine.known = omega arith in
+    ap (λ (copying : Copying). ended_at 0 copying (without 0 machine)) stands.copying_is
+    ∙ ap₂ (λ (k a : List Span). record machine { kept = k; again = a; known = max machine.known 0 }) kept again ∙ ap (λ n. record machine { known = n }) known

@@ -5,13 +5,13 @@ use Rattle.std.proofs.lemmas.Bool.{lt-ltb, le-ltb}
 use Rattle.model.specs.declared.call.Call.{Call}
 use Rattle.model.specs.Call.{is_nonempty}
 use Rattle.model.specs.Standing.{Holder}
-use Rattle.machine.specs.Event.{World, Frame as Sent, Acknowledgement, delivered, option_items, with_standby, with_acknowledged, without_first}
+use Rattle.machine.specs.Event.{Changes, World, Frame as Sent, Acknowledgement, delivered, option_items, with_standby, with_acknowledged, without_first}
 use Rattle.frames.specs.declared.frame.Frame.{Frame}
 use Rattle.stream_codec.specs.Message.{Sent as Told, IsSent, sent_of_frame, sent_text}
 use Rattle.connections.specs.Going.{Goes}
 use Rattle.std.proofs.lemmas.List.Elements.{All-head}
 use Rattle.machine.proofs.StandbyLemmas.{all-at}
-use Rattle.world.specs.Link.{IsFrameOf, IsFrameSent, IsOwn, AreFramesRead, AreFramesSent, AreAcksSent}
+use Rattle.world.specs.Link.{IsFrameOf, IsFrameSent, IsOwn, AreFramesRead, AreFramesSent, AreAcksSent, span_of}
 use Rattle.world.specs.Standby.{Arrived, Node, ArrivalsRefine, AppliesFirst}
 use Rattle.world.proofs.FrameLemmas.{AreFramesRead-grows, AreFramesRead-push, IsFrameOf-copy, copy_of_read, frame_of_number, length-sent}
 use Rattle.world.proofs.StandbyLemmas.{Took}
@@ -37,13 +37,13 @@ delivers epoch texts w i bytes frame old new lt found reads items acks stands ar
     let of = frame_of_number epoch calls texts w.wire.frames i are lt in
     let is : IsFrameSent epoch calls bytes.items of.one = subst (λ (b : Vec ℕ Global). IsFrameSent epoch calls b.items of.one) (same_found of.bytes_stand found) of.is in
     let epoch_is : of.one.epoch ≡ epoch = All-head (IsOwn epoch) of.one [] (subst (λ (o : Option Sent). All (IsOwn epoch) (option_items o)) of.stands (all-at (IsOwn epoch) w.wire.frames i owns)) in
-    let own : IsFrameOf epoch calls frame of.one.span = IsFrameOf-copy epoch calls is.frame frame of.one.span (is.is epoch_is) (copy_of_read is.frame frame (reads (sent_of_frame is.frame) is.may is.text)) in
+    let own : IsFrameOf epoch calls frame (span_of of.one.told) = IsFrameOf-copy epoch calls is.frame frame (span_of of.one.told) (is.is epoch_is) (copy_of_read is.frame frame (reads (sent_of_frame is.frame) is.may is.text)) in
     record {
       done = sym (lt-ltb i (length w.wire.frames) (slice_get_within w.wire.frames i of.one of.stands));
       goes = λ did. record {
         delivered = subst (λ (frames : List Frame). AreFramesRead epoch calls frames (w.standby.waiting ++ option_items (slice_get w.wire.frames i))) (sym items)
             (subst (λ (o : Option Sent). AreFramesRead epoch calls (old.delivered.items ++ frame ∷ []) (w.standby.waiting ++ option_items o)) (sym of.stands)
-            (AreFramesRead-push epoch calls old.delivered.items w.standby.waiting frame of.one stands.delivered (record { epoch_is = epoch_is; has = own })));
+            (AreFramesRead-push epoch calls old.delivered.items w.standby.waiting frame of.one stands.delivered (record { epoch_is = epoch_is; told_is = is.about.told_is; has = own })));
         acknowledged = subst (λ (ts : List (Vec ℕ Global)). AreAcksSent ts w.wire.acknowledgements) (sym acks) stands.acknowledged;
       };
       stays = λ did. cc;
@@ -77,12 +77,13 @@ pub record FirstFrame (epoch : ℕ) (calls : List Call) (frame : Frame) (others 
   pub spans : List Sent
   pub all : waiting ≡ span ∷ spans
   pub epoch_is : span.epoch ≡ epoch
-  pub is : IsFrameOf epoch calls frame span.span
+  pub told_is : span.told ≡ Changes (span_of span.told)
+  pub is : IsFrameOf epoch calls frame (span_of span.told)
   pub rest : AreFramesRead epoch calls others spans
 
 first_of : (epoch : ℕ) (calls : List Call) (frame : Frame) (others : List Frame) (waiting : List Sent) → AreFramesRead epoch calls (frame ∷ others) waiting → FirstFrame epoch calls frame others waiting
 first_of epoch calls frame others [] are = absurd are
-first_of epoch calls frame others (span ∷ spans) are = record { span = span; spans = spans; all = refl; epoch_is = are.0.epoch_is; is = are.0.has; rest = are.1 }
+first_of epoch calls frame others (span ∷ spans) are = record { span = span; spans = spans; all = refl; epoch_is = are.0.epoch_is; told_is = are.0.told_is; is = are.0.has; rest = are.1 }
 
 pub first-frame : (epoch : ℕ) (w : World) (arrivals : Arrived) (frame : Frame) (others : List Frame) → arrivals.delivered.items ≡ frame ∷ others
     → ArrivalsRefine epoch w.primary.calls arrivals w.standby.waiting w.wire.acknowledgements → FirstFrame epoch w.primary.calls frame others w.standby.waiting

@@ -10,12 +10,12 @@ use Rattle.model.specs.Image.{IsMapOf}
 use Rattle.model.specs.Group.{Contents, entries_of}
 use Rattle.model.specs.Standing.{Holder}
 use Rattle.model.proofs.CallsLemmas.{IsPrefix-cut_at, cut_at-all, position_of-cut_at}
-use Rattle.machine.specs.Event.{Span, Frame as Sent, Acknowledgement}
-use Rattle.machine.specs.Sound.{IsFrameWithin}
+use Rattle.machine.specs.Event.{Changes, Role, Span, Told, Frame as Sent, Acknowledgement}
+use Rattle.machine.specs.Sound.{IsFrameWithin, IsGroupWithin, IsToldOf}
 use Rattle.machine.proofs.GrowLemmas.{cuts-stay}
 use Rattle.frames.specs.declared.frame.Frame.{Frame}
 use Rattle.world.specs.Committing.{AreContentsAt, EngineStands, IsDown}
-use Rattle.world.specs.Link.{LiesWithin, IsFrameOf, IsFrameRead, AreFramesRead, AreFramesSent}
+use Rattle.world.specs.Link.{LiesWithin, IsFrameOf, IsFrameRead, AreFramesRead, AreFramesSent, span_of}
 use Rattle.world.specs.Standby.{Arrived, Node, StandbyStands, ArrivalsRefine}
 
 -- the keyspace up to the cut is that of the whole list
@@ -64,32 +64,39 @@ IsFrameOf-cut epoch calls n frame span le is =
     ∙ sym (keyspace_after-cut_at-cut calls n span.after le) in
     search (rules, LiesWithin-cut calls n span le is.span_within, plays, is)
 
-IsFrameRead-cut : (epoch : ℕ) (calls : List Call) (n : ℕ) (frame : Frame) (sent : Sent) → IsFrameWithin epoch n sent → IsFrameRead epoch calls frame sent → IsFrameRead epoch (cut_at calls n) frame sent
-IsFrameRead-cut epoch calls n frame sent within is = record { epoch_is = is.epoch_is; has = IsFrameOf-cut epoch calls n frame sent.span (within.span is.epoch_is).within is.has }
+-- of changes that are told
+told-within : (role : Role) (low reach : ℕ) (told : Told) → told ≡ Changes (span_of told) → IsToldOf role low reach told → IsGroupWithin reach (span_of told)
+told-within role low reach told is within = subst (IsToldOf role low reach) is within
 
-pub AreFramesRead-cut : (epoch : ℕ) (calls : List Call) (n : ℕ) (frames : List Frame) (sent : List Sent) → All (IsFrameWithin epoch n) sent → AreFramesRead epoch calls frames sent → AreFramesRead epoch (cut_at calls n) frames sent
-AreFramesRead-cut epoch calls n [] [] within are = tt
-AreFramesRead-cut epoch calls n (frame ∷ frames) (one ∷ sent) within are = (
-  IsFrameRead-cut epoch calls n frame one (All-head (IsFrameWithin epoch n) one sent within) are.0,
-  AreFramesRead-cut epoch calls n frames sent (All-tail (IsFrameWithin epoch n) one sent within) are.1,
+IsFrameRead-cut : (role : Role) (low : ℕ) (epoch : ℕ) (calls : List Call) (n : ℕ) (frame : Frame) (sent : Sent) → IsFrameWithin epoch role low n sent → IsFrameRead epoch calls frame sent → IsFrameRead epoch (cut_at calls n) frame sent
+IsFrameRead-cut role low epoch calls n frame sent within is =
+    record { epoch_is = is.epoch_is; told_is = is.told_is; has = IsFrameOf-cut epoch calls n frame (span_of sent.told) (told-within role low n sent.told is.told_is (within.told is.epoch_is)).within is.has }
+
+pub AreFramesRead-cut : (role : Role) (low : ℕ) (epoch : ℕ) (calls : List Call) (n : ℕ) (frames : List Frame) (sent : List Sent) → All (IsFrameWithin epoch role low n) sent → AreFramesRead epoch calls frames sent → AreFramesRead epoch (cut_at calls n) frames sent
+AreFramesRead-cut role low epoch calls n [] [] within are = tt
+AreFramesRead-cut role low epoch calls n (frame ∷ frames) (one ∷ sent) within are = (
+  IsFrameRead-cut role low epoch calls n frame one (All-head (IsFrameWithin epoch role low n) one sent within) are.0,
+  AreFramesRead-cut role low epoch calls n frames sent (All-tail (IsFrameWithin epoch role low n) one sent within) are.1,
 )
-AreFramesRead-cut epoch calls n frames sent within are = absurd are
+AreFramesRead-cut role low epoch calls n frames sent within are = absurd are
 
-pub AreFramesSent-cut : (epoch : ℕ) (calls : List Call) (n : ℕ) (texts : List (Vec ℕ Global)) (sent : List Sent) → All (IsFrameWithin epoch n) sent → AreFramesSent epoch calls texts sent → AreFramesSent epoch (cut_at calls n) texts sent
-AreFramesSent-cut epoch calls n [] [] within are = tt
-AreFramesSent-cut epoch calls n (bytes ∷ texts) (one ∷ sent) within are = (
+pub AreFramesSent-cut : (role : Role) (low : ℕ) (epoch : ℕ) (calls : List Call) (n : ℕ) (texts : List (Vec ℕ Global)) (sent : List Sent) → All (IsFrameWithin epoch role low n) sent → AreFramesSent epoch calls texts sent → AreFramesSent epoch (cut_at calls n) texts sent
+AreFramesSent-cut role low epoch calls n [] [] within are = tt
+AreFramesSent-cut role low epoch calls n (bytes ∷ texts) (one ∷ sent) within are = (
   record {
     frame = are.0.frame;
     text = are.0.text;
     may = are.0.may;
     about = are.0.about;
-    is = λ own. IsFrameOf-cut epoch calls n are.0.frame one.span ((All-head (IsFrameWithin epoch n) one sent within).span own).within (are.0.is own);
+    is = λ own.
+        IsFrameOf-cut epoch calls n are.0.frame (span_of one.told)
+        (told-within role low n one.told are.0.about.told_is ((All-head (IsFrameWithin epoch role low n) one sent within).told own)).within (are.0.is own);
   },
-  AreFramesSent-cut epoch calls n texts sent (All-tail (IsFrameWithin epoch n) one sent within) are.1,
+  AreFramesSent-cut role low epoch calls n texts sent (All-tail (IsFrameWithin epoch role low n) one sent within) are.1,
 )
-AreFramesSent-cut epoch calls n texts sent within are = absurd are
+AreFramesSent-cut role low epoch calls n texts sent within are = absurd are
 
-pub ArrivalsRefine-cut : (epoch : ℕ) (calls : List Call) (n : ℕ) (code : Arrived) (waiting : List Sent) (told : List Acknowledgement) → All (IsFrameWithin epoch n) waiting
+pub ArrivalsRefine-cut : (role : Role) (low : ℕ) (epoch : ℕ) (calls : List Call) (n : ℕ) (code : Arrived) (waiting : List Sent) (told : List Acknowledgement) → All (IsFrameWithin epoch role low n) waiting
     → ArrivalsRefine epoch calls code waiting told → ArrivalsRefine epoch (cut_at calls n) code waiting told
-ArrivalsRefine-cut epoch calls n code waiting told within stands =
-    record { delivered = AreFramesRead-cut epoch calls n code.delivered.items waiting within stands.delivered; acknowledged = stands.acknowledged }
+ArrivalsRefine-cut role low epoch calls n code waiting told within stands =
+    record { delivered = AreFramesRead-cut role low epoch calls n code.delivered.items waiting within stands.delivered; acknowledged = stands.acknowledged }

@@ -154,6 +154,7 @@ pair-starts first second pair sessions sequencer none_ended none none_aside read
         standby_failing = ap (λ (l : Lives). l.asked.standby) (sym live);
         primary = sym (ap (λ (l : Lives). life_as l.primary []) live);
         standby = sym (ap (λ (l : Lives). life_as l.standby []) live);
+        follows = refl;
         first_role = first_role;
         second_role = second_role;
         first_epoch = first_epoch;
@@ -190,6 +191,8 @@ pair-starts first second pair sessions sequencer none_ended none none_aside read
                 again = refl;
                 known = refl;
                 remote_is = remote;
+                copying_is = refl;
+                dropped_is = refl;
               });
           frames = subst (λ (texts : List (Vec ℕ Global)). AreFramesSent pair.wire.link.epoch [] texts []) (sym no_frame) tt;
           own = λ whole. All-nil (IsOwn pair.wire.link.epoch);

@@ -14,7 +14,7 @@ use Rattle.frames.specs.Copy.{IsCopy}
 use Rattle.stream_codec.specs.Message.{Acknowledged, IsSent, IsWithinLimits, sent_of_frame, sent_of_ack}
 use Rattle.frames.specs.declared.ack.Ack.{Ack}
 use Rattle.world.specs.Standby.{told_by}
-use Rattle.world.specs.Link.{LiesWithin, IsFrameOf, AreFramesOf, IsFrameRead, AreFramesRead, IsFrameSent, AreFramesSent, IsAckSent, AreAcksSent}
+use Rattle.world.specs.Link.{LiesWithin, IsFrameOf, AreFramesOf, IsFrameRead, AreFramesRead, IsFrameSent, AreFramesSent, IsAckSent, AreAcksSent, span_of}
 
 -- ---- the list of calls grows
 
@@ -35,7 +35,7 @@ AreFramesOf-grows epoch calls more (frame ∷ frames) (span ∷ spans) are = (Is
 AreFramesOf-grows epoch calls more frames spans are = absurd are
 
 IsFrameRead-grows : (epoch : ℕ) (calls more : List Call) (frame : Frame) (sent : Sent) → IsFrameRead epoch calls frame sent → IsFrameRead epoch (calls ++ more) frame sent
-IsFrameRead-grows epoch calls more frame sent is = record { epoch_is = is.epoch_is; has = IsFrameOf-grows epoch calls more frame sent.span is.has }
+IsFrameRead-grows epoch calls more frame sent is = record { epoch_is = is.epoch_is; told_is = is.told_is; has = IsFrameOf-grows epoch calls more frame (span_of sent.told) is.has }
 
 pub AreFramesRead-grows : (epoch : ℕ) (calls more : List Call) (frames : List Frame) (sent : List Sent) → AreFramesRead epoch calls frames sent → AreFramesRead epoch (calls ++ more) frames sent
 AreFramesRead-grows epoch calls more [] [] are = tt
@@ -45,7 +45,7 @@ AreFramesRead-grows epoch calls more frames sent are = absurd are
 pub AreFramesSent-grows : (epoch : ℕ) (calls more : List Call) (texts : List (Vec ℕ Global)) (sent : List Sent) → AreFramesSent epoch calls texts sent → AreFramesSent epoch (calls ++ more) texts sent
 AreFramesSent-grows epoch calls more [] [] are = tt
 AreFramesSent-grows epoch calls more (bytes ∷ texts) (one ∷ sent) are =
-    (record { frame = are.0.frame; text = are.0.text; may = are.0.may; about = are.0.about; is = λ own. IsFrameOf-grows epoch calls more are.0.frame one.span (are.0.is own) }, AreFramesSent-grows epoch calls more texts sent are.1)
+    (record { frame = are.0.frame; text = are.0.text; may = are.0.may; about = are.0.about; is = λ own. IsFrameOf-grows epoch calls more are.0.frame (span_of one.told) (are.0.is own) }, AreFramesSent-grows epoch calls more texts sent are.1)
 AreFramesSent-grows epoch calls more texts sent are = absurd are
 
 -- ---- frames are sent

@@ -6,14 +6,14 @@ use Rattle.std.proofs.lemmas.List.{append-nil}
 use Rattle.model.specs.declared.call.Call.{Call}
 use Rattle.model.specs.Call.{cut_at, position_of}
 use Rattle.machine.specs.declared.event.Event.{Event}
-use Rattle.machine.specs.declared.event.Event.TheVariants.{Enter, Feed, Offer, Turn, CloseGroup, Commit, Free, ClearGap, Apply, AckDelivered, Hold, Read, Release, Write, Leave, FailFence, Crash, Reopen, Promote}
+use Rattle.machine.specs.declared.event.Event.TheVariants.{Enter, Feed, Offer, Turn, CloseGroup, Commit, Free, ClearGap, Apply, AckDelivered, PinCopy, Send, Hold, Read, Release, Write, Leave, FailFence, Crash, Reopen, Promote}
 use Rattle.machine.specs.declared.event.Cut.{Cut}
 use Rattle.machine.specs.declared.event.Cut.TheVariants as cut
 use Rattle.machine.specs.declared.event.Mark.{Mark}
 use Rattle.machine.specs.declared.event.Mark.TheVariants.{Local, Remote}
 use Rattle.machine.specs.declared.event.Node.{Node}
 use Rattle.machine.specs.declared.event.Node.TheVariants as node
-use Rattle.machine.specs.Event.{Acknowledgement, Remains, At, AsPrimary, Connection, Inbound, Outbound, Step, World, Fails, Happens, called, changed_at, connection_of, crashed, may_remain, fed_with, get_connection, having_read, having_released, held_first, is_stopped, left, offered_next, on_inbound, on_outbound, taken_first, told, with_call, with_inbound, with_link, with_made, with_outbound, written}
+use Rattle.machine.specs.Event.{Acknowledgement, Awaited, Copying, Follows, Remains, At, AsFollower, AsPrimary, Connection, Inbound, Outbound, Sending, Step, World, Fails, Happens, called, changed_at, connection_of, crashed, may_remain, fed_with, get_connection, having_read, having_released, held_first, is_stopped, left, offered_next, on_inbound, on_outbound, sent_with, taken_first, told, with_call, with_inbound, with_link, with_made, with_outbound, written}
 use Rattle.machine.specs.Promise.{released_in}
 use Rattle.machine.proofs.ConnectionLemmas.{get-changed_other, get-entered}
 use Rattle.machine.proofs.CrashLemmas.{get-over}
@@ -42,11 +42,19 @@ calls-primary : (w new : World) (call : Cut) (remain : Remains) → IsAt remain 
     → (p : ℕ) × Contains (may_remain w node.Primary call) (At p) × (new.primary.calls ≡ cut_at w.primary.calls p)
 calls-primary w new call (At p) at one now = (p, one, ap (λ (x : World). x.primary.calls) now)
 calls-primary w new call AsPrimary at one now = absurd at
+calls-primary w new call (AsFollower p) at one now = absurd at
 
 -- one of the standby leaves it, unless its image is that of a primary
 calls-standby : (w new : World) (remain : Remains) → new ≡ crashed node.Standby remain w → new.primary.calls ≡ calls_left w remain
 calls-standby w new (At p) now = of_calls w _ new now refl
+calls-standby w new (AsFollower p) now = of_calls w _ new now refl
 calls-standby w new AsPrimary now = ap (λ (x : World). x.primary.calls) now
+
+-- nor does what the link sends change it
+sent-calls : (w : World) (copying : Copying) → (sent_with copying w).primary.calls ≡ w.primary.calls
+sent-calls w Follows = refl
+sent-calls w Awaited = refl
+sent-calls w (Sending pinned) = refl
 
 -- in a promotion no fence failed
 abbrev pub IsWhole : Event → World → Type 0
@@ -65,6 +73,8 @@ calls-happen w Commit new sound whole h = calls-or w new node.Primary cut.Commit
 calls-happen w Free new sound whole h = calls-or w new node.Primary cut.Free (λ did. of_calls w _ new did refl) h
 calls-happen w ClearGap new sound whole h = calls-or w new node.Primary cut.ClearGap (λ did. of_calls w _ new did refl) h
 calls-happen w Apply new sound whole h = calls-or w new node.Standby cut.Apply (λ applies. of_calls w _ new applies.now refl) h
+calls-happen w Send new sound whole h = of_calls w _ new h (sent-calls w w.primary.link.copying)
+calls-happen w PinCopy new sound whole h = of_calls w _ new h.now refl
 calls-happen w CloseGroup new sound whole h =
     elim h [
       | inl group ↦ of_calls w _ new group.1.now refl
@@ -145,8 +155,16 @@ told-silent w ack c = refl
 silent-crashed : (w : World) (n : Node) (remain : Remains) → Silent w (crashed n remain w)
 silent-crashed w node.Primary (At p) c = ap (λ (x : Connection). x.outbound.released) (get-over w.primary.connections c)
 silent-crashed w node.Primary AsPrimary c = refl
+silent-crashed w node.Primary (AsFollower p) c = refl
 silent-crashed w node.Standby (At p) c = refl
+silent-crashed w node.Standby (AsFollower p) c = refl
 silent-crashed w node.Standby AsPrimary c = ap (λ (x : Connection). x.outbound.released) (get-over w.primary.connections c)
+
+-- nor does what the link sends
+silent-sent : (w : World) (copying : Copying) → Silent w (sent_with copying w)
+silent-sent w Follows c = refl
+silent-sent w Awaited c = refl
+silent-sent w (Sending pinned) c = refl
 
 -- nor does a fence that fails
 silent-failed : (w new : World) (n : Node) (call : Cut) → Fails w n call new → Silent w new
@@ -172,6 +190,8 @@ released-happens w CloseGroup new h =
       | inl group ↦ quiet w _ new group.1.now (λ c. refl)
       | inr list ↦ quiet w _ new list.1 (λ c. refl)
     ]
+released-happens w Send new h = quiet w _ new h (silent-sent w w.primary.link.copying)
+released-happens w PinCopy new h = quiet w _ new h.now (λ c. refl)
 released-happens w Commit new h = quiet-or w new node.Primary cut.Commit (λ did. silent-as w _ new did (λ c. refl)) h
 released-happens w Free new h = quiet-or w new node.Primary cut.Free (λ did. silent-as w _ new did (λ c. refl)) h
 released-happens w ClearGap new h = quiet-or w new node.Primary cut.ClearGap (λ did. silent-as w _ new did (λ c. refl)) h

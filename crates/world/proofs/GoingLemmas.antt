@@ -1,6 +1,6 @@
 -- What one event of a run does to both devices, by their numbers.
 use Rattle.std.specs.Global.{Global}
-use Rattle.std.proofs.Common.{Vec, ◌≡◌, ◌⊎◌, ℕ, nat_eq, if◌then◌else◌, Bool, ◌++◌, Option, Some, None, refl, sym, ap, ap₂, subst, ◌∙◌, arith, inl, inr, true, false, true≢false, ◌&&◌}
+use Rattle.std.proofs.Common.{Vec, ◌≡◌, ◌⊎◌, ℕ, nat_eq, ◌+◌, if◌then◌else◌, Bool, ◌++◌, Option, Some, None, refl, sym, ap, ap₂, subst, ◌∙◌, arith, inl, inr, true, false, true≢false, ◌&&◌}
 use Rattle.pmem.specs.Device.{State}
 use Rattle.pmem.specs.Runs.{LeavesOnly}
 use Rattle.pmem.proofs.Leaving.{LeavesOnly-weaken}
@@ -127,7 +127,10 @@ module _ (first_lines second_lines : ℕ) where
     same-nodes : KeepsNodes w world
     same-nodes = elim (stays-step w event did world step) [
       | inl kept ↦ kept
-      | inr promoted ↦ absurd (omega (arith, promoted, same-epoch, stands.stands.sound.standby.epoch_is))
+      | inr (inl promoted) ↦ absurd (omega (arith, promoted, same-epoch, stands.stands.sound.standby.epoch_is))
+      | inr (inr newcomer) ↦
+          let there : world.standby.disk.number ≡ 2 + w.came = ap (λ (x : World). x.standby.disk.number) newcomer in
+          absurd (omega (arith, there, next.lives.standby_disk))
     ]
 
     same-end : has_ended pair'.lives.standby ≡ has_ended pair.lives.standby

@@ -16,12 +16,13 @@ use Rattle.wbl_engine.specs.Lawful.{AreLawful}
 use Rattle.wbl_engine.specs.Reopening.{StaysReadable}
 use Rattle.wbl_engine.proofs.LawfulLemmas.{lawful_from, lawful_undamaged}
 use Rattle.wbl_engine.specs.Lawful.{IsUndamaged}
-use Rattle.machine.specs.Event.{AsPrimary, At, Remains}
+use Rattle.machine.specs.Event.{AsFollower, AsPrimary, At, Remains}
 use Rattle.world.specs.Committing.{AreContentsAt, EngineStands, IsDown, NearOnly, OpensAtEither, promoted_holder}
+use Rattle.world.specs.Following.{moved_by}
 use Rattle.world.specs.Cutting.{LeavesCut}
-use Rattle.world.specs.Remaining.{KeepsAt, KeepsOne, KeepsPromoted}
+use Rattle.world.specs.Remaining.{KeepsAs, KeepsAt, KeepsOne, KeepsPromoted}
 use Rattle.world.proofs.OpenedLemmas.{StaysSo}
-use Rattle.world.proofs.RemainLemmas.{keeps-near}
+use Rattle.world.proofs.RemainLemmas.{keeps-near, one-of}
 
 -- ---- the device
 
@@ -88,6 +89,29 @@ keeps-here holder calls p others image held = record { one = At p; is_one = (0, 
 pub keeps-next : (holder : Holder) (calls : List Call) (p next : ℕ) (image : Image) → KeepsAt holder calls p image ⊎ KeepsAt holder calls next image → KeepsOne holder calls p (At next ∷ []) image
 keeps-next holder calls p next image (inl here) = keeps-here holder calls p (At next ∷ []) image here
 keeps-next holder calls p next image (inr there) = record { one = At next; is_one = (1, omega arith, refl); keeps = there }
+
+-- one of the two
+kept-one : (holder : Holder) (calls : List Call) (p next : ℕ) (image : Image) → KeepsOne holder calls p (At next ∷ []) image → KeepsAt holder calls p image ⊎ KeepsAt holder calls next image
+kept-one holder calls p next image held = elim (one-of (At p) (At next ∷ []) held.one held.is_one) [
+  | inl here ↦ inl (subst (λ (one : Remains). KeepsAs holder calls p one image) (sym here) held.keeps)
+  | inr later ↦ elim (one-of (At next) [] held.one later) [
+    | inl there ↦ inr (subst (λ (one : Remains). KeepsAs holder calls p one image) (sym there) held.keeps)
+    | inr none ↦ absurd (let within = none.1 in omega (arith, within))
+  ]
+]
+
+-- which is one of what the call may leave
+pub keeps-left : (holder : Holder) (calls : List Call) (p : ℕ) (others : List Remains) (image : Image) → KeepsOne holder calls p (At (moved_by p others) ∷ []) image → KeepsOne holder calls p others image
+keeps-left holder calls p others image held = elim (kept-one holder calls p (moved_by p others) image held) [
+  | inl here ↦ keeps-here holder calls p others image here
+  | inr there ↦ by others there
+]
+  where
+    by : (others : List Remains) → KeepsAt holder calls (moved_by p others) image → KeepsOne holder calls p others image
+    by [] there = keeps-here holder calls p [] image there
+    by (At q ∷ others) there = record { one = At q; is_one = (1, omega arith, refl); keeps = there }
+    by (AsPrimary ∷ others) there = keeps-here holder calls p (AsPrimary ∷ others) image there
+    by (AsFollower q ∷ others) there = keeps-here holder calls p (AsFollower q ∷ others) image there
 
 pub kept-either : (holder : Holder) (calls : List Call) (p next : ℕ) (image : Image) → KeepsOne holder calls p (At next ∷ []) image → OpensAtEither holder calls p next image
 kept-either holder calls p next image held = elim (keeps-near holder calls p (At next ∷ []) image held) [ inl here ↦ inl here | inr (inl there) ↦ inr there | inr (inr none) ↦ absurd none ]

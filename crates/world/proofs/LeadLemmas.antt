@@ -11,12 +11,13 @@ use Rattle.machine.specs.declared.event.Event.{Event}
 use Rattle.machine.specs.declared.event.Event.TheVariants.{Crash}
 use Rattle.machine.specs.declared.event.Node.{Node}
 use Rattle.machine.specs.declared.event.Node.TheVariants as node
-use Rattle.machine.specs.Event.{AsPrimary, At, Commits, Committer, Frees, Remains, Work, World, committed_first, from_group, life_of, position_at, spans_of, torn}
+use Rattle.machine.specs.Event.{AsFollower, AsPrimary, At, Commits, Committer, Frees, Remains, Role, Work, World, committed_first, from_group, left_by_first, life_of, position_at, reach, spans_of, torn}
 use Rattle.machine.specs.Sound.{IsChain, IsPrimaryLeft, IsStandbyLeft, Sound}
-use Rattle.machine.proofs.StandbyLemmas.{next-within}
+use Rattle.machine.proofs.StandbyLemmas.{left-first}
 use Rattle.machine.proofs.WorkLemmas.{spans_of-from_group}
 use Rattle.world.specs.Committing.{OpensAt, promoted_holder}
 use Rattle.world.specs.Cutting.{OpensAsOne, OpensNear, cut_short}
+use Rattle.world.specs.Following.{moved_by}
 use Rattle.world.specs.Headline.{OpensFrom, OpensFromEither, next_at, opens_as, opens_during}
 use Rattle.world.proofs.CutLemmas.{keyspace_after-cut_at-cut}
 
@@ -46,33 +47,39 @@ OpensFrom-lower holder calls p q image le opens = (opens.0, omega (arith, le, op
 pub as-from : (remains : List Remains) (holder : Holder) (calls : List Call) (p : ℕ) (image : Image) → OpensFrom holder calls p image → opens_as remains holder calls p image
 as-from [] holder calls p image opens = opens
 as-from (At q ∷ others) holder calls p image opens = as-from others holder calls p image opens
+as-from (AsFollower q ∷ others) holder calls p image opens = as-from others holder calls p image opens
 as-from (AsPrimary ∷ others) holder calls p image opens = inl opens
 
 pub as-lower : (remains : List Remains) (holder : Holder) (calls : List Call) (p q : ℕ) (image : Image) → p ≤ q → opens_as remains holder calls q image → opens_as remains holder calls p image
 as-lower [] holder calls p q image le opens = OpensFrom-lower holder calls p q image le opens
 as-lower (At r ∷ others) holder calls p q image le opens = as-lower others holder calls p q image le opens
+as-lower (AsFollower r ∷ others) holder calls p q image le opens = as-lower others holder calls p q image le opens
 as-lower (AsPrimary ∷ others) holder calls p q image le (inl opens) = inl (OpensFrom-lower holder calls p q image le opens)
 as-lower (AsPrimary ∷ others) holder calls p q image le (inr opens) = inr (OpensFrom-lower (promoted_holder holder) calls p q image le opens)
 
 pub as-more : (remains more : List Remains) (holder : Holder) (calls : List Call) (p : ℕ) (image : Image) → opens_as remains holder calls p image → opens_as (remains ++ more) holder calls p image
 as-more [] more holder calls p image opens = as-from more holder calls p image opens
 as-more (At q ∷ others) more holder calls p image opens = as-more others more holder calls p image opens
+as-more (AsFollower q ∷ others) more holder calls p image opens = as-more others more holder calls p image opens
 as-more (AsPrimary ∷ others) more holder calls p image opens = opens
 
 -- the image of a primary is among them
 abbrev pub MayLead : List Remains → Type 0
 MayLead [] = ⊥
 MayLead (At p ∷ others) = MayLead others
+MayLead (AsFollower p ∷ others) = MayLead others
 MayLead (AsPrimary ∷ others) = Unit {0}
 
 pub as-lead : (remains : List Remains) (holder : Holder) (calls : List Call) (p : ℕ) (image : Image) → MayLead remains → OpensFromEither holder calls p image → opens_as remains holder calls p image
 as-lead [] holder calls p image lead opens = absurd lead
 as-lead (At q ∷ others) holder calls p image lead opens = as-lead others holder calls p image lead opens
+as-lead (AsFollower q ∷ others) holder calls p image lead opens = as-lead others holder calls p image lead opens
 as-lead (AsPrimary ∷ others) holder calls p image lead opens = opens
 
 -- an image of such a node as it was, at this position or at a later one
 abbrev pub IsLeftFrom : ℕ → Remains → Type 0
 IsLeftFrom low (At p) = low ≤ p
+IsLeftFrom low (AsFollower p) = low ≤ p
 IsLeftFrom low AsPrimary = Unit {0}
 
 -- it opens from there on, or as that of a primary there
@@ -82,7 +89,9 @@ FromOrLeads holder calls p remains image = OpensFrom holder calls p image ⊎ (M
 one-split : (remains : List Remains) (holder : Holder) (calls : List Call) (p : ℕ) (image : Image) → All (IsLeftFrom p) remains → OpensAsOne holder calls p remains image → FromOrLeads holder calls p remains image
 one-split [] holder calls p image bound one = absurd one
 one-split (At q ∷ others) holder calls p image bound (inl opens) = inl (q, All-head (IsLeftFrom p) (At q) others bound, opens)
+one-split (AsFollower q ∷ others) holder calls p image bound (inl opens) = inl (q, All-head (IsLeftFrom p) (AsFollower q) others bound, opens)
 one-split (At q ∷ others) holder calls p image bound (inr one) = one-split others holder calls p image (All-tail (IsLeftFrom p) (At q) others bound) one
+one-split (AsFollower q ∷ others) holder calls p image bound (inr one) = one-split others holder calls p image (All-tail (IsLeftFrom p) (AsFollower q) others bound) one
 one-split (AsPrimary ∷ others) holder calls p image bound (inl opens) = inr (tt, opens)
 one-split (AsPrimary ∷ others) holder calls p image bound (inr one) = elim (one-split others holder calls p image (All-tail (IsLeftFrom p) AsPrimary others bound) one) [
   | inl from ↦ inl from
@@ -105,6 +114,7 @@ never-leads : (low high : ℕ) (remains : List Remains) → All (IsPrimaryLeft l
 never-leads low high [] bound lead = lead
 never-leads low high (At p ∷ others) bound lead = never-leads low high others (All-tail (IsPrimaryLeft low high) (At p) others bound) lead
 never-leads low high (AsPrimary ∷ others) bound lead = All-head (IsPrimaryLeft low high) AsPrimary others bound
+never-leads low high (AsFollower p ∷ others) bound lead = All-head (IsPrimaryLeft low high) (AsFollower p) others bound
 
 -- it opens at a position between these two
 pub primary-between : (low high : ℕ) (remains : List Remains) (holder : Holder) (calls : List Call) (image : Image) → low ≤ high → All (IsPrimaryLeft low high) remains → OpensNear holder calls low remains image
@@ -117,6 +127,7 @@ primary-between low high remains holder calls image le bound (inr one) = go rema
     go (At q ∷ others) bound (inl opens) = let within = All-head (IsPrimaryLeft low high) (At q) others bound in (q, within.0, within.1, opens)
     go (At q ∷ others) bound (inr one) = go others (All-tail (IsPrimaryLeft low high) (At q) others bound) one
     go (AsPrimary ∷ others) bound one = absurd (All-head (IsPrimaryLeft low high) AsPrimary others bound)
+    go (AsFollower q ∷ others) bound one = absurd (All-head (IsPrimaryLeft low high) (AsFollower q) others bound)
 
 pub none-leads : (w : World) → Sound w → MayLead (torn w.primary.life) → ⊥
 none-leads w s lead = never-leads w.primary.committer.position (position_of w.primary.calls) (torn w.primary.life) s.primary_left lead
@@ -128,34 +139,48 @@ next_of_groups from to [] committer chain same = omega (arith, same)
 next_of_groups from to (Commits group ∷ works) committer chain same = omega (arith, chain.1)
 next_of_groups from to (Frees position ∷ works) committer chain same = omega (arith, same)
 
--- the next position is no lower
+-- what a fence that failed has left is no lower
+primary-left : (low high : ℕ) (remain : Remains) → IsPrimaryLeft low high remain → IsLeftFrom low remain
+primary-left low high (At p) left = left.0
+primary-left low high AsPrimary left = absurd left
+primary-left low high (AsFollower p) left = absurd left
+
+standby-left : (role : Role) (low high : ℕ) (remain : Remains) → IsStandbyLeft role low high remain → IsLeftFrom low remain
+standby-left role low high (At p) left = left.0
+standby-left role low high (AsFollower p) left = left.0
+standby-left role low high AsPrimary left = tt
+
+-- nor what the next frame leaves of the standby
+first-from : (w : World) → Sound w → All (IsLeftFrom w.standby.position) (left_by_first w.standby w.standby.waiting)
+first-from w s =
+    All-weaker (IsStandbyLeft w.standby.role w.standby.position (reach w)) (IsLeftFrom w.standby.position) (standby-left w.standby.role w.standby.position (reach w)) (left_by_first w.standby w.standby.waiting)
+    (left-first w.primary.epoch (reach w) w.standby w.standby.waiting s.standby.epoch_is s.standby.frames)
+
+moved-from : (p : ℕ) (remains : List Remains) → All (IsLeftFrom p) remains → p ≤ moved_by p remains
+moved-from p [] from = le_refl p
+moved-from p (At q ∷ others) from = All-head (IsLeftFrom p) (At q) others from
+moved-from p (AsPrimary ∷ others) from = le_refl p
+moved-from p (AsFollower q ∷ others) from = le_refl p
+
+-- nor is the next position
 pub onward : (n : Node) (w : World) → Sound w → position_at w n ≤ next_at w n
 onward node.Primary w s =
     let committer = w.primary.committer in
     next_of_groups committer.position committer.closed (from_group committer.waiting) committer
     (subst (λ groups. IsChain committer.position groups committer.closed) (sym (spans_of-from_group committer.waiting)) s.committer.waiting) refl
-onward node.Standby w s = (next-within w.primary.epoch s.sent w.standby w.standby.waiting s.standby.epoch_is s.standby.behind s.standby.frames).0
-
--- nor is what a fence that failed has left
-primary-left : (low high : ℕ) (remain : Remains) → IsPrimaryLeft low high remain → IsLeftFrom low remain
-primary-left low high (At p) left = left.0
-primary-left low high AsPrimary left = absurd left
-
-standby-left : (low high : ℕ) (remain : Remains) → IsStandbyLeft low high remain → IsLeftFrom low remain
-standby-left low high (At p) left = left.0
-standby-left low high AsPrimary left = tt
+onward node.Standby w s = moved-from w.standby.position (left_by_first w.standby w.standby.waiting) (first-from w s)
 
 pub torn-from : (n : Node) (w : World) → Sound w → All (IsLeftFrom (position_at w n)) (torn (life_of w n))
 torn-from node.Primary w s =
     All-weaker (IsPrimaryLeft w.primary.committer.position (position_of w.primary.calls)) (IsLeftFrom w.primary.committer.position) (primary-left w.primary.committer.position (position_of w.primary.calls)) (torn w.primary.life) s.primary_left
-torn-from node.Standby w s = All-weaker (IsStandbyLeft w.standby.position s.sent) (IsLeftFrom w.standby.position) (standby-left w.standby.position s.sent) (torn w.standby.life) s.standby_left
+torn-from node.Standby w s = All-weaker (IsStandbyLeft w.standby.role w.standby.position (reach w)) (IsLeftFrom w.standby.position) (standby-left w.standby.role w.standby.position (reach w)) (torn w.standby.life) s.standby_left
 
 -- nor what a call leaves that a crash cuts
 short-from : (event : Event) (n : Node) (w : World) → Sound w → All (IsLeftFrom (position_at w n)) (cut_short w event n)
 short-from (Crash node.Primary call k picks) node.Standby w s = All-nil (IsLeftFrom w.standby.position)
 short-from (Crash node.Standby call k picks) node.Primary w s = All-nil (IsLeftFrom w.primary.committer.position)
 short-from (Crash node.Primary cut.Commit k picks) node.Primary w s = All-cons (IsLeftFrom w.primary.committer.position) (At (next_at w node.Primary)) [] (onward node.Primary w s) (All-nil (IsLeftFrom w.primary.committer.position))
-short-from (Crash node.Standby cut.Apply k picks) node.Standby w s = All-cons (IsLeftFrom w.standby.position) (At (next_at w node.Standby)) [] (onward node.Standby w s) (All-nil (IsLeftFrom w.standby.position))
+short-from (Crash node.Standby cut.Apply k picks) node.Standby w s = first-from w s
 short-from (Crash node.Standby cut.Promote k picks) node.Standby w s = All-cons (IsLeftFrom w.standby.position) AsPrimary [] tt (All-nil (IsLeftFrom w.standby.position))
 short-from (Crash node.Primary call k picks) node.Primary w s = All-nil (IsLeftFrom w.primary.committer.position)
 short-from (Crash node.Standby call k picks) node.Standby w s = All-nil (IsLeftFrom w.standby.position)

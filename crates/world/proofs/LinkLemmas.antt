@@ -198,6 +198,8 @@ module _ (calls : List Call) (code : Stream) (handed : Waiting Group) (remote : 
         again = drop_all (code.next + 1) (machine.kept ++ one.span ∷ []) (omega (arith, more_spans, count, due.all_sent));
         known = stands.known;
         remote_is = stands.remote_is;
+        copying_is = stands.copying_is;
+        dropped_is = stands.dropped_is;
       } in
       record {
         may = may_first group after due first;

@@ -2,9 +2,9 @@
 use Rattle.std.proofs.Common.{◌≡◌, Bool, true, false, ◌&&◌, ◌||◌, Option, slice_get, refl, sym, ap, subst, ◌∙◌, inl, inr, List, [], true≢false}
 use Rattle.model.specs.Standing.{Holder}
 use Rattle.machine.specs.declared.event.Event.{Event}
-use Rattle.machine.specs.declared.event.Event.TheVariants.{Turn, CloseGroup, Commit, Free, ClearGap, OpenLink, Deliver, Apply, AckDelivered, FailFence, Crash, Reopen, Fence, Promote}
+use Rattle.machine.specs.declared.event.Event.TheVariants.{Turn, CloseGroup, Commit, Free, ClearGap, OpenLink, Send, Deliver, Apply, AckDelivered, Newcomer, PinCopy, FailFence, Crash, Reopen, Fence, Promote}
 use Rattle.machine.specs.World as machine
-use Rattle.machine.specs.Event.{Acknowledgement, Disk, Frame, Life, Remains, Standby, World, Happens, Takes, is_crashed, is_enabled, is_retired, is_running, is_stopped, may_happen, nodes_run, told, torn, with_link}
+use Rattle.machine.specs.Event.{Acknowledgement, Awaited, Changes, Copying, Disk, End, Follower, Follows, Frame, Life, Part, Remains, Role, Sending, Span, Standby, Told, Uncopied, World, Happens, Takes, TakesChanges, TakesOwn, is_crashed, is_enabled, is_retired, is_running, is_stopped, may_happen, nodes_run, sent_with, told, torn, with_link}
 use Rattle.world.specs.Pair.{AreLives, Lives, NodesRefine, Pair, PairRefines, StillRefine}
 use Rattle.world.specs.Condition.{has_crashed, has_ended, has_stopped, is_still, life_as, runs}
 use Rattle.world.specs.declared.condition.Condition.{Condition}
@@ -12,12 +12,13 @@ use Rattle.world.specs.declared.condition.Condition.TheVariants.{Running, Stoppe
 
 -- ---- kinds of events
 
--- no node crashes in it, none is opened again, no fence is asked to fail or may do so, and no failover comes
+-- no node crashes in it, none is opened again or is new, no fence is asked to fail or may do so, and no failover comes
 abbrev pub is_plain : Event → Bool
 is_plain Commit = false
 is_plain Free = false
 is_plain ClearGap = false
 is_plain Apply = false
+is_plain Newcomer = false
 is_plain (FailFence node n) = false
 is_plain (Crash node call k picks) = false
 is_plain (Reopen node) = false
@@ -57,34 +58,74 @@ pub record SameLives (old new : World) : Type 0 where
   pub standby_disk : new.standby.disk ≡ old.standby.disk
   pub primary : new.primary.life ≡ old.primary.life
   pub standby : new.standby.life ≡ old.standby.life
+  pub role : new.standby.role ≡ old.standby.role
   pub epoch : new.primary.epoch ≡ old.primary.epoch
 
 of : (old then new : World) → new ≡ then → SameLives old then → SameLives old new
 of old then new e same = subst (SameLives old) (sym e) same
 
 told-lives : (w : World) (ack : Option Acknowledgement) → SameLives w (with_link (told w.primary.epoch w.primary.committer.position ack w.primary.link) w)
-told-lives w ack = record { allowed = refl; primary_disk = refl; standby_disk = refl; primary = refl; standby = refl; epoch = refl }
+told-lives w ack = record { allowed = refl; primary_disk = refl; standby_disk = refl; primary = refl; standby = refl; role = refl; epoch = refl }
+
+same-node : {old new : Standby} → new ≡ old → (new.life ≡ old.life) × (new.disk ≡ old.disk)
+same-node same = (ap (λ (x : Standby). x.life) same, ap (λ (x : Standby). x.disk) same)
+
+taken-changes : (span : Span) (old new : Standby) (told : List Acknowledgement) → TakesChanges span old new told → (new.life ≡ old.life) × (new.disk ≡ old.disk) × (new.role ≡ old.role)
+taken-changes span old new told takes = elim takes [
+  | inl again ↦ by again.1
+  | inr (inl next) ↦ (ap (λ (x : Standby). x.life) next.2, ap (λ (x : Standby). x.disk) next.2, ap (λ (x : Standby). x.role) next.2)
+  | inr (inr refused) ↦ by refused.1.0
+]
+  where
+    by : new ≡ old → (new.life ≡ old.life) × (new.disk ≡ old.disk) × (new.role ≡ old.role)
+    by same = (ap (λ (x : Standby). x.life) same, ap (λ (x : Standby). x.disk) same, ap (λ (x : Standby). x.role) same)
+
+taken-own : (role : Role) (tells : Told) (old new : Standby) (told : List Acknowledgement) → TakesOwn role tells old new told → (new.life ≡ old.life) × (new.disk ≡ old.disk)
+taken-own Follower (Changes span) old new told takes = let taken = taken-changes span old new told takes in (taken.0, taken.1)
+taken-own Follower (Part position number) old new told takes = same-node takes.0
+taken-own Follower (End position parts) old new told takes = elim takes [ inl below ↦ same-node below.1 | inr refused ↦ same-node refused.1.0 ]
+taken-own Uncopied (Changes span) old new told takes = same-node takes.0
+taken-own Uncopied (Part position number) old new told takes = (ap (λ (x : Standby). x.life) takes.2, ap (λ (x : Standby). x.disk) takes.2)
+taken-own Uncopied (End position parts) old new told takes = elim takes [
+  | inl whole ↦ (ap (λ (x : Standby). x.life) whole.1, ap (λ (x : Standby). x.disk) whole.1)
+  | inr (inl refused) ↦ same-node refused.0
+  | inr (inr freed) ↦ (ap (λ (x : Standby). x.life) freed.1, ap (λ (x : Standby). x.disk) freed.1)
+]
 
 pub taken-life : (frame : Frame) (old new : Standby) (told : List Acknowledgement) → Takes frame old new told → (new.life ≡ old.life) × (new.disk ≡ old.disk)
-taken-life frame old new told takes =
-    elim takes [
-      | inl other ↦ by other.1
-      | inr (inl again) ↦ by again.2
-      | inr (inr (inl next)) ↦ (ap (λ (x : Standby). x.life) next.3, ap (λ (x : Standby). x.disk) next.3)
-      | inr (inr (inr (inl full))) ↦ by full.3
-      | inr (inr (inr (inr gap))) ↦ by gap.3
-    ]
+taken-life frame old new told takes = elim takes [
+  | inl other ↦ same-node other.1.0
+  | inr own ↦ taken-own old.role frame.told old new told own.1
+]
+
+-- a standby stays one
+pub taken-role : (frame : Frame) (old new : Standby) (told : List Acknowledgement) → old.role ≡ Follower → Takes frame old new told → new.role ≡ old.role
+taken-role frame old new told follows takes = elim takes [
+  | inl other ↦ ap (λ (x : Standby). x.role) other.1.0
+  | inr own ↦ by frame.told (subst (λ (role : Role). TakesOwn role frame.told old new told) follows own.1)
+]
   where
-    by : new ≡ old → (new.life ≡ old.life) × (new.disk ≡ old.disk)
-    by same = (ap (λ (x : Standby). x.life) same, ap (λ (x : Standby). x.disk) same)
+    by : (tells : Told) → TakesOwn Follower tells old new told → new.role ≡ old.role
+    by (Changes span) takes = (taken-changes span old new told takes).2
+    by (Part position number) takes = ap (λ (x : Standby). x.role) takes.0
+    by (End position parts) takes = elim takes [ inl below ↦ ap (λ (x : Standby). x.role) below.1 | inr refused ↦ ap (λ (x : Standby). x.role) refused.1.0 ]
+
+-- however the link stands to the node that follows
+sent-lives : (copying : Copying) (w : World) → SameLives w (sent_with copying w)
+sent-lives Follows w = record { allowed = refl; primary_disk = refl; standby_disk = refl; primary = refl; standby = refl; role = refl; epoch = refl }
+sent-lives Awaited w = record { allowed = refl; primary_disk = refl; standby_disk = refl; primary = refl; standby = refl; role = refl; epoch = refl }
+sent-lives (Sending pinned) w = record { allowed = refl; primary_disk = refl; standby_disk = refl; primary = refl; standby = refl; role = refl; epoch = refl }
 
 -- where no fence may fail
 pub plain-happens : (w : World) (event : Event) (new : World) → is_plain event ≡ true → Happens w event new → SameLives w new
-plain-happens w (Turn c) new plain h = of w _ new h.now (record { allowed = refl; primary_disk = refl; standby_disk = refl; primary = refl; standby = refl; epoch = refl })
+plain-happens w (Turn c) new plain h = of w _ new h.now (record { allowed = refl; primary_disk = refl; standby_disk = refl; primary = refl; standby = refl; role = refl; epoch = refl })
 plain-happens w Commit new plain h = absurd (true≢false (sym plain))
 plain-happens w Free new plain h = absurd (true≢false (sym plain))
 plain-happens w ClearGap new plain h = absurd (true≢false (sym plain))
+plain-happens w Send new plain h = of w _ new h (sent-lives w.primary.link.copying w)
 plain-happens w Apply new plain h = absurd (true≢false (sym plain))
+plain-happens w Newcomer new plain h = absurd (true≢false (sym plain))
+plain-happens w PinCopy new plain h = of w _ new h.now (record { allowed = refl; primary_disk = refl; standby_disk = refl; primary = refl; standby = refl; role = refl; epoch = refl })
 plain-happens w (AckDelivered a) new plain h = of w _ new h (told-lives w (slice_get w.wire.acknowledgements a))
 plain-happens w (FailFence node n) new plain h = absurd (true≢false (sym plain))
 plain-happens w (Crash node call k picks) new plain h = absurd (true≢false (sym plain))
@@ -93,10 +134,10 @@ plain-happens w Fence new plain h = absurd (true≢false (sym plain))
 plain-happens w Promote new plain h = absurd (true≢false (sym plain))
 plain-happens w CloseGroup new plain h =
     elim h [
-      | inl group ↦ of w _ new group.1.now (record { allowed = refl; primary_disk = refl; standby_disk = refl; primary = refl; standby = refl; epoch = refl })
-      | inr list ↦ of w _ new list.1 (record { allowed = refl; primary_disk = refl; standby_disk = refl; primary = refl; standby = refl; epoch = refl })
+      | inl group ↦ of w _ new group.1.now (record { allowed = refl; primary_disk = refl; standby_disk = refl; primary = refl; standby = refl; role = refl; epoch = refl })
+      | inr list ↦ of w _ new list.1 (record { allowed = refl; primary_disk = refl; standby_disk = refl; primary = refl; standby = refl; role = refl; epoch = refl })
     ]
-plain-happens w event new plain h = of w _ new h (record { allowed = refl; primary_disk = refl; standby_disk = refl; primary = refl; standby = refl; epoch = refl })
+plain-happens w event new plain h = of w _ new h (record { allowed = refl; primary_disk = refl; standby_disk = refl; primary = refl; standby = refl; role = refl; epoch = refl })
 
 life-like : (condition : Condition) {life life' : Life} → life' ≡ life → life ≡ life_as condition (torn life) → life' ≡ life_as condition (torn life')
 life-like condition same is = same ∙ is ∙ ap (λ (l : Life). life_as condition (torn l)) (sym same)
@@ -110,6 +151,7 @@ lives-like {first} {second} {lives} same are = record {
   standby_failing = ap (λ (d : Disk). d.failing) same.standby_disk ∙ are.standby_failing;
   primary = life-like lives.primary same.primary are.primary;
   standby = life-like lives.standby same.standby are.standby;
+  follows = same.role ∙ are.follows;
   first_role = are.first_role;
   second_role = are.second_role;
   first_epoch = are.first_epoch ∙ sym same.epoch;

@@ -10,10 +10,12 @@ use Rattle.model.specs.Standing.{Holder}
 use Rattle.redis_core.specs.Sequencing.{Sequencing}
 use Rattle.machine.specs.declared.event.Cut.TheVariants as cuts
 use Rattle.machine.specs.declared.event.Event.TheVariants.{Apply}
-use Rattle.machine.specs.Event.{AsPrimary, At, World, is_crashed, is_retired, is_running, may_happen}
+use Rattle.machine.specs.declared.event.Node.TheVariants as node
+use Rattle.machine.specs.Event.{AsPrimary, At, World, is_crashed, is_follower, is_retired, is_running, left_by, may_happen}
 use Rattle.machine.specs.Sound.{Sound}
 use Rattle.world.specs.Cause.{Breaks, EndsBy}
 use Rattle.world.specs.Committing.{Committing, next_standby}
+use Rattle.world.specs.Following.{HasFollower}
 use Rattle.world.specs.Condition.{has_crashed, has_ended, runs}
 use Rattle.world.specs.declared.condition.Condition.{Condition}
 use Rattle.world.specs.declared.condition.Condition.TheVariants.{Running, Stopped, Crashed, Ended}
@@ -22,25 +24,25 @@ use Rattle.world.specs.Remaining.{KeepsOne}
 use Rattle.world.specs.Standby.{Arrived, ArrivalsRefine, Node, StandbyStands}
 use Rattle.world.specs.Step.{AcksBy}
 use Rattle.world.specs.Stopping.{BreaksPromotion, BreaksStandby}
-use Rattle.world.proofs.KeptLemmas.{KeepsAsEither, keeps-either, keeps-here, restart-keeps}
+use Rattle.world.proofs.KeptLemmas.{KeepsAsEither, keeps-either, keeps-here, keeps-left, restart-keeps}
 use Rattle.world.proofs.LivesLemmas.{crashed-as, retired-as, running-as}
 use Rattle.world.proofs.OpenedLemmas.{StaysSo}
 use Rattle.world.proofs.PairLemmas.{standby-refines}
 use Rattle.world.proofs.PairReopen.{with_standby_node}
-use Rattle.world.proofs.PairStandby.{arrivals-stand, follower, own-epoch, with_node}
+use Rattle.world.proofs.PairStandby.{arrivals-stand, follower, has-follower, with_node}
 
 -- ---- a frame
 
 -- of a world for which the standby and what was delivered to it stand
 abbrev pub OfStandby : Pair → (Holder → World → Type 0) → Type 0
 OfStandby old P =
-    (holder : Holder) (w : World) → Sound w → old.standby.epoch ≡ w.standby.epoch → ArrivalsRefine old.standby.epoch w.primary.calls old.wire.arrivals w.standby.waiting w.wire.acknowledgements
+    (holder : Holder) (w : World) → Sound w → HasFollower old.standby.epoch w.standby → ArrivalsRefine old.standby.epoch w.primary.calls old.wire.arrivals w.standby.waiting w.wire.acknowledgements
     → StandbyStands holder old.standby.epoch w.primary.calls w.standby.position old.standby → P holder w
 
 of-standby : {P : Holder → World → Type 0} (old : Pair) → runs old.lives.standby ≡ true → OfStandby old P → (first second : Holder) (w : World) → NodesRefine first second old w → P second w
 of-standby {P} old follows all first second w stands =
     let mine = follower follows stands.parts in
-    all second w stands.sound (own-epoch first second old w follows stands)
+    all second w stands.sound (has-follower first second old w follows stands)
     (subst (λ e. ArrivalsRefine e w.primary.calls old.wire.arrivals w.standby.waiting w.wire.acknowledgements) (sym mine.epoch_is) (arrivals-stand stands.parts))
     (subst (λ e. StandbyStands second e w.primary.calls w.standby.position old.standby) (sym mine.epoch_is) mine)
 
@@ -59,7 +61,8 @@ apply-breaks old arrivals node' (Err refusal) follows sized now same only ends a
       subst (λ (r : Refusal). EndsBy r Apply (λ _ last. last second w.primary.calls w.standby.position (next_standby w) old.standby.device node'.device)) fault cut.1 in
       record {
         enabled = ap₂ (λ a b. a && b) (ap is_running stands.lives.standby ∙ running-as old.lives.standby _ ∙ follows) cut.0;
-        leaves = of-standby {P = λ holder w. LeavesOnly old.standby.device node'.device (KeepsOne holder w.primary.calls w.standby.position (At (next_standby w) ∷ []))} old follows only first second w stands;
+        leaves = LeavesOnly-weaken (KeepsOne second w.primary.calls w.standby.position (left_by w node.Standby cuts.Apply)) (keeps-left second w.primary.calls w.standby.position (left_by w node.Standby cuts.Apply))
+            (of-standby {P = λ holder w. LeavesOnly old.standby.device node'.device (KeepsOne holder w.primary.calls w.standby.position (At (next_standby w) ∷ []))} old follows only first second w stands);
         failures = broken.failures;
         lines_are = sym now ∙ same ∙ sized;
       };
@@ -112,7 +115,8 @@ promotion-breaks old sequencer committing device contents is_faulted node' condi
   fails = λ first second w stands.
       let it = breaks first second w stands in
       record {
-        enabled = ap₂ (λ a b. a && b) (ap is_running stands.lives.standby ∙ running-as old.lives.standby _ ∙ follows) (ap is_retired stands.lives.primary ∙ retired-as old.lives.primary _ ∙ fenced);
+        enabled = ap₂ (λ a b. a && b) (ap is_running stands.lives.standby ∙ running-as old.lives.standby _ ∙ follows)
+            (ap₂ (λ a b. a && b) (ap is_follower stands.lives.follows) (ap is_retired stands.lives.primary ∙ retired-as old.lives.primary _ ∙ fenced));
         leaves = LeavesOnly-weaken (KeepsOne second w.primary.calls w.standby.position (AsPrimary ∷ [])) (keeps-either second w.primary.calls w.standby.position) it.0;
         failures = it.1;
         lines_are = lines;

@@ -145,7 +145,7 @@ module _ {E : Type 0} (device : E → State) (contents : E → Contents) (is_fau
       cleared-does ok one = record {
         steps = λ first second w stands.
             primary-steps events.ClearGap first second w (machine.cleared w) from (cleared_with after waiting' (pair.primary.notices ++ one.clears.answer.0 ∷ []) handed) refl
-            (record { allowed = refl; primary_disk = refl; standby_disk = refl; primary = refl; standby = refl; epoch = refl })
+            (record { allowed = refl; primary_disk = refl; standby_disk = refl; primary = refl; standby = refl; role = refl; epoch = refl })
             stands refl refl one.clears.sound.1 (inl refl)
             (sym (clear_may first second w stands)) (cleared-then (Ok ok) one first second w stands.parts) (clear-parts ok one first second w stands);
         cut = tt;

@@ -46,7 +46,7 @@ commit-steps first second w old new device' same sound runs serves failures only
     record {
       world = w';
       step = step;
-      stands = record { sound = sound-step w events.Commit true w' step sound; lives = lives-like (record { allowed = refl; primary_disk = refl; standby_disk = refl; primary = refl; standby = refl; epoch = refl }) runs.lives; parts = inl (serves, parts) };
+      stands = record { sound = sound-step w events.Commit true w' step sound; lives = lives-like (record { allowed = refl; primary_disk = refl; standby_disk = refl; primary = refl; standby = refl; role = refl; epoch = refl }) runs.lives; parts = inl (serves, parts) };
       moves = record {
         primary = near-from first w.primary.calls w.primary.committer.position (next_primary w) (torn w.primary.life) old.primary.device new.primary.device (record { leaves = only; failures = failures });
         standby = λ whole. near-same second w.primary.calls w.standby.position (torn w.standby.life) old.standby.device new.standby.device device'

@@ -10,17 +10,17 @@ use Rattle.model.specs.Standing.{Holder}
 use Rattle.machine.specs.declared.event.Event.TheVariants as events
 use Rattle.machine.specs.declared.event.Cut.TheVariants as cuts
 use Rattle.machine.specs.declared.event.Node.TheVariants as node
-use Rattle.machine.specs.Event.{Allowed, World, At, Life, Step, crashed, is_enabled, is_running, is_stopped, left, torn, Remains}
+use Rattle.machine.specs.Event.{Allowed, World, At, Life, Step, crashed, is_enabled, is_running, is_stopped, left, reach, torn, Remains, Role}
 use Rattle.machine.specs.Sound.{IsFrameWithin, IsStandbyLeft}
 use Rattle.machine.proofs.SoundEvents.{sound-step}
 use Rattle.connections.specs.Session.{AddsOne, HasSeat, seats_of}
 use Rattle.world.specs.Standby.{Arrived, ArrivalsRefine, Node, StandbyRefines}
 use Rattle.world.specs.Pair.{Acts, AreLives, DownRefine, EitherRefines, NodesRefine, Pair, Steps, Lives, Clients, ClientsRefine, Serving}
 use Rattle.world.proofs.CutLemmas.{AreFramesSent-cut, ArrivalsRefine-cut, IsDown-cut, StandbyStands-cut}
-use Rattle.machine.proofs.GroupLemmas.{chain-le, frames_within-weaker}
+use Rattle.machine.proofs.GroupLemmas.{frames_within-weaker}
 use Rattle.world.proofs.DownLemmas.{crash-moves, down-crashed}
 use Rattle.world.proofs.LivesLemmas.{not-over, serves-as}
-use Rattle.world.proofs.PairLemmas.{none-added, primary-stands, primary-within, standby-stands}
+use Rattle.world.proofs.PairLemmas.{none-added, primary-stands, primary-within, reach-below, standby-stands}
 use Rattle.world.proofs.PairLives.{stays-acts}
 use Rattle.world.proofs.PairStandby.{arrivals-stand, follower, standby-either}
 use Rattle.world.proofs.RecallLemmas.{recalls-crashed}
@@ -80,13 +80,13 @@ pub record HasCrashed (lines : ℕ) (old new : State) : Type 0 where
 abbrev pub with_crashed_primary : Clients → Serving → Pair → Pair
 with_crashed_primary clients serving pair = record pair { clients = clients; primary = serving; lives = record pair.lives { primary = Crashed } }
 
-pub StandbyRefines-cut : (holder : Holder) (epoch : ℕ) (calls : List Call) (p n high : ℕ) (remains : List Remains) (node : Node) (condition : Condition) → p ≤ high → high ≤ n → All (IsStandbyLeft p high) remains
+pub StandbyRefines-cut : (role : Role) (holder : Holder) (epoch : ℕ) (calls : List Call) (p n high : ℕ) (remains : List Remains) (node : Node) (condition : Condition) → p ≤ high → high ≤ n → All (IsStandbyLeft role p high) remains
     → StandbyRefines holder epoch calls p remains node condition → StandbyRefines holder epoch (cut_at calls n) p remains node condition
-StandbyRefines-cut holder epoch calls p n high remains node condition le within bound refines =
+StandbyRefines-cut role holder epoch calls p n high remains node condition le within bound refines =
     let reached : p ≤ n = omega (arith, le, within) in
     record {
       stands = λ up. StandbyStands-cut holder epoch calls n p node reached (refines.stands up);
-      left = λ stopped. LeavesOne-cut holder calls n p high remains node.device le within bound (refines.left stopped);
+      left = λ stopped. LeavesOne-cut role holder calls n p high remains node.device le within bound (refines.left stopped);
       down = λ down. IsDown-cut holder calls n p node.device reached (refines.down down);
     }
 
@@ -111,7 +111,7 @@ primary-crashes old clients serving k picks position runs at has ends unseated a
         let here : position ≡ p = at ∙ parts.engine.contents_at.at in
         let w' = crashed node.Primary (At p) w in
         let step : Step w event true w' = record { done = sym ((crash-enabled k picks stands.lives).0 ∙ goes old.lives.primary runs); happens = λ did. record { remain = At p; one = (0, omega arith, refl); now = refl }; stands = λ did. absurd (true≢false did) } in
-        let behind : sound.sent ≤ p = chain-le _ _ _ sound.link.waiting in
+        let behind : reach w ≤ p = reach-below w in
         let within : p ≤ position_of calls = primary-within w sound in
         let image = IsDown-cut first calls p p serving.device (omega arith) (down-crashed first calls p old.primary.device serving.device old.primary.contents old.primary.is_faulted parts.engine has.sized has.settled has.image has.lines_are) in
         let down : DownRefine first second new w' =
@@ -128,11 +128,13 @@ primary-crashes old clients serving k picks position runs at has ends unseated a
           recalls = recalls-crashed w.standby.position p calls old.primary.contents old.primary.committing.waiting.items old.primary.committing.aside old.primary.sequencer parts.remembers;
           epoch = parts.epoch;
           own = parts.own;
-          frames = AreFramesSent-cut old.wire.link.epoch calls p old.wire.frames w.wire.frames
-              (subst (λ e. All (IsFrameWithin e p) w.wire.frames) (sym parts.epoch) (frames_within-weaker w.primary.epoch sound.sent p w.wire.frames behind sound.wire.frames)) parts.frames;
-          arrivals = ArrivalsRefine-cut old.wire.link.epoch calls p old.wire.arrivals w.standby.waiting w.wire.acknowledgements
-              (subst (λ e. All (IsFrameWithin e p) w.standby.waiting) (sym parts.epoch) (frames_within-weaker w.primary.epoch sound.sent p w.standby.waiting behind sound.standby.frames)) parts.arrivals;
-          standby = StandbyRefines-cut second old.wire.link.epoch calls w.standby.position p sound.sent (torn w.standby.life) old.standby old.lives.standby sound.standby.behind behind sound.standby_left parts.standby;
+          frames = AreFramesSent-cut w.standby.role w.standby.position old.wire.link.epoch calls p old.wire.frames w.wire.frames
+              (subst (λ e. All (IsFrameWithin e w.standby.role w.standby.position p) w.wire.frames) (sym parts.epoch)
+              (frames_within-weaker w.primary.epoch w.standby.role w.standby.position (reach w) p w.wire.frames behind sound.wire.frames)) parts.frames;
+          arrivals = ArrivalsRefine-cut w.standby.role w.standby.position old.wire.link.epoch calls p old.wire.arrivals w.standby.waiting w.wire.acknowledgements
+              (subst (λ e. All (IsFrameWithin e w.standby.role w.standby.position p) w.standby.waiting) (sym parts.epoch)
+              (frames_within-weaker w.primary.epoch w.standby.role w.standby.position (reach w) p w.standby.waiting behind sound.standby.frames)) parts.arrivals;
+          standby = StandbyRefines-cut w.standby.role second old.wire.link.epoch calls w.standby.position p (reach w) (torn w.standby.life) old.standby old.lives.standby sound.standby.behind behind sound.standby_left parts.standby;
         } in
         let refines : EitherRefines first second new w' = inr (inl (refl, down)) in
         record {

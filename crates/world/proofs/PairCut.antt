@@ -23,9 +23,9 @@ use Rattle.machine.specs.declared.event.Cut.TheVariants as cut
 use Rattle.machine.specs.declared.event.Event.TheVariants as events
 use Rattle.machine.specs.declared.event.Node.{Node}
 use Rattle.machine.specs.declared.event.Node.TheVariants as node
-use Rattle.machine.specs.Event.{Allowed, At, Connection, Step, World, crashed, is_between, is_crashed, is_enabled, left, left_by, may_cut, torn}
+use Rattle.machine.specs.Event.{Allowed, At, Connection, Step, World, crashed, is_between, is_crashed, is_enabled, left, left_by, may_cut, reach, torn}
 use Rattle.machine.specs.Sound.{IsFrameWithin, Sound}
-use Rattle.machine.proofs.GroupLemmas.{chain-le, frames_within-weaker}
+use Rattle.machine.proofs.GroupLemmas.{frames_within-weaker}
 use Rattle.machine.proofs.SoundEvents.{sound-step}
 use Rattle.primary.specs.Recalling.{RecallsEach}
 use Rattle.connections.specs.Session.{AddsOne, HasSeat, seats_of}
@@ -44,7 +44,7 @@ use Rattle.world.proofs.LeftLemmas.{left-there}
 use Rattle.world.proofs.LivesLemmas.{crashed-as}
 use Rattle.world.proofs.OpenedLemmas.{StaysSo}
 use Rattle.world.proofs.PairCrash.{StandbyRefines-cut, with_crashed_primary}
-use Rattle.world.proofs.PairLemmas.{sessions-stand, standby-refines}
+use Rattle.world.proofs.PairLemmas.{reach-below, sessions-stand, standby-refines}
 use Rattle.world.proofs.PairLives.{stays-acts}
 use Rattle.world.proofs.PairReopen.{fallen-parts}
 use Rattle.world.proofs.PairStandby.{arrivals-stand, frames-stand, link-epoch, own-frames}
@@ -113,7 +113,7 @@ module _ (old : Pair) (call : Cut) (k : ℕ) (picks : Vec ℕ Global) (clients :
       subst (λ n. IsUndamaged n left-it.contents.current image) sized (lawful_undamaged left-it.contents image left-it.lawful left-it.keeps) in
       let ended : ClientsRefine clients (map left w.primary.connections) (cut_at calls left-it.contents.current.position) =
       ends left-it.contents.current (omega (arith, sized, left-it.lawful.many)) (omega (arith, sized, left-it.lawful.few)) undamaged w.primary.connections calls (sessions-stand stands.parts) in
-      let behind : sound.sent ≤ p = omega (arith, chain-le _ _ _ sound.link.waiting, left-it.rises) in
+      let behind : reach w ≤ p = omega (arith, reach-below w, left-it.rises) in
       let epoch = link-epoch stands.parts in
       let parts : DownRefine first second fallen w' =
       record {
@@ -129,11 +129,13 @@ module _ (old : Pair) (call : Cut) (k : ℕ) (picks : Vec ℕ Global) (clients :
         recalls = recalled-cut w.standby.position p calls left-it.contents left-it.recalls;
         epoch = epoch;
         own = own-frames stands.parts;
-        frames = AreFramesSent-cut old.wire.link.epoch calls p old.wire.frames w.wire.frames
-            (subst (λ e. All (IsFrameWithin e p) w.wire.frames) (sym epoch) (frames_within-weaker w.primary.epoch sound.sent p w.wire.frames behind sound.wire.frames)) (frames-stand stands.parts);
-        arrivals = ArrivalsRefine-cut old.wire.link.epoch calls p old.wire.arrivals w.standby.waiting w.wire.acknowledgements
-            (subst (λ e. All (IsFrameWithin e p) w.standby.waiting) (sym epoch) (frames_within-weaker w.primary.epoch sound.sent p w.standby.waiting behind sound.standby.frames)) (arrivals-stand stands.parts);
-        standby = StandbyRefines-cut second old.wire.link.epoch calls w.standby.position p sound.sent (torn w.standby.life) old.standby old.lives.standby sound.standby.behind behind sound.standby_left (standby-refines stands.parts);
+        frames = AreFramesSent-cut w.standby.role w.standby.position old.wire.link.epoch calls p old.wire.frames w.wire.frames
+            (subst (λ e. All (IsFrameWithin e w.standby.role w.standby.position p) w.wire.frames) (sym epoch)
+            (frames_within-weaker w.primary.epoch w.standby.role w.standby.position (reach w) p w.wire.frames behind sound.wire.frames)) (frames-stand stands.parts);
+        arrivals = ArrivalsRefine-cut w.standby.role w.standby.position old.wire.link.epoch calls p old.wire.arrivals w.standby.waiting w.wire.acknowledgements
+            (subst (λ e. All (IsFrameWithin e w.standby.role w.standby.position p) w.standby.waiting) (sym epoch)
+            (frames_within-weaker w.primary.epoch w.standby.role w.standby.position (reach w) p w.standby.waiting behind sound.standby.frames)) (arrivals-stand stands.parts);
+        standby = StandbyRefines-cut w.standby.role second old.wire.link.epoch calls w.standby.position p (reach w) (torn w.standby.life) old.standby old.lives.standby sound.standby.behind behind sound.standby_left (standby-refines stands.parts);
       } in
       let refines : EitherRefines first second fallen w' = inr (inl (refl, parts)) in
       record {

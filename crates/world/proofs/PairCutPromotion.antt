@@ -13,7 +13,7 @@ use Rattle.failover.specs.Promoting.{IsBeforeOrPromoted}
 use Rattle.machine.specs.declared.event.Event.TheVariants as events
 use Rattle.machine.specs.declared.event.Cut.TheVariants as cuts
 use Rattle.machine.specs.declared.event.Node.TheVariants as node
-use Rattle.machine.specs.Event.{AsPrimary, World, is_retired, is_running, may_cut, torn}
+use Rattle.machine.specs.Event.{AsPrimary, World, is_follower, is_retired, is_running, may_cut, torn}
 use Rattle.world.specs.Condition.{has_ended, runs}
 use Rattle.world.specs.Cutting.{Cuts, GoesByImage}
 use Rattle.world.specs.Pair.{Acts, HasWorld, NodesRefine, Pair}
@@ -31,7 +31,7 @@ use Rattle.world.proofs.PromotionLemmas.{promotion-keeps}
 
 is-promoted : {first second : Holder} {pair : Pair} {w : World} → NodesRefine first second pair w → may_cut w node.Standby cuts.Promote ≡ (runs pair.lives.standby && has_ended pair.lives.primary)
 is-promoted {first} {second} {pair} {w} stands =
-    ap₂ (λ a b. a && b) (ap is_running stands.lives.standby ∙ running-as pair.lives.standby (torn w.standby.life)) (ap is_retired stands.lives.primary ∙ retired-as pair.lives.primary (torn w.primary.life))
+    ap₂ (λ a b. a && b) (ap is_running stands.lives.standby ∙ running-as pair.lives.standby (torn w.standby.life)) (ap₂ (λ a b. a && b) (ap is_follower stands.lives.follows) (ap is_retired stands.lives.primary ∙ retired-as pair.lives.primary (torn w.primary.life)))
 
 -- a primary that was not fenced is not succeeded
 pub promotion-unfenced : (old : Pair) (k : ℕ) (picks : Vec ℕ Global) → has_ended old.lives.primary ≡ false → Acts old (events.Crash node.Standby cuts.Promote k picks) (Ok false) old

@@ -1,5 +1,5 @@
 -- What a crash inside a call of the standby's leaves of it.
-use Rattle.std.proofs.Common.{◌≡◌, ℕ, ◌<◌, true, false, ◌&&◌, List, [], ◌∷◌, ◌++◌, length, Ok, Vec, Global, refl, sym, ap, ap₂, subst, ◌∙◌, arith, true≢false}
+use Rattle.std.proofs.Common.{◌≡◌, ℕ, ◌<◌, true, false, ◌&&◌, cond, nat_eq, List, [], ◌∷◌, ◌++◌, length, Ok, Vec, Global, refl, sym, ap, ap₂, subst, ◌∙◌, arith, true≢false}
 use Rattle.std.proofs.lemmas.Bool.{and_right}
 use Rattle.pmem.specs.Device.{State}
 use Rattle.pmem.specs.Crash.{image_of}
@@ -13,15 +13,16 @@ use Rattle.machine.specs.declared.event.Event.TheVariants as events
 use Rattle.machine.specs.declared.event.Cut.{Cut}
 use Rattle.machine.specs.declared.event.Cut.TheVariants as cuts
 use Rattle.machine.specs.declared.event.Node.TheVariants as node
-use Rattle.machine.specs.Event.{At, Frame as Sent, Remains, World, is_between, is_crashed, is_running, left_by, may_cut, may_remain, next_standby, torn}
+use Rattle.machine.specs.Event.{At, Changes, End, Follower, Frame as Sent, Part, Remains, Role, Standby, Told, World, is_between, is_crashed, is_running, left_by, left_by_first, left_by_told, may_cut, may_remain, torn}
 use Rattle.world.specs.Condition.{has_crashed, is_still, runs}
 use Rattle.world.specs.Cutting.{Cuts, LeavesCut, LeavesOf, OpensNear}
+use Rattle.world.specs.Following.{next_standby}
 use Rattle.world.specs.Link.{AreFramesRead}
 use Rattle.world.specs.Pair.{Acts, HasStandby, HasWorld, NodesRefine, Pair}
 use Rattle.world.specs.Remaining.{KeepsOne}
 use Rattle.world.specs.Standby.{Arrived, Node}
 use Rattle.world.proofs.ArrivalLemmas.{some-wait}
-use Rattle.world.proofs.KeptLemmas.{CrashedIn, IsDown-kept, crash-leaves, keeps-here, leaves-cut, left-is, restart-keeps}
+use Rattle.world.proofs.KeptLemmas.{CrashedIn, IsDown-kept, crash-leaves, keeps-here, keeps-left, leaves-cut, left-is, restart-keeps}
 use Rattle.world.proofs.LivesLemmas.{crashed-as, crashed-not-over, crashed-whole, not-over, running-as, runs-whole, whole-torn}
 use Rattle.world.proofs.OpenedLemmas.{StaysSo}
 use Rattle.world.proofs.PairCrash.{with_crashed_standby}
@@ -104,6 +105,20 @@ cut-falls old call kept mid last k picks inside began whole is goes any = record
 
 -- ---- a frame
 
+-- what a frame may leave is a standby's
+first-behind : (standby : Standby) (frames : List Sent) → standby.role ≡ Follower → are_behind (left_by_first standby frames) ≡ true
+first-behind standby [] follows = refl
+first-behind standby (frame ∷ frames) follows =
+    elim (nat_eq frame.epoch standby.epoch) as (λ b. are_behind (cond b (left_by_told standby.role frame.told standby) []) ≡ true) [
+      | true ↦ subst (λ (role : Role). are_behind (left_by_told role frame.told standby) ≡ true) (sym follows) (told-behind frame.told)
+      | false ↦ refl
+    ]
+  where
+    told-behind : (told : Told) → are_behind (left_by_told Follower told standby) ≡ true
+    told-behind (Changes span) = elim (nat_eq span.before standby.position) as (λ b. are_behind (cond b (At span.after ∷ []) []) ≡ true) [ true ↦ refl | false ↦ refl ]
+    told-behind (Part position number) = refl
+    told-behind (End position parts) = refl
+
 pub frame-cuts : (old : Pair) (arrivals : Arrived) (node' : Node) (kept mid : State) (k : ℕ) (picks : Vec ℕ Global) → runs old.lives.standby ≡ true → 0 < length old.wire.arrivals.delivered.items
     → arrivals.delivered.items ≡ [] → arrivals.acknowledgements ≡ old.wire.arrivals.acknowledgements → CrashedIn k picks.items old.standby.device kept mid node'.device
     → old.standby.contents.lines ≡ old.standby.device.lines → mid.lines ≡ old.standby.device.lines
@@ -114,7 +129,8 @@ frame-cuts old arrivals node' kept mid k picks follows some lost told is sized l
     (λ first second w stands.
     let held = (fallen.falls first second w stands).held in
     one-behind (may_remain w node.Standby cuts.Apply) held.one
-    (ap (λ (remains : List Remains). are_behind (remains ++ At (next_standby w) ∷ [])) (whole-torn old.lives.standby stands.lives.standby (runs-whole old.lives.standby follows))) held.is_one)
+    (ap (λ (remains : List Remains). are_behind (remains ++ left_by w node.Standby cuts.Apply)) (whole-torn old.lives.standby stands.lives.standby (runs-whole old.lives.standby follows))
+    ∙ first-behind w.standby w.standby.waiting stands.lives.follows) held.is_one)
   where
     fallen : HasFallen old cuts.Apply k picks node'.device
     fallen =
@@ -122,7 +138,8 @@ frame-cuts old arrivals node' kept mid k picks follows some lost told is sized l
         (λ first second w stands. record {
           may = takes-frame stands ∙ ap₂ (λ a b. a && b) follows (some-wait old.wire.link.epoch w old.wire.arrivals some (arrivals-stand stands.parts));
           lines_are = sym (follower follows stands.parts).engine.contents_at.lines_are ∙ sized ∙ sym lines ∙ sym is.lines_are;
-          keeps = only first second w stands;
+          keeps = LeavesOnly-weaken (KeepsOne second w.primary.calls w.standby.position (left_by w node.Standby cuts.Apply))
+              (keeps-left second w.primary.calls w.standby.position (left_by w node.Standby cuts.Apply)) (only first second w stands);
         }) any
 
 -- ---- its opening

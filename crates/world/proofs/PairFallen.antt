@@ -19,7 +19,7 @@ use Rattle.frames.specs.declared.frame.Frame.{Frame}
 use Rattle.machine.specs.declared.event.Event.TheVariants as events
 use Rattle.machine.specs.declared.event.Cut.{Cut}
 use Rattle.machine.specs.declared.event.Node.TheVariants as node
-use Rattle.machine.specs.Event.{Allowed, AsPrimary, At, Remains, Step, World, crashed, is_between, is_enabled, left, left_by, may_cut, may_remain, promoted, torn}
+use Rattle.machine.specs.Event.{Allowed, AsFollower, AsPrimary, At, Follower, Remains, Role as MachineRole, Step, World, crashed, crashed_standby, is_between, is_enabled, left, left_by, may_cut, may_remain, promoted, reach, torn, with_standby}
 use Rattle.machine.specs.Sound.{IsFrameWithin}
 use Rattle.machine.proofs.GrowLemmas.{grows-step}
 use Rattle.machine.proofs.SoundEvents.{sound-step}
@@ -70,13 +70,33 @@ pub record HasFallen (old : Pair) (call : Cut) (k : ℕ) (picks : Vec ℕ Global
 pub devices-are : (pair : Pair) → HasStandby pair → (first_device pair ≡ pair.primary.device) × (second_device pair ≡ pair.standby.device)
 devices-are pair whole = (ap (λ b. if b then pair.standby.device else pair.primary.device) whole, ap (λ b. if b then pair.primary.device else pair.standby.device) whole)
 
-one_at : (holder : Holder) (calls : List Call) (p : ℕ) (image : Image) (one : Remains) → KeepsAs holder calls p one image → (KeepsPromoted holder calls p image → ⊥) → (q : ℕ) × (one ≡ At q)
+-- it is a standby's, at this position
+abbrev pub IsOfStandby : ℕ → Remains → Type 0
+IsOfStandby q (At p) = p ≡ q
+IsOfStandby q AsPrimary = ⊥
+IsOfStandby q (AsFollower p) = p ≡ q
+
+keeps-of : (holder : Holder) (calls : List Call) (p q : ℕ) (image : Image) (one : Remains) → IsOfStandby q one → KeepsAs holder calls p one image → KeepsAt holder calls q image
+keeps-of holder calls p q image (At r) is held = subst (λ n. KeepsAt holder calls n image) is held
+keeps-of holder calls p q image AsPrimary is held = absurd is
+keeps-of holder calls p q image (AsFollower r) is held = subst (λ n. KeepsAt holder calls n image) is held
+
+-- and a crash that leaves it leaves a standby
+crashed-of : (w : World) (q : ℕ) (one : Remains) → w.standby.role ≡ Follower → IsOfStandby q one → crashed node.Standby (At q) w ≡ crashed node.Standby one w
+crashed-of w q (At p) follows is = ap (λ n. crashed node.Standby (At n) w) (sym is)
+crashed-of w q AsPrimary follows is = absurd is
+crashed-of w q (AsFollower p) follows is =
+    ap (λ n. crashed node.Standby (At n) w) (sym is) ∙ ap (λ (own : MachineRole). with_standby (record (crashed_standby p w.standby) { role = own }) w) follows
+
+one_at : (holder : Holder) (calls : List Call) (p : ℕ) (image : Image) (one : Remains) → KeepsAs holder calls p one image → (KeepsPromoted holder calls p image → ⊥) → (q : ℕ) × IsOfStandby q one
 one_at holder calls p image (At q) held never = (q, refl)
+one_at holder calls p image (AsFollower q) held never = (q, refl)
 one_at holder calls p image AsPrimary held never = absurd (never held)
 
 one_ahead : (holder : Holder) (calls : List Call) (p : ℕ) (image : Image) (one : Remains) → KeepsAs holder calls p one image → ((q : ℕ) → KeepsAt holder calls q image → ⊥)
     → (one ≡ AsPrimary) × KeepsPromoted holder calls p image
 one_ahead holder calls p image (At q) held never = absurd (never q held)
+one_ahead holder calls p image (AsFollower q) held never = absurd (never q held)
 one_ahead holder calls p image AsPrimary held never = (refl, held)
 
 -- ---- the standby stays
@@ -84,15 +104,15 @@ one_ahead holder calls p image AsPrimary held never = (refl, held)
 -- what is left of the standby is its image, at a position that the call may leave
 standby-cut : (old : Pair) (arrivals : Arrived) (node' : Node) (call : Cut) (k : ℕ) (picks : Vec ℕ Global) → HasStandby old → arrivals.delivered.items ≡ [] → arrivals.acknowledgements ≡ old.wire.arrivals.acknowledgements
     → (first second : Holder) (w : World) → NodesRefine first second old w → is_enabled w (events.Crash node.Standby call k picks) ≡ true
-    → (p : ℕ) → Contains (may_remain w node.Standby call) (At p) → IsDown second w.primary.calls p node'.device
+    → (p : ℕ) (one : Remains) → IsOfStandby p one → Contains (may_remain w node.Standby call) one → IsDown second w.primary.calls p node'.device
     → LeavesOnly old.standby.device node'.device (OpensNear second w.primary.calls w.standby.position (torn w.standby.life ++ left_by w node.Standby call))
     → CutsStandby first second w call k picks old (with_crashed_standby arrivals node' old)
-standby-cut old arrivals node' call k picks whole lost told first second w stands enabled p may image leaves =
+standby-cut old arrivals node' call k picks whole lost told first second w stands enabled p one of may image leaves =
     let new = with_crashed_standby arrivals node' old in
     let event = events.Crash node.Standby call k picks in
     let calls = w.primary.calls in
     let w' = crashed node.Standby (At p) w in
-    let step : Step w event true w' = record { done = sym enabled; happens = λ did. record { remain = At p; one = may; now = refl }; stands = λ did. absurd (true≢false did) } in
+    let step : Step w event true w' = record { done = sym enabled; happens = λ did. record { remain = one; one = may; now = crashed-of w p one stands.lives.follows of }; stands = λ did. absurd (true≢false did) } in
     let empty : ArrivalsRefine old.wire.link.epoch calls arrivals [] w.wire.acknowledgements =
     record {
       delivered = subst (λ (frames : List Frame). AreFramesRead old.wire.link.epoch calls frames []) (sym lost) tt;
@@ -117,20 +137,23 @@ abbrev pub are_behind : List Remains → Bool
 are_behind [] = true
 are_behind (At q ∷ others) = are_behind others
 are_behind (AsPrimary ∷ others) = false
+are_behind (AsFollower q ∷ others) = are_behind others
 
-pub one-behind : (others : List Remains) (one : Remains) → are_behind others ≡ true → Contains others one → (q : ℕ) × (one ≡ At q)
+pub one-behind : (others : List Remains) (one : Remains) → are_behind others ≡ true → Contains others one → (q : ℕ) × IsOfStandby q one
 one-behind others one behind is = by others behind is.0 is.1 is.2
   where
-    by : (others : List Remains) → are_behind others ≡ true → (k : ℕ) → k < length others → get_or others k one ≡ one → (q : ℕ) × (one ≡ At q)
+    by : (others : List Remains) → are_behind others ≡ true → (k : ℕ) → k < length others → get_or others k one ≡ one → (q : ℕ) × IsOfStandby q one
     by [] behind k within at = absurd (omega (arith, within))
-    by (At q ∷ others) behind zero within at = (q, sym at)
+    by (At q ∷ others) behind zero within at = (q, subst (IsOfStandby q) at refl)
     by (At q ∷ others) behind (suc k) within at = by others behind k (omega (arith, within)) at
+    by (AsFollower q ∷ others) behind zero within at = (q, subst (IsOfStandby q) at refl)
+    by (AsFollower q ∷ others) behind (suc k) within at = by others behind k (omega (arith, within)) at
     by (AsPrimary ∷ others) behind k within at = absurd (true≢false (sym behind))
 
 -- its image is a standby's in each world
 pub stays-behind : (old : Pair) (arrivals : Arrived) (node' : Node) (call : Cut) (k : ℕ) (picks : Vec ℕ Global) (fallen : HasFallen old call k picks node'.device)
     → arrivals.delivered.items ≡ [] → arrivals.acknowledgements ≡ old.wire.arrivals.acknowledgements
-    → ((first second : Holder) (w : World) (stands : NodesRefine first second old w) → (q : ℕ) × ((fallen.falls first second w stands).held.one ≡ At q))
+    → ((first second : Holder) (w : World) (stands : NodesRefine first second old w) → (q : ℕ) × IsOfStandby q (fallen.falls first second w stands).held.one)
     → Cuts old (events.Crash node.Standby call k picks) (Ok true) (with_crashed_standby arrivals node' old)
 stays-behind old arrivals node' call k picks fallen lost told behind =
     record {
@@ -150,9 +173,8 @@ stays-behind old arrivals node' call k picks fallen lost told behind =
         let image = image_of node'.device.words in
         let it = fallen.falls first second w stands in
         let at = behind first second w stands in
-        standby-cut old arrivals node' call k picks fallen.whole lost told first second w stands (fall-enabled call k picks stands.lives ∙ it.may) at.0
-        (subst (λ (one : Remains). Contains (may_remain w node.Standby call) one) at.1 it.held.is_one)
-        (kept-down second calls at.0 node'.device (subst (λ (one : Remains). KeepsAs second calls p one image) at.1 it.held.keeps) fallen.settled it.lines_are) it.leaves
+        standby-cut old arrivals node' call k picks fallen.whole lost told first second w stands (fall-enabled call k picks stands.lives ∙ it.may) at.0 it.held.one at.1 it.held.is_one
+        (kept-down second calls at.0 node'.device (keeps-of second calls p at.0 image it.held.one at.1 it.held.keeps) fallen.settled it.lines_are) it.leaves
 
 -- ---- it is a primary's
 
@@ -238,8 +260,8 @@ comes-forward old node' call k picks new found r fallen finds is_found own comes
           opened = refl;
           recalls = recalled-none p p (past_of (cut_at calls p)) image.contents (omega (arith, fell.1)) (omega (arith, fell.1));
           epoch = ours;
-          frames = frames-earlier old.wire.link.epoch new.wire.link.epoch sound.sent calls (cut_at calls p) new.wire.frames w.wire.frames less
-              (subst (λ e. All (IsFrameWithin e sound.sent) w.wire.frames) (sym (link-epoch stands.parts)) sound.wire.frames)
+          frames = frames-earlier w.standby.role w.standby.position old.wire.link.epoch new.wire.link.epoch (reach w) calls (cut_at calls p) new.wire.frames w.wire.frames less
+              (subst (λ e. All (IsFrameWithin e w.standby.role w.standby.position (reach w)) w.wire.frames) (sym (link-epoch stands.parts)) sound.wire.frames)
               (subst (λ (texts : List (Vec ℕ Global)). AreFramesSent old.wire.link.epoch calls texts w.wire.frames) (sym comes.frames) (frames-stand stands.parts));
           own = λ still. absurd (true≢false (sym over ∙ still));
           arrivals = record {
@@ -263,6 +285,7 @@ comes-forward old node' call k picks new found r fallen finds is_found own comes
             standby_failing = lives.standby_failing ∙ sym (ap (λ (asked : AskedFences). asked.standby) comes.asked);
             primary = sym (ap (λ (c : Condition). life_as c []) comes.primary);
             standby = sym (ap (λ (c : Condition). life_as c []) comes.standby);
+            follows = lives.follows;
             first_role = refl;
             second_role = refl;
             first_epoch = epoch;

@@ -258,7 +258,7 @@ module _ {E : Type 0} (device : E → State) (contents : E → Contents) (is_fau
       freed-does ok frees = record {
         steps = λ first second w stands.
             primary-steps events.Free first second w (machine.freed w) old (freed_with after waiting' (pair.primary.notices ++ frees.frees.answer.0 ∷ []) handed) refl
-            (record { allowed = refl; primary_disk = refl; standby_disk = refl; primary = refl; standby = refl; epoch = refl })
+            (record { allowed = refl; primary_disk = refl; standby_disk = refl; primary = refl; standby = refl; role = refl; epoch = refl })
             stands refl refl frees.frees.sound.1 (inl refl)
             (sym (free_may first second w stands)) (moments-then (Ok ok) frees first second w stands.parts) (free-parts ok frees first second w stands);
         cut = tt;

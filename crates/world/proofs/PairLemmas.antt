@@ -11,8 +11,8 @@ use Rattle.machine.specs.declared.event.Event.{Event}
 use Rattle.machine.specs.declared.event.Event.TheVariants as events
 use Rattle.machine.specs.declared.event.Mark.{Mark}
 use Rattle.machine.specs.Connection.{having_seen, is_open_at, may_enter, with_outbound}
-use Rattle.machine.specs.Event.{Connection, Remains, World, Happens, Step, Turns, changed_at, left, new_connection, is_enabled, may_happen, called, torn, with_connections}
-use Rattle.machine.proofs.SoundConnection.{uncalled}
+use Rattle.machine.specs.Event.{Connection, Remains, Role, World, reach, Happens, Step, Turns, changed_at, left, new_connection, is_enabled, may_happen, called, torn, with_connections}
+use Rattle.machine.proofs.SoundConnection.{reach-low, uncalled}
 use Rattle.machine.specs.Sound.{IsStandbyLeft, Sound}
 use Rattle.machine.proofs.GroupLemmas.{chain-le}
 use Rattle.machine.proofs.SoundEvents.{sound-step}
@@ -334,19 +334,23 @@ read-does c mark local remote old sessions did local_is remote_is go keeps =
 pub primary-within : (w : World) → Sound w → w.primary.committer.position ≤ position_of w.primary.calls
 primary-within w s = omega (arith, s.committer.closed, chain-le _ _ _ s.committer.waiting)
 
-pub sent-within : (w : World) (s : Sound w) → s.sent ≤ position_of w.primary.calls
-sent-within w s = omega (arith, chain-le _ _ _ s.link.waiting, primary-within w s)
+-- nothing was sent beyond the primary's record
+pub reach-below : (w : World) → reach w ≤ w.primary.committer.position
+reach-below w = reach-low w.primary.link.copying w.primary.committer.position
+
+pub reach-within : (w : World) → Sound w → reach w ≤ position_of w.primary.calls
+reach-within w s = omega (arith, reach-below w, primary-within w s)
 
 pub standby-within : (w : World) → Sound w → w.standby.position ≤ position_of w.primary.calls
-standby-within w s = omega (arith, s.standby.behind, chain-le _ _ _ s.link.waiting, primary-within w s)
+standby-within w s = omega (arith, s.standby.behind, reach-within w s)
 
-StandbyRefines-grows : (holder : Holder) (epoch : ℕ) (calls more : List Call) (p high : ℕ) (remains : List Remains) (node : Node) (condition : Condition) → p ≤ high → high ≤ position_of calls
-    → All (IsStandbyLeft p high) remains → StandbyRefines holder epoch calls p remains node condition → StandbyRefines holder epoch (calls ++ more) p remains node condition
-StandbyRefines-grows holder epoch calls more p high remains node condition le within bound refines =
+StandbyRefines-grows : (role : Role) (holder : Holder) (epoch : ℕ) (calls more : List Call) (p high : ℕ) (remains : List Remains) (node : Node) (condition : Condition) → p ≤ high → high ≤ position_of calls
+    → All (IsStandbyLeft role p high) remains → StandbyRefines holder epoch calls p remains node condition → StandbyRefines holder epoch (calls ++ more) p remains node condition
+StandbyRefines-grows role holder epoch calls more p high remains node condition le within bound refines =
     let reached : p ≤ position_of calls = omega (arith, le, within) in
     record {
       stands = λ up. StandbyStands-grows holder epoch calls more p node reached (refines.stands up);
-      left = λ stopped. LeavesOne-grows holder calls more p high remains node.device le within bound (refines.left stopped);
+      left = λ stopped. LeavesOne-grows role holder calls more p high remains node.device le within bound (refines.left stopped);
       down = λ down. IsDown-grows holder calls more p node.device reached (refines.down down);
     }
 
@@ -373,8 +377,8 @@ called-parts first second old clients sequencer w c call stands sessions_stand s
       frames = AreFramesSent-grows old.wire.link.epoch w.primary.calls (call ∷ []) old.wire.frames w.wire.frames parts.frames;
       own = parts.own;
       arrivals = ArrivalsRefine-grows old.wire.link.epoch w.primary.calls (call ∷ []) old.wire.arrivals w.standby.waiting w.wire.acknowledgements parts.arrivals;
-      standby = StandbyRefines-grows second old.wire.link.epoch w.primary.calls (call ∷ []) w.standby.position stands.sound.sent (torn w.standby.life) old.standby old.lives.standby stands.sound.standby.behind
-          (sent-within w stands.sound) stands.sound.standby_left parts.standby;
+      standby = StandbyRefines-grows w.standby.role second old.wire.link.epoch w.primary.calls (call ∷ []) w.standby.position (reach w) (torn w.standby.life) old.standby old.lives.standby stands.sound.standby.behind
+          (reach-within w stands.sound) stands.sound.standby_left parts.standby;
     }
 
 turn-steps : (first second : Holder) (old : Pair) (clients : Clients) (sequencer : Sequencing) (w : World) (c : ℕ) (did : Bool) → PairRefines first second old w

@@ -1,5 +1,5 @@
 -- What the events of the link and its acknowledgements do to the pair, of what they do to its parts.
-use Rattle.std.proofs.Common.{rules, ◌≡◌, inl, ℕ, ◌≤◌, max, Bool, true, false, nat_eq, nat_le, nat_lt, List, ◌∷◌, ◌++◌, length, take, ◌||◌, ◌&&◌, inr, slice_get, Option, Some, None, Result, Ok, Err, Vec, Global, ◌<◌, refl, sym, ap, ap₂, subst, ◌∙◌, arith, true≢false, cond, eqb-true, All, []}
+use Rattle.std.proofs.Common.{rules, ◌≡◌, inl, ℕ, ◌≤◌, max, Bool, true, false, nat_eq, nat_le, nat_lt, List, ◌∷◌, ◌++◌, length, map, take, ◌||◌, ◌&&◌, inr, slice_get, Option, Some, None, Result, Ok, Err, Vec, Global, ◌<◌, refl, sym, ap, ap₂, subst, ◌∙◌, arith, true≢false, cond, eqb-true, All, []}
 use Rattle.std.proofs.lemmas.Bool.{cases_lt, lt-ltb, le-leb, le-ltb, ltb-false}
 use Rattle.std.proofs.lemmas.Option.{slice_get_within}
 use Rattle.kv_types.specs.declared.refusal.Refusal.{Refusal}
@@ -19,10 +19,9 @@ use Rattle.wbl_engine.specs.declared.freeing.Freed.{Freed}
 use Rattle.stream_codec.specs.Message.{Acknowledged, IsWithinLimits, sent_of_ack, sent_of_frame, sent_text}
 use Rattle.machine.specs.declared.event.TheConstants.{KEPT_GROUPS}
 use Rattle.machine.specs.declared.event.Event.TheVariants as events
-use Rattle.machine.specs.Event.{World, Primary, Link as MachineLink, counts as machine_counts, Frame as Sent, Span, Acknowledgement, may_happen, next_to_send, framed, sent, sent_next, option_items, knowing, raised_remote, told, with_link, with_sent, torn}
+use Rattle.machine.specs.Event.{Changes, Copying, World, Primary, Link as MachineLink, counts as machine_counts, Frame as Sent, Span, Acknowledgement, may_happen, may_send, next_to_send, framed, sent, sent_next, sent_with, option_items, knowing, raised_remote, told, with_link, with_sent, torn}
 use Rattle.std.proofs.lemmas.List.Elements.{All-append, All-cons, All-head, All-nil}
 use Rattle.machine.specs.Sound.{IsToldWithin}
-use Rattle.machine.proofs.GroupLemmas.{chain-le}
 use Rattle.machine.proofs.StandbyLemmas.{all-at}
 use Rattle.world.proofs.LivesLemmas.{nodes-refine, own-runs}
 use Rattle.world.specs.Condition.{has_ended}
@@ -32,10 +31,10 @@ use Rattle.world.specs.Standby.{StandbyRefines, ArrivalsRefine, told_by}
 use Rattle.world.specs.Pair.{Does, FreeingRefines, Pair, PairRefines, PartsRefine, Steps}
 use Rattle.world.proofs.FrameLemmas.{AreFramesSent-push, may_be_sent, ack_of_read, ack_of_number, length-acks}
 use Rattle.world.proofs.LinkLemmas.{Answers as LinkAnswers, sends}
-use Rattle.world.proofs.AckLemmas.{knows}
+use Rattle.world.proofs.AckLemmas.{knows, knows-nothing}
 use Rattle.world.proofs.ArrivalLemmas.{ReadsAs, same_found}
 use Rattle.world.proofs.OpeningLemmas.{opening-forgotten}
-use Rattle.world.proofs.PairLemmas.{cut-same, goes-steps, none-added, stays-does, tells}
+use Rattle.world.proofs.PairLemmas.{cut-same, goes-steps, none-added, reach-below, stays-does, tells}
 
 -- ---- the link
 
@@ -71,6 +70,11 @@ link-alone first second old waiting link remote w machine parts same link_stands
 
 -- ---- sending
 
+-- where a standby follows, something is to be sent just where the link has it
+pub follows-sends : (calls : List Call) (code : Stream) (handed : Waiting Group) (remote : ℕ) (machine : MachineLink) (may : Bool) → LinkRefines calls code handed remote machine
+    → (is_nonempty machine.delta || (is_nonempty machine.again || (is_nonempty machine.waiting && nat_lt (length machine.kept) KEPT_GROUPS))) ≡ may → may_send machine.copying machine ≡ may
+follows-sends calls code handed remote machine may stands is = ap (λ (copying : Copying). may_send copying machine) stands.copying_is ∙ is
+
 -- the link with what waits for it, what is told of the opening, and the frames that passed
 abbrev pub with_sending : Waiting Group → Stream → Opening → List (Vec ℕ Global) → Pair → Pair
 with_sending waiting link opening frames pair = record pair { primary = record pair.primary { handed = waiting }; wire = record pair.wire { link = link; opening = opening; frames = frames } }
@@ -88,9 +92,9 @@ one_span epoch calls frame (span ∷ other ∷ spans) are = absurd are.1
 
 -- the bytes of a frame are those of what was sent
 passes : (epoch : ℕ) (calls : List Call) (frame : Frame) (bytes : Vec ℕ Global) (span : Span) → IsFrameOf epoch calls frame span → bytes.items ≡ sent_text (sent_of_frame frame) → IsWithinLimits (sent_of_frame frame)
-    → IsFrameSent epoch calls bytes.items (record { epoch = epoch; span = span })
+    → IsFrameSent epoch calls bytes.items (record { epoch = epoch; told = Changes span })
 passes epoch calls frame bytes span is text within =
-    record { frame = frame; text = text; may = may_be_sent epoch calls frame span is within; about = record { epoch_is = is.epoch_is; before = is.before; after = is.after }; is = λ own. is }
+    record { frame = frame; text = text; may = may_be_sent epoch calls frame span is within; about = record { epoch_is = is.epoch_is; told_is = refl; before = is.before; after = is.after }; is = λ own. is }
 
 -- the frame that comes before all groups is sent
 pub delta-does : (old : Pair) (link : Stream) (frame : Frame) (bytes : Vec ℕ Global) (frames : List (Vec ℕ Global)) → Some frame ≡ old.wire.link.delta → link ≡ record old.wire.link { delta = None }
@@ -106,20 +110,22 @@ delta-does old link frame bytes frames given taken text within more =
           let one = one_span epoch calls frame machine.delta (subst (λ (d : Option Frame). AreFramesOf epoch calls (option_items d) machine.delta) (sym given) parts.link.delta) in
           let span = one.0 in
           let after : MachineLink = record machine { delta = [] } in
-          let passed : List Sent = w.wire.frames ++ framed epoch (span ∷ []) in
+          let passed : List Sent = w.wire.frames ++ framed epoch (Changes span ∷ []) in
           let now : LinkRefines calls (record old.wire.link { delta = None }) old.primary.handed old.wire.remote after = search (rules, parts.link) in
           let w' = record w { primary = record w.primary { link = after }; wire = record w.wire { frames = passed } } in
           let moved : PartsRefine first second (with_frames old.primary.handed link old.wire.remote frames old) w' =
           subst (λ (fs : List (Vec ℕ Global)). PartsRefine first second (with_frames old.primary.handed link old.wire.remote fs old) w') (sym more)
           (subst (λ (s : Stream). PartsRefine first second (with_frames old.primary.handed s old.wire.remote (old.wire.frames ++ bytes ∷ []) old) w') (sym taken)
           (link-parts first second old old.primary.handed (record old.wire.link { delta = None }) old.wire.remote (old.wire.frames ++ bytes ∷ []) w after passed parts refl now
-          (AreFramesSent-push epoch calls old.wire.frames w.wire.frames bytes (record { epoch = epoch; span = span }) parts.frames (passes epoch calls frame bytes span one.2 text within))
-          (λ whole. All-append (IsOwn epoch) w.wire.frames _ (parts.own whole) (All-cons (IsOwn epoch) (record { epoch = epoch; span = span }) [] refl (All-nil (IsOwn epoch)))))) in
+          (AreFramesSent-push epoch calls old.wire.frames w.wire.frames bytes (record { epoch = epoch; told = Changes span }) parts.frames (passes epoch calls frame bytes span one.2 text within))
+          (λ whole. All-append (IsOwn epoch) w.wire.frames _ (parts.own whole) (All-cons (IsOwn epoch) (record { epoch = epoch; told = Changes span }) [] refl (All-nil (IsOwn epoch)))))) in
           let happens : w' ≡ sent w =
-          ap₂ (λ (e : ℕ) (spans : List Span). with_sent (framed e (take 1 (spans ++ (machine.again ++ machine.waiting)))) (with_link (sent_next spans machine) w)) parts.epoch (sym one.1) in
+          ap₂ (λ (e : ℕ) (spans : List Span). with_sent (framed e (map Changes (take 1 (spans ++ (machine.again ++ machine.waiting))))) (with_link (sent_next spans machine) w)) parts.epoch (sym one.1)
+          ∙ ap (λ (copying : Copying). sent_with copying w) (sym parts.link.copying_is) in
           goes-steps first second w w' events.Send true old (with_frames old.primary.handed link old.wire.remote frames old) refl refl (nodes-refine stands) (own-runs stands events.Send refl) stands.serves refl happens
           (record {
-            done = sym (ap (λ (spans : List Span). is_nonempty spans || (is_nonempty machine.again || (is_nonempty machine.waiting && nat_lt (length machine.kept) KEPT_GROUPS))) one.1);
+            done = sym (follows-sends w.primary.calls old.wire.link old.primary.handed old.wire.remote machine true parts.link
+                (ap (λ (spans : List Span). is_nonempty spans || (is_nonempty machine.again || (is_nonempty machine.waiting && nat_lt (length machine.kept) KEPT_GROUPS))) one.1));
             goes = λ did. moved;
             stays = λ did. absurd (true≢false did);
           });
@@ -149,17 +155,17 @@ send-does old waiting link index frame bytes frames answers there text within mo
           let at = sends calls old.wire.link old.primary.handed old.wire.remote machine stands.sound.legal parts.link none_before (Ok (Some index)) link waiting answers in
           let own : at.frame ≡ frame = cc in
           let is : IsFrameOf epoch calls frame at.span = subst (λ (f : Frame). IsFrameOf epoch calls f at.span) own at.is in
-          let passed : AreFramesSent epoch calls (old.wire.frames ++ bytes ∷ []) (w.wire.frames ++ framed epoch (next_to_send machine)) =
-          subst (λ (spans : List Span). AreFramesSent epoch calls (old.wire.frames ++ bytes ∷ []) (w.wire.frames ++ framed epoch spans)) (sym at.next)
-          (AreFramesSent-push epoch calls old.wire.frames w.wire.frames bytes (record { epoch = epoch; span = at.span }) parts.frames (passes epoch calls frame bytes at.span is text within)) in
-          let w' = record w { primary = record w.primary { link = sent_next machine.delta machine }; wire = record w.wire { frames = w.wire.frames ++ framed epoch (next_to_send machine) } } in
+          let passed : AreFramesSent epoch calls (old.wire.frames ++ bytes ∷ []) (w.wire.frames ++ framed epoch (map Changes (next_to_send machine))) =
+          subst (λ (spans : List Span). AreFramesSent epoch calls (old.wire.frames ++ bytes ∷ []) (w.wire.frames ++ framed epoch (map Changes spans))) (sym at.next)
+          (AreFramesSent-push epoch calls old.wire.frames w.wire.frames bytes (record { epoch = epoch; told = Changes at.span }) parts.frames (passes epoch calls frame bytes at.span is text within)) in
+          let w' = record w { primary = record w.primary { link = sent_next machine.delta machine }; wire = record w.wire { frames = w.wire.frames ++ framed epoch (map Changes (next_to_send machine)) } } in
           let moved : PartsRefine first second (with_frames waiting link old.wire.remote frames old) w' =
           subst (λ (fs : List (Vec ℕ Global)). PartsRefine first second (with_frames waiting link old.wire.remote fs old) w') (sym more)
-          (link-parts first second old waiting link old.wire.remote (old.wire.frames ++ bytes ∷ []) w (sent_next machine.delta machine) (w.wire.frames ++ framed epoch (next_to_send machine)) parts at.epoch_is at.link passed
-          (λ whole. subst (λ (spans : List Span). All (IsOwn epoch) (w.wire.frames ++ framed epoch spans)) (sym at.next) (All-append (IsOwn epoch) w.wire.frames _ (parts.own whole) (All-cons (IsOwn epoch) (record { epoch = epoch; span = at.span }) [] refl (All-nil (IsOwn epoch)))))) in
+          (link-parts first second old waiting link old.wire.remote (old.wire.frames ++ bytes ∷ []) w (sent_next machine.delta machine) (w.wire.frames ++ framed epoch (map Changes (next_to_send machine))) parts at.epoch_is at.link passed
+          (λ whole. subst (λ (spans : List Span). All (IsOwn epoch) (w.wire.frames ++ framed epoch (map Changes spans))) (sym at.next) (All-append (IsOwn epoch) w.wire.frames _ (parts.own whole) (All-cons (IsOwn epoch) (record { epoch = epoch; told = Changes at.span }) [] refl (All-nil (IsOwn epoch)))))) in
           goes-steps first second w w' events.Send true old (with_frames waiting link old.wire.remote frames old) refl refl (nodes-refine stands) (own-runs stands events.Send refl) stands.serves refl
-          (ap (λ e. with_sent (framed e (next_to_send machine)) (with_link (sent_next machine.delta machine) w)) parts.epoch)
-          (record { done = sym at.may; goes = λ did. moved; stays = λ did. absurd (true≢false did) });
+          (ap (λ e. with_sent (framed e (map Changes (next_to_send machine))) (with_link (sent_next machine.delta machine) w)) parts.epoch ∙ ap (λ (copying : Copying). sent_with copying w) (sym parts.link.copying_is))
+          (record { done = sym (follows-sends w.primary.calls old.wire.link old.primary.handed old.wire.remote machine true parts.link at.may); goes = λ did. moved; stays = λ did. absurd (true≢false did) });
       cut = tt;
       calls = none-added _ _ refl;
     }
@@ -172,7 +178,7 @@ send-none old waiting link answers none_before =
           let none = sends w.primary.calls old.wire.link old.primary.handed old.wire.remote w.primary.link stands.sound.legal stands.parts.link none_before (Ok None) link waiting answers in
           let stayed = link-alone first second old waiting link old.wire.remote w w.primary.link stands.parts none.epoch_is none.link in
           goes-steps first second w (sent w) events.Send false old (with_frames waiting link old.wire.remote old.wire.frames old) refl refl (nodes-refine stands) (own-runs stands events.Send refl) stands.serves refl refl
-          (record { done = sym none.may; goes = λ did. absurd (true≢false (sym did)); stays = λ did. stayed });
+          (record { done = sym (follows-sends w.primary.calls old.wire.link old.primary.handed old.wire.remote w.primary.link false stands.parts.link none.may); goes = λ did. absurd (true≢false (sym did)); stays = λ did. stayed });
       cut = tt;
       calls = none-added _ _ refl;
     }
@@ -198,7 +204,8 @@ delta-cut old link frame frames result refusal given is memory =
     (λ w legal stands.
     let machine = w.primary.link in
     let one = one_span old.wire.link.epoch w.primary.calls frame machine.delta (subst (λ (d : Option Frame). AreFramesOf old.wire.link.epoch w.primary.calls (option_items d) machine.delta) (sym given) stands.delta) in
-    ap (λ (spans : List Span). is_nonempty spans || (is_nonempty machine.again || (is_nonempty machine.waiting && nat_lt (length machine.kept) KEPT_GROUPS))) one.1)
+    follows-sends w.primary.calls old.wire.link old.primary.handed old.wire.remote machine true stands
+    (ap (λ (spans : List Span). is_nonempty spans || (is_nonempty machine.again || (is_nonempty machine.waiting && nat_lt (length machine.kept) KEPT_GROUPS))) one.1))
 
 -- ---- the remote mark
 
@@ -287,6 +294,25 @@ ack-does old n bytes ack link opening within found reads learns refuses =
         either-within (nat_eq ack.epoch old.wire.link.epoch) (nat_eq ack.position 0) w.standby.position (nat_lt ack.epoch old.wire.link.epoch) counted
         (λ same. one.within (eqb-true ack.epoch old.wire.link.epoch same ∙ stands.parts.epoch)) (eqb-true ack.position 0)
 
+    lower-zero : (same low lower : Bool) → (same || (low && lower)) ≡ true → same ≡ false → low ≡ true
+    lower-zero true low lower counted other = absurd (true≢false other)
+    lower-zero false true lower counted other = refl
+    lower-zero false false lower counted other = cc
+
+    -- one that is counted without being of the epoch tells nothing, and the machine does not count it
+    counts-as : (epoch position : ℕ) (link : MachineLink) → ack.position ≤ position → counts epoch ack ≡ true → knowing 0 link ≡ link → told epoch position (Some (told_by ack)) link ≡ knowing ack.position link
+    counts-as epoch position link low counted nothing = elim (nat_eq ack.epoch epoch) as (λ b. nat_eq ack.epoch epoch ≡ b → told epoch position (Some (told_by ack)) link ≡ knowing ack.position link) [
+      | true ↦ λ own. ap (λ b. cond b (knowing ack.position link) link) (ap₂ (λ a b. a && b) own (le-leb ack.position position low))
+      | false ↦ λ other.
+          let none : ack.position ≡ 0 = eqb-true ack.position 0 (lower-zero (nat_eq ack.epoch epoch) (nat_eq ack.position 0) (nat_lt ack.epoch epoch) counted other) in
+          ap (λ b. cond b (knowing ack.position link) link) (ap (λ b. b && nat_le ack.position position) other) ∙ sym (ap (λ n. knowing n link) none ∙ nothing)
+    ] refl
+
+    -- one that is not counted is not of the epoch
+    not-own : (same rest : Bool) → (same || rest) ≡ false → same ≡ false
+    not-own true rest stale = absurd (true≢false stale)
+    not-own false rest stale = refl
+
     done : (w : World) → slice_get w.wire.acknowledgements n ≡ Some (told_by ack) → true ≡ may_happen w (events.AckDelivered n)
     done w there = sym (lt-ltb n (length w.wire.acknowledgements) (slice_get_within w.wire.acknowledgements n (told_by ack) there))
 
@@ -295,13 +321,14 @@ ack-does old n bytes ack link opening within found reads learns refuses =
     taken first second w stands there below counted =
         let parts = stands.parts in
         let position = w.primary.committer.position in
-        let low : ack.position ≤ position = omega (arith, below, stands.sound.standby.behind, chain-le _ _ _ stands.sound.link.waiting) in
+        let low : ack.position ≤ position = omega (arith, below, stands.sound.standby.behind, reach-below w) in
         let learned : Learns ack.position old link opening = learns counted (omega (arith, low, parts.engine.contents_at.at)) in
         let own : counts w.primary.epoch ack ≡ true = ap (λ e. counts e ack) (sym parts.epoch) ∙ counted in
-        let machine_counted : machine_counts w.primary.epoch position (told_by ack) ≡ true = ap₂ (λ a b. a && b) own (le-leb ack.position position low) in
-        let knows_now : told w.primary.epoch position (slice_get w.wire.acknowledgements n) w.primary.link ≡ knowing ack.position w.primary.link =
-        ap (λ (o : Option Acknowledgement). told w.primary.epoch position o w.primary.link) there ∙ ap (λ b. cond b (knowing ack.position w.primary.link) w.primary.link) machine_counted in
         let chain = stands.sound.link in
+        let nothing = knows-nothing w.primary.calls old.wire.link old.primary.handed old.wire.remote w.primary.link chain.kept_from stands.sound.sent parts.link chain.kept in
+        let knows_now : told w.primary.epoch position (slice_get w.wire.acknowledgements n) w.primary.link ≡ knowing ack.position w.primary.link =
+        ap (λ (o : Option Acknowledgement). told w.primary.epoch position o w.primary.link) there
+        ∙ counts-as w.primary.epoch position w.primary.link low own nothing in
         let machine = told w.primary.epoch position (slice_get w.wire.acknowledgements n) w.primary.link in
         let now : LinkRefines w.primary.calls link old.primary.handed old.wire.remote machine =
         subst (λ (l : MachineLink). LinkRefines w.primary.calls link old.primary.handed old.wire.remote l) (sym knows_now)
@@ -324,7 +351,7 @@ ack-does old n bytes ack link opening within found reads learns refuses =
         let position = w.primary.committer.position in
         let same = refuses stale in
         let own : counts w.primary.epoch ack ≡ false = ap (λ e. counts e ack) (sym parts.epoch) ∙ stale in
-        let machine_counted : machine_counts w.primary.epoch position (told_by ack) ≡ false = ap (λ b. b && nat_le ack.position position) own in
+        let machine_counted : machine_counts w.primary.epoch position (told_by ack) ≡ false = ap (λ b. b && nat_le ack.position position) (not-own (nat_eq ack.epoch w.primary.epoch) _ own) in
         let knows_now : told w.primary.epoch position (slice_get w.wire.acknowledgements n) w.primary.link ≡ w.primary.link =
         ap (λ (o : Option Acknowledgement). told w.primary.epoch position o w.primary.link) there ∙ ap (λ b. cond b (knowing ack.position w.primary.link) w.primary.link) machine_counted in
         let machine = told w.primary.epoch position (slice_get w.wire.acknowledgements n) w.primary.link in

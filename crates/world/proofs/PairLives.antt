@@ -7,7 +7,7 @@ use Rattle.machine.specs.declared.event.Event.TheVariants.{Apply, Crash, Deliver
 use Rattle.machine.specs.declared.event.Cut.{Cut}
 use Rattle.machine.specs.declared.event.Cut.TheVariants as cut
 use Rattle.machine.specs.declared.event.Node.TheVariants as node_of
-use Rattle.machine.specs.Event.{World, is_between, is_enabled, is_retired, is_running, may_happen, nodes_run}
+use Rattle.machine.specs.Event.{World, is_between, is_enabled, is_follower, is_retired, is_running, may_happen, nodes_run}
 use Rattle.world.specs.Pair.{Acts, AreLives, Does, NodesRefine, Pair, takes_part, Lives}
 use Rattle.world.proofs.LivesLemmas.{retired-as, running-as, serves-as}
 use Rattle.world.proofs.PairLemmas.{none-added, untouched}
@@ -55,7 +55,9 @@ not-both false b e = refl
 pub promote-acts : (old : Pair) → has_ended old.lives.primary ≡ false → Acts old Promote (Ok false) old
 promote-acts old unfenced =
     stays-acts old Promote (λ first second w stands.
-    not-both (nodes_run w Promote) (w.allowed.promotions && is_retired w.primary.life) (not-both w.allowed.promotions (is_retired w.primary.life) (ap is_retired stands.lives.primary ∙ retired-as old.lives.primary _ ∙ unfenced)))
+    not-both (nodes_run w Promote) (w.allowed.promotions && (is_follower w.standby.role && is_retired w.primary.life))
+    (not-both w.allowed.promotions (is_follower w.standby.role && is_retired w.primary.life)
+    (not-both (is_follower w.standby.role) (is_retired w.primary.life) (ap is_retired stands.lives.primary ∙ retired-as old.lives.primary _ ∙ unfenced))))
 
 -- a crash that does not come inside a call comes between two
 pub between : (call : Cut) → is_between call ≡ true → call ≡ cut.Between

@@ -19,7 +19,7 @@ use Rattle.frames.specs.declared.frame.Frame.{Frame}
 use Rattle.machine.specs.declared.event.Cut.TheVariants as cut
 use Rattle.machine.specs.declared.event.Event.TheVariants.{Promote, Reopen}
 use Rattle.machine.specs.declared.event.Node.TheVariants as node
-use Rattle.machine.specs.Event.{Allowed, World, Step, is_enabled, is_retired, is_running, is_stopped, left, promoted, torn}
+use Rattle.machine.specs.Event.{Allowed, World, Step, is_enabled, is_follower, is_retired, is_running, is_stopped, left, promoted, reach, torn}
 use Rattle.machine.specs.Sound.{IsFrameWithin}
 use Rattle.machine.proofs.SoundEvents.{sound-promoted}
 use Rattle.machine.proofs.SureLemmas.{unfailed}
@@ -52,7 +52,8 @@ use Rattle.world.proofs.PromotionLemmas.{OpensAt-uncut, PromotesUnder, WasNotPro
 promote-enabled : {first second : Holder} {lives : Lives} {w : World} → AreLives first second lives w → has_ended lives.primary ≡ true → runs lives.standby ≡ true → is_enabled w Promote ≡ true
 promote-enabled {first} {second} {lives} {w} are fenced follows_up =
     ap₂ (λ a b. a && b) (ap is_running are.standby ∙ running-as lives.standby (torn w.standby.life) ∙ follows_up)
-    (ap₂ (λ (a : Allowed) (b : Bool). a.promotions && b) are.allowed_are (ap is_retired are.primary ∙ retired-as lives.primary (torn w.primary.life) ∙ fenced))
+    (ap₂ (λ (a : Allowed) (b : Bool). a.promotions && b) are.allowed_are
+    (ap₂ (λ a b. a && b) (ap is_follower are.follows) (ap is_retired are.primary ∙ retired-as lives.primary (torn w.primary.life) ∙ fenced)))
 
 -- the standby's place once the engines were exchanged, with the sessions, the transcript and the arrivals that are left
 abbrev left_with : Clients → State → Stream → Arrived → Node → Pair → Pair
@@ -216,8 +217,8 @@ module _ (old : Pair) (fenced : has_ended old.lives.primary ≡ true) (follows :
             opened = refl;
             recalls = recalled-none p p (past_of (cut_at calls p)) after (omega (arith, floor)) (omega (arith, floor));
             epoch = ours;
-            frames = frames-earlier old.wire.link.epoch link.epoch sound.sent calls (cut_at calls p) old.wire.frames w.wire.frames less
-                (subst (λ e. All (IsFrameWithin e sound.sent) w.wire.frames) (sym (link-epoch stands.parts)) sound.wire.frames) (frames-stand stands.parts);
+            frames = frames-earlier w.standby.role w.standby.position old.wire.link.epoch link.epoch (reach w) calls (cut_at calls p) old.wire.frames w.wire.frames less
+                (subst (λ e. All (IsFrameWithin e w.standby.role w.standby.position (reach w)) w.wire.frames) (sym (link-epoch stands.parts)) sound.wire.frames) (frames-stand stands.parts);
             own = λ whole. absurd (true≢false whole);
             arrivals = record {
               delivered = subst (λ (frames : List Frame). AreFramesRead link.epoch (cut_at calls p) frames []) (sym lost) tt;
@@ -236,6 +237,7 @@ module _ (old : Pair) (fenced : has_ended old.lives.primary ≡ true) (follows :
               standby_failing = lives.standby_failing;
               primary = refl;
               standby = refl;
+              follows = lives.follows;
               first_role = refl;
               second_role = refl;
               first_epoch = epoch;

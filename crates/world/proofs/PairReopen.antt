@@ -233,6 +233,8 @@ primary-reopens old serving link opening fallen opened begins = record { steps =
           again = refl;
           known = refl;
           remote_is = refl;
+          copying_is = refl;
+          dropped_is = refl;
         })) in
         let low = w.standby.position in
         let newest : serving.sequencer.newest ≡ p = ap (λ (s : Sequencing). s.newest) over.starts_so ∙ at.at in

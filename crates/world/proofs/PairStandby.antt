@@ -1,5 +1,5 @@
 -- What the events of the standby do to the pair, of what they do to its parts.
-use Rattle.std.proofs.Common.{rules, ◌≡◌, ◌&&◌, inl, inr, ℕ, Bool, true, false, List, ◌∷◌, ◌++◌, length, slice_get, cond, Option, Some, None, Result, Ok, Err, IfOk, IfErr, OnErr, All, Vec, Global, ◌<◌, ◌≤◌, refl, sym, ap, subst, ◌∙◌, arith, le_refl, true≢false, ap₂, []}
+use Rattle.std.proofs.Common.{rules, ◌≡◌, ◌&&◌, inl, inr, ℕ, max, Bool, true, false, List, ◌∷◌, ◌++◌, length, slice_get, cond, Option, Some, None, Result, Ok, Err, IfOk, IfErr, OnErr, All, Vec, Global, ◌<◌, ◌≤◌, refl, sym, ap, subst, ◌∙◌, arith, le_refl, true≢false, ap₂, []}
 use Rattle.std.proofs.lemmas.Bool.{cases_lt, le-ltb, lt-ltb}
 use Rattle.kv_types.specs.declared.refusal.Refusal.{Refusal}
 use Rattle.kv_types.specs.declared.refusal.Refusal.TheVariants.{Memory, Fault, Exhausted}
@@ -17,14 +17,15 @@ use Rattle.standby_stream.specs.Stream.{Stream}
 use Rattle.machine.specs.declared.event.Event.{Event}
 use Rattle.machine.specs.declared.event.Event.TheVariants as events
 use Rattle.model.specs.declared.call.Call.{Call}
-use Rattle.machine.specs.Event.{Happens, World, Standby as MachineStandby, Acknowledgement, Span, Step, due_delta, is_running, nodes_run, may_happen, opened_link, acknowledgement_of, delivered, option_items, told, with_link, with_standby, with_acknowledged, without_first, torn}
+use Rattle.machine.specs.Event.{Happens, Role, World, Standby as MachineStandby, Acknowledgement, Span, Step, acknowledged_of, due_delta, due_from, is_running, nodes_run, may_happen, opened_link, opened_to, acknowledgement_of, delivered, option_items, told, with_link, with_standby, with_acknowledged, without_first, torn}
 use Rattle.machine.specs.Sound.{Sound}
 use Rattle.machine.proofs.GrowLemmas.{grows-step}
 use Rattle.machine.proofs.SoundEvents.{sound-step}
-use Rattle.world.proofs.LivesLemmas.{Runs, enabled-is, lives-like, nodes-refine, not-crashed, not-over, running-as, serving, taken-life, not-still, stopped-still}
+use Rattle.world.proofs.LivesLemmas.{Runs, enabled-is, lives-like, nodes-refine, not-crashed, not-over, running-as, serving, taken-life, taken-role, not-still, stopped-still}
 use Rattle.connections.specs.Going.{Goes}
 use Rattle.world.specs.Cause.{Stretch, Breaks, RestsAtFrameLimit, EndsBy, Resting}
 use Rattle.world.specs.Committing.{NearOnly, Moves, next_standby}
+use Rattle.world.specs.Following.{HasFollower}
 use Rattle.world.specs.Link.{IsFrameOf, IsOwn, AreFramesOf, LinkRefines, AreFramesSent}
 use Rattle.world.specs.Recalling.{OpeningLeads, past_of}
 use Rattle.world.specs.Standby.{Arrived, Node, StandbyStands, StandbyRefines, ArrivalsRefine, AppliesFirst, told_by}
@@ -129,6 +130,10 @@ link-epoch parts = elim parts [
 pub own-epoch : (first second : Holder) (old : Pair) (w : World) → runs old.lives.standby ≡ true → NodesRefine first second old w → old.standby.epoch ≡ w.standby.epoch
 own-epoch first second old w follows stands = (follower follows stands.parts).epoch_is ∙ link-epoch stands.parts ∙ sym stands.sound.standby.epoch_is
 
+-- and it is a standby
+pub has-follower : (first second : Holder) (old : Pair) (w : World) → runs old.lives.standby ≡ true → NodesRefine first second old w → HasFollower old.standby.epoch w.standby
+has-follower first second old w follows stands = record { epoch_is = own-epoch first second old w follows stands; role_is = stands.lives.follows }
+
 -- ---- which events may come
 
 -- an event of a standby that runs
@@ -222,21 +227,26 @@ open-does old arrivals link opening ack follows is acknowledges reopens same =
           let heard : PartsRefine first second (with_arrivals arrivals old) w' = standby-parts first second old arrivals old.standby old.lives.standby w w.standby (w.wire.acknowledgements ++ acknowledgement_of w.standby ∷ []) (not-over old.lives.standby follows) (le_refl w.standby.position) parts told parts.standby in
           let reopened = reopens-due old.wire.link old.wire.opening ack.position link (known-within old ack follows is stands) reopens in
           let delta : Option Frame = reopened.0 in
-          let machine = opened_link (due_delta w.standby.position w.primary.opened) w.primary.link in
+          let machine = opened_link (due_delta w.standby.position (due_from w.primary)) w.primary.link in
+          let due : max w.primary.opened w.primary.link.dropped ≡ w.primary.opened = omega (arith, parts.link.dropped_is) in
           let opened : LinkRefines w.primary.calls (record old.wire.link { next = 0; delta = delta }) old.primary.handed old.wire.remote machine = record {
             waiting = parts.link.waiting;
             none_pending = parts.link.none_pending;
-            delta = delta-frames old.wire.link.epoch w.standby.position w.primary.opened w.primary.calls old.wire.opening delta parts.opening
-                (subst (λ p. IsDue old.wire.link.epoch old.wire.opening p delta) position reopened.1);
+            delta = subst (λ from. AreFramesOf old.wire.link.epoch w.primary.calls (option_items delta) (due_delta w.standby.position from)) (sym due)
+                (delta-frames old.wire.link.epoch w.standby.position w.primary.opened w.primary.calls old.wire.opening delta parts.opening
+                (subst (λ p. IsDue old.wire.link.epoch old.wire.opening p delta) position reopened.1));
             kept = parts.link.kept;
             next_within = omega arith;
             again = refl;
             known = parts.link.known;
             remote_is = parts.link.remote_is;
+            copying_is = refl;
+            dropped_is = parts.link.dropped_is;
           } in
           let moved = link-alone first second (with_arrivals arrivals old) old.primary.handed link old.wire.remote w' machine heard (ap (λ (s : Stream). s.epoch) reopened.2)
           (subst (λ (s : Stream). LinkRefines w.primary.calls s old.primary.handed old.wire.remote machine) (sym reopened.2) opened) in
-          goes-steps first second w (with_link machine w') events.OpenLink true old (with_opened arrivals link old.wire.opening old) refl refl (nodes-refine stands) (both-run follows stands) stands.serves refl refl
+          goes-steps first second w (with_link machine w') events.OpenLink true old (with_opened arrivals link old.wire.opening old) refl refl (nodes-refine stands) (both-run follows stands) stands.serves refl
+          (ap (λ (role : Role). with_link (opened_to role w.standby.position w.primary) (with_acknowledged (acknowledged_of role w.standby) w)) (sym stands.lives.follows))
           (record { done = refl; goes = λ did. moved; stays = λ did. absurd (true≢false did) });
       cut = tt;
       calls = none-added _ _ refl;
@@ -334,7 +344,7 @@ apply-steps first second old arrivals node w true follows stands applies =
       step = step;
       stands = record {
         sound = sound-step w events.Apply true w' step stands.sound;
-        lives = lives-like (record { allowed = refl; primary_disk = refl; standby_disk = kept.1; primary = refl; standby = kept.0; epoch = refl }) stands.lives;
+        lives = lives-like (record { allowed = refl; primary_disk = refl; standby_disk = kept.1; primary = refl; standby = kept.0; role = taken-role applied.frame (without_first w.standby) applied.standby applied.told stands.lives.follows applied.takes; epoch = refl }) stands.lives;
         parts = node-either first second old arrivals node w applied.standby (w.wire.acknowledgements ++ applied.told) follows stands.parts (grows-step w events.Apply true w' step stands.sound).safe
             (subst (λ (x : World). ArrivalsRefine old.wire.link.epoch w.primary.calls arrivals x.standby.waiting x.wire.acknowledgements) applied.now moved.2)
             (subst (λ (x : World). StandbyStands second old.wire.link.epoch w.primary.calls x.standby.position node) applied.now moved.3);
@@ -365,12 +375,12 @@ ends-apply Exhausted P Q both ends = both RestsAtFrameLimit ends
 ends-apply refusal P Q both ends = absurd ends
 
 pub apply-acts : (old : Pair) (arrivals : Arrived) (node : Node) (result : Result Bool Refusal) → runs old.lives.standby ≡ true
-    → IfOk result (λ did. (holder : Holder) (w : World) → Sound w → old.standby.epoch ≡ w.standby.epoch → ArrivalsRefine old.standby.epoch w.primary.calls old.wire.arrivals w.standby.waiting w.wire.acknowledgements
+    → IfOk result (λ did. (holder : Holder) (w : World) → Sound w → HasFollower old.standby.epoch w.standby → ArrivalsRefine old.standby.epoch w.primary.calls old.wire.arrivals w.standby.waiting w.wire.acknowledgements
     → StandbyStands holder old.standby.epoch w.primary.calls w.standby.position old.standby
     → AppliesFirst holder old.standby.epoch w did arrivals old.standby node)
-    → ((holder : Holder) (w : World) → Sound w → old.standby.epoch ≡ w.standby.epoch → ArrivalsRefine old.standby.epoch w.primary.calls old.wire.arrivals w.standby.waiting w.wire.acknowledgements
+    → ((holder : Holder) (w : World) → Sound w → HasFollower old.standby.epoch w.standby → ArrivalsRefine old.standby.epoch w.primary.calls old.wire.arrivals w.standby.waiting w.wire.acknowledgements
     → StandbyStands holder old.standby.epoch w.primary.calls w.standby.position old.standby → NearOnly holder w.primary.calls w.standby.position (next_standby w) old.standby.device node.device)
-    → IfErr result (λ refusal. (holder : Holder) (w : World) → Sound w → old.standby.epoch ≡ w.standby.epoch → ArrivalsRefine old.standby.epoch w.primary.calls old.wire.arrivals w.standby.waiting w.wire.acknowledgements
+    → IfErr result (λ refusal. (holder : Holder) (w : World) → Sound w → HasFollower old.standby.epoch w.standby → ArrivalsRefine old.standby.epoch w.primary.calls old.wire.arrivals w.standby.waiting w.wire.acknowledgements
     → StandbyStands holder old.standby.epoch w.primary.calls w.standby.position old.standby
     → (may_happen w events.Apply ≡ true) × EndsBy refusal events.Apply (λ _ last. last holder w.primary.calls w.standby.position (next_standby w) old.standby.device node.device))
     → Acts old events.Apply result (with_node arrivals node old)
@@ -385,17 +395,17 @@ apply-acts old arrivals node result follows applies only cuts = go result applie
         subst (λ e. StandbyStands second e w.primary.calls w.standby.position old.standby) (sym (follower follows stands.parts).epoch_is) (follower follows stands.parts)
 
     go : (result : Result Bool Refusal)
-        → IfOk result (λ did. (holder : Holder) (w : World) → Sound w → old.standby.epoch ≡ w.standby.epoch → ArrivalsRefine old.standby.epoch w.primary.calls old.wire.arrivals w.standby.waiting w.wire.acknowledgements
+        → IfOk result (λ did. (holder : Holder) (w : World) → Sound w → HasFollower old.standby.epoch w.standby → ArrivalsRefine old.standby.epoch w.primary.calls old.wire.arrivals w.standby.waiting w.wire.acknowledgements
         → StandbyStands holder old.standby.epoch w.primary.calls w.standby.position old.standby
         → AppliesFirst holder old.standby.epoch w did arrivals old.standby node)
-        → IfErr result (λ refusal. (holder : Holder) (w : World) → Sound w → old.standby.epoch ≡ w.standby.epoch → ArrivalsRefine old.standby.epoch w.primary.calls old.wire.arrivals w.standby.waiting w.wire.acknowledgements
+        → IfErr result (λ refusal. (holder : Holder) (w : World) → Sound w → HasFollower old.standby.epoch w.standby → ArrivalsRefine old.standby.epoch w.primary.calls old.wire.arrivals w.standby.waiting w.wire.acknowledgements
         → StandbyStands holder old.standby.epoch w.primary.calls w.standby.position old.standby
         → (may_happen w events.Apply ≡ true) × EndsBy refusal events.Apply (λ _ last. last holder w.primary.calls w.standby.position (next_standby w) old.standby.device node.device))
         → Acts old events.Apply result (with_node arrivals node old)
     go (Ok did) applies cuts =
         record {
           steps = λ first second w stands.
-              let applied = applies second w stands.sound (own-epoch first second old w follows stands) (arrive first second w stands) (stand first second w stands) in
+              let applied = applies second w stands.sound (has-follower first second old w follows stands) (arrive first second w stands) (stand first second w stands) in
               apply-steps first second old arrivals node w did follows stands
               (subst (λ e. AppliesFirst second e w did arrivals old.standby node) (follower follows stands.parts).epoch_is applied);
           cut = tt;
@@ -406,7 +416,7 @@ apply-acts old arrivals node result follows applies only cuts = go result applie
           steps = tt;
           cut = λ first second w stands.
               let new = with_node arrivals node old in
-              let cut = cuts second w stands.sound (own-epoch first second old w follows stands) (arrive first second w stands) (stand first second w stands) in
+              let cut = cuts second w stands.sound (has-follower first second old w follows stands) (arrive first second w stands) (stand first second w stands) in
               cut-for first second events.Apply refusal old new w stands (tells old.clients.transcript) refl (enabled-is (standby-runs follows stands events.Apply (λ runs. runs)) ∙ cut.0)
               (ends-apply refusal (λ _ last. last second w.primary.calls w.standby.position (next_standby w) old.standby.device node.device) (Led first second old new w)
               (λ last broken. (rests-primary first second old w stands, λ whole. inl broken)) cut.1);

@@ -8,7 +8,7 @@ use Rattle.machine.specs.declared.event.Cut.TheVariants as cuts
 use Rattle.machine.specs.declared.event.Event.{Event}
 use Rattle.machine.specs.declared.event.Event.TheVariants.{Apply, Promote, Reopen}
 use Rattle.machine.specs.declared.event.Node.TheVariants as node
-use Rattle.machine.specs.Event.{Allowed, Fails as MachineFails, Happens, Remains, Step, World, halted, is_crashed, is_enabled, is_retired, is_running, left_by, may_cut, torn}
+use Rattle.machine.specs.Event.{Allowed, Fails as MachineFails, Happens, Remains, Step, World, halted, is_crashed, is_enabled, is_follower, is_retired, is_running, left_by, may_cut, torn}
 use Rattle.machine.specs.Row.{touches}
 use Rattle.machine.proofs.SoundEvents.{sound-step}
 use Rattle.world.specs.Condition.{has_ended, life_as}
@@ -57,7 +57,7 @@ pub stops-promoting : MayStop Promote
 stops-promoting = record {
   touched = refl;
   happens = λ w w' fails. inr fails;
-  enabled = λ {first} {second} {pair} {w} stands may. ap (λ (a : Allowed). is_running w.standby.life && (a.promotions && is_retired w.primary.life)) stands.lives.allowed_are ∙ may;
+  enabled = λ {first} {second} {pair} {w} stands may. ap (λ (a : Allowed). is_running w.standby.life && (a.promotions && (is_follower w.standby.role && is_retired w.primary.life))) stands.lives.allowed_are ∙ may;
   began = λ {first} {second} {pair} {w} stands may. runs-on stands (and_parts (is_running w.standby.life) _ may).0;
 }
 
@@ -104,6 +104,7 @@ module _ (event : Event) (is : MayStop event) (old new : Pair) (lost : new.wire.
         standby_failing = sym (ap (λ (l : Lives). l.asked.standby) live);
         primary = old_lives.primary ∙ sym (ap (λ (l : Lives). life_as l.primary (torn w.primary.life)) live);
         standby = sym (ap (λ (l : Lives). life_as l.standby others) live);
+        follows = old_lives.follows;
         first_role = old_lives.first_role;
         second_role = old_lives.second_role;
         first_epoch = old_lives.first_epoch;
@@ -175,7 +176,7 @@ promotion-stops old mid arrivals flag breaks lost told =
         let lines = breaks.lines_are first second w stands in
         let w' = halted node.Standby (left_by w node.Standby cuts.Promote) w in
         let over : has_ended old.lives.primary ≡ true =
-        sym (ap is_retired stands.lives.primary ∙ retired-as old.lives.primary (torn w.primary.life)) ∙ (and_parts (is_running w.standby.life) (is_retired w.primary.life) fails.enabled).1 in
+        sym (ap is_retired stands.lives.primary ∙ retired-as old.lives.primary (torn w.primary.life)) ∙ (and_parts (is_follower w.standby.role) (is_retired w.primary.life) (and_parts (is_running w.standby.life) (is_follower w.standby.role && is_retired w.primary.life) fails.enabled).1).1 in
         let still = still-as (ended-still old.lives.primary over) stands in
         let refined : StillRefine first second new w' =
         record {

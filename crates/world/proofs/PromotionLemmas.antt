@@ -23,7 +23,7 @@ use Rattle.wbl_engine.specs.Lawful.{AreLawful}
 use Rattle.wbl_engine.specs.Promoting.{ExhaustsPromotion, promoted as promoted_contents}
 use Rattle.wbl_engine.proofs.PromotingLemmas.{consistent_promoted, lawful_promoted}
 use Rattle.failover.specs.Promoting.{IsBeforeOrPromoted}
-use Rattle.machine.specs.Event.{Frame as Sent}
+use Rattle.machine.specs.Event.{Frame as Sent, Role}
 use Rattle.machine.specs.Sound.{IsFrameWithin}
 use Rattle.world.specs.Cause.{Promoting}
 use Rattle.world.specs.Committing.{AreContentsAt, EngineStands, IsDown, OpensAsEither, OpensAt, promoted_holder}
@@ -38,19 +38,19 @@ use Rattle.world.proofs.RemainLemmas.{kept-opens}
 -- ---- the wire
 
 -- what an earlier primary sent tells nothing of this list
-pub frames-earlier : (epoch later n : ℕ) (calls calls' : List Call) (texts : List (Vec ℕ Global)) (sent : List Sent) → epoch < later → All (IsFrameWithin epoch n) sent → AreFramesSent epoch calls texts sent → AreFramesSent later calls' texts sent
-frames-earlier epoch later n calls calls' [] [] less within are = tt
-frames-earlier epoch later n calls calls' (bytes ∷ texts) (one ∷ sent) less within are = (
+pub frames-earlier : (role : Role) (low : ℕ) (epoch later n : ℕ) (calls calls' : List Call) (texts : List (Vec ℕ Global)) (sent : List Sent) → epoch < later → All (IsFrameWithin epoch role low n) sent → AreFramesSent epoch calls texts sent → AreFramesSent later calls' texts sent
+frames-earlier role low epoch later n calls calls' [] [] less within are = tt
+frames-earlier role low epoch later n calls calls' (bytes ∷ texts) (one ∷ sent) less within are = (
   record {
     frame = are.0.frame;
     text = are.0.text;
     may = are.0.may;
     about = are.0.about;
-    is = λ own. absurd (omega (arith, own, less, (All-head (IsFrameWithin epoch n) one sent within).epoch_is));
+    is = λ own. absurd (omega (arith, own, less, (All-head (IsFrameWithin epoch role low n) one sent within).epoch_is));
   },
-  frames-earlier epoch later n calls calls' texts sent less (All-tail (IsFrameWithin epoch n) one sent within) are.1,
+  frames-earlier role low epoch later n calls calls' texts sent less (All-tail (IsFrameWithin epoch role low n) one sent within) are.1,
 )
-frames-earlier epoch later n calls calls' texts sent less within are = absurd are
+frames-earlier role low epoch later n calls calls' texts sent less within are = absurd are
 
 -- the holder of the former primary's device, of which nothing is said
 abbrev pub former_holder : Holder → Holder

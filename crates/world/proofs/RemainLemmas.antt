@@ -13,7 +13,7 @@ use Rattle.model.specs.Standing.{Holder}
 use Rattle.machine.specs.declared.event.Cut.{Cut}
 use Rattle.machine.specs.declared.event.Cut.TheVariants as cut
 use Rattle.machine.specs.declared.event.Node.TheVariants as node
-use Rattle.machine.specs.Event.{AsPrimary, At, Primary, Remains, World, left_by, may_remain, torn}
+use Rattle.machine.specs.Event.{AsFollower, AsPrimary, At, Primary, Remains, Role, World, left_by, may_remain, torn}
 use Rattle.machine.specs.Sound.{IsStandbyLeft}
 use Rattle.world.specs.Cause.{OrLies, Resting}
 use Rattle.world.specs.Recalling.{RecallsFor, past_of}
@@ -26,7 +26,7 @@ use Rattle.world.proofs.RecallLemmas.{recalled-on}
 
 -- ---- how it opens
 
-one-of : (first : Remains) (others : List Remains) (one : Remains) → Contains (first ∷ others) one → (first ≡ one) ⊎ Contains others one
+pub one-of : (first : Remains) (others : List Remains) (one : Remains) → Contains (first ∷ others) one → (first ≡ one) ⊎ Contains others one
 one-of first others one is = by is.0 is.1 is.2
   where
     by : (k : ℕ) → k < length (first ∷ others) → get_or (first ∷ others) k one ≡ one → (first ≡ one) ⊎ Contains others one
@@ -55,6 +55,7 @@ kept-opens holder calls p image held = keeps-opens holder calls p held.contents 
 
 kept-as : (holder : Holder) (calls : List Call) (p : ℕ) (one : Remains) (image : Image) → KeepsAs holder calls p one image → OpensAs holder calls p image one
 kept-as holder calls p (At q) image held = kept-opens holder calls q image held
+kept-as holder calls p (AsFollower q) image held = kept-opens holder calls q image held
 kept-as holder calls p AsPrimary image held = kept-opens (promoted_holder holder) calls p image held.kept
 
 -- a standby's
@@ -128,15 +129,16 @@ remain-from holder calls p others device opens = λ image is. inl (opens image i
 -- ---- the list of a stopped standby
 
 -- another list is as this one up to there
-keeps-like : (holder : Holder) (calls calls' : List Call) (p high : ℕ) (others : List Remains) (image : Image) → p ≤ high → All (IsStandbyLeft p high) others
+keeps-like : (role : Role) (holder : Holder) (calls calls' : List Call) (p high : ℕ) (others : List Remains) (image : Image) → p ≤ high → All (IsStandbyLeft role p high) others
     → ((h : Holder) (q : ℕ) → q ≤ high → (keeps : KeepsAt h calls q image) → (there : KeepsAt h calls' q image) × (there.contents ≡ keeps.contents)) → KeepsOne holder calls p others image → KeepsOne holder calls' p others image
-keeps-like holder calls calls' p high others image le within like held = record { one = held.one; is_one = held.is_one; keeps = by held.one bounded held.keeps }
+keeps-like role holder calls calls' p high others image le within like held = record { one = held.one; is_one = held.is_one; keeps = by held.one bounded held.keeps }
   where
-    bounded : IsStandbyLeft p high held.one
-    bounded = All-contains (IsStandbyLeft p high) (At p ∷ others) held.one (All-cons (IsStandbyLeft p high) (At p) others (le_refl p, le) within) held.is_one
+    bounded : IsStandbyLeft role p high held.one
+    bounded = All-contains (IsStandbyLeft role p high) (At p ∷ others) held.one (All-cons (IsStandbyLeft role p high) (At p) others (le_refl p, le, λ newcomer. le_refl p) within) held.is_one
 
-    by : (one : Remains) → IsStandbyLeft p high one → KeepsAs holder calls p one image → KeepsAs holder calls' p one image
+    by : (one : Remains) → IsStandbyLeft role p high one → KeepsAs holder calls p one image → KeepsAs holder calls' p one image
     by (At q) bound keeps = (like holder q bound.1 keeps).0
+    by (AsFollower q) bound keeps = (like holder q bound.1 keeps).0
     by AsPrimary bound keeps =
         let there = like (promoted_holder holder) p le keeps.kept in
         record { kept = there.0; floor = ap (λ (c : Contents). c.current.floor) there.1 ∙ keeps.floor }
@@ -147,18 +149,18 @@ KeepsAt-grows holder calls more p image le held = record { contents = held.conte
 pub KeepsAt-cut : (holder : Holder) (calls : List Call) (n p : ℕ) (image : Image) → p ≤ n → KeepsAt holder calls p image → KeepsAt holder (cut_at calls n) p image
 KeepsAt-cut holder calls n p image le held = record { contents = held.contents; contents_at = AreContentsAt-cut holder calls n p held.contents le held.contents_at; lawful = held.lawful; keeps = held.keeps }
 
-pub LeavesOne-grows : (holder : Holder) (calls more : List Call) (p high : ℕ) (others : List Remains) (device : State) → p ≤ high → high ≤ position_of calls → All (IsStandbyLeft p high) others
+pub LeavesOne-grows : (role : Role) (holder : Holder) (calls more : List Call) (p high : ℕ) (others : List Remains) (device : State) → p ≤ high → high ≤ position_of calls → All (IsStandbyLeft role p high) others
     → LeavesOne holder calls p others device → LeavesOne holder (calls ++ more) p others device
 unfolding KeepsAt-grows
-LeavesOne-grows holder calls more p high others device le within bound left = record {
+LeavesOne-grows role holder calls more p high others device le within bound left = record {
   lines_are = left.lines_are;
-  each = λ image is. keeps-like holder calls (calls ++ more) p high others image le bound (λ h q below keeps. (KeepsAt-grows h calls more q image (omega (arith, below, within)) keeps, refl)) (left.each image is);
+  each = λ image is. keeps-like role holder calls (calls ++ more) p high others image le bound (λ h q below keeps. (KeepsAt-grows h calls more q image (omega (arith, below, within)) keeps, refl)) (left.each image is);
 }
 
-pub LeavesOne-cut : (holder : Holder) (calls : List Call) (n p high : ℕ) (others : List Remains) (device : State) → p ≤ high → high ≤ n → All (IsStandbyLeft p high) others
+pub LeavesOne-cut : (role : Role) (holder : Holder) (calls : List Call) (n p high : ℕ) (others : List Remains) (device : State) → p ≤ high → high ≤ n → All (IsStandbyLeft role p high) others
     → LeavesOne holder calls p others device → LeavesOne holder (cut_at calls n) p others device
 unfolding KeepsAt-cut
-LeavesOne-cut holder calls n p high others device le within bound left = record {
+LeavesOne-cut role holder calls n p high others device le within bound left = record {
   lines_are = left.lines_are;
-  each = λ image is. keeps-like holder calls (cut_at calls n) p high others image le bound (λ h q below keeps. (KeepsAt-cut h calls n q image (omega (arith, below, within)) keeps, refl)) (left.each image is);
+  each = λ image is. keeps-like role holder calls (cut_at calls n) p high others image le bound (λ h q below keeps. (KeepsAt-cut h calls n q image (omega (arith, below, within)) keeps, refl)) (left.each image is);
 }

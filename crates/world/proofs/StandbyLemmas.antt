@@ -1,5 +1,5 @@
 -- What the standby does with a frame of the list is what the machine's does with its span.
-use Rattle.std.proofs.Common.{◌≡◌, ◌≢◌, ℕ, Bool, ◌&&◌, ◌+◌, ◌-◌, ◌<◌, ◌≤◌, ◌⊎◌, ⊎_elim, inl, inr, false, List, [], ◌∷◌, ◌++◌, Result, Ok, Err, refl, sym, ap, ap₂, subst, ◌∙◌, arith, cond, eq-eqb, rules}
+use Rattle.std.proofs.Common.{◌≡◌, ℕ, Bool, ◌+◌, ◌-◌, ◌<◌, ◌≤◌, ◌⊎◌, ⊎_elim, inl, inr, false, List, [], ◌∷◌, ◌++◌, Result, Ok, Err, refl, sym, ap, ap₂, subst, ◌∙◌, arith, cond, eq-eqb, rules}
 use Rattle.std.proofs.lemmas.Bool.{cases_lt}
 use Rattle.kv_types.specs.declared.refusal.Refusal.{Refusal}
 use Rattle.kv_types.specs.declared.refusal.Refusal.TheVariants.{WrongEpoch, PositionGap, Full, Memory, Fault, Exhausted}
@@ -23,15 +23,16 @@ use Rattle.mv_keyspace.proofs.PartTables.{map-from_table}
 use Rattle.wbl_engine.specs.Contents.{IsDurable}
 use Rattle.wbl_engine.specs.Lawful.{AreLawful}
 use Rattle.machine.specs.declared.event.Event.TheVariants.{Apply}
-use Rattle.machine.specs.Event.{At, Remains, Standby as Machine, Span, Frame as Sent, Acknowledgement, Takes, acknowledgement_of, moved_to}
+use Rattle.machine.specs.Event.{At, Changes, Follower, Remains, Role, Standby as Machine, Span, Told, Frame as Sent, Acknowledgement, Takes, TakesChanges, TakesOwn, acknowledgement_of, left_by_first, left_by_told, moved_to}
 use Rattle.frames.specs.declared.ack.Ack.{Ack}
 use Rattle.frames.specs.declared.frame.Frame.{Frame}
 use Rattle.standby.specs.declared.standby.Standby.{Standby}
 use Rattle.standby.specs.Following.{Follows, HoldsRearranged, HoldsWhole, IsHeld, IsNext, IsRearranged, IsTakenNext, HasTaken, IsBeforeOrWhole, WouldExhaust}
 use Rattle.standby.specs.Taking.{IsFull, TakesFrame}
 use Rattle.world.specs.Cause.{IsAtLimit, EndsBy}
-use Rattle.world.specs.Committing.{AreContentsAt, EngineStands, Moves, OpensAt, OpensAtEither, Rests, next_from}
-use Rattle.world.specs.Link.{IsFrameOf}
+use Rattle.world.specs.Committing.{AreContentsAt, EngineStands, Moves, OpensAt, OpensAtEither, Rests}
+use Rattle.world.specs.Following.{HasFollower, moved_by, next_from}
+use Rattle.world.specs.Link.{IsFrameOf, span_of}
 use Rattle.world.specs.Remaining.{KeepsAt, KeepsOne}
 use Rattle.world.specs.Standby.{Node, StandbyStands, node_at, told_by}
 use Rattle.world.proofs.KeptLemmas.{EngineStands-kept, engine-keeps, keeps-here, keeps-next, near-kept}
@@ -140,8 +141,8 @@ refused-full device contents is_faulted table frame first last refusal goes (inr
 
 -- a standby that stands at the machine's position, and a frame of the list that it answers
 module _ {E K D : Type 0} (device : E → State) (contents : E → Contents) (is_faulted : E → Bool) (table : K → Table)
-    (holder : Holder) (epoch : ℕ) (calls : List Call) (machine : Machine) (frame : Frame) (sent : Sent) (first last : Standby E K D) (sent_epoch : sent.epoch ≡ epoch) (own_epoch : epoch ≡ machine.epoch)
-    (is : IsFrameOf epoch calls frame sent.span) (stands : StandbyStands holder epoch calls machine.position (node_of device contents is_faulted table first)) where
+    (holder : Holder) (epoch : ℕ) (calls : List Call) (machine : Machine) (frame : Frame) (sent : Sent) (first last : Standby E K D) (sent_epoch : sent.epoch ≡ epoch) (told_is : sent.told ≡ Changes (span_of sent.told))
+    (follower : HasFollower epoch machine) (is : IsFrameOf epoch calls frame (span_of sent.told)) (stands : StandbyStands holder epoch calls machine.position (node_of device contents is_faulted table first)) where
   abbrev old : Node
   old = node_of device contents is_faulted table first
 
@@ -152,10 +153,22 @@ module _ {E K D : Type 0} (device : E → State) (contents : E → Contents) (is
   Answered result = TakesFrame device contents is_faulted table frame first result last
 
   abbrev span : Span
-  span = sent.span
+  span = span_of sent.told
+
+  own_epoch : epoch ≡ machine.epoch
+  own_epoch = follower.epoch_is
 
   own : sent.epoch ≡ machine.epoch
   own = sent_epoch ∙ own_epoch
+
+  -- what a standby does with the changes that it tells
+  takes-as : (standby : Machine) (told : List Acknowledgement) → TakesChanges span machine standby told → Takes sent machine standby told
+  takes-as standby told takes =
+      inr (
+        own,
+        subst (λ (role : Role). TakesOwn role sent.told machine standby told) (sym follower.role_is)
+            (subst (λ (tells : Told). TakesOwn Follower tells machine standby told) (sym told_is) takes),
+      )
 
   epoch_same : frame.epoch ≡ old.epoch
   epoch_same = is.epoch_is ∙ sym stands.epoch_is
@@ -172,13 +185,10 @@ module _ {E K D : Type 0} (device : E → State) (contents : E → Contents) (is
   is_joined : IsNext old.contents.current.position frame → span.before ≡ machine.position
   is_joined next = sym is.before ∙ next.joined ∙ at
 
-  -- a frame that neither is held nor comes next
-  is_apart : ¬ IsHeld old.contents.current frame → ¬ IsNext old.contents.current.position frame → (machine.position < span.after) × (span.before ≢ machine.position)
-  is_apart not_held not_next = ⊎_elim (λ (lt : machine.position < span.after). (lt, λ e. not_next (is_next lt e))) (λ (le : span.after ≤ machine.position). absurd (not_held (held le))) (cases_lt machine.position span.after)
+  -- a frame that is not held
+  is_apart : ¬ IsHeld old.contents.current frame → machine.position < span.after
+  is_apart not_held = ⊎_elim (λ (lt : machine.position < span.after). lt) (λ (le : span.after ≤ machine.position). absurd (not_held (held le))) (cases_lt machine.position span.after)
     where
-      is_next : machine.position < span.after → span.before ≡ machine.position → IsNext old.contents.current.position frame
-      is_next lt e = record { later = omega (arith, lt, is.after, at); joined = is.before ∙ e ∙ sym at }
-
       held : span.after ≤ machine.position → IsHeld old.contents.current frame
       held le = record { own = epoch_same; below = omega (arith, le, is.after, at) }
 
@@ -301,7 +311,7 @@ module _ {E K D : Type 0} (device : E → State) (contents : E → Contents) (is
       let same = ap (node_of device contents is_faulted table) again.same in
       record {
         standby = machine;
-        takes = inr (inl (own, is_below again.held.below, refl, ap (λ (a : Acknowledgement). a ∷ []) (told_as ack (ap (λ (a : Ack). a.epoch) told) (ap (λ (a : Ack). a.position) told ∙ at))));
+        takes = takes-as machine (told_by ack ∷ []) (inl (is_below again.held.below, refl, ap (λ (a : Acknowledgement). a ∷ []) (told_as ack (ap (λ (a : Ack). a.epoch) told) (ap (λ (a : Ack). a.position) told ∙ at))));
         waiting = refl;
         stands = same_stands same;
         moves = rests machine.position (ap (λ (n : Node). n.device) same) (same_stands same);
@@ -312,7 +322,8 @@ module _ {E K D : Type 0} (device : E → State) (contents : E → Contents) (is
       let e = is_joined whole.due.next.next in
       record {
         standby = moved_to span.after machine;
-        takes = inr (inr (inl (own, lt, e, refl, ap (λ (a : Acknowledgement). a ∷ []) (moved_as ack (ap (λ (a : Ack). a.epoch) told ∙ epoch_same) (ap (λ (a : Ack). a.position) told ∙ is.after)))));
+        takes = takes-as (moved_to span.after machine) (told_by ack ∷ [])
+            (inr (inl (lt, e, refl, ap (λ (a : Acknowledgement). a ∷ []) (moved_as ack (ap (λ (a : Ack). a.epoch) told ∙ epoch_same) (ap (λ (a : Ack). a.position) told ∙ is.after)))));
         waiting = refl;
         stands = taken_stands e whole.taken whole.stands.follows whole.stands.sound whole.stands.durable (whole.lawful stands.engine.lawful) (whole.taken.epoch ∙ epoch_same);
         moves = taken_moves e whole.moments whole.failures;
@@ -330,10 +341,10 @@ module _ {E K D : Type 0} (device : E → State) (contents : E → Contents) (is
           | inl wrong ↦ absurd (wrong.1 (inl epoch_same))
           | inr (inl gap) ↦
               let same = ap (node_of device contents is_faulted table) once.same in
-              let apart = is_apart gap.2 gap.3 in
+              let apart = is_apart gap.2 in
               record {
                 standby = machine;
-                takes = inr (inr (inr (inr (own, apart.0, apart.1, refl, refl))));
+                takes = takes-as machine [] (inr (inr (apart, (refl, refl))));
                 waiting = refl;
                 stands = same_stands same;
                 moves = rests machine.position (ap (λ (n : Node). n.device) same) (same_stands same);
@@ -343,7 +354,7 @@ module _ {E K D : Type 0} (device : E → State) (contents : E → Contents) (is
         | inr (inl left) ↦ elim left.cause [
           | inl full ↦ record {
             standby = machine;
-            takes = inr (inr (inr (inl (own, is_above left.due.next.next, is_joined left.due.next.next, refl, refl))));
+            takes = takes-as machine [] (inr (inr (is_above left.due.next.next, (refl, refl))));
             waiting = refl;
             stands = refused_stands (IsKept-rearranged old new (left.map, left.rearranged)) left.stands.follows left.stands.sound left.stands.durable
                 (left.rearranged.lawful stands.engine.lawful) left.rearranged.epoch;
@@ -359,7 +370,13 @@ module _ {E K D : Type 0} (device : E → State) (contents : E → Contents) (is
   next = next_from machine (sent ∷ [])
 
   next-joined : span.before ≡ machine.position → next ≡ span.after
-  next-joined e = ap (λ b. cond b span.after machine.position) (ap₂ (λ a b. a && b) (eq-eqb sent.epoch machine.epoch own) (eq-eqb span.before machine.position e))
+  next-joined e = ap (moved_by machine.position) left
+    where
+      left : left_by_first machine (sent ∷ []) ≡ At span.after ∷ []
+      left =
+          ap (λ b. cond b (left_by_told machine.role sent.told machine) []) (eq-eqb sent.epoch machine.epoch own)
+          ∙ ap₂ (λ (role : Role) (tells : Told). left_by_told role tells machine) follower.role_is told_is
+          ∙ ap (λ b. cond b (At span.after ∷ []) []) (eq-eqb span.before machine.position e)
 
   -- at any moment of the call a crash leaves what was before the frame or all of it
   abbrev KeepsNear : Image → Type 0

@@ -1,13 +1,13 @@
 -- From what an event did to a pair to what can be told of it.
-use Rattle.std.proofs.Common.{◌≡◌, ◌⊎◌, ℕ, ◌<◌, Vec, Global, ◌++◌, Bool, true, false, true≢false, List, [], Result, Ok, Err, length, map, refl, sym, ap, subst, ◌∙◌, arith, inl, inr, rules}
+use Rattle.std.proofs.Common.{◌≡◌, ◌⊎◌, ℕ, ◌<◌, Vec, Global, ◌++◌, Bool, true, false, true≢false, ◌&&◌, not, nat_lt, List, [], Result, Ok, Err, length, map, refl, sym, ap, subst, ◌∙◌, arith, inl, inr, rules}
 use Rattle.std.specs.Vec.{vec_capacity}
 use Rattle.kv_types.specs.declared.refusal.Refusal.{Refusal}
 use Rattle.model.specs.Standing.{Holder}
 use Rattle.machine.specs.declared.event.Event.{Event}
-use Rattle.machine.specs.declared.event.Event.TheVariants.{Apply, Crash, FailFence, OpenLink, Promote, Reopen, Send, Turn, Write}
+use Rattle.machine.specs.declared.event.Event.TheVariants.{Apply, Crash, FailFence, Newcomer, OpenLink, PinCopy, Promote, Reopen, Send, SendCopy, Turn, Write}
 use Rattle.machine.specs.declared.event.Node.TheVariants as node
-use Rattle.machine.specs.Event.{Remains, Step, World, is_enabled, is_retired, is_stopped, may_happen, nodes_run, torn}
-use Rattle.std.proofs.lemmas.Bool.{and_parts}
+use Rattle.machine.specs.Event.{Allowed, Copying, Remains, Step, World, is_awaited, is_enabled, is_follower, is_retired, is_stopped, may_happen, may_send_copy, nodes_run, open_changes, torn}
+use Rattle.std.proofs.lemmas.Bool.{and_parts, le-ltb}
 use Rattle.std.proofs.lemmas.List.{append-nil}
 use Rattle.machine.specs.Promise.{released_in}
 use Rattle.machine.proofs.PromiseLemmas.{released-held}
@@ -24,7 +24,7 @@ use Rattle.world.specs.Step.{Acted, AcksBy, CallsBy, CutsOrStays, FramesBy, Happ
 use Rattle.world.specs.Stopping.{Stops}
 use Rattle.world.proofs.GivenLemmas.{IsWhole, calls-step, released-step}
 use Rattle.world.proofs.LivesLemmas.{nodes-refine, serves-as, serving}
-use Rattle.world.proofs.PairLemmas.{primary-stands, roomier-stands, sessions-stand, standby-stands}
+use Rattle.world.proofs.PairLemmas.{primary-stands, roomier-stands, sessions-stand, standby-stands, stays-does}
 use Rattle.world.proofs.PairLives.{idle-step, own-acts}
 use Rattle.world.specs.Condition.{has_ended, life_as, runs}
 use Rattle.world.specs.declared.condition.Condition.{Condition}
@@ -188,7 +188,8 @@ idle-is {old} {event} {took} takes idle =
 serving-other : (old : Pair) (event : Event) → runs old.lives.primary ≡ true → IsOther old event
 serving-other old event up = λ first second w stands enabled is.
     let may = and_parts (nodes_run w Promote) (may_happen w Promote) (subst (λ (e : Event). is_enabled w e ≡ true) is enabled) in
-    true≢false (sym (and_parts w.allowed.promotions (is_retired w.primary.life) may.1).1 ∙ ap is_retired (serving (serves-as up stands)))
+    let fenced = and_parts (is_follower w.standby.role) (is_retired w.primary.life) (and_parts w.allowed.promotions (is_follower w.standby.role && is_retired w.primary.life) may.1).1 in
+    true≢false (sym fenced.1 ∙ ap is_retired (serving (serves-as up stands)))
 
 -- the primary takes part alone
 pub own-is : {old new : Pair} {event event' : Event} {result : Result Bool Refusal} {took : Bool} → event ≡ event' → took ≡ takes_part (runs old.lives.primary) (runs old.lives.standby) event → took ≡ true
@@ -196,6 +197,16 @@ pub own-is : {old new : Pair} {event event' : Event} {result : Result Bool Refus
 own-is {old} {new} {event} {event'} {result} {took} is takes took_part own does leaves =
     let up = own (ap (takes_part (runs old.lives.primary) (runs old.lives.standby)) (sym is) ∙ sym takes ∙ took_part) in
     is-step old event result new (λ did. serving-other old event up) (own-acts is takes took_part own does) (subst (λ (e : Event). Leaves e result old new) (sym is) leaves)
+
+-- There is no device for a newcomer. The link awaits no copy, and sends none.
+pub newcomer-does : (old : Pair) → Does old Newcomer (Ok false) old
+newcomer-does old = stays-does old Newcomer refl (λ first second w stands. sym (ap (λ (allowed : Allowed). nat_lt w.came allowed.newcomers) stands.lives.allowed_are ∙ le-ltb w.came 0 (omega arith)))
+
+pub pin-does : (old : Pair) → Does old PinCopy (Ok false) old
+pin-does old = stays-does old PinCopy refl (λ first second w stands. sym (ap (λ (copying : Copying). is_awaited copying && not (nat_lt 0 (open_changes w))) stands.parts.link.copying_is))
+
+pub copy-does : (old : Pair) → Does old SendCopy (Ok false) old
+copy-does old = stays-does old SendCopy refl (λ first second w stands. sym (ap (may_send_copy w.primary.committer.position) stands.parts.link.copying_is))
 
 -- any event but a promotion
 pub acts-is : {old new : Pair} {event event' : Event} {result : Result Bool Refusal} → event ≡ event' → promotes event' ≡ false → Acts old event' result new → Leaves event' result old new → IsStep old event result new

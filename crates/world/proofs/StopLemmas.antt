@@ -4,10 +4,10 @@ use Rattle.std.proofs.lemmas.Bool.{and_parts}
 use Rattle.machine.specs.declared.event.Cut.{Cut}
 use Rattle.machine.specs.declared.event.Cut.TheVariants as cut
 use Rattle.machine.specs.declared.event.Event.{Event}
-use Rattle.machine.specs.declared.event.Event.TheVariants.{AckDelivered, Apply, ClearGap, CloseGroup, Commit, Crash, FailFence, Free, Promote, Reopen, Turn}
+use Rattle.machine.specs.declared.event.Event.TheVariants.{AckDelivered, Apply, ClearGap, CloseGroup, Commit, Crash, FailFence, Free, PinCopy, Promote, Reopen, Send, Turn}
 use Rattle.machine.specs.declared.event.Node.{Node}
 use Rattle.machine.specs.declared.event.Node.TheVariants as node
-use Rattle.machine.specs.Event.{Acknowledgement, Applies, AsPrimary, At, Crashed, Fails, Happens, Life, Remains, Retired, Running, Step, Stopped, World, crashed, is_crashed, is_running, is_stopped, left_by, life_of, may_happen, nodes_run, position_at, told, torn, with_link, without_first}
+use Rattle.machine.specs.Event.{Acknowledgement, Applies, AsFollower, AsPrimary, At, Awaited, Copying, Crashed, Fails, Follows, Happens, Life, Remains, Retired, Running, Sending, Step, Stopped, World, crashed, is_crashed, is_running, is_stopped, left_by, life_of, may_happen, nodes_run, position_at, sent_with, told, torn, with_link, without_first}
 use Rattle.machine.specs.Row.{touches}
 use Rattle.machine.specs.Sound.{Sound}
 use Rattle.machine.proofs.StandingLemmas.{rests-Fails}
@@ -57,8 +57,15 @@ lies-told w ack = inl refl
 lies-crashed : (w : World) (n : Node) (remain : Remains) → Lies w (crashed n remain w)
 lies-crashed w node.Primary (At p) = inl refl
 lies-crashed w node.Primary AsPrimary = inl refl
+lies-crashed w node.Primary (AsFollower p) = inl refl
 lies-crashed w node.Standby (At p) = inr refl
 lies-crashed w node.Standby AsPrimary = inl refl
+lies-crashed w node.Standby (AsFollower p) = inr refl
+
+lies-sent : (w : World) (copying : Copying) → Lies w (sent_with copying w)
+lies-sent w Follows = inl refl
+lies-sent w Awaited = inl refl
+lies-sent w (Sending pinned) = inl refl
 
 lies-happens : (w : World) (event : Event) (new : World) → nodes_run w event ≡ true → Happens w event new → Lies w new
 lies-happens w (Turn c) new runs h = lies-as w _ new h.now (inl refl)
@@ -67,6 +74,8 @@ lies-happens w CloseGroup new runs h =
       | inl group ↦ lies-as w _ new group.1.now (inl refl)
       | inr list ↦ lies-as w _ new list.1 (inl refl)
     ]
+lies-happens w Send new runs h = lies-as w _ new h (lies-sent w w.primary.link.copying)
+lies-happens w PinCopy new runs h = lies-as w _ new h.now (inl refl)
 lies-happens w Commit new runs h = lies-or w new node.Primary cut.Commit (λ did. lies-as w _ new did (inl refl)) h
 lies-happens w Free new runs h = lies-or w new node.Primary cut.Free (λ did. lies-as w _ new did (inl refl)) h
 lies-happens w ClearGap new runs h = lies-or w new node.Primary cut.ClearGap (λ did. lies-as w _ new did (inl refl)) h
@@ -115,10 +124,12 @@ or-stops w n call new before never happens = elim happens [ inl did ↦ absurd (
 crash-goes : (w new : World) (remain : Remains) → IsAt remain → is_stopped new.primary.life ≡ true → new ≡ crashed node.Primary remain w → ⊥
 crash-goes w new (At p) at stopped now = goes _ new node.Primary stopped now refl
 crash-goes w new AsPrimary at stopped now = at
+crash-goes w new (AsFollower p) at stopped now = at
 
 crash-goes-on : (w new : World) (remain : Remains) → is_stopped new.standby.life ≡ true → new ≡ crashed node.Standby remain w → ⊥
 crash-goes-on w new (At p) stopped now = goes _ new node.Standby stopped now refl
 crash-goes-on w new AsPrimary stopped now = goes _ new node.Standby stopped now refl
+crash-goes-on w new (AsFollower p) stopped now = goes _ new node.Standby stopped now refl
 
 primary-happens : (w : World) (event : Event) (new : World) → Sound w → touches node.Primary event ≡ true → nodes_run w event ≡ true → may_happen w event ≡ true → is_stopped new.primary.life ≡ true → Happens w event new
     → StopsThere w node.Primary (call_of event) new

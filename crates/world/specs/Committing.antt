@@ -21,7 +21,8 @@ use Rattle.group_commit.specs.declared.due.Due.TheVariants as due
 use Rattle.machine.specs.declared.event.Event.{Event}
 use Rattle.machine.specs.declared.event.Event.TheVariants as events
 -- where the nodes stand after the group that the primary commits next, and after the frame that the standby takes next
-pub use Rattle.machine.specs.Event.{next_from, next_primary, next_standby}
+pub use Rattle.machine.specs.Event.{next_primary}
+pub use Rattle.world.specs.Following.{next_from, next_standby}
 pub use Rattle.node_steps.specs.Committing.{AreContentsAt, Committing, CommittingRefines, EngineStands, StageRefines}
 pub use Rattle.primary.specs.Leading.{AreOfEpoch, Leads, entries_told, extents_told}
 

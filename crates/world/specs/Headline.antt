@@ -13,7 +13,7 @@ use Rattle.machine.specs.declared.event.Event.{Event}
 use Rattle.machine.specs.declared.event.Event.TheVariants.{Promote}
 use Rattle.machine.specs.declared.event.Node.{Node}
 use Rattle.machine.specs.declared.event.Node.TheVariants as node
-use Rattle.machine.specs.Event.{AsPrimary, At, Remains, Run, World, is_enabled, is_stopped, life_of, start_with, last_world, position_at, torn}
+use Rattle.machine.specs.Event.{AsFollower, AsPrimary, At, Remains, Run, World, is_enabled, is_stopped, life_of, start_with, last_world, position_at, torn}
 use Rattle.machine.specs.Row.{touches}
 use Rattle.machine.specs.Promise.{IsPromised, IsReleased, released_in}
 use Rattle.world.specs.Committing.{OpensAt, FormattingOnly, next_primary, next_standby, promoted_holder}
@@ -94,6 +94,7 @@ OpensFromEither holder calls position image = OpensFrom holder calls position im
 abbrev pub opens_as : List Remains → Opening
 opens_as [] = OpensFrom
 opens_as (At p ∷ others) = opens_as others
+opens_as (AsFollower p ∷ others) = opens_as others
 opens_as (AsPrimary ∷ others) = OpensFromEither
 
 -- in this event

@@ -6,7 +6,7 @@ use Rattle.model.specs.declared.group.Group.{Group}
 use Rattle.kv_types.specs.Keyspace.{play_all}
 use Rattle.kv_types.specs.Change.{changes_size}
 use Rattle.model.specs.Call.{cut_at, keyspace_after, position_of}
-use Rattle.machine.specs.Event.{Link as Machine, Span, Frame as Sent, Acknowledgement, option_items}
+use Rattle.machine.specs.Event.{Changes, End, Follows, Link as Machine, Part, Span, Told, Frame as Sent, Acknowledgement, option_items}
 use Rattle.pipes.specs.Waiting.{Waiting}
 use Rattle.frames.specs.declared.frame.Frame.{Frame}
 use Rattle.standby_stream.specs.Stream.{Stream}
@@ -35,21 +35,29 @@ AreFramesOf epoch calls _ _ = ⊥
 
 -- ---- on the way
 
+-- the changes that a frame tells; a copy, of which nothing is sent here, tells none
+abbrev pub span_of : Told → Span
+span_of (Changes span) = span
+span_of (Part position number) = record { before = position; after = position }
+span_of (End position parts) = record { before = position; after = position }
+
 -- the frame, as it was read from bytes, is the one that was sent, of this epoch
 pub record IsFrameRead (epoch : ℕ) (calls : List Call) (frame : Frame) (sent : Sent) : Type 0 where
   pub epoch_is : sent.epoch ≡ epoch
-  pub has : IsFrameOf epoch calls frame sent.span
+  pub told_is : sent.told ≡ Changes (span_of sent.told)
+  pub has : IsFrameOf epoch calls frame (span_of sent.told)
 
 abbrev pub AreFramesRead : ℕ → List Call → List Frame → List Sent → Type 0
 AreFramesRead epoch calls [] [] = Unit {0}
 AreFramesRead epoch calls (frame ∷ frames) (sent ∷ others) = IsFrameRead epoch calls frame sent × AreFramesRead epoch calls frames others
 AreFramesRead epoch calls _ _ = ⊥
 
--- the frame has the epoch and the positions of the one that was sent
+-- the frame has the epoch and the positions of the one that was sent, which tells changes
 pub record IsAbout (frame : Frame) (sent : Sent) : Type 0 where
   pub epoch_is : frame.epoch ≡ sent.epoch
-  pub before : frame.before ≡ sent.span.before
-  pub after : frame.after ≡ sent.span.after
+  pub told_is : sent.told ≡ Changes (span_of sent.told)
+  pub before : frame.before ≡ (span_of sent.told).before
+  pub after : frame.after ≡ (span_of sent.told).after
 
 -- These are the bytes of the frame that was sent, which is within the limits of what may be sent. One of this epoch tells changes of the list; what one of an earlier epoch
 -- told may be of it no more.
@@ -58,7 +66,7 @@ pub record IsFrameSent (epoch : ℕ) (calls : List Call) (bytes : List ℕ) (sen
   pub text : bytes ≡ sent_text (sent_of_frame frame)
   pub may : IsSent (sent_of_frame frame)
   pub about : IsAbout frame sent
-  pub is : sent.epoch ≡ epoch → IsFrameOf epoch calls frame sent.span
+  pub is : sent.epoch ≡ epoch → IsFrameOf epoch calls frame (span_of sent.told)
 
 -- the frame that was sent is of this epoch
 abbrev pub IsOwn : ℕ → Sent → Type 0
@@ -92,3 +100,6 @@ pub record LinkRefines (calls : List Call) (code : Stream) (handed : Waiting Gro
   pub again : drop code.next machine.kept ≡ machine.again
   pub known : code.known ≡ machine.known
   pub remote_is : remote ≡ machine.remote
+  -- a standby follows, and no group was dropped for a copy
+  pub copying_is : machine.copying ≡ Follows
+  pub dropped_is : machine.dropped ≡ 0

@@ -18,7 +18,7 @@ use Rattle.standby_stream.specs.Stream.{Stream}
 use Rattle.standby_stream.specs.declared.opening.Opening.{Opening}
 use Rattle.machine.specs.declared.event.Event.{Event}
 use Rattle.machine.specs.declared.event.Cut.TheVariants as cut
-use Rattle.machine.specs.Event.{Allowed, Connection, World, Step, is_enabled, new_committer, new_link, torn}
+use Rattle.machine.specs.Event.{Allowed, Connection, Follower, World, Step, is_enabled, new_committer, new_link, torn}
 use Rattle.machine.specs.Row.{are_running, row}
 use Rattle.machine.specs.Promise.{released_in}
 use Rattle.machine.specs.Sound.{Sound}
@@ -150,9 +150,9 @@ pub record StillRefine (first second : Holder) (pair : Pair) (w : World) : Type 
 -- ---- lives
 
 -- what happens to the nodes of a pair: they crash, between two events or inside a call, and are opened again, the primary is fenced, and the standby is promoted after that;
--- and fences of their devices are asked to fail, and do
+-- and fences of their devices are asked to fail, and do. No newcomer comes.
 abbrev pub allowed : Allowed
-allowed = record { restarts = true; fencing = true; promotions = true; failures = true; cuts = true }
+allowed = record { restarts = true; fencing = true; promotions = true; failures = true; cuts = true; newcomers = 0 }
 
 -- the number of the primary's device, where the standby is in this condition
 abbrev pub primary_number : Condition → ℕ
@@ -167,6 +167,7 @@ pub record AreLives (first second : Holder) (lives : Lives) (w : World) : Type 0
   pub standby_failing : w.standby.disk.failing ≡ lives.asked.standby
   pub primary : w.primary.life ≡ life_as lives.primary (torn w.primary.life)
   pub standby : w.standby.life ≡ life_as lives.standby (torn w.standby.life)
+  pub follows : w.standby.role ≡ Follower
   pub first_role : first.role ≡ Role.Primary
   pub second_role : second.role ≡ Role.Standby
   pub first_epoch : first.epoch ≡ w.primary.epoch

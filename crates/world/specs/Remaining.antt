@@ -12,15 +12,16 @@ use Rattle.wbl_engine.specs.Contents.{Keeps}
 use Rattle.wbl_engine.specs.Lawful.{AreLawful}
 use Rattle.machine.specs.declared.event.Cut.{Cut}
 use Rattle.machine.specs.declared.event.Node.TheVariants as node
-use Rattle.machine.specs.Event.{At, AsPrimary, Remains, World, may_remain}
+use Rattle.machine.specs.Event.{AsFollower, At, AsPrimary, Remains, World, may_remain}
 use Rattle.world.specs.Committing.{AreContentsAt, OpensAt, promoted_holder}
 use Rattle.world.specs.Recalling.{RecallsFor, past_of}
 
 -- ---- how an image opens
 
--- The image opens as what a cut call leaves: at a position of the list; or where the standby stands, as that of the primary which it becomes.
+-- The image opens as what a cut call leaves: at a position of the list, as a copy does too; or where the standby stands, as that of the primary which it becomes.
 abbrev pub OpensAs : Holder → List Call → ℕ → Image → Remains → Type 0
 OpensAs holder calls position image (At p) = OpensAt holder calls p image
+OpensAs holder calls position image (AsFollower p) = OpensAt holder calls p image
 OpensAs holder calls position image AsPrimary = OpensAt (promoted_holder holder) calls position image
 
 -- as one of these
@@ -71,6 +72,7 @@ pub record KeepsPromoted (holder : Holder) (calls : List Call) (position : ℕ) 
 -- A standby's: at this position, or as that of the primary which it becomes.
 abbrev pub KeepsAs : Holder → List Call → ℕ → Remains → Image → Type 0
 KeepsAs holder calls position (At p) image = KeepsAt holder calls p image
+KeepsAs holder calls position (AsFollower p) image = KeepsAt holder calls p image
 KeepsAs holder calls position AsPrimary image = KeepsPromoted holder calls position image
 
 -- what it may hold where it stands at this position, and a call may have left one of these

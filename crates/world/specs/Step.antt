@@ -9,7 +9,7 @@ use Rattle.model.specs.Standing.{Holder}
 use Rattle.machine.specs.declared.event.Event.{Event}
 use Rattle.machine.specs.declared.event.Event.TheVariants.{Apply, Crash, OpenLink, Promote, Send, Turn, Write}
 use Rattle.machine.specs.declared.event.Node.TheVariants as node
-use Rattle.machine.specs.Event.{AsPrimary, At, Connection, Remains, World, connection_of, may_remain, torn}
+use Rattle.machine.specs.Event.{AsFollower, AsPrimary, At, Connection, Remains, World, connection_of, may_remain, torn}
 use Rattle.machine.specs.Promise.{IsReleased, released_in}
 use Rattle.machine.specs.Row.{touches}
 use Rattle.connections.specs.Session.{AddsOne, TranscriptRefines, released_of}
@@ -81,6 +81,7 @@ pub record Shows (first second : Holder) (w : World) (pair : Pair) : Type 0 wher
 -- where a crash has left this of the standby
 abbrev pub calls_left : World → Remains → List Call
 calls_left w (At p) = w.primary.calls
+calls_left w (AsFollower p) = w.primary.calls
 calls_left w AsPrimary = cut_at w.primary.calls w.standby.position
 
 -- The list of calls after an event: a turn adds the call of the connection's first waiting item, a crash of the primary drops the calls that its image does not hold,

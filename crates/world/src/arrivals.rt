@@ -10,7 +10,7 @@ ghost use Rattle.wbl_engine.specs.Contents.{IsDurable};
 ghost use Rattle.standby.specs.Following.{Follows};
 ghost use Rattle.connections.specs.Going.{Goes};
 ghost use Rattle.world.specs.Cause.{EndsBy};
-ghost use Rattle.world.specs.Committing.{next_standby};
+ghost use Rattle.world.specs.Following.{HasFollower, next_standby};
 ghost use Rattle.world.specs.Remaining.{KeepsOne};
 ghost use Rattle.world.specs.Effect.{AnswersFirst, OnDid};
 ghost use Rattle.world.specs.Link.{AreFramesSent, IsOwn};
@@ -91,14 +91,14 @@ impl Arrivals {
         requires sound { E.is_faulted standby.old.engine ≡ false }
         requires durable { IsDurable (E.device standby.old.engine) (E.contents standby.old.engine) }
         ensures applies { IfOk result (λ did. (holder : Holder) (w : World) → Sound w
-            → (E.contents standby.old.engine).current.epoch ≡ w.standby.epoch
+            → HasFollower (E.contents standby.old.engine).current.epoch w.standby
             → ArrivalsRefine (E.contents standby.old.engine).current.epoch w.primary.calls (arrived_with self.old acknowledgements.old) w.standby.waiting w.wire.acknowledgements
             → StandbyStands holder (E.contents standby.old.engine).current.epoch w.primary.calls w.standby.position (node_at (E.device standby.old.engine) (E.contents standby.old.engine) (E.is_faulted standby.old.engine) (K.table standby.old.keyspace) standby.old.heap standby.old.ended.items)
             → AppliesFirst holder (E.contents standby.old.engine).current.epoch w did (arrived_with self.new acknowledgements.new)
             (node_at (E.device standby.old.engine) (E.contents standby.old.engine) (E.is_faulted standby.old.engine) (K.table standby.old.keyspace) standby.old.heap standby.old.ended.items)
             (node_at (E.device standby.new.engine) (E.contents standby.new.engine) (E.is_faulted standby.new.engine) (K.table standby.new.keyspace) standby.new.heap standby.new.ended.items)) }
         ensures cut { IfErr result (λ refusal. (holder : Holder) (w : World) → Sound w
-            → (E.contents standby.old.engine).current.epoch ≡ w.standby.epoch
+            → HasFollower (E.contents standby.old.engine).current.epoch w.standby
             → ArrivalsRefine (E.contents standby.old.engine).current.epoch w.primary.calls (arrived_with self.old acknowledgements.old) w.standby.waiting w.wire.acknowledgements
             → StandbyStands holder (E.contents standby.old.engine).current.epoch w.primary.calls w.standby.position (node_at (E.device standby.old.engine) (E.contents standby.old.engine) (E.is_faulted standby.old.engine) (K.table standby.old.keyspace) standby.old.heap standby.old.ended.items)
             → (may_happen w Apply ≡ true)
@@ -110,7 +110,7 @@ impl Arrivals {
         ensures untouched { result ≡ Ok false → E.device standby.new.engine ≡ E.device standby.old.engine }
         // at any moment of the call
         ensures moments { (holder : Holder) (w : World) → Sound w
-            → (E.contents standby.old.engine).current.epoch ≡ w.standby.epoch
+            → HasFollower (E.contents standby.old.engine).current.epoch w.standby
             → ArrivalsRefine (E.contents standby.old.engine).current.epoch w.primary.calls (arrived_with self.old acknowledgements.old) w.standby.waiting w.wire.acknowledgements
             → StandbyStands holder (E.contents standby.old.engine).current.epoch w.primary.calls w.standby.position (node_at (E.device standby.old.engine) (E.contents standby.old.engine) (E.is_faulted standby.old.engine) (K.table standby.old.keyspace) standby.old.heap standby.old.ended.items)
             → LeavesOnly (E.device standby.old.engine) (E.device standby.new.engine) (KeepsOne holder w.primary.calls w.standby.position (At (next_standby w) ∷ [])) }

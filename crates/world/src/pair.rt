@@ -106,6 +106,10 @@ impl<E: Restarting, K: Keyspace + Drop> Stepper for Pair<E, K> {
             Event::Apply => self.apply_or_stop(history),
             Event::AckDelivered(ack) => self.ack_delivered(history, *ack),
             Event::RaiseRemote => self.raise_remote(),
+            // There is no device for a newcomer here, and none wants a copy.
+            Event::Newcomer => Ok(false),
+            Event::PinCopy => Ok(false),
+            Event::SendCopy => Ok(false),
             Event::Hold(c) => self.hold(history, *c),
             Event::Read(c, mark) => self.read(*c, *mark),
             Event::Release(c) => self.release(*c),

@@ -15,7 +15,7 @@ use Rattle.frames.specs.declared.frame.Frame.{Frame}
 use Rattle.standby.specs.declared.standby.Standby.{Standby}
 use Rattle.standby.specs.Taking.{TakesFrame}
 use Rattle.world.specs.Cause.{EndsBy}
-use Rattle.world.specs.Committing.{next_from, next_standby}
+use Rattle.world.specs.Following.{HasFollower, next_from, next_standby}
 use Rattle.world.specs.Remaining.{KeepsOne}
 use Rattle.world.specs.Standby.{Arrived, Node, ArrivalsRefine, StandbyStands, arrived_with, told_by}
 use Rattle.world.proofs.StandbyLemmas.{takes_ok, takes_refused, refused-full, frame-ends, frame-keeps, frame-lines, StandbyStands-still}
@@ -55,7 +55,7 @@ first g c w stands =
     first-frame (g.E.Durable.contents c.args.standby.now.engine).current.epoch w (arrived_with c.args.self.now c.args.acknowledgements.now) c.unwrap-frame.result c.pop_front.new.self.items (stood_first g c) stands
 
 -- at any moment of the call
-moments : (g : Over) (c : After-on_frame g) (holder : Holder) (w : World) → Sound w → (g.E.Durable.contents c.args.standby.now.engine).current.epoch ≡ w.standby.epoch → ArrivalsRefine (g.E.Durable.contents c.args.standby.now.engine).current.epoch w.primary.calls (arrived_with c.args.self.now c.args.acknowledgements.now) w.standby.waiting w.wire.acknowledgements
+moments : (g : Over) (c : After-on_frame g) (holder : Holder) (w : World) → Sound w → HasFollower (g.E.Durable.contents c.args.standby.now.engine).current.epoch w.standby → ArrivalsRefine (g.E.Durable.contents c.args.standby.now.engine).current.epoch w.primary.calls (arrived_with c.args.self.now c.args.acknowledgements.now) w.standby.waiting w.wire.acknowledgements
     → StandbyStands holder (g.E.Durable.contents c.args.standby.now.engine).current.epoch w.primary.calls w.standby.position (node g c.args.standby.now)
     → LeavesOnly (g.E.Durable.device c.args.standby.now.engine) (g.E.Durable.device c.on_frame.new.self.engine) (KeepsOne holder w.primary.calls w.standby.position (At (next_standby w) ∷ []))
 moments g c holder w sound epochs arrives stands =
@@ -63,7 +63,7 @@ moments g c holder w sound epochs arrives stands =
     let frame = c.unwrap-frame.result in
     let one = first g c w arrives in
     subst (λ (frames : List Sent). LeavesOnly (g.E.Durable.device c.args.standby.now.engine) (g.E.Durable.device c.on_frame.new.self.engine) (KeepsOne holder w.primary.calls w.standby.position (At (next_from w.standby frames) ∷ []))) (sym one.all)
-    (frame-keeps g.E.Durable.device g.E.Durable.contents g.E.Durable.is_faulted g.K.Keyspace.table holder epoch w.primary.calls w.standby frame one.span c.args.standby.now c.on_frame.new.self one.epoch_is epochs one.is stands c.on_frame.result c.on_frame.ensures)
+    (frame-keeps g.E.Durable.device g.E.Durable.contents g.E.Durable.is_faulted g.K.Keyspace.table holder epoch w.primary.calls w.standby frame one.span c.args.standby.now c.on_frame.new.self one.epoch_is one.told_is epochs one.is stands c.on_frame.result c.on_frame.ensures)
 
 pub returns-in-Ok-clause-applies : goal.returns-in-Ok-clause-applies
 returns-in-Ok-clause-applies g c = λ holder w sound epochs arrives stands.
@@ -79,7 +79,7 @@ returns-in-Ok-clause-applies g c = λ holder w sound epochs arrives stands.
     applies holder epoch w frame (told_by ack ∷ []) new (node g c.args.standby.now) (node g c.on_frame.new.self)
     (subst (λ (texts : List (Vec ℕ Global)). AreAcksSent texts (acks ++ told_by ack ∷ [])) (sym written)
     (AreAcksSent-push c.args.acknowledgements.now.items acks c.encode_ack_in.result (told_by ack) arrives.acknowledged (record { text = c.encode_ack_in.ensures.text; may = c.encode_ack_in.ensures.may }))) one
-    (takes_ok g.E.Durable.device g.E.Durable.contents g.E.Durable.is_faulted g.K.Keyspace.table holder epoch w.primary.calls (without_first w.standby) frame one.span c.args.standby.now c.on_frame.new.self one.epoch_is epochs one.is stands ack (told g prefix (Ok ack) c.in-Ok.is))
+    (takes_ok g.E.Durable.device g.E.Durable.contents g.E.Durable.is_faulted g.K.Keyspace.table holder epoch w.primary.calls (without_first w.standby) frame one.span c.args.standby.now c.on_frame.new.self one.epoch_is one.told_is (record { epoch_is = epochs.epoch_is; role_is = epochs.role_is }) one.is stands ack (told g prefix (Ok ack) c.in-Ok.is))
 
 pub returns-in-Err-clause-applies : goal.returns-in-Err-clause-applies
 returns-in-Err-clause-applies g c = λ holder w sound epochs arrives stands.
@@ -92,7 +92,7 @@ returns-in-Err-clause-applies g c = λ holder w sound epochs arrives stands.
     applies holder epoch w frame [] new (node g c.args.standby.now) (node g c.on_frame.new.self)
     (subst (λ (texts : List (Vec ℕ Global)). AreAcksSent texts (acks ++ [])) (sym c.in_ok-reserve.ensures.items)
     (subst (λ (told : List Acknowledgement). AreAcksSent c.args.acknowledgements.now.items told) (sym (append-nil acks)) arrives.acknowledged)) one
-    (takes_refused g.E.Durable.device g.E.Durable.contents g.E.Durable.is_faulted g.K.Keyspace.table holder epoch w.primary.calls (without_first w.standby) frame one.span c.args.standby.now c.on_frame.new.self one.epoch_is epochs one.is stands c.in-Err.refusal (c.goes_on.ensures.0 c.if-goes_on.true)
+    (takes_refused g.E.Durable.device g.E.Durable.contents g.E.Durable.is_faulted g.K.Keyspace.table holder epoch w.primary.calls (without_first w.standby) frame one.span c.args.standby.now c.on_frame.new.self one.epoch_is one.told_is (record { epoch_is = epochs.epoch_is; role_is = epochs.role_is }) one.is stands c.in-Err.refusal (c.goes_on.ensures.0 c.if-goes_on.true)
     (told g prefix (Err c.in-Err.refusal) c.in-Err.is))
 
 pub returns-then-is_empty-clause-moments : goal.returns-then-is_empty-clause-moments
@@ -145,7 +145,7 @@ returns-in-Err-2-clause-cut g c = λ holder w sound epochs arrives stands.
     let one = first g prefix w arrives in (
       ap is_nonempty one.all,
       subst (λ (frames : List Sent). EndsBy c.in-Err.refusal Apply (λ _ last. last holder w.primary.calls w.standby.position (next_from w.standby frames) (g.E.Durable.device c.args.standby.now.engine) (g.E.Durable.device c.on_frame.new.self.engine))) (sym one.all)
-          (frame-ends g.E.Durable.device g.E.Durable.contents g.E.Durable.is_faulted g.K.Keyspace.table holder epoch w.primary.calls w.standby frame one.span c.args.standby.now c.on_frame.new.self one.epoch_is epochs one.is stands c.in-Err.refusal
+          (frame-ends g.E.Durable.device g.E.Durable.contents g.E.Durable.is_faulted g.K.Keyspace.table holder epoch w.primary.calls w.standby frame one.span c.args.standby.now c.on_frame.new.self one.epoch_is one.told_is epochs one.is stands c.in-Err.refusal
           (λ goes. true≢false (sym (c.goes_on.ensures.1 goes) ∙ c.if-goes_on.false)) (told g prefix (Err c.in-Err.refusal) c.in-Err.is)),
     )
 

@@ -7,7 +7,8 @@ use Rattle.frames.specs.declared.frame.Frame.{Frame}
 use Rattle.machine.specs.declared.event.Cut.TheVariants.{Apply}
 use Rattle.machine.specs.declared.event.Event.TheVariants.{Crash}
 use Rattle.machine.specs.declared.event.Node.TheVariants.{Standby}
-use Rattle.machine.specs.Event.{At, Frame as Sent, next_from}
+use Rattle.machine.specs.Event.{At, Frame as Sent}
+use Rattle.world.specs.Following.{next_from}
 use Rattle.world.specs.Standby.{Node, arrived_with, node_at}
 use Rattle.world.proofs.ArrivalLemmas.{first-frame}
 use Rattle.world.specs.Remaining.{KeepsOne}
@@ -79,5 +80,6 @@ returns g c =
     moved.keeps moved.contents moved.faulted (ap K.table moved.keyspace) moved.heap (ap (λ ended. ended.items) moved.ended) (ap (λ contents. contents.current.epoch) moved.contents) (follower follows stands.parts) in
     let one = first-frame epoch w (arrived_with c.args.self.now.arrivals c.args.history.now.acknowledgements) frame c.pop_front.new.self.items stood_first (arrivals-stand stands.parts) in
     subst (λ (frames : List Sent). LeavesOnly (E.device kept.engine) (E.device mid.engine) (KeepsOne second w.primary.calls w.standby.position (At (next_from w.standby frames) ∷ []))) (sym one.all)
-    (frame-keeps E.device E.contents E.is_faulted K.table second epoch w.primary.calls w.standby frame one.span kept mid one.epoch_is (link-epoch stands.parts ∙ sym stands.sound.standby.epoch_is) one.is stood c.on_frame.result c.on_frame.ensures))
+    (frame-keeps E.device E.contents E.is_faulted K.table second epoch w.primary.calls w.standby frame one.span kept mid one.epoch_is one.told_is
+    (record { epoch_is = link-epoch stands.parts ∙ sym stands.sound.standby.epoch_is; role_is = stands.lives.follows }) one.is stood c.on_frame.result c.on_frame.ensures))
     c.requires.world)

@@ -1,9 +1,9 @@
-use Rattle.std.proofs.Common.{◌≡◌, ◌∙◌, ℕ, Option, Some, Result, Ok, Err, ap, subst}
+use Rattle.std.proofs.Common.{◌≡◌, ◌∙◌, ℕ, true, Option, Some, Result, Ok, Err, ap, subst}
 use Rattle.std.proofs.lemmas.Result.{err_from_is_err_and}
 use Rattle.kv_types.specs.declared.refusal.Refusal.{Refusal}
 use Rattle.kv_types.specs.declared.refusal.Refusal.TheVariants.{Memory}
 use Rattle.world.proofs.LinkLemmas.{Answers, sends}
-use Rattle.world.proofs.PairLink.{send-does, send-none, send-cut, tells-still}
+use Rattle.world.proofs.PairLink.{follows-sends, send-does, send-none, send-cut, tells-still}
 use Rattle.world.proofs.pair.Pair.send_group.Goals as goal
 
 pub returns-in_err-index-clause-does : goal.returns-in_err-index-clause-does
@@ -19,7 +19,9 @@ returns-in_err-index-clause-does g c =
     let answers = subst (λ (r : Result (Option ℕ) Refusal). Answers outgoing.link handed r link waiting) c.in_err-index.was told in
     tells-still _ waiting link c.next_frame.new.self.opening _ c.from_residual.result c.next_frame.ensures.opening
     (send-cut _ waiting link _ c.from_residual.result exit.0 exit.1 memory
-    (λ w legal stands. sends w.primary.calls outgoing.link handed c.args.self.now.remote w.primary.link legal stands c.requires.none_before (Err c.in_err-index.field-0.0) link waiting answers))
+    (λ w legal stands.
+    follows-sends w.primary.calls outgoing.link handed c.args.self.now.remote w.primary.link true stands
+    (sends w.primary.calls outgoing.link handed c.args.self.now.remote w.primary.link legal stands c.requires.none_before (Err c.in_err-index.field-0.0) link waiting answers)))
 
 pub returns-in_default-clause-does : goal.returns-in_default-clause-does
 returns-in_default-clause-does g c =
@@ -44,7 +46,9 @@ returns-in_err-pass-clause-does g c =
     let answers = subst (λ (r : Result (Option ℕ) Refusal). Answers outgoing.link handed r link waiting) (c.in_ok-index.was ∙ ap Ok c.in-Some.is) told in
     tells-still _ waiting link c.next_frame.new.self.opening c.pass.new.frames.items c.from_residual-in_err-pass.result c.next_frame.ensures.opening
     (send-cut _ waiting link c.pass.new.frames.items c.from_residual-in_err-pass.result exit.0 exit.1 (exit.2 ∙ c.in_err-pass.ensures.cause)
-    (λ w legal stands. (sends w.primary.calls outgoing.link handed c.args.self.now.remote w.primary.link legal stands c.requires.none_before (Ok (Some c.in-Some.index)) link waiting answers).may))
+    (λ w legal stands.
+    follows-sends w.primary.calls outgoing.link handed c.args.self.now.remote w.primary.link true stands
+    (sends w.primary.calls outgoing.link handed c.args.self.now.remote w.primary.link legal stands c.requires.none_before (Ok (Some c.in-Some.index)) link waiting answers).may))
 
 pub returns-clause-does : goal.returns-clause-does
 returns-clause-does g c =

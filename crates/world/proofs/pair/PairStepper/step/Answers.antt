@@ -2,7 +2,8 @@ use Rattle.std.proofs.Common.{ap, refl, sym, ◌∙◌}
 use Rattle.std.proofs.lemmas.Bool.{and_parts}
 use Rattle.world.specs.Condition.{runs}
 use Rattle.world.specs.Pair.{takes_part}
-use Rattle.world.proofs.StepLemmas.{acts-is, idle-is, own-is, turn-is}
+use Rattle.machine.specs.declared.event.Event.TheVariants.{Newcomer, PinCopy, SendCopy}
+use Rattle.world.proofs.StepLemmas.{acts-is, copy-does, idle-is, leaves-still, newcomer-does, own-is, pin-does, turn-is}
 use Rattle.world.proofs.pair.PairStepper.step.Goals as goal
 
 pub returns-then-not-takes_part : goal.returns-then-not-takes_part
@@ -49,6 +50,15 @@ returns-in-AckDelivered g c = own-is c.in-AckDelivered.is c.takes_part.ensures c
 
 pub returns-in-RaiseRemote : goal.returns-in-RaiseRemote
 returns-in-RaiseRemote g c = own-is c.in-RaiseRemote.is c.takes_part.ensures c.if-not-takes_part.false (λ runs. runs) (c.raise_remote.ensures.does c.args.history.now) (c.raise_remote.ensures.leaves c.args.history.now)
+
+pub returns-in-Newcomer : goal.returns-in-Newcomer
+returns-in-Newcomer g c = own-is c.in-Newcomer.is c.takes_part.ensures c.if-not-takes_part.false (λ runs. runs) (newcomer-does _) (leaves-still Newcomer _)
+
+pub returns-in-PinCopy : goal.returns-in-PinCopy
+returns-in-PinCopy g c = own-is c.in-PinCopy.is c.takes_part.ensures c.if-not-takes_part.false (λ runs. runs) (pin-does _) (leaves-still PinCopy _)
+
+pub returns-in-SendCopy : goal.returns-in-SendCopy
+returns-in-SendCopy g c = own-is c.in-SendCopy.is c.takes_part.ensures c.if-not-takes_part.false (λ runs. runs) (copy-does _) (leaves-still SendCopy _)
 
 pub returns-in-Hold : goal.returns-in-Hold
 returns-in-Hold g c = own-is c.in-Hold.is c.takes_part.ensures c.if-not-takes_part.false (λ runs. runs) c.hold.ensures.does c.hold.ensures.leaves
