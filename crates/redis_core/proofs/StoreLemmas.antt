@@ -54,6 +54,8 @@ module _ (old : Stored) (words : List (List ℕ)) (before : Running) where
   runs-refused refusal.Memory after full same = runs_memory after same
   runs-refused refusal.NotFenced after full same = runs_memory after same
   runs-refused refusal.WrongRole after full same = runs_memory after same
+  runs-refused refusal.WrongPair after full same = runs_memory after same
+  runs-refused refusal.WrongLink after full same = runs_memory after same
 
   pub runs-too_large : (changes : List Change) (reply : Reply) (after : Running) → changes ≡ (outcome_of (records old.table) words).changes → ¬ (changes_size changes ≤ before.left)
       → reply ≡ too_large_reply → IsSame before after → RunsRequest old words before reply after old
