@@ -12,17 +12,23 @@ ghost use Rattle.links.specs.Reading.{piece_of};
 ghost use Rattle.placing.specs.Fill.{fill_of};
 ghost use Rattle.standby.specs.Taking.{Stands};
 ghost use Rattle.links.specs.Serving.{held, Acknowledges, Answers, HasRun, HasSaid, IsTidied, Leaves, LinkSays, Says, Served, ack_text, refusal_of_ack, refusal_of_head, stop_of};
+ghost use Rattle.links.specs.Greeting.{TakesOver};
+ghost use Rattle.links.specs.declared.left.Left.TheVariants.{Adopts, Stopped};
 ghost use Rattle.links.specs.declared.link_error.LinkError.TheVariants.{Closed, Refused, Stops};
 
 use crate::acknowledging::say;
 use crate::fill_gauges::FillSetter;
+use crate::left::Left;
 use crate::link_acceptor::LinkAcceptor;
 use crate::link_error::{LinkError, ends_by, refusal_of_ack, refusal_of_head};
 use crate::link_reader::LinkReader;
 use crate::link_writer::{LinkWriter, limit_writes};
 use crate::log::Log;
+use crate::meeting::{left_by, serve_greeted};
 use crate::progress::{Progress, end_turn};
+use crate::stage::Stage;
 use frames::{Ack, Frame};
+use greeting::Greeting;
 use kv_types::Refusal;
 use mv_keyspace::Keyspace;
 use standby::Standby;
@@ -39,7 +45,8 @@ use wbl_engine::Durable;
 /// How many bytes are read at once.
 const BLOCK_BYTES: usize = 65_536;
 
-/// Takes one link at a time, until one stops the node, and says why it did. With a host, connections from any other are closed at once. A link on which
+/// Takes one link at a time, until one stops the node, or the node takes over the number of a pair, and says which. Both sides of each link say first which
+/// release's links they speak and to which pair they belong, and a link whose sides may not link ends there, with the node as it was. With a host, connections from any other are closed at once. A link on which
 /// nothing comes for a second, or no whole frame and few bytes for five, ends where another connection waits, which is the next; one whose primary takes
 /// nothing for five seconds ends. It tells why links end that the primary does not close, and shows how much the node holds. Where a connection cannot be taken for now, it rests by the
 /// clock and goes on.
@@ -50,14 +57,17 @@ const BLOCK_BYTES: usize = 65_536;
 pub fn follow<C: Clock, E: Durable, K: Keyspace, W: Write>(
     clock: &C,
     alloc: Global,
+    own: &Greeting,
     node: &mut Standby<E, K>,
     listener: &TcpListener,
     host: Option<IpAddr>,
     shown: &mut FillSetter,
     log: &mut Log<W>,
-) -> io::Result<Refusal>
+) -> io::Result<Left>
     requires stands { Stands E.device E.contents E.is_faulted K.table node.old }
-    ensures stands { ¬ (result ≡ Ok Fault) → Stands E.device E.contents E.is_faulted K.table node.new }
+    ensures stands { ¬ (result ≡ Ok (Stopped Fault)) → Stands E.device E.contents E.is_faulted K.table node.new }
+    ensures adopts { (number : ℕ) → result ≡ Ok (Adopts number)
+        → (before : ℕ) × TakesOver own.now number before (E.contents node.new.engine).current.position }
 {
     let progress = log.progress();
     let mut acceptor = LinkAcceptor::new(listener, host, clock, log);
@@ -70,9 +80,9 @@ pub fn follow<C: Clock, E: Durable, K: Keyspace, W: Write>(
         if !acceptor.admits(&stream) {
             continue;
         }
-        let (later, stopped) = serve_next(alloc, node, &stream, &mut acceptor, shown, &progress);
-        if let Some(refusal) = stopped {
-            return Ok(refusal);
+        let (later, left) = serve_next(alloc, own, node, &stream, &mut acceptor, shown, &progress);
+        if let Some(left) = left {
+            return Ok(left);
         }
         newer = later;
     }
@@ -80,34 +90,44 @@ pub fn follow<C: Clock, E: Durable, K: Keyspace, W: Write>(
 }
 
 /// Serves the link of this connection, and tells how it ended if the primary did not close it. Answers the connection for which it was left, if it was, and
-/// why the node stops, if it does.
+/// why the node takes no further link, if it takes none.
 fn serve_next<C: Clock, E: Durable, K: Keyspace, W: Write>(
     alloc: Global,
+    own: &Greeting,
     node: &mut Standby<E, K>,
     stream: &TcpStream,
     acceptor: &mut LinkAcceptor<'_, C, W>,
     shown: &mut FillSetter,
     progress: &Option<Arc<Progress>>,
-) -> (Option<TcpStream>, Option<Refusal>)
+) -> (Option<TcpStream>, Option<Left>)
     requires stands { Stands E.device E.contents E.is_faulted K.table node.old }
-    ensures stands { ¬ (result.1 ≡ Some Fault) → Stands E.device E.contents E.is_faulted K.table node.new }
+    ensures stands { ¬ (result.1 ≡ Some (Stopped Fault)) → Stands E.device E.contents E.is_faulted K.table node.new }
+    ensures adopts { (number : ℕ) → result.1 ≡ Some (Adopts number)
+        → TakesOver own.now number (E.contents node.old.engine).current.position (E.contents node.new.engine).current.position }
 {
     limit_writes(stream);
     let written = Cell::new(0);
-    let mut from = LinkReader::new(stream, acceptor, &written, progress);
+    let stage = Cell::new(Stage::Unmet);
+    let mut from = LinkReader::new(stream, acceptor, &written, &stage, progress);
     let mut to = LinkWriter::new(stream, &written, progress);
-    let served = serve_link(alloc, node, &mut from, &mut to, shown);
+    let met = serve_greeted(alloc, own, node, &mut from, &mut to, shown, &stage);
     end_turn(progress);
-    let stopped = stop_of(served);
     let newer = from.into_newer();
-    if let Err(end) = served {
-        acceptor.tell_end(end, newer.is_some());
+    match met {
+        Ok(met) => {
+            let left = left_by(&met);
+            acceptor.tell_met(&met, newer.is_some());
+            (newer, left)
+        }
+        Err(why) => {
+            acceptor.tell_unmet(why, newer.is_some());
+            (newer, None)
+        }
     }
-    (newer, stopped)
 }
 
 /// Why the node stops whose link ended so, if it does.
-fn stop_of(served: Result<(), LinkError>) -> Option<Refusal>
+pub(crate) fn stop_of(served: Result<(), LinkError>) -> Option<Refusal>
     ensures fault { (result ≡ Some Fault) ↔ IsErrOf served (Stops Fault) }
     ensures value { result ≡ stop_of served }
 {

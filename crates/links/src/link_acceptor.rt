@@ -1,9 +1,11 @@
 //! The connections that a standby takes as links: from which host, and what it tells of those that ended.
 ghost use Rattle.std.specs.Prelude.{◌≡◌, ◌↔◌, IsTrue, IfSome};
 
+use crate::greetings::Unmet;
 use crate::link_error::LinkError;
 use crate::listening::is_lasting;
 use crate::log::{Log, News};
+use crate::meeting::Met;
 use crate::throttle::Throttle;
 use std::io::{self, ErrorKind, Write};
 use std::net::{IpAddr, TcpListener, TcpStream};
@@ -28,6 +30,8 @@ pub(crate) struct LinkAcceptor<'a, C, W> {
     told: Option<(LinkError, bool)>,
     ends: Throttle,
     strangers: Throttle,
+    /// How often it is told that somebody said nothing.
+    silent: Throttle,
 }
 
 impl<'a, C: Clock, W: Write> LinkAcceptor<'a, C, W> {
@@ -46,6 +50,7 @@ impl<'a, C: Clock, W: Write> LinkAcceptor<'a, C, W> {
             told: None,
             ends: Throttle::new(),
             strangers: Throttle::new(),
+            silent: Throttle::new(),
         }
     }
 
@@ -97,9 +102,27 @@ impl<'a, C: Clock, W: Write> LinkAcceptor<'a, C, W> {
         is_admitted
     }
 
+    /// Tells how a link ended whose sides had greeted, unless the primary closed it, or it was left to take over the primary's number.
+    pub(crate) fn tell_met(&mut self, met: &Met, is_left: bool) {
+        if let Err(end) = met.served {
+            if met.number.is_none() {
+                self.tell_end(end, is_left);
+            }
+        }
+    }
+
+    /// Tells why the sides of a link did not greet. Of one who said nothing it tells at once, and then ever more seldom.
+    pub(crate) fn tell_unmet(&mut self, why: Unmet, is_left: bool) {
+        if is_left || why != Unmet::Silent {
+            self.tell_end(why.end(), is_left);
+        } else if self.silent.is_due(self.clock) {
+            self.log.say(News::NotGreeted);
+        }
+    }
+
     /// Tells why a link ended that the primary did not close, or that it was left for another connection: at once where the link before ended otherwise, and
     /// else ever more seldom.
-    pub(crate) fn tell_end(&mut self, why: LinkError, is_left: bool) {
+    fn tell_end(&mut self, why: LinkError, is_left: bool) {
         if self.told != Some((why, is_left)) {
             self.told = Some((why, is_left));
             self.ends = Throttle::new();

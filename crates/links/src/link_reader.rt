@@ -3,11 +3,14 @@ ghost use Rattle.std.specs.Prelude.{◌≡◌};
 
 use crate::link_acceptor::LinkAcceptor;
 use crate::progress::{Progress, end_turn};
+use crate::stage::Stage;
+use greeting::GREETING_BYTES;
 use std::cell::Cell;
 use std::io::{self, ErrorKind, Read, Write};
 use std::net::TcpStream;
 use std::sync::Arc;
 use std::time::{Clock, Duration, Instant};
+use stream_codec::ACK_BYTES;
 
 /// In how many seconds something has to come of what comes on a link, or the node looks for a newer connection.
 const PATIENCE_SECONDS: u64 = 5;
@@ -15,16 +18,22 @@ const PATIENCE_SECONDS: u64 = 5;
 /// How many bytes in that time are enough where no frame has ended.
 const LEAST_BYTES: u64 = 65_536;
 
-/// What comes on a link. A read answers `WouldBlock` where nothing has come for a second. It fails with `TimedOut` where another connection waits and nothing
-/// has come for a second, or no frame was acknowledged and few bytes came for some: a host that vanished tells nobody that its link is over, and one who
-/// says nothing, or next to nothing, keeps no other out. What is left to read is what the stream has left.
+/// How many bytes a node has written once it acknowledged a frame: its greeting, where it is, and that acknowledgement.
+const FIRST_FRAME_BYTES: u64 = (GREETING_BYTES + ACK_BYTES + ACK_BYTES) as u64;
+
+/// What comes on a link. A read answers `WouldBlock` where nothing has come for a second, but waits on for a greeting. It fails with `TimedOut` where another
+/// connection waits and nothing has come for a second, or no frame was acknowledged and few bytes came for some: a host that vanished tells nobody that its
+/// link is over, and one who says nothing, or next to nothing, keeps no other out. It fails with `ConnectionAborted`, with nothing read, once a frame was
+/// acknowledged on a link that is left then. What is left to read is what the stream has left.
 #[derive(Drop)]
 pub(crate) struct LinkReader<'a, 'b, S, C, W> {
     stream: S,
     acceptor: &'a mut LinkAcceptor<'b, C, W>,
     newer: Option<TcpStream>,
-    /// How many acknowledgements were written.
+    /// How many bytes were written.
     written: &'a Cell<u64>,
+    /// How far the link is.
+    stage: &'a Cell<Stage>,
     /// Where the node shows whether it takes what came.
     progress: &'a Option<Arc<Progress>>,
     /// When the link began to be looked at, what was written then, and how many bytes came since.
@@ -39,6 +48,7 @@ impl<'a, 'b, S, C: Clock, W: Write> LinkReader<'a, 'b, S, C, W> {
         stream: S,
         acceptor: &'a mut LinkAcceptor<'b, C, W>,
         written: &'a Cell<u64>,
+        stage: &'a Cell<Stage>,
         progress: &'a Option<Arc<Progress>>,
     ) -> LinkReader<'a, 'b, S, C, W>
         ensures { result.stream ≡ stream }
@@ -48,6 +58,7 @@ impl<'a, 'b, S, C: Clock, W: Write> LinkReader<'a, 'b, S, C, W> {
             acceptor,
             newer: None,
             written,
+            stage,
             progress,
             since: None,
             written_then: 0,
@@ -61,6 +72,16 @@ impl<'a, 'b, S, C: Clock, W: Write> LinkReader<'a, 'b, S, C, W> {
         S: Drop,
     {
         self.newer
+    }
+
+    /// Whether the link lasted only until a frame was acknowledged, and one was.
+    fn is_done(&self) -> bool {
+        self.stage.get() == Stage::UntilFrame && self.written.get() >= FIRST_FRAME_BYTES
+    }
+
+    /// Whether a read that waited in vain is made again: it was for a greeting.
+    fn waits_on(&self, error: &io::Error) -> bool {
+        error.kind() == ErrorKind::WouldBlock && self.stage.get() == Stage::Unmet
     }
 
     /// Whether another connection waits that may be a link, and is kept then.
@@ -112,6 +133,9 @@ impl<S: Read, C: Clock, W: Write> Read for LinkReader<'_, '_, S, C, W> {
 
     fn read(&mut self, buf: &mut [u8]) -> io::Result<usize> {
         end_turn(self.progress);
+        if self.is_done() {
+            return Err(io::Error::from(ErrorKind::ConnectionAborted));
+        }
         if self.makes_no_way() && self.finds_newer() {
             return Err(io::Error::from(ErrorKind::TimedOut));
         }
@@ -120,7 +144,7 @@ impl<S: Read, C: Clock, W: Write> Read for LinkReader<'_, '_, S, C, W> {
                 Err(error) if error.kind() == ErrorKind::WouldBlock && self.finds_newer() => {
                     return Err(io::Error::from(ErrorKind::TimedOut));
                 }
-                Err(error) if error.kind() == ErrorKind::Interrupted => {}
+                Err(error) if error.kind() == ErrorKind::Interrupted || self.waits_on(&error) => {}
                 Ok(count) => {
                     self.bytes = self.bytes.saturating_add(count as u64);
                     if let Some(progress) = self.progress {

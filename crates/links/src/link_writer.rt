@@ -2,6 +2,7 @@
 ghost use Rattle.std.specs.Prelude.{◌≡◌};
 
 use crate::progress::Progress;
+use greeting::GREETING_BYTES;
 use std::cell::Cell;
 use std::io::{self, Write};
 use std::net::TcpStream;
@@ -11,13 +12,16 @@ use std::time::Duration;
 /// How long a write may wait for the other side, in seconds.
 const PATIENCE_SECONDS: u64 = 5;
 
+/// How many bytes the greeting has.
+const GREETING: u64 = GREETING_BYTES as u64;
+
 /// A write there that is not taken for some seconds fails from now on.
 pub(crate) fn limit_writes(stream: &TcpStream) {
     let _ = stream.set_write_timeout(Some(Duration::from_secs(PATIENCE_SECONDS)));
 }
 
-/// What goes out on a link, an acknowledgement at a time, how many writes went through, and where the node shows how far it is. It holds what the stream
-/// holds.
+/// What goes out on a link, the greeting and then an acknowledgement at a time, how many bytes went through, and where the node shows how far it is. It holds
+/// what the stream holds.
 #[derive(Drop)]
 pub(crate) struct LinkWriter<'a, S> {
     stream: S,
@@ -26,7 +30,7 @@ pub(crate) struct LinkWriter<'a, S> {
 }
 
 impl<'a, S> LinkWriter<'a, S> {
-    /// What goes out on this link, where its writes are counted, and where they are shown.
+    /// What goes out on this link, where its bytes are counted, and where they are shown.
     pub(crate) fn new(
         stream: S,
         written: &'a Cell<u64>,
@@ -47,11 +51,14 @@ impl<S: Write> Write for LinkWriter<'_, S> {
 
     fn write(&mut self, buf: &[u8]) -> io::Result<usize> {
         let count = self.stream.write(buf)?;
+        let before = self.written.get();
         if let Some(progress) = self.progress {
-            // (the first says where the node is)
-            progress.note(buf, self.written.get() > 0);
+            // (the greeting says nothing of that, and the first acknowledgement where the node is)
+            if before >= GREETING {
+                progress.note(buf, before > GREETING);
+            }
         }
-        self.written.set(self.written.get().wrapping_add(1));
+        self.written.set(before.saturating_add(count as u64));
         Ok(count)
     }
 

@@ -18,6 +18,18 @@ const STANDBY_AHEAD: &str =
 const STANDBY_BEHIND: &str =
     "the standby lacks what this primary cannot send: start this primary again, and put a new standby in its place if this is told again";
 
+/// What a node tells whose standby belongs to another pair.
+const OTHER_PAIR: &str =
+    "the standby belongs to another pair: it takes nothing from this primary: see \"A standby of another pair\" in docs/operating.md";
+
+/// What a node tells whose standby speaks other links.
+const OTHER_RELEASE: &str =
+    "the standby is of a release that this one does not link with: see \"From one release to the next\" in docs/operating.md";
+
+/// What a standby tells of one who said nothing.
+const NOT_GREETED: &str =
+    "a connection was closed before it greeted: it is no primary, or one of a release before 22";
+
 /// What a standby tells that takes the next link.
 const LINK_LEFT: &str = "left the link: nothing came on it, and another connection waits";
 
@@ -91,6 +103,16 @@ pub enum News<'a> {
     StandbyBehind {
         address: &'a str,
     },
+    /// The standby at this address belongs to another pair.
+    OtherPair {
+        address: &'a str,
+    },
+    /// The standby at this address is of a release whose links this one does not speak.
+    OtherRelease {
+        address: &'a str,
+    },
+    /// Somebody connected as a primary does, and the connection ended before they said anything.
+    NotGreeted,
     /// A link from a primary has ended that the primary did not close.
     LinkEnded {
         why: LinkError,
@@ -244,6 +266,9 @@ impl<'a> fmt::Display for News<'a> {
                 )
             }
             News::StandbyBehind { address } => write!(f, "{address}: {STANDBY_BEHIND}"),
+            News::OtherPair { address } => write!(f, "{address}: {OTHER_PAIR}"),
+            News::OtherRelease { address } => write!(f, "{address}: {OTHER_RELEASE}"),
+            News::NotGreeted => f.write_str(NOT_GREETED),
             News::LinkEnded { why } => write!(f, "{} {why}", word_of(why)),
             News::LinkLeft => f.write_str(LINK_LEFT),
             News::Stranger { host } => {

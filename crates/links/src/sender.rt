@@ -3,6 +3,8 @@ ghost use Rattle.std.specs.Prelude.{◌≡◌, ◌⊎◌, ◌↔◌, ◌<◌, �
 ghost use Rattle.frames.specs.declared.ack.Ack.{Ack as Told};
 ghost use Rattle.links.specs.Carrying.{GoesOut, KeepsAll, SendsOnLink, ServesLink, ServesLinks, TouchesNeither};
 ghost use Rattle.links.specs.Ends.{AreOfOneEpoch};
+ghost use Rattle.greeting.specs.declared.greeting.Greeting.{Greeting as Said};
+ghost use Rattle.links.specs.Greeting.{Greets, greeting_of};
 ghost use Rattle.links.specs.Hearing.{HasHeardBehind};
 ghost use Rattle.links.specs.Marking.{StaysFinal};
 ghost use Rattle.links.specs.Opening.{HearsLink, Opens, SaysFirst};
@@ -11,12 +13,13 @@ ghost use Rattle.links.specs.declared.standing.Standing.TheVariants.{Behind};
 use crate::dialing::{dial, why_not};
 use crate::gap::tell_gap;
 use crate::log::{Log, Lost, News};
-use crate::opening::open_link;
+use crate::opening::greet_and_open;
 use crate::receiver::AckReceiver;
 use crate::refused_links::RefusedLinks;
 use crate::same_end::SameEnd;
 use crate::sending::{Surroundings, send_all};
 use crate::throttle::Throttle;
+use greeting::Greeting;
 use kv_types::Refusal;
 use marks::ThreadMarks;
 use model::Group;
@@ -50,6 +53,8 @@ const MOST_TELLING_PAUSES: u32 = 6_000;
 pub struct LinkSender {
     /// The standby's address, as HOST:PORT.
     pub address: String,
+    /// The number of this node's pair, or 0 where its image has none.
+    pub pair: u64,
     /// What is to be sent.
     pub outgoing: Outgoing,
     /// The groups that were committed.
@@ -85,6 +90,9 @@ struct Telling<W> {
     told: Option<Lost>,
     /// How often it is told that the standby is behind what it had acknowledged.
     behind: Throttle,
+    /// How often it is told that it belongs to another pair, and that it is of a release that does not link with this one.
+    other_pair: Throttle,
+    other_release: Throttle,
 }
 
 impl<W: Write> Telling<W> {
@@ -94,23 +102,36 @@ impl<W: Write> Telling<W> {
         self.log.say(News::LinkOpen { address, position });
     }
 
-    /// No link comes up: that is told where the reason is another one than before. What is to be done where the standby lacks what this node cannot send is told
-    /// at once, and then ever more seldom.
+    /// No link comes up: that is told where the reason is another one than before. What is to be done where the standby lacks what this node cannot send, or
+    /// where the two may not link, is told at once, and then ever more seldom.
     fn tell_none<C: Clock>(&mut self, clock: &C, address: &str, why: Lost) {
         if self.told != Some(why) {
             self.told = Some(why);
             self.log.say(News::NoLink { address, why });
         }
-        if why == Lost::Refused(Refusal::PositionGap) && self.behind.is_due(clock) {
-            self.log.say(News::StandbyBehind { address });
+        let (advice, throttle) = match why {
+            Lost::Refused(Refusal::PositionGap) => {
+                (News::StandbyBehind { address }, &mut self.behind)
+            }
+            Lost::Refused(Refusal::WrongPair) => {
+                (News::OtherPair { address }, &mut self.other_pair)
+            }
+            Lost::Refused(Refusal::WrongLink) => {
+                (News::OtherRelease { address }, &mut self.other_release)
+            }
+            _ => return,
+        };
+        if throttle.is_due(clock) {
+            self.log.say(advice);
         }
     }
 }
 
 impl LinkSender {
-    /// What sends this on links to the standby at this address, and the groups that come here.
+    /// What sends this on links to the standby at this address, and the groups that come here, and greets as a node of the pair of this number.
     pub fn new(
         address: String,
+        pair: u64,
         outgoing: Outgoing,
         groups: RingInlet<Group>,
         sleeper: Sleeper,
@@ -119,12 +140,14 @@ impl LinkSender {
         marks: ThreadMarks,
         spin: u32,
     ) -> LinkSender
+        ensures pair { result.pair ≡ pair }
         ensures outgoing { result.outgoing ≡ outgoing }
         ensures groups { result.groups ≡ groups }
         ensures marks { result.marks ≡ marks }
     {
         LinkSender {
             address,
+            pair,
             outgoing,
             groups,
             sleeper,
@@ -159,6 +182,8 @@ impl LinkSender {
             refused: RefusedLinks::new(),
             told: None,
             behind: Throttle::new(),
+            other_pair: Throttle::new(),
+            other_release: Throttle::new(),
         };
         own.serve_links(&rt, alloc, receiver, &mut telling);
         stay_apart(&rt, &mut telling.log);
@@ -301,7 +326,8 @@ impl LinkSender {
         )
     }
 
-    /// Opens a link: the standby says first where it is, which counts as any other acknowledgement.
+    /// Opens a link: both sides greet, and then the standby says where it is, which counts as any other acknowledgement. Where the two may not link, nothing
+    /// but the greetings goes either way.
     fn open<R: Net<Stream = TcpStream>>(
         &mut self,
         rt: &R,
@@ -313,6 +339,8 @@ impl LinkSender {
         ensures behind { OnOk result (receiver.old.standing ≡ Behind) }
         ensures opened { IfOk result (λ opened. (ack : Told) × (bytes : Option (List ℕ)) × (left : Option (List ℕ)) × SaysFirst bytes left ack opened.decoder
             × (opened.position ≡ ack.position) × Opens ack receiver.old receiver.new self.old.outgoing self.new.outgoing) }
+        ensures greeted { OnOk result ((theirs : Said) × (bytes : Option (List ℕ)) × (left : Option (List ℕ)) × (before : Option (List ℕ)) × (after : Option (List ℕ))
+            × Greets (greeting_of self.old.pair) theirs bytes left before after) }
         ensures lost { OnErr result (HearsLink receiver.old receiver.new) }
         ensures touches { TouchesNeither self.old self.new }
         // it is open where no memory was left to share the connection
@@ -323,7 +351,15 @@ impl LinkSender {
         let Ok(stream) = dialed else {
             return Err(why);
         };
-        let opened = open_link(alloc, &mut self.outgoing, receiver, &mut &stream);
+        let own = Greeting::of_pair(self.pair);
+        let opened = greet_and_open(
+            alloc,
+            &own,
+            &mut self.outgoing,
+            receiver,
+            &mut &stream,
+            &mut &stream,
+        );
         let (position, decoder) = match opened {
             Ok(opened) => opened,
             Err(why) => {

@@ -34,7 +34,7 @@ pub(crate) fn write_put<O: Write>(to: &mut O, out: &mut Vec<u8>) -> Result<(), L
 /// # Errors
 ///
 /// Those of `write_some`. The beginning of the bytes may have been written, and nothing else.
-fn write_whole<O: Write>(to: &mut O, bytes: &[u8]) -> io::Result<()>
+pub(crate) fn write_whole<O: Write>(to: &mut O, bytes: &[u8]) -> io::Result<()>
     ensures written { OnOk result (Appends (O.contents to.old) (O.contents to.new) bytes.now) }
     ensures begun { (part : List ℕ) × (rest : List ℕ) × (bytes.now ≡ part ++ rest) × Appends (O.contents to.old) (O.contents to.new) part }
 {

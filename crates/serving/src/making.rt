@@ -103,7 +103,8 @@ struct ClientEnds {
     node: Waker,
 }
 
-/// All that the threads of a primary own, over an image that is durable so far, and that holds so much, with clients that may take so much.
+/// All that the threads of a primary own, over an image that is durable so far, that holds so much and that has this number of a pair, with clients that may take
+/// so much.
 ///
 /// # Errors
 ///
@@ -115,11 +116,13 @@ pub(crate) fn new_threading<R: Net>(
     opening: Opening,
     epoch: u64,
     address: String,
+    pair: u64,
     limits: ClientLimits,
     fill: &Fill,
 ) -> Result<Threading, Refusal>
     ensures marks { IfOk result (λ made. (made.node.committer_marks.raises_local ≡ true) × (made.node.committer_marks.local ≡ committed.now)) }
     ensures link { IfOk result (λ made. Begin epoch opening made.sender made.receiver) }
+    ensures pair { IfOk result (λ made. made.sender.pair ≡ pair) }
 {
     let (due, due_out) = due_list(alloc)?;
     let fill = new_fill(alloc, fill)?;
@@ -138,6 +141,7 @@ pub(crate) fn new_threading<R: Net>(
         opening,
         epoch,
         address,
+        pair,
         remote,
         watch,
         due_out,
@@ -208,13 +212,15 @@ fn new_link(
     opening: Opening,
     epoch: u64,
     address: String,
+    pair: u64,
     remote: ThreadMarks,
     watch: ThreadMarks,
     due: DueOut,
     node: &Waker,
 ) -> Result<LinkEnds, Refusal>
     requires { remote.raises_remote ≡ true }
-    ensures { IfOk result (λ made. Begin epoch opening made.sender made.receiver) }
+    ensures link { IfOk result (λ made. Begin epoch opening made.sender made.receiver) }
+    ensures pair { IfOk result (λ made. made.sender.pair ≡ pair) }
 {
     let Wires {
         outgoing,
@@ -227,6 +233,7 @@ fn new_link(
     let receiver = AckReceiver::new(&outgoing, remote, due, wakers.0, wakers.1, is_broken.0);
     let sender = LinkSender::new(
         address,
+        pair,
         outgoing,
         groups.inlet,
         sleeper,

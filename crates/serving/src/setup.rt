@@ -6,6 +6,8 @@ use std::time::Duration;
 /// What a primary tells and where, and what its clients may take.
 #[derive(Drop)]
 pub struct Setup<W> {
+    /// The number of the pair to which the node belongs, or 0 where its image has none. With another pair's standby it does not link.
+    pub pair: u64,
     /// Where it is told what becomes of the link.
     pub link: Log<W>,
     /// What is told of the node while it runs, if anything is.
@@ -35,9 +37,10 @@ pub struct Watch<W> {
 }
 
 impl<W> Setup<W> {
-    /// Only what becomes of the link is told, there is room for as many sockets as seats, and no connection is closed.
+    /// Of a node whose image has no number of a pair. Only what becomes of the link is told, there is room for as many sockets as seats, and no connection is closed.
     pub fn quiet(link: Log<W>) -> Setup<W> {
         Setup {
+            pair: 0,
             link,
             watch: None,
             clients: ClientLimits {

@@ -73,7 +73,7 @@ pub fn run<
     let fill = primary.front.fill();
     let limits = setup.clients;
     match new_threading(
-        &rt, alloc, &committed, opening, epoch, address, limits, &fill,
+        &rt, alloc, &committed, opening, epoch, address, setup.pair, limits, &fill,
     ) {
         Ok(threading) => start(rt, alloc, threading, listener, primary, setup),
         Err(refusal) => {
