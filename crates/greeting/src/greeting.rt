@@ -42,8 +42,9 @@ impl Greeting {
         ensures text { result ≡ greeting_text self.now }
         ensures fits { (self.now.version < 2 ^ 64) × (self.now.pair < 2 ^ 64) }
     {
-        let [a, b, c, d, e, f, g, h] = self.version.to_be_bytes();
-        let [i, j, k, l, m, n, o, p] = self.pair.to_be_bytes();
+        let Greeting { version, pair } = *self;
+        let [a, b, c, d, e, f, g, h] = version.to_be_bytes();
+        let [i, j, k, l, m, n, o, p] = pair.to_be_bytes();
         [FIRST_BYTE, a, b, c, d, e, f, g, h, i, j, k, l, m, n, o, p]
     }
 

@@ -112,6 +112,7 @@ fn serve_next<C: Clock, E: Durable, K: Keyspace, W: Write>(
     let mut to = LinkWriter::new(stream, &written, progress);
     let met = serve_greeted(alloc, own, node, &mut from, &mut to, shown, &stage);
     end_turn(progress);
+    let is_silent = from.is_silent();
     let newer = from.into_newer();
     match met {
         Ok(met) => {
@@ -120,7 +121,7 @@ fn serve_next<C: Clock, E: Durable, K: Keyspace, W: Write>(
             (newer, left)
         }
         Err(why) => {
-            acceptor.tell_unmet(why, newer.is_some());
+            acceptor.tell_unmet(why, is_silent, newer.is_some());
             (newer, None)
         }
     }

@@ -1,9 +1,7 @@
 //! The greetings of a link, of which each side says one before anything else.
-ghost use Rattle.std.specs.Prelude.{◌≡◌, ◌⊎◌, ℕ, List, ◌++◌, OnOk, IfErr, IfOk};
-ghost use Rattle.std.specs.Io.KnownBytes.{Appends, Consumes};
+ghost use Rattle.std.specs.Prelude.{◌≡◌, IfErr, IfOk};
 ghost use Rattle.greeting.specs.Greeting.{MayLink, greeting_text};
 ghost use Rattle.links.specs.Greeting.{Greets, IsUnmet, IsWhyNot};
-ghost use Rattle.links.specs.declared.greetings.Unmet.TheVariants.{Ended, Silent};
 
 use crate::link_error::LinkError;
 use crate::log::Lost;
@@ -17,10 +15,8 @@ use std::io::{Read, Write};
 pub(crate) enum Unmet {
     /// A write failed.
     Unwritten,
-    /// The connection ended, or a read failed, before the other side said anything.
+    /// The connection ended, or a read failed, before a whole greeting came.
     Silent,
-    /// The same when it had said the beginning of what may be a greeting.
-    Ended,
     /// The two may not link.
     Refused(Refusal),
 }
@@ -31,7 +27,6 @@ impl Unmet {
         match self {
             Unmet::Unwritten => Lost::Unwritten,
             Unmet::Silent => Lost::Silent,
-            Unmet::Ended => Lost::Ended,
             Unmet::Refused(refusal) => Lost::Refused(refusal),
         }
     }
@@ -39,19 +34,19 @@ impl Unmet {
     /// How a standby's link has ended.
     pub(crate) fn end(self) -> LinkError {
         match self {
-            Unmet::Unwritten | Unmet::Silent | Unmet::Ended => LinkError::Closed,
+            Unmet::Unwritten | Unmet::Silent => LinkError::Closed,
             Unmet::Refused(refusal) => LinkError::Refused(refusal),
         }
     }
 }
 
-/// Says the own greeting, reads the other side's, and judges it. Answers it where the two may link. A read that a signal interrupted is made again.
+/// Says the own greeting, reads the other side's in as many pieces as it comes, and judges it. Answers it where the two may link. A read that a signal
+/// interrupted is made again.
 ///
 /// # Errors
 ///
-/// `Unwritten` where a write failed: the beginning of the greeting may have been written, and nothing was read. `Silent` and `Ended` where no whole
-/// greeting came, or a read failed. `Refused` by `WrongLink` where what came is no greeting, or one of another version, and by `WrongPair` where it is one
-/// of another pair.
+/// `Unwritten` where a write failed: the beginning of the greeting may have been written, and nothing was read. `Silent` where no whole greeting came, or a
+/// read failed. `Refused` by `WrongLink` where what came is no greeting, or one of another version, and by `WrongPair` where it is one of another pair.
 pub(crate) fn greet<I: Read, O: Write>(
     own: &Greeting,
     from: &mut I,
@@ -60,33 +55,20 @@ pub(crate) fn greet<I: Read, O: Write>(
     ensures greets { IfOk result (λ theirs. Greets own.now theirs (I.remaining from.old) (I.remaining from.new) (O.contents to.old) (O.contents to.new)) }
     ensures unmet { IfErr result (λ why. IsUnmet own.now why (I.remaining from.old) (I.remaining from.new) (O.contents to.old) (O.contents to.new)) }
 {
-    if write_whole(to, &own.to_bytes()).is_err() {
-        return Err(Unmet::Unwritten);
+    let text = own.to_bytes();
+    match write_whole(to, &text) {
+        Ok(()) => {}
+        Err(_) => return Err(Unmet::Unwritten),
     }
-    let bytes = read_greeting(from)?;
+    let mut bytes = [0; GREETING_BYTES];
+    match from.read_exact(&mut bytes) {
+        Ok(()) => {}
+        Err(_) => return Err(Unmet::Silent),
+    }
     match met(own, &bytes) {
         Ok(theirs) => Ok(theirs),
         Err(refusal) => Err(Unmet::Refused(refusal)),
     }
-}
-
-/// Reads as many bytes as a greeting has, in as many pieces as they come.
-///
-/// # Errors
-///
-/// Only `Silent` and `Ended`.
-fn read_greeting<I: Read>(from: &mut I) -> Result<[u8; GREETING_BYTES], Unmet>
-    ensures read { IfOk result (λ bytes. Consumes (I.remaining from.old) (I.remaining from.new) bytes) }
-    ensures cause { IfErr result (λ why. (why ≡ Silent) ⊎ (why ≡ Ended)) }
-{
-    let mut bytes = [0; GREETING_BYTES];
-    if from.read_exact(&mut bytes[..1]).is_err() {
-        return Err(Unmet::Silent);
-    }
-    if from.read_exact(&mut bytes[1..]).is_err() {
-        return Err(Unmet::Ended);
-    }
-    Ok(bytes)
 }
 
 /// The greeting whose bytes these are, where a node of the own one links with one that said it.

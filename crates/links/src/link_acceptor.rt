@@ -111,9 +111,9 @@ impl<'a, C: Clock, W: Write> LinkAcceptor<'a, C, W> {
         }
     }
 
-    /// Tells why the sides of a link did not greet. Of one who said nothing it tells at once, and then ever more seldom.
-    pub(crate) fn tell_unmet(&mut self, why: Unmet, is_left: bool) {
-        if is_left || why != Unmet::Silent {
+    /// Tells why the sides of a link did not greet. Where nothing at all came, it tells that at once, and then ever more seldom.
+    pub(crate) fn tell_unmet(&mut self, why: Unmet, is_silent: bool, is_left: bool) {
+        if is_left || !is_silent || why != Unmet::Silent {
             self.tell_end(why.end(), is_left);
         } else if self.silent.is_due(self.clock) {
             self.log.say(News::NotGreeted);

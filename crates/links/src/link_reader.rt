@@ -40,6 +40,8 @@ pub(crate) struct LinkReader<'a, 'b, S, C, W> {
     since: Option<Instant>,
     written_then: u64,
     bytes: u64,
+    /// Whether nothing has come at all.
+    is_silent: bool,
 }
 
 impl<'a, 'b, S, C: Clock, W: Write> LinkReader<'a, 'b, S, C, W> {
@@ -63,7 +65,13 @@ impl<'a, 'b, S, C: Clock, W: Write> LinkReader<'a, 'b, S, C, W> {
             since: None,
             written_then: 0,
             bytes: 0,
+            is_silent: true,
         }
+    }
+
+    /// Whether nothing has come at all.
+    pub(crate) fn is_silent(&self) -> bool {
+        self.is_silent
     }
 
     /// The connection for which the link was left, if it was.
@@ -147,6 +155,7 @@ impl<S: Read, C: Clock, W: Write> Read for LinkReader<'_, '_, S, C, W> {
                 Err(error) if error.kind() == ErrorKind::Interrupted || self.waits_on(&error) => {}
                 Ok(count) => {
                     self.bytes = self.bytes.saturating_add(count as u64);
+                    self.is_silent &= count == 0;
                     if let Some(progress) = self.progress {
                         progress.begin_turn();
                     }
