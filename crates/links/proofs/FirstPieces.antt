@@ -78,8 +78,15 @@ Opens-by ack position noted receiver hearing old middle new at again takes reope
 }
 
 -- what a receiver made of a connection on which no link opened
-pub HearsLink-unopened : (old new : AckReceiver) (bytes left : Option (List ℕ))
-    → (new ≡ old) ⊎ ((ack : Ack) × (held : Option (List ℕ)) × SaysFirst bytes left ack held × (RefusesAck old ack new ⊎ Takes old ack new)) → HearsLink old new
-HearsLink-unopened old new bytes left (inl is) = subst (λ (receiver : AckReceiver). HearsLink old receiver) (sym is) (silent old)
-HearsLink-unopened old new bytes left (inr told) =
-    ⊎_elim (λ (refuses : RefusesAck old told.0 new). refused old new told.0 refuses) (λ (takes : Takes old told.0 new). unopened old new told.0 takes) told.3
+pub HearsLink-unopened : (old new : AckReceiver) (left : Option (List ℕ))
+    → (new ≡ old) ⊎ ((ack : Ack) × (behind : Option (List ℕ)) × (held : Option (List ℕ)) × SaysFirst behind left ack held × (RefusesAck old ack new ⊎ Takes old ack new)) → HearsLink old new
+HearsLink-unopened old new left (inl is) = subst (λ (receiver : AckReceiver). HearsLink old receiver) (sym is) (silent old)
+HearsLink-unopened old new left (inr told) =
+    ⊎_elim (λ (refuses : RefusesAck old told.0 new). refused old new told.0 refuses) (λ (takes : Takes old told.0 new). unopened old new told.0 takes) told.4
+
+-- the same behind the greetings, of which this was left to read
+pub refused-behind : (old new : AckReceiver) (behind left : Option (List ℕ))
+    → (new ≡ old) ⊎ ((ack : Ack) × (held : Option (List ℕ)) × SaysFirst behind left ack held × (RefusesAck old ack new ⊎ Takes old ack new))
+    → (new ≡ old) ⊎ ((ack : Ack) × (first : Option (List ℕ)) × (held : Option (List ℕ)) × SaysFirst first left ack held × (RefusesAck old ack new ⊎ Takes old ack new))
+refused-behind old new behind left (inl is) = inl is
+refused-behind old new behind left (inr told) = inr (told.0, behind, told.1, told.2, told.3)

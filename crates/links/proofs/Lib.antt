@@ -5,3 +5,4 @@ mod Hearing
 mod FirstPieces
 mod SentRounds
 mod Carrying
+mod Greeted

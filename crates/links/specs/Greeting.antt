@@ -1,5 +1,5 @@
 -- What two nodes say first on a link, and what a standby without a number makes of it.
-use Rattle.std.specs.Prelude.{◌≡◌, ◌≢◌, ◌⊎◌, ℕ, ◌<◌, List, ◌++◌, length, get_or, Option, OnOk, OnErr, Result, IsErrOf, [], Unit}
+use Rattle.std.specs.Prelude.{◌≡◌, ◌≢◌, ◌⊎◌, ℕ, ◌<◌, List, ◌++◌, length, get_or, Option, None, Some, OnOk, OnErr, Result, Err, IsErrOf, []}
 use Rattle.std.specs.Io.KnownBytes.{Appends, Consumes}
 use Rattle.kv_types.specs.declared.refusal.Refusal.{Refusal}
 use Rattle.kv_types.specs.declared.refusal.Refusal.TheVariants.{WrongLink, WrongPair}
@@ -13,7 +13,7 @@ use Rattle.links.specs.declared.greetings.Unmet.TheVariants.{Unwritten, Refused}
 use Rattle.links.specs.declared.left.Left.{Left}
 use Rattle.links.specs.declared.left.Left.TheVariants.{Stopped, Adopts}
 use Rattle.links.specs.declared.link_error.LinkError.{LinkError}
-use Rattle.links.specs.declared.link_error.LinkError.TheVariants.{Closed}
+use Rattle.links.specs.declared.link_error.LinkError.TheVariants.{Closed, Stops}
 
 -- what a node of this release says first whose image has this number
 abbrev pub greeting_of : ℕ → Greeting
@@ -52,7 +52,8 @@ pub record TakesOver (own : Greeting) (number before after : ℕ) : Type 0 where
   pub is_one : number ≢ 0
   pub moved : before < after
 
--- the same of how a link was left, if it was to take over a number
-abbrev pub IsLeftFor : Greeting → ℕ → ℕ → Left → Type 0
-IsLeftFor own before after (Stopped refusal) = Unit {0}
-IsLeftFor own before after (Adopts number) = TakesOver own number before after
+-- Why the node takes no further link after one that ended so, and that had it take over this number, if it takes none: what stops it comes first.
+abbrev pub left_of : Result (Unit {0}) LinkError → Option ℕ → Option Left
+left_of (Err (Stops refusal)) number = Some (Stopped refusal)
+left_of served (Some number) = Some (Adopts number)
+left_of served None = None

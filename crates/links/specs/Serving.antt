@@ -1,5 +1,5 @@
 -- How a standby serves a link: which frames it answered, and what it holds then.
-use Rattle.std.specs.Prelude.{◌≡◌, ◌⊎◌, ℕ, nat_eq, nat_lt, nat_le, if◌then◌else◌, List, [], ◌∷◌, ◌++◌, Option, None, Some, Result, Err}
+use Rattle.std.specs.Prelude.{◌≡◌, ◌⊎◌, ℕ, nat_eq, nat_lt, nat_le, if◌then◌else◌, List, [], ◌∷◌, ◌++◌, Option, None, Some}
 use Rattle.std.specs.List.{flat_map}
 use Rattle.std.specs.Io.KnownBytes.{Appends, Consumes}
 use Rattle.stream_codec.specs.Stream.{Reaches}
@@ -127,11 +127,6 @@ abbrev pub ends_by : Refusal → LinkError
 ends_by Fault = Stops Fault
 ends_by Exhausted = Stops Exhausted
 ends_by refusal = Refused refusal
-
--- why the node stops whose link ended so, if it does
-abbrev pub stop_of : Result (Unit {0}) LinkError → Option Refusal
-stop_of (Err (Stops refusal)) = Some refusal
-stop_of served = None
 
 -- why a node of this epoch refuses an acknowledgement, which only a standby sends
 abbrev pub refusal_of_ack : ℕ → Ack → Refusal

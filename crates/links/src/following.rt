@@ -11,7 +11,7 @@ ghost use Rattle.stream_codec.specs.declared.message.Message.TheVariants.{Ack as
 ghost use Rattle.links.specs.Reading.{piece_of};
 ghost use Rattle.placing.specs.Fill.{fill_of};
 ghost use Rattle.standby.specs.Taking.{Stands};
-ghost use Rattle.links.specs.Serving.{held, Acknowledges, Answers, HasRun, HasSaid, IsTidied, Leaves, LinkSays, Says, Served, ack_text, refusal_of_ack, refusal_of_head, stop_of};
+ghost use Rattle.links.specs.Serving.{held, Acknowledges, Answers, HasRun, HasSaid, IsTidied, Leaves, LinkSays, Says, Served, ack_text, refusal_of_ack, refusal_of_head};
 ghost use Rattle.links.specs.Greeting.{TakesOver};
 ghost use Rattle.links.specs.declared.left.Left.TheVariants.{Adopts, Stopped};
 ghost use Rattle.links.specs.declared.link_error.LinkError.TheVariants.{Closed, Refused, Stops};
@@ -124,17 +124,6 @@ fn serve_next<C: Clock, E: Durable, K: Keyspace, W: Write>(
             acceptor.tell_unmet(why, is_silent, newer.is_some());
             (newer, None)
         }
-    }
-}
-
-/// Why the node stops whose link ended so, if it does.
-pub(crate) fn stop_of(served: Result<(), LinkError>) -> Option<Refusal>
-    ensures fault { (result ≡ Some Fault) ↔ IsErrOf served (Stops Fault) }
-    ensures value { result ≡ stop_of served }
-{
-    match served {
-        Err(LinkError::Stops(refusal)) => Some(refusal),
-        _ => None,
     }
 }
 

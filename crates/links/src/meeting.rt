@@ -1,17 +1,16 @@
 //! A standby's link from its greetings on, and the number that the node takes over there.
-ghost use Rattle.std.specs.Prelude.{◌≡◌, ◌≢◌, ◌↔◌, ◌<◌, ℕ, None, Some, IfOk, IfErr, IsErrOf};
+ghost use Rattle.std.specs.Prelude.{◌≡◌, ◌≢◌, ◌<◌, ℕ, Some, IfOk, IfErr, IsErrOf};
 ghost use Rattle.std.specs.Option.{SomeIff};
-ghost use Rattle.kv_types.specs.declared.refusal.Refusal.{Refusal as Cause};
 ghost use Rattle.kv_types.specs.declared.refusal.Refusal.TheVariants.{Fault};
 ghost use Rattle.greeting.specs.declared.greeting.Greeting.{Greeting as Said};
 ghost use Rattle.standby.specs.Taking.{Stands};
-ghost use Rattle.links.specs.Greeting.{IsUnmet, ServesGreeted};
-ghost use Rattle.links.specs.Serving.{held, stop_of};
+ghost use Rattle.links.specs.Greeting.{IsUnmet, ServesGreeted, left_of};
+ghost use Rattle.links.specs.Serving.{held};
 ghost use Rattle.links.specs.declared.left.Left.TheVariants.{Adopts, Stopped};
 ghost use Rattle.links.specs.declared.link_error.LinkError.TheVariants.{Stops};
 
 use crate::fill_gauges::FillSetter;
-use crate::following::{serve_link, stop_of};
+use crate::following::serve_link;
 use crate::greetings::{Unmet, greet};
 use crate::left::Left;
 use crate::link_error::LinkError;
@@ -80,12 +79,13 @@ fn taken_over(own: &Greeting, theirs: &Greeting, before: u64, after: u64) -> Opt
 
 /// Why the node takes no further link after one that ended so, if it takes none.
 pub(crate) fn left_by(met: &Met) -> Option<Left>
-    ensures stops { (refusal : Cause) → (result ≡ Some (Stopped refusal)) ↔ (stop_of met.now.served ≡ Some refusal) }
-    ensures adopts { (number : ℕ) → (result ≡ Some (Adopts number)) ↔ ((stop_of met.now.served ≡ None) × (met.now.number ≡ Some number)) }
+    ensures value { result ≡ left_of met.now.served met.now.number }
+    ensures stopped { IsErrOf met.now.served (Stops Fault) → result ≡ Some (Stopped Fault) }
+    ensures adopts { (number : ℕ) → result ≡ Some (Adopts number) → met.now.number ≡ Some number }
 {
-    match stop_of(met.served) {
-        Some(refusal) => Some(Left::Stopped(refusal)),
-        None => match met.number {
+    match met.served {
+        Err(LinkError::Stops(refusal)) => Some(Left::Stopped(refusal)),
+        _ => match met.number {
             Some(number) => Some(Left::Adopts(number)),
             None => None,
         },

@@ -1,7 +1,12 @@
+use Rattle.std.proofs.Common.{subst, sym}
+use Rattle.kv_types.specs.declared.refusal.Refusal.TheVariants.{Fault}
+use Rattle.links.proofs.Greeted.{TakesOver-some}
 use Rattle.links.proofs.following.serve_next.Goals as goal
 
-pub returns-in-Err : goal.returns-in-Err
-returns-in-Err g c = record { stands = λ isnt. c.serve_link-served.ensures.stands (λ is. isnt (c.stop_of-stopped.ensures.fault.1 is)) }
-
-pub returns-in_default : goal.returns-in_default
-returns-in_default g c = record { stands = λ isnt. c.serve_link-served.ensures.stands (λ is. isnt (c.stop_of-stopped.ensures.fault.1 is)) }
+pub returns-in-Ok : goal.returns-in-Ok
+returns-in-Ok g c =
+    let greeted = c.in-Ok.ensures.greeted in
+    record {
+      stands = λ isnt. c.in-Ok.ensures.stands (λ is. isnt (c.left_by-left.ensures.stopped is));
+      adopts = λ number is. TakesOver-some _ number c.args.own.now greeted.0 _ _ greeted.2 (c.left_by-left.ensures.adopts number is);
+    }
