@@ -109,20 +109,14 @@ impl<W: Write> Telling<W> {
             self.told = Some(why);
             self.log.say(News::NoLink { address, why });
         }
-        let (advice, throttle) = match why {
-            Lost::Refused(Refusal::PositionGap) => {
-                (News::StandbyBehind { address }, &mut self.behind)
-            }
-            Lost::Refused(Refusal::WrongPair) => {
-                (News::OtherPair { address }, &mut self.other_pair)
-            }
-            Lost::Refused(Refusal::WrongLink) => {
-                (News::OtherRelease { address }, &mut self.other_release)
-            }
-            _ => return,
-        };
-        if throttle.is_due(clock) {
-            self.log.say(advice);
+        if why == Lost::Refused(Refusal::PositionGap) && self.behind.is_due(clock) {
+            self.log.say(News::StandbyBehind { address });
+        }
+        if why == Lost::Refused(Refusal::WrongPair) && self.other_pair.is_due(clock) {
+            self.log.say(News::OtherPair { address });
+        }
+        if why == Lost::Refused(Refusal::WrongLink) && self.other_release.is_due(clock) {
+            self.log.say(News::OtherRelease { address });
         }
     }
 }
