@@ -1,4 +1,4 @@
-use Rattle.std.proofs.Common.{◌≡◌, ℕ, Option, Some, Result, Ok, ap, ◌∙◌}
+use Rattle.std.proofs.Common.{◌≡◌, Option, Some, Result, Ok, ap, ◌∙◌}
 use Rattle.kv_types.specs.declared.refusal.Refusal.TheVariants.{Fault}
 use Rattle.links.specs.declared.left.Left.{Left}
 use Rattle.links.specs.declared.left.Left.TheVariants.{Adopts, Stopped}

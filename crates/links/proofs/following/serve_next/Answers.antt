@@ -1,5 +1,3 @@
-use Rattle.std.proofs.Common.{subst, sym}
-use Rattle.kv_types.specs.declared.refusal.Refusal.TheVariants.{Fault}
 use Rattle.links.proofs.Greeted.{TakesOver-some}
 use Rattle.links.proofs.following.serve_next.Goals as goal
 

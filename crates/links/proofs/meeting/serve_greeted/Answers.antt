@@ -8,8 +8,8 @@ returns-clause-greeted g c = (
     behind = g.I.Read.remaining c.greet.new.from;
     said = g.O.Write.contents c.greet.new.to;
     greets = c.in-Ok.ensures.greets;
-    closed = c.serve_link.ensures.served;
-    ended = c.serve_link.ensures.said;
+    closed = c.serve_link-served.ensures.served;
+    ended = c.serve_link-served.ensures.said;
   },
-  some_at _ c.args.own.now c.in-Ok.theirs _ _ _ _ c.position.ensures c.position-2.ensures c.taken_over.ensures,
+  some_at _ c.args.own.now c.in-Ok.theirs _ _ _ _ c.position-before.ensures c.position.ensures c.taken_over-number.ensures,
 )
