@@ -1,2 +1,4 @@
+pub mod PairLemmas
+pub mod PairSteps
 pub mod PrintedLemmas
 pub mod StatusLemmas

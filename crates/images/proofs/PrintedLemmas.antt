@@ -27,14 +27,15 @@ pub gaps-more : (gaps : List Gap) (i : ℕ) (gap : Gap) → i < length gaps → 
 gaps-more gaps i gap within = ap gap_lines (take_more gaps i gap within) ∙ sym (flat_map_more gap_line [] (take i gaps) (slice_index_or gaps i gap))
 
 -- all lines of a record, one after another
-pub image-whole : (current : Record) (live count told : ℕ) (gaps : List Gap) (z a b c d e f g h i j k : Option (List ℕ)) → told ≡ version current.layout
+pub image-whole : (current : Record) (pair live count told : ℕ) (gaps : List Gap) (z a b c d e f g h p i j k : Option (List ℕ)) → told ≡ version current.layout
     → count ≡ length current.gaps.items → gaps ≡ current.gaps.items → Appends z a (number_line (codes "version") told)
     → Appends a b (number_line (codes "record") current.number) → Appends b c (number_line (codes "position") current.position)
     → Appends c d (number_line (codes "cp") current.cp) → Appends d e (number_line (codes "cd") current.cd)
     → Appends e f (number_line (codes "epoch") current.epoch) → Appends f g (role_line current.role)
-    → Appends g h (number_line (codes "floor") current.floor) → Appends h i (number_line (codes "gaps") count) → Appends i j (gap_lines gaps)
-    → Appends j k (number_line (codes "live") live) → Appends z k (image_text current live)
-image-whole current live count told gaps z a b c d e f g h i j k versioned counted same first number position cp cd epoch role floor many each last =
+    → Appends g h (number_line (codes "floor") current.floor) → Appends h p (number_line (codes "pair") pair)
+    → Appends p i (number_line (codes "gaps") count) → Appends i j (gap_lines gaps)
+    → Appends j k (number_line (codes "live") live) → Appends z k (image_text current pair live)
+image-whole current pair live count told gaps z a b c d e f g h p i j k versioned counted same first number position cp cd epoch role floor paired many each last =
     Appends-trans z a k _ _ (subst (λ (n : ℕ). Appends z a (number_line (codes "version") n)) versioned first)
     (Appends-trans a b k _ _ number
     (Appends-trans b c k _ _ position
@@ -43,8 +44,9 @@ image-whole current live count told gaps z a b c d e f g h i j k versioned count
     (Appends-trans e f k _ _ epoch
     (Appends-trans f g k _ _ role
     (Appends-trans g h k _ _ floor
-    (Appends-trans h i k _ _ (subst (λ (n : ℕ). Appends h i (number_line (codes "gaps") n)) counted many)
-    (Appends-trans i j k _ _ (subst (λ (gs : List Gap). Appends i j (gap_lines gs)) same each) (subst (Appends j k) (sym (append-nil (number_line (codes "live") live))) last))))))))))
+    (Appends-trans h p k _ _ paired
+    (Appends-trans p i k _ _ (subst (λ (n : ℕ). Appends p i (number_line (codes "gaps") n)) counted many)
+    (Appends-trans i j k _ _ (subst (λ (gs : List Gap). Appends i j (gap_lines gs)) same each) (subst (Appends j k) (sym (append-nil (number_line (codes "live") live))) last)))))))))))
 
 -- how many entries an image has that was migrated, and whose device is as long as before
 pub tells-migration : {old new : State} {lines entries : ℕ} {before after : Option (List ℕ)}

@@ -1,3 +1,4 @@
+pub mod Pair
 pub mod Printed
 pub mod Told
 pub mod Asked

@@ -22,6 +22,7 @@ use Rattle.wbl_engine.specs.Promoting.{promoted}
 use Rattle.wbl_engine.specs.Restarting.{IsReopened}
 use Rattle.wbl_migrate.specs.Migrating.{IsMigratable, IsMigrated}
 use Rattle.wbl_migrate.specs.Steps.{Leaves}
+use Rattle.images.specs.Pair.{pair_in}
 use Rattle.images.specs.Told.{newline}
 
 -- after an image of so many lines was formatted
@@ -47,9 +48,9 @@ gap_line gap = codes "gap " ++ decimal gap.first ++ codes " " ++ decimal gap.las
 abbrev pub gap_lines : List Gap → List ℕ
 gap_lines gaps = flat_map gap_line gaps
 
--- the version of an image, its record, and how many of its entries are live
-abbrev pub image_text : Record → ℕ → List ℕ
-image_text r live =
+-- the version of an image, its record, the number of its pair, and how many of its entries are live
+abbrev pub image_text : Record → (pair live : ℕ) → List ℕ
+image_text r pair live =
     concat
     (number_line (codes "version") (version r.layout)
     ∷ number_line (codes "record") r.number
@@ -59,16 +60,17 @@ image_text r live =
     ∷ number_line (codes "epoch") r.epoch
     ∷ role_line r.role
     ∷ number_line (codes "floor") r.floor
+    ∷ number_line (codes "pair") pair
     ∷ number_line (codes "gaps") (length r.gaps.items)
     ∷ gap_lines r.gaps.items
     ∷ number_line (codes "live") live
     ∷ [])
 
--- An undamaged image of so many lines was told of: its version, its record, and how many of its entries are live.
+-- An undamaged image of so many lines was told of: its version, its record, the number of its pair, and how many of its entries are live.
 pub record TellsImage (lines : ℕ) (image : Image) (before after : Option (List ℕ)) : Type 0 where
   pub current : Record
   pub undamaged : IsUndamaged lines current image
-  pub told : Appends before after (image_text current (live_below current image (entries_of_lines current.layout lines)))
+  pub told : Appends before after (image_text current (pair_in image) (live_below current image (entries_of_lines current.layout lines)))
 
 -- how many entries an image has that was migrated
 abbrev pub migrated_text : ℕ → List ℕ

@@ -3,8 +3,8 @@ ghost use Rattle.std.specs.Prelude.{◌≡◌, ◌⊎◌, ◌<◌, true, Err, So
 ghost use Rattle.std.specs.Io.KnownBytes.{Appends, Consumes};
 ghost use Rattle.kv_types.specs.declared.refusal.Refusal.TheVariants.{WrongSize};
 ghost use Rattle.model.specs.declared.image.TheConstants.{MIN_LINES, MAX_LINES};
-ghost use Rattle.wbl_engine.specs.Contents.{IsDurable, IsNew};
 ghost use Rattle.images.specs.Asked.{yes_line};
+ghost use Rattle.images.specs.Pair.{IsFormatted};
 ghost use Rattle.images.specs.Printed.{formatted_text};
 ghost use Rattle.images.specs.declared.failure.Failure.TheVariants as failure;
 ghost use Rattle.images.specs.declared.failure.Kept.{Kept as WhyKept};
@@ -15,6 +15,7 @@ use crate::asking::may_lose;
 use crate::failure::{Failure, Kept};
 use crate::images::Images;
 use crate::losing::{Loss, loss_of};
+use crate::pair::write_pair;
 use crate::serve_error::ServeError;
 use kv_types::Refusal;
 use model::LAYOUT;
@@ -22,7 +23,7 @@ use std::alloc::Global;
 use std::io::{Read, Write};
 use wbl_engine::{Durable, Role, WblEngine};
 
-/// Writes a new image of so many lines under this name, and says so. With `is_new` a file that is there is kept. Where `is_asked` says so, the reader has to
+/// Writes a new image of so many lines under this name, with this number of its pair, and says so. With `is_new` a file that is there is kept. Where `is_asked` says so, the reader has to
 /// say `yes` first to what is lost. That is told to `errors`.
 pub fn format<I: Images, R: Read, W: Write, E: Write>(
     alloc: Global,
@@ -30,6 +31,7 @@ pub fn format<I: Images, R: Read, W: Write, E: Write>(
     name: &str,
     lines: u64,
     role: Role,
+    pair: u64,
     is_new: bool,
     is_asked: bool,
     reader: &mut R,
@@ -44,7 +46,7 @@ pub fn format<I: Images, R: Read, W: Write, E: Write>(
     }
     let lost = loss_of(alloc, images, name, lines)?;
     confirm_loss(name, &lost, is_asked, reader, errors)?;
-    let _engine = new_image(images, name, lines, role)?;
+    let _device = new_image(images, name, lines, role, pair)?;
     if let Some(loss) = lost {
         let _ = writeln!(errors, "{name} held {loss}");
     }
@@ -92,21 +94,25 @@ fn print_formatted<W: Write>(lines: u64, writer: &mut W) -> Result<(), Failure>
     }
 }
 
-/// The engine over a new image. `WrongSize` where there cannot be so many lines; otherwise a refusal is that of the device.
+/// The device with a new image. Its number is written last: a crash before that leaves an image without one.
+///
+/// `WrongSize` where there cannot be so many lines; otherwise a refusal is that of the device.
 fn new_image<I: Images>(
     images: &I,
     name: &str,
     lines: u64,
     role: Role,
-) -> Result<WblEngine<I::Device>, Refusal>
-    ensures new { IfOk result (λ engine. IsNew lines role (⟦<WblEngine<I::Device> as Durable>⟧.contents engine)) }
-    ensures durable { IfOk result (λ engine.
-        IsDurable (⟦<WblEngine<I::Device> as Durable>⟧.device engine) (⟦<WblEngine<I::Device> as Durable>⟧.contents engine)) }
+    pair: u64,
+) -> Result<I::Device, Refusal>
+    ensures formatted { IfOk result (λ device. IsFormatted lines role pair (I.Device.state device)) }
     ensures unlawful { (lines < MIN_LINES) ⊎ (MAX_LINES < lines) → result ≡ Err WrongSize }
 {
     let device = images.create(name, lines)?;
-    match WblEngine::format(device, role) {
-        Ok(engine) => Ok(engine),
-        Err((refusal, _device)) => Err(refusal),
-    }
+    let engine = match WblEngine::format(device, role) {
+        Ok(engine) => engine,
+        Err((refusal, _device)) => return Err(refusal),
+    };
+    let mut device = engine.into_device();
+    write_pair(&mut device, pair)?;
+    Ok(device)
 }

@@ -8,6 +8,7 @@ ghost use Rattle.images.specs.Told.{IsRefusalOf};
 
 use crate::failure::Failure;
 use crate::images::Images;
+use crate::pair::pair_of;
 use crate::serve_error::ServeError;
 use model::{Gap, Record, Role};
 use pmem::Pmem;
@@ -26,7 +27,7 @@ pub fn inspect<I: Images, W: Write>(
     print_image(alloc, &device, writer)
 }
 
-/// Prints the version and the record of an undamaged image of any version, and how many of its entries are live.
+/// Prints the version, the record and the number of an undamaged image of any version, and how many of its entries are live.
 ///
 /// A refusal is that of reading the image, with nothing printed.
 fn print_image<P: Pmem, W: Write>(alloc: Global, device: &P, writer: &mut W) -> Result<(), Failure>
@@ -37,15 +38,15 @@ fn print_image<P: Pmem, W: Write>(alloc: Global, device: &P, writer: &mut W) -> 
         (W.contents writer.old) (W.contents writer.new)) }
 {
     let (current, live) = wbl_engine::inspect(alloc, device, layout_in(device))?;
-    match print(&current, live, writer) {
+    match print(&current, pair_of(device), live, writer) {
         Ok(()) => Ok(()),
         Err(error) => Err(Failure::Stopped(ServeError::Write(error))),
     }
 }
 
-/// Prints the version of an image, its record and how many entries are live.
-fn print<W: Write>(current: &Record, live: u64, writer: &mut W) -> io::Result<()>
-    ensures { OnOk result (Appends (W.contents writer.old) (W.contents writer.new) (image_text current.now live)) }
+/// Prints the version of an image, its record, the number of its pair and how many entries are live.
+fn print<W: Write>(current: &Record, pair: u64, live: u64, writer: &mut W) -> io::Result<()>
+    ensures { OnOk result (Appends (W.contents writer.old) (W.contents writer.new) (image_text current.now pair live)) }
 {
     print_number("version", current.layout.version(), writer)?;
     print_number("record", current.number, writer)?;
@@ -55,6 +56,7 @@ fn print<W: Write>(current: &Record, live: u64, writer: &mut W) -> io::Result<()
     print_number("epoch", current.epoch, writer)?;
     print_role(current.role, writer)?;
     print_number("floor", current.floor, writer)?;
+    print_number("pair", pair, writer)?;
     print_number("gaps", current.gaps.len() as u64, writer)?;
     print_gaps(&current.gaps, writer)?;
     print_number("live", live, writer)?;

@@ -9,6 +9,7 @@ mod images;
 mod inspecting;
 mod losing;
 mod migrating;
+mod pair;
 mod promoting;
 mod reading;
 mod serve_error;
@@ -19,6 +20,10 @@ pub use formatting::format;
 pub use images::{Files, Images, Trouble};
 pub use inspecting::inspect;
 pub use migrating::migrate;
+pub use pair::{
+    NO_PAIR, PAIR_WORD, adopt_pair, images_are_read_without_their_number, into_pair, new_pair,
+    pair_of, write_pair,
+};
 pub use promoting::promote;
 pub use reading::status;
 pub use serve_error::ServeError;

@@ -10,6 +10,7 @@ use crate::causes::tell_cause;
 use crate::failure::Failure;
 use crate::images::{Images, Trouble};
 use crate::inspecting::{print_number, print_role};
+use crate::pair::pair_of;
 use crate::serve_error::ServeError;
 use heap_layout::{Versions, read_versions};
 use kv_types::Refusal;
@@ -27,6 +28,8 @@ pub struct Reading {
     pub current: Record,
     pub versions: Versions,
     pub lines: u64,
+    /// The number of its pair.
+    pub pair: u64,
 }
 
 /// Prints how far the image of this name is and how full, and of another one the same, and how far that is behind. They are as they were, and whoever has
@@ -107,6 +110,7 @@ fn read<P: Pmem>(alloc: Global, device: &P) -> Result<Reading, Refusal>
         current,
         versions,
         lines: device.lines(),
+        pair: pair_of(device),
     })
 }
 
@@ -145,6 +149,7 @@ fn print_numbers<W: Write>(
     let live = reading.versions.count_live();
     print_role(reading.current.role, writer)?;
     print_number("epoch", reading.current.epoch, writer)?;
+    print_number("pair", reading.pair, writer)?;
     print_number("position", reading.current.position, writer)?;
     print_number("versions", count, writer)?;
     print_number("ended", count.saturating_sub(live), writer)?;

@@ -10,7 +10,7 @@ use std::{fmt, io};
 pub enum ServeError {
     /// The requests could not be read to their end. Nothing was written.
     Read(io::Error),
-    /// There were no random numbers for the hashes. Nothing was read or written.
+    /// There were no random numbers for the hashes, or for the number of a pair. Nothing was read or written.
     Random(io::Error),
     /// A call was refused, or a node has stopped. Nothing was written.
     Refused(Refusal),

@@ -7,8 +7,8 @@ use crate::nodes::run_node;
 use crate::options::{PROGRAM, Task, options};
 use crate::serve::serve;
 use images::{
-    DONE, Failure, Images, ServeError, format, inspect, migrate, promote, status, tell, tell_cause,
-    tell_cause_of_making,
+    DONE, Failure, Images, ServeError, format, inspect, migrate, new_pair, promote, status, tell,
+    tell_cause, tell_cause_of_making,
 };
 use pmem::Pmem;
 use std::alloc::Global;
@@ -94,14 +94,24 @@ fn run<
         Task::Run(node) => Ok(run_node(rt, alloc, images, node, errors)),
         task => {
             let mut errors = errors;
-            work(alloc, task, images, is_asked, reader, writer, &mut errors)?;
+            work(
+                rt,
+                alloc,
+                task,
+                images,
+                is_asked,
+                reader,
+                writer,
+                &mut errors,
+            )?;
             Ok(DONE)
         }
     }
 }
 
 /// Does what is asked of an image, or prints what the program says of itself. No node is run.
-fn work<I: Images, R: Read, W: Write, E: Write>(
+fn work<S: RandomSource, I: Images, R: Read, W: Write, E: Write>(
+    rt: &S,
     alloc: Global,
     task: Task<'_>,
     images: &I,
@@ -117,8 +127,9 @@ fn work<I: Images, R: Read, W: Write, E: Write>(
             role,
             is_new,
         } => {
+            let pair = new_pair(rt, role)?;
             let done = format(
-                alloc, images, image, lines, role, is_new, is_asked, reader, writer, errors,
+                alloc, images, image, lines, role, pair, is_new, is_asked, reader, writer, errors,
             );
             let is_held = tell_cause_of_making(alloc, images, image, lines, &done, errors);
             while_held(done, is_held)

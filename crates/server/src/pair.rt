@@ -7,9 +7,10 @@ ghost use Rattle.server.specs.Served.{IsEarly};
 use crate::client::{Client, PairEnd};
 use crate::link_listener::{LinkListener, StandbyListener};
 use crate::simulated::new_image;
-use images::ServeError;
+use greeting::Greeting;
+use images::{NO_PAIR, ServeError};
 use kv_types::Refusal;
-use links::{Log, follow, new_fill};
+use links::{Left, Log, follow, new_fill};
 use mv_keyspace::MvKeyspace;
 use pmem::{Pmem, SimPmem};
 use primary::{Opened, open};
@@ -115,11 +116,13 @@ fn follow_anew<N: Clock>(
     let mut node: Standby<WblEngine<SimPmem>, MvKeyspace> = standby::open(alloc, device)?;
     let (mut shown, _) = new_fill(alloc, &node.fill())?;
     let mut log = Log::new(alloc, link);
+    let own = Greeting::of_pair(NO_PAIR);
     match follow(
-        clock, alloc, &mut node, listener, None, &mut shown, &mut log,
+        clock, alloc, &own, &mut node, listener, None, &mut shown, &mut log,
     ) {
-        Ok(why) => Ok(PairEnd::Refused(why)),
-        Err(_) => Ok(PairEnd::Broken),
+        Ok(Left::Stopped(why)) => Ok(PairEnd::Refused(why)),
+        // (the primary has no number either)
+        Ok(Left::Adopts(_)) | Err(_) => Ok(PairEnd::Broken),
     }
 }
 
