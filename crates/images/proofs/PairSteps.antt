@@ -3,7 +3,7 @@ use Rattle.std.proofs.Common.{◌≡◌, ◌≢◌, ℕ, [], ◌∷◌, refl, in
 use Rattle.std.proofs.lemmas.Bool.{cases_lt}
 use Rattle.kv_types.specs.Keyspace.{Keyspace}
 use Rattle.pmem.specs.Device.{State, Word, Only}
-use Rattle.pmem.specs.Crash.{IsImage, image_of}
+use Rattle.pmem.specs.Crash.{image_of}
 use Rattle.pmem.specs.Runs.{IsPartlyStored, IsStored, LeavesOnly}
 use Rattle.pmem.proofs.Leaving.{LeavesOnly-weaken, none_leaves}
 use Rattle.model.specs.declared.layout.Layout.{Layout}

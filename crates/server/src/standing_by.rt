@@ -69,8 +69,9 @@ pub fn stand_by<
     let left = follow(
         rt, alloc, &own, &mut node, &listener, host, &mut shown, &mut log,
     );
-    let Ok(Left::Adopts(number)) = left else {
-        return ended(left, &mut log);
+    let number = match left {
+        Ok(Left::Adopts(number)) => number,
+        left => return ended(left, &mut log),
     };
     drop(node.into_device());
     let (mut node, pair) = adopt_node(alloc, images, name, number, &mut errors)?;
