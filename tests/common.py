@@ -61,10 +61,12 @@ NEWS = re.compile(
 )
 # What stands before a refusal on an image: the file, and why it is refused (docs/server.md, "How it ends").
 CAUSE = re.compile(
-    rb"(?P<file>[^\n]*?) (?P<cause>is not there|is held by another process|may not be opened by this user, or is no file|could not be made, read, written or synced"
-    rb"|could not be made: (?:its folder is not there|this user may not write to its folder|its file system is read-only|no file can have this name"
-    rb"|its file system has no room for it|no file may be as large, there or for this process)"
-    rb"|does not begin as an image|is an image of another version; wbl-server migrate brings one of version 1 to version 2"
+    rb"(?P<file>[^\n]*?) (?P<cause>is not there|is held by another process|is no file|could not be made or used a moment ago, and can be now"
+    rb"|could not be (?:made|opened|locked|read|written|synced): (?:its folder is not there|no file can have this name|this user is not permitted to"
+    rb"|its file system is read-only|its file system has no room for it|no file may be as large, there or for this process|no descriptor is left"
+    rb"|[^\n:]+ \(os error \d+\)|the system does not say why)"
+    rb"|does not begin as an image|is what a format has left unfinished: give that again"
+    rb"|is an image of another version; wbl-server migrate brings one of version 1 to version 2"
     rb"|has no place for a version that has to move|has not as many lines as an image, or as were asked for|has come to the end of a counter"
     rb"|is in use by another process, and changed while it was read|breaks a rule of an image|is an image of the other role)\n"
 )

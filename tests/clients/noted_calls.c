@@ -2,6 +2,7 @@
 //   NOTED_LOG     the file that a line is added to for each call, once it has returned: `open FD PATH`, `made FD PATH`, `length FD BYTES`,
 //                 `write FD OFFSET BYTES`, `sync FD` (of a file or a folder) or `data FD`, and ` failed` behind it where it did
 //   NOTED_FAILS   which of its syncs fails, the first being 1: nothing is asked of the system, and the answer is EIO
+//   NOTED_LASTS   where it is there, each later one fails too
 //   NOTED_TORN    which of its writes fails: the first half is written, and the answer is EIO
 //   NOTED_BYTES   a file that what each of its writes wrote is added to, one behind the other
 //   NOTED_IMAGE   a file of which what is durable is kept in another, NOTED_SYNCED: what was written is written there too, but only once a
@@ -31,6 +32,7 @@ static pthread_mutex_t lock = PTHREAD_MUTEX_INITIALIZER;
 static int log_file = -1, synced_file = -1, bytes_file = -1;
 static const char *image;
 static long syncs, fails, writes, torn;
+static int lasts;
 static struct written *first, **last = &first;
 
 static int open_plainly(const char *path, int flags) {
@@ -45,6 +47,7 @@ __attribute__((constructor)) static void begin(void) {
     synced_file = synced ? open_plainly(synced, O_WRONLY) : -1;
     bytes_file = written ? open_plainly(written, O_WRONLY | O_CREAT | O_APPEND) : -1;
     fails = number ? atol(number) : 0;
+    lasts = getenv("NOTED_LASTS") != NULL;
     torn = torn_number ? atol(torn_number) : 0;
     if (log_file < 0 || (synced && synced_file < 0) || (written && bytes_file < 0)) {
         abort();
@@ -153,7 +156,7 @@ static int synced(const char *name, const char *word, int file) {
     pthread_mutex_lock(&lock);
     syncs++;
     int result = -1;
-    if (syncs == fails) {
+    if (syncs == fails || (lasts && fails && syncs > fails)) {
         errno = EIO;
     } else {
         result = real(file);

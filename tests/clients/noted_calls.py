@@ -32,11 +32,11 @@ def library(folder):
 
 
 class Noting:
-    """How a program is started so that its calls are noted, and what was noted. `fails` is which of its syncs fails, and `torn` which of its
-    writes, 0 for none; `synced` is where what is durable of the image is kept: a copy of the image when this is made, or what the run before left there,
-    where this one goes on behind it. What is written is kept where `keeps_bytes` says so."""
+    """How a program is started so that its calls are noted, and what was noted. `fails` is which of its syncs fails, with `lasts`
+    each later one too, and `torn` which of its writes, 0 for none; `synced` is where what is durable of the image is kept: a copy of the image when this is
+    made, or what the run before left there, where this one goes on behind it. What is written is kept where `keeps_bytes` says so."""
 
-    def __init__(self, loaded, image, fails=0, torn=0, keeps=True, goes_on=False, keeps_bytes=False):
+    def __init__(self, loaded, image, fails=0, torn=0, keeps=True, goes_on=False, keeps_bytes=False, lasts=False):
         self.image, self.log, self.synced, self.bytes = image, *map(image.with_suffix, (".calls", ".synced", ".bytes"))
         self.fails = fails
         for noted in (self.log, self.bytes):
@@ -46,6 +46,8 @@ class Noting:
             if not goes_on:
                 shutil.copyfile(image, self.synced)
             settings |= {"NOTED_IMAGE": image, "NOTED_SYNCED": self.synced}
+        if lasts:
+            settings |= {"NOTED_LASTS": 1}
         if keeps_bytes:
             settings |= {"NOTED_BYTES": self.bytes}
         self.settings = {name: str(value) for name, value in settings.items()}

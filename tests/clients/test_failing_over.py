@@ -1,8 +1,10 @@
 """`bin/fail-over`, `bin/stop-node` and `bin/wait-for-write`: each way to end, what they leave, and that what was cut may be given again."""
 
 import os
+import shutil
 import signal
 
+import common
 from old_images import OldWriter
 from operated import FIRST, NODES, PAGE, Operated
 from page_shell import PageShell, blocks_below
@@ -15,12 +17,14 @@ from test_images import image_bytes
 
 PROGRAMS = ["server", "client"]
 IS_SLOW = True
-QUICK = ["Images", "New", "Running.test_one_page_after_the_other"]
+QUICK = ["Images", "New", "Killed", "Running.test_one_page_after_the_other"]
 
 LINES, MORE_LINES, LINE_BYTES = 4_096, 18_744, 64
 NEW_BYTES = LINE_BYTES * (LINES + MORE_LINES)
 FORMATTED = f"formatted {LINES + MORE_LINES} lines, {(LINES + MORE_LINES) // 8 - 18} entries"
 PROMOTED = "promoted to epoch 2; b.img is a primary's now, at position 3, with 3 keys"
+# How many of the kills are drawn.
+LEAST = 5
 SECTION = 'see docs/operating.md, "An image that lacks something"'
 
 
@@ -67,10 +71,12 @@ class Scripts(PairCases):
     def assert_done(self, *printed, **given):
         """It ends well, and IMAGE and NEW are what they are to be."""
         self.assertEqual(self.fail_over(**given), (0, list(printed), ""))
+        self.assert_is_done()
+
+    def assert_is_done(self):
         self.assertEqual([inspected(self.folder / "b.img")[it] for it in ("role", "position", "epoch")], ["primary", 3, 2])
         self.assertEqual([inspected(self.folder / "a.img")[it] for it in ("role", "position")], ["standby", 0])
         self.assertEqual((self.folder / "a.img").stat().st_size, NEW_BYTES)
-        self.assertFalse((self.folder / "a.img.half-made").exists())
 
 
 class Images(Scripts):
@@ -80,7 +86,7 @@ class Images(Scripts):
         self.write("b.img", written())
         self.assert_done(PROMOTED, FORMATTED, least=3)
         for _ in range(2):
-            self.assert_done("b.img is a primary's already", least=3)
+            self.assert_done("b.img is a primary's already", FORMATTED, least=3)
 
     def test_one_that_holds_nothing(self):
         """A primary's no less than a standby's."""
@@ -107,7 +113,8 @@ class Images(Scripts):
             ("version 1", written(writer=OldWriter), migrates),
             ("a primary's of version 1", written(PRIMARY, writer=OldWriter), migrates),
             ("an empty one of version 1", written(STANDBY, 0, OldWriter), migrates),
-            ("half formatted", bytes(LINE_BYTES * LINES), "does not begin as an image; refusal 2: bad magic"),
+            ("half formatted", bytes(LINE_BYTES * LINES), "is what a format has left unfinished: give that again; refusal 2: bad magic"),
+            ("another's", b"a letter".ljust(LINE_BYTES * LINES), "does not begin as an image; refusal 2: bad magic"),
             ("nothing", b"", "has not as many lines as an image, or as were asked for; refusal 4: wrong size"),
             ("damaged", bytes(damaged), "breaks a rule of an image; refusal 7: damaged image"),
             ("not there", None, "is not there; refusal 1: device fault"),
@@ -156,42 +163,121 @@ class New(Scripts):
             self.assert_bytes(self.read(name), data)
 
     def test_one_that_a_format_left_halfway(self):
-        """Whatever it had done by then."""
+        """Whatever it had done by then. It is made whole, but for a file of no bytes, which is another's as well as its own."""
         whole = self.formatted("whole.img")
         for name, data in [("nothing", b""), ("its length", bytes(NEW_BYTES)), ("no magic yet", bytes(8) + whole[8:]), ("all", whole)]:
             with self.case(name):
                 self.write("b.img", written())
-                (self.folder / "a.img").unlink(missing_ok=True)
-                self.write("a.img.half-made", data)
-                self.assert_done(PROMOTED, *([FORMATTED] if data != whole else []))
+                self.write("a.img", data)
+                self.assert_done(PROMOTED, *([] if data else ["a.img was there, and is a.img.old"]), FORMATTED)
 
     def formatted(self, name):
         self.shell.run(f"bin/wbl-server format --image {name} --lines {LINES + MORE_LINES} --role standby --new")
         return self.read(name)
 
-    def test_a_format_that_is_killed(self):
-        """With fail-over, at a moment when the file is there and no image yet."""
-        server = self.folder / "bin" / "wbl-server"
-        stub = 'if [ "$1" = format ]; then head -c 5000 /dev/zero > "$3"; kill -9 "$PPID"; exit 1; fi\n'
-        lines = server.read_text().split("\n", 1)
-        server.write_text(f"{lines[0]}\n{stub}{lines[1]}")
-        status, printed, _ = self.fail_over()
-        self.assertEqual((status, printed), (128 + signal.SIGKILL, [PROMOTED]))
-        self.assertEqual([it.name for it in self.folder.glob("a.img*")], ["a.img.half-made"])
-        server.write_text("\n".join(lines))
-        self.assert_done("b.img is a primary's already", FORMATTED)
-
-    def test_a_file_of_the_name_that_holds_something(self):
-        for name, data in (("an image", written()), ("a damaged one", written()[:64] + bytes(LINE_BYTES * (LINES - 1)))):
-            with self.case(name):
-                self.write("a.img.half-made", data)
-                status, _, told = self.fail_over()
-                self.assertEqual((status, told), (7, "fail-over: a.img.half-made is no half-made image, and a.img is not made: move it, and give this again\n"))
-                self.assert_bytes(self.read("a.img.half-made"), data)
+    def test_what_is_no_file(self):
+        """It stays, and nobody waits for it."""
+        (self.folder / "folder").mkdir()
+        os.mkfifo(self.folder / "pipe")
+        (self.folder / "link").symlink_to("nowhere")
+        for new, first in (("folder", PROMOTED), ("pipe", "b.img is a primary's already"), ("link", "b.img is a primary's already")):
+            with self.case("new", name=new):
+                self.assertEqual(self.fail_over(new=new), (7, [first], f"fail-over: {new} is no file\n"))
+                self.assertTrue(os.path.lexists(self.folder / new))
 
     def test_a_folder_that_is_not_there(self):
-        status, printed, told = self.fail_over(new="none/a.img")
-        self.assertEqual((status, printed, told.splitlines()[-1]), (7, [PROMOTED], "fail-over: none/a.img is not made"))
+        self.assertEqual(self.fail_over(new="none/a.img"), (7, [PROMOTED], "fail-over: none/a.img is not made: none/a.img could not be made: "
+                                                            "its folder is not there; refusal 1: device fault\n"))
+
+    def test_a_full_disk(self):
+        """Of the process, which may not write as large a file: nothing is left of the new one, and the same words go on where it may."""
+        size = len(written()) // 1_024
+        self.assertEqual(self.told(f"(trap '' XFSZ; ulimit -f {2 * size}; bin/fail-over b.img 1 a.img true true)"), (
+            7, [PROMOTED], "fail-over: a.img is not made: a.img could not be made: no file may be as large, there or for this process; refusal 1: device fault\n"))
+        self.assertFalse((self.folder / "a.img").exists())
+        self.assert_done("b.img is a primary's already", FORMATTED)
+
+
+# Stands for each program that fail-over runs. It counts them, and at one of them it kills all that runs, before it or behind it.
+COUNTED = """\
+#!/bin/sh
+echo >> {folder}/count.txt
+number=$(wc -l < {folder}/count.txt)
+[ "$number before" != "{at}" ] || kill -9 0
+{program} "$@"
+status=$?
+[ "$number behind" != "{at}" ] || kill -9 0
+exit $status
+"""
+
+
+class Killed(Scripts):
+    """fail-over is killed, with all that it runs, before and behind each program that it runs: the same words go on, and no file is lost."""
+
+    PROGRAMS = ("awk", "dirname", "flock", "mv", "readlink", "sh", "stat", "wbl-server")
+
+    def count_at(self, at):
+        """Puts in the place of each program one that is counted, and kills all at this one, if one is said. Returns the words before those of fail-over."""
+        stubs = self.folder / "stubs"
+        stubs.mkdir(exist_ok=True)
+        (self.folder / "count.txt").write_text("")
+        server = self.folder / "bin" / "wbl-server"
+        if not (self.folder / "server").exists():
+            server.rename(self.folder / "server")
+        for name in self.PROGRAMS:
+            stub = server if name == "wbl-server" else stubs / name
+            program = self.folder / "server" if name == "wbl-server" else shutil.which(name)
+            stub.write_text(COUNTED.format(folder=self.folder, at=at, program=program))
+            stub.chmod(0o755)
+        return f"PATH={stubs}:$PATH setsid --wait "
+
+    def killed(self, at):
+        """fail-over, which is killed there. How many programs it came to."""
+        words = self.count_at(at)
+        self.told(f"{words} bin/fail-over b.img 3 a.img true true")
+        return len((self.folder / "count.txt").read_text())
+
+    def test_at_each_program(self):
+        """Over a file that has to go aside first, and without one."""
+        for former in (written(PRIMARY), None):
+            self.write("b.img", written())
+            self.begin(former)
+            count = self.killed("")
+            self.assertGreater(count, 5)
+            cases = [f"{number} {when}" for number in range(1, count + 1) for when in ("before", "behind")]
+            for at in common.drawn(f"fail-over killed {former is None}", cases, LEAST):
+                with self.case("killed", at=at, over=bool(former)):
+                    self.begin(former)
+                    self.killed(at)
+                    self.count_at("")
+                    status, printed, told = self.fail_over(least=3)
+                    self.assertEqual((status, told, printed[-1]), (0, "", FORMATTED))
+                    self.assert_is_done()
+                    kept = [it.read_bytes() for it in self.folder.glob("a.img.old*")]
+                    self.assertEqual([it for it in kept if it.strip(b"\0")], [former] * bool(former))
+
+    def begin(self, former):
+        for path in self.folder.glob("a.img*"):
+            path.unlink()
+        self.write("b.img", written())
+        if former:
+            self.write("a.img", former)
+
+    def test_in_a_format(self):
+        """By a kill at a moment when the file is there and no image yet."""
+        self.write("b.img", written())
+        server = self.folder / "bin" / "wbl-server"
+        lines = server.read_text().split("\n", 1)
+        for name, made in (("no bytes", ": >"), ("a part", "head -c 5000 /dev/zero >"), ("its length", f"head -c {NEW_BYTES} /dev/zero >")):
+            with self.case(name):
+                self.begin(None)
+                stub = f'if [ "$1" = format ]; then {made} "$3"; kill -9 0; fi\n'
+                server.write_text(f"{lines[0]}\n{stub}{lines[1]}")
+                self.told("setsid --wait bin/fail-over b.img 3 a.img true true")
+                self.assertEqual([it.name for it in self.folder.glob("a.img*")], ["a.img"])
+                server.write_text("\n".join(lines))
+                aside = [] if name == "its length" else ["a.img was there, and is a.img.old"]
+                self.assert_done("b.img is a primary's already", *aside, FORMATTED)
 
 
 class Running(Operated):

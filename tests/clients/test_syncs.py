@@ -329,13 +329,15 @@ class Formatting(NotedCases):
                 words = [common.program("server"), "format", "--image", image, "--lines", str(LINES), "--role", "primary"]
                 ran = subprocess.run([*noting.words, *words], capture_output=True, timeout=PATIENCE)
                 self.assertEqual((ran.returncode, ran.stdout, common.without_cause(ran.stderr)), (1, b"", FAULT))
-                # (what is held at the file, and why it could not be made, is looked for by opening it)
+                # (what is held at the file, and why it could not be made or used, is looked for by opening it)
                 calls = [call for call in noting.calls() if call.word != "open"]
                 (at,) = (at for at, call in enumerate(calls) if call.failed)
                 self.assertIn(calls[at].word, ("sync", "data"))
                 self.assertEqual(image.exists(), fails > 3)
-                # (one that was taken away is made once more, for the cause, and taken away again)
-                self.assertEqual([call.word for call in calls[at + 1:] if call.word != "write"], [] if fails > 3 else ["made", "length", "sync"])
+                # (for the cause one that is there is written back once more, and one that was taken away is made once more, and taken away again)
+                self.assertEqual([call.word for call in calls[at + 1:] if call.word != "write"], ["data"] if fails > 3 else ["made", "length", "sync"])
+                written_back = [("write", 65_536 * block) for block in range(LINES // 1_024)]
+                self.assertEqual([(call.word, call.numbers[0]) for call in calls[at + 1:] if call.word == "write"], written_back if fails > 3 else [])
 
     def test_what_is_read_is_durable(self):
         """An image of which a sync failed, so that the system has in memory what the disk has not, is opened again: then all of it is durable."""
@@ -347,7 +349,7 @@ class Formatting(NotedCases):
                 image = self.folder / f"read{fails}.img"
                 self.format(image, "standby", keeps=False)
                 for goes_on, number, statuses in [(False, fails, (0, 1)), (True, 0, (0, 1))]:
-                    noting = Noting(self.loaded, image, fails=number, goes_on=goes_on)
+                    noting = Noting(self.loaded, image, fails=number, goes_on=goes_on, lasts=True)
                     lacking += goes_on and noting.synced.read_bytes() != image.read_bytes()
                     words = [common.program("server"), "promote", "--image", image, "--old-primary-stopped"]
                     ran = subprocess.run([*noting.words, *words], capture_output=True, timeout=PATIENCE)

@@ -137,7 +137,7 @@ class Formatting(Images):
         with self.folder() as folder:
             (folder / "file").write_bytes(b"")
             for path, cause in [
-                (folder, b"may not be opened by this user, or is no file"),
+                (folder, b"is no file"),
                 (folder / "none" / "p.img", b"could not be made: its folder is not there"),
                 ("none/p.img", b"could not be made: its folder is not there"),
                 (folder / "file" / "p.img", b"could not be made: its folder is not there"),

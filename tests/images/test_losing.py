@@ -186,7 +186,7 @@ class Kept(Losing):
             path, told = folder / "p.img", b"not formatted: the file is there\n"
             words = [*format_words(path), "--new"]
             self.assertEqual(run_program("server", words), (DONE, FORMATTED, b""))
-            for data in (path.read_bytes(), holding(PRIMARY), bytes(LINES * 64), b"", b"a note"):
+            for data in (holding(PRIMARY), b"", b"a note", b"a note".ljust(LINES * 64, b"\0"), bytes((LINES - 1) * 64)):
                 with self.case("bytes", count=len(data)):
                     path.write_bytes(data)
                     self.assert_kept(words, path, told)
@@ -197,6 +197,29 @@ class Kept(Losing):
                 path.symlink_to(folder / "none.img")
                 self.assert_kept(words, path, told)
                 self.assertEqual(os.listdir(folder), ["p.img"])
+
+    def test_new_over_what_a_format_left(self):
+        """The image that is asked for, which no node has opened, stays as it is; what was left of it where it was cut is made whole; any other one is kept."""
+        for role, name in ROLES.items():
+            new, opened = Writer(LINES, role), Writer(LINES, role)
+            opened.reopen()
+            whole, other = image_bytes(LINES, new.words), image_bytes(LINES, Writer(LINES, PRIMARY + STANDBY - role).words)
+            slot, extents = 64 * (8 + LINES // 8 - 18), 64 * (8 + LINES // 8)
+            with self.folder() as folder:
+                path = folder / "p.img"
+                words = [*format_words(path, role=name), "--new"]
+                for left, data in [("all", whole), ("its length", bytes(len(whole))), ("no magic yet", bytes(8) + whole[8:]), ("the record alone", bytes(64) + whole[64:])]:
+                    with self.case("left", role=name, left=left):
+                        path.write_bytes(data)
+                        self.assertEqual(run_program("server", words), (DONE, FORMATTED, b""))
+                        self.assert_bytes(path.read_bytes(), whole)
+                for there, data in [
+                    ("of the other role", other), ("opened", image_bytes(LINES, opened.words)), ("longer", whole + bytes(64)), ("shorter", bytes(len(whole) - 64)),
+                    *((f"a byte at {at}", bytes(at) + b"\1" + bytes(len(whole) - at - 1)) for at in (0, 7, 64 * 8, slot - 1, extents, len(whole) - 1)),
+                ]:
+                    with self.case("there", role=name, there=there):
+                        path.write_bytes(data)
+                        self.assert_kept(words, path, b"not formatted: the file is there\n")
 
     def test_at_least(self):
         with self.folder() as folder:

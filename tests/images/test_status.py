@@ -228,7 +228,7 @@ class OfTheServer(Status):
         for name, data, cause, number, text in [
             ("none.img", None, "is not there", 1, "device fault"),
             ("short.img", b"WBLIMG01", "has not as many lines as an image, or as were asked for", 4, "wrong size"),
-            ("zeros.img", bytes(64 * LINES), "does not begin as an image", 2, "bad magic"),
+            ("zeros.img", bytes(64 * LINES), "is what a format has left unfinished: give that again", 2, "bad magic"),
         ]:
             with self.case(name):
                 if data is not None:

@@ -3,3 +3,4 @@ pub mod Printed
 pub mod Told
 pub mod Asked
 pub mod Status
+pub mod Unfinished

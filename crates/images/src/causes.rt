@@ -1,14 +1,19 @@
 //! Why an image is refused, in a line before the refusal that names its file.
 
 use crate::failure::Failure;
-use crate::images::{Images, Trouble};
+use crate::images::Images;
 use crate::serve_error::ServeError;
+use crate::trouble::Trouble;
+use crate::unfinished::is_unfinished;
 use kv_types::Refusal;
 use std::alloc::Global;
 use std::io::Write;
 
-/// Tells in a line why the image of this name was refused, where that is what came of a call over it. The answer is whether it was since another process has
-/// it open.
+/// What is told of a file that is no image.
+const NO_MAGIC: &str = "does not begin as an image";
+
+/// Tells in a line why the image of this name was refused, where that is what came of a call that opens it to write there. The answer is whether it may pass,
+/// as where another process has it open.
 pub fn tell_cause<T, I: Images, E: Write>(
     alloc: Global,
     images: &I,
@@ -16,14 +21,34 @@ pub fn tell_cause<T, I: Images, E: Write>(
     done: &Result<T, Failure>,
     errors: &mut E,
 ) -> bool {
-    let Err(Failure::Stopped(ServeError::Refused(refusal))) = done else {
+    let Some(refusal) = refusal_in(done) else {
         return false;
     };
-    let trouble = trouble_after(*refusal, images, name);
-    if let Some(cause) = cause_of(*refusal, trouble) {
-        tell(alloc, name, cause, errors);
-    }
-    trouble == Trouble::Held
+    let trouble = match refusal {
+        Refusal::Fault => images.trouble_of_using(name),
+        Refusal::Damaged => images.trouble(name),
+        _ => Trouble::None,
+    };
+    tell_refused(alloc, images, name, refusal, trouble, errors)
+}
+
+/// The same of a call that reads it alone.
+pub fn tell_cause_of_reading<T, I: Images, E: Write>(
+    alloc: Global,
+    images: &I,
+    name: &str,
+    done: &Result<T, Failure>,
+    errors: &mut E,
+) -> bool {
+    let Some(refusal) = refusal_in(done) else {
+        return false;
+    };
+    let trouble = match refusal {
+        Refusal::Fault => images.trouble_of_reading(name),
+        Refusal::Damaged => images.trouble(name),
+        _ => Trouble::None,
+    };
+    tell_refused(alloc, images, name, refusal, trouble, errors)
 }
 
 /// The same of a call that makes an image of so many lines where it is not there.
@@ -35,22 +60,44 @@ pub fn tell_cause_of_making<T, I: Images, E: Write>(
     done: &Result<T, Failure>,
     errors: &mut E,
 ) -> bool {
+    let Some(refusal) = refusal_in(done) else {
+        return false;
+    };
+    let trouble = match refusal {
+        Refusal::Fault => images.trouble_of_making(name, lines),
+        Refusal::Damaged => images.trouble(name),
+        _ => Trouble::None,
+    };
+    tell_refused(alloc, images, name, refusal, trouble, errors)
+}
+
+/// The refusal that came of a call, if one did.
+fn refusal_in<T>(done: &Result<T, Failure>) -> Option<Refusal> {
     match done {
-        Err(Failure::Stopped(ServeError::Refused(Refusal::Fault))) => {
-            let trouble = images.trouble_of_making(name, lines);
-            tell(alloc, name, fault_of_making(trouble), errors);
-            trouble == Trouble::Held
-        }
-        done => tell_cause(alloc, images, name, done, errors),
+        Err(Failure::Stopped(ServeError::Refused(refusal))) => Some(*refusal),
+        _ => None,
     }
 }
 
-/// What keeps this name from being opened, where a refusal may come of that.
-fn trouble_after<I: Images>(refusal: Refusal, images: &I, name: &str) -> Trouble {
+/// Tells in a line why the image of this name was refused so, and what keeps it from being opened or used. The answer is whether it may pass.
+fn tell_refused<I: Images, E: Write>(
+    alloc: Global,
+    images: &I,
+    name: &str,
+    refusal: Refusal,
+    trouble: Trouble,
+    errors: &mut E,
+) -> bool {
     match refusal {
-        Refusal::Fault | Refusal::Damaged => images.trouble(name),
-        _ => Trouble::None,
+        Refusal::Fault => tell_trouble(alloc, name, trouble, errors),
+        Refusal::BadMagic => tell(alloc, name, what_it_is(images, name), errors),
+        refusal => {
+            if let Some(cause) = cause_of(refusal, trouble) {
+                tell(alloc, name, cause, errors);
+            }
+        }
     }
+    trouble.may_pass()
 }
 
 /// Tells a line by one write. Where memory is refused it is let go.
@@ -61,11 +108,31 @@ fn tell<E: Write>(alloc: Global, name: &str, cause: &str, errors: &mut E) {
     }
 }
 
-/// Why an image was refused so, if that is of the image.
+/// The same of what keeps an image from being opened or used.
+fn tell_trouble<E: Write>(alloc: Global, name: &str, trouble: Trouble, errors: &mut E) {
+    let mut line = Vec::new(alloc);
+    if writeln!(line, "{name} {trouble}").is_ok() {
+        let _ = errors.write_all(&line);
+    }
+}
+
+/// What a file without the magic is.
+fn what_it_is<I: Images>(images: &I, name: &str) -> &'static str {
+    match images.read_only(name) {
+        Ok(device) => {
+            if is_unfinished(&device) {
+                "is what a format has left unfinished: give that again"
+            } else {
+                NO_MAGIC
+            }
+        }
+        Err(_) => NO_MAGIC,
+    }
+}
+
+/// Why an image was refused so, if that is of the image and not of its file.
 fn cause_of(refusal: Refusal, trouble: Trouble) -> Option<&'static str> {
     match refusal {
-        Refusal::Fault => Some(fault_of(trouble)),
-        Refusal::BadMagic => Some("does not begin as an image"),
         Refusal::BadVersion => Some(
             "is an image of another version; wbl-server migrate brings one of version 1 to version 2",
         ),
@@ -75,30 +142,6 @@ fn cause_of(refusal: Refusal, trouble: Trouble) -> Option<&'static str> {
         Refusal::Damaged => Some(damage_of(trouble)),
         Refusal::WrongRole => Some("is an image of the other role"),
         _ => None,
-    }
-}
-
-/// Why a file could not be opened as a device.
-fn fault_of(trouble: Trouble) -> &'static str {
-    match trouble {
-        Trouble::Missing | Trouble::NoFolder => "is not there",
-        Trouble::Held => "is held by another process",
-        Trouble::Closed => "may not be opened by this user, or is no file",
-        _ => "could not be made, read, written or synced",
-    }
-}
-
-/// Why a file could not be made or opened as a device. One that is not there afterwards was not made.
-fn fault_of_making(trouble: Trouble) -> &'static str {
-    match trouble {
-        Trouble::NoFolder => "could not be made: its folder is not there",
-        Trouble::Forbidden => "could not be made: this user may not write to its folder",
-        Trouble::ReadOnly => "could not be made: its file system is read-only",
-        Trouble::BadName => "could not be made: no file can have this name",
-        Trouble::NoRoom => "could not be made: its file system has no room for it",
-        Trouble::TooLarge =>
-            "could not be made: no file may be as large, there or for this process",
-        trouble => fault_of(trouble),
     }
 }
 

@@ -17,14 +17,16 @@ use crate::images::Images;
 use crate::losing::{Loss, loss_of};
 use crate::pair::write_pair;
 use crate::serve_error::ServeError;
+use crate::unfinished::{InTheWay, in_the_way};
 use kv_types::Refusal;
 use model::LAYOUT;
 use std::alloc::Global;
 use std::io::{Read, Write};
 use wbl_engine::{Durable, Role, WblEngine};
 
-/// Writes a new image of so many lines under this name, with this number of its pair, and says so. With `is_new` a file that is there is kept. Where `is_asked` says so, the reader has to
-/// say `yes` first to what is lost. That is told to `errors`.
+/// Writes a new image of so many lines under this name, with this number of its pair, and says so. With `is_new` a file that is there is kept, unless it is that
+/// image already, or what a format of it left that was cut. Where `is_asked` says so, the reader has to say `yes` first to what is lost. That is told to
+/// `errors`.
 pub fn format<I: Images, R: Read, W: Write, E: Write>(
     alloc: Global,
     images: &I,
@@ -42,7 +44,11 @@ pub fn format<I: Images, R: Read, W: Write, E: Write>(
     ensures kept { (why : WhyKept) → result ≡ Err (failure.Kept why) → writer.new ≡ writer.old }
 {
     if is_new && images.is_there(name) {
-        return Err(Failure::Kept(Kept::IsThere));
+        match in_the_way(alloc, images, name, lines, role)? {
+            // (whoever made it may have ended before it was durable, or had its number)
+            InTheWay::Unused | InTheWay::Unfinished => {}
+            InTheWay::Other => return Err(Failure::Kept(Kept::IsThere)),
+        }
     }
     let lost = loss_of(alloc, images, name, lines)?;
     confirm_loss(name, &lost, is_asked, reader, errors)?;

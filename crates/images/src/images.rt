@@ -5,11 +5,16 @@ ghost use Rattle.model.specs.declared.image.TheConstants.{MIN_LINES, MAX_LINES};
 ghost use Rattle.pmem.specs.Device.{Only};
 ghost use Rattle.pmem.specs.Crash.{image_of};
 
+use crate::trouble::{
+    Step, Trouble, Why, locked, refused, refused_making, trouble_of_filling, trouble_of_reading,
+    trouble_of_using,
+};
 use kv_types::Refusal;
+use model::{MAX_LINES, MIN_LINES};
 use pmem::Pmem;
 use pmem_file::FilePmem;
-use std::fs::{self, File, TryLockError};
-use std::io::{self, ErrorKind, Write};
+use std::fs::{self, File};
+use std::io::{self, ErrorKind};
 use std::thread;
 use std::time::Duration;
 
@@ -23,7 +28,13 @@ pub trait Images {
     /// What keeps this name from being opened just now.
     fn trouble(&self, name: &str) -> Trouble;
 
-    /// What keeps a file of so many lines from being made under this name just now, or one that is there from being opened. Nothing is left there.
+    /// What keeps this name from being opened just now, or read, written back as it is and synced. Its bytes are as they were.
+    fn trouble_of_using(&self, name: &str) -> Trouble;
+
+    /// What keeps this name from being opened and read just now. Whoever has it open keeps it, and nothing is written to it.
+    fn trouble_of_reading(&self, name: &str) -> Trouble;
+
+    /// What keeps a file of so many lines from being made under this name just now, or one that is there from being used. Nothing is left there.
     fn trouble_of_making(&self, name: &str, lines: u64) -> Trouble;
 
     /// The device of `lines` lines of this name, which is made where there is none.
@@ -54,42 +65,10 @@ pub trait Images {
             → Only ((Self.Device.state device).words word) (image_of (Self.Device.state device).words word)) };
 }
 
-/// What keeps a name from being opened for reading and writing.
-#[derive(Clone, Copy, Debug, PartialEq, Eq)]
-pub enum Trouble {
-    /// Nothing that can be told.
-    None,
-    /// There is nothing of this name.
-    Missing,
-    /// There is not even the folder.
-    NoFolder,
-    /// Another process has locked it.
-    Held,
-    /// The system refuses to open it.
-    Closed,
-    /// This user may not make it.
-    Forbidden,
-    /// Nobody may, since its file system is read-only.
-    ReadOnly,
-    /// No file can have this name.
-    BadName,
-    /// Its file system, or what this user may take of it, has no room for it.
-    NoRoom,
-    /// No file there, or of this process, may be as large.
-    TooLarge,
-}
-
 /// How often a file that another process holds is tried again, and after how many milliseconds: one that was killed holds it for a moment.
 const TRIES: u32 = 20;
 
 const PAUSE_MILLISECONDS: u64 = 100;
-
-const LINE_BYTES: u64 = 64;
-
-/// How many bytes of zeros are written at once, and how many lines that are.
-const BLOCK_BYTES: usize = 65_536;
-
-const BLOCK_LINES: u64 = 1_024;
 
 /// Images in the files of the system, by their paths.
 #[derive(Clone, Copy)]
@@ -103,13 +82,24 @@ impl<'a> Files<'a> {
         Files { rt }
     }
 
-    /// What an error of this kind says of a file that could not be opened.
-    fn trouble_by_opening(&self, name: &str, kind: ErrorKind) -> Trouble {
-        match kind {
+    /// The file of this name, for reading and writing, once it is locked.
+    fn locked(&self, name: &str) -> Result<File, Trouble> {
+        if self.is_no_file(name) {
+            return Err(Trouble::NoFile);
+        }
+        match File::options().read(true).write(true).open(self.rt, name) {
+            Ok(file) => locked(file),
+            Err(error) => Err(self.trouble_by_opening(name, &error)),
+        }
+    }
+
+    /// What an error says of a file that could not be opened.
+    fn trouble_by_opening(&self, name: &str, error: &io::Error) -> Trouble {
+        match error.kind() {
             ErrorKind::NotFound => self.missing(name),
             ErrorKind::NotADirectory => Trouble::NoFolder,
             ErrorKind::InvalidFilename => Trouble::Missing,
-            _ => Trouble::Closed,
+            _ => refused(Step::Open, error),
         }
     }
 
@@ -133,7 +123,7 @@ impl<'a> Files<'a> {
                 let _removed = fs::remove_file(self.rt, name);
                 trouble
             }
-            Err(error) => trouble_by(error.kind()),
+            Err(error) => refused_making(&error),
         }
     }
 
@@ -165,47 +155,6 @@ fn folder_of(name: &str) -> &str {
     }
 }
 
-/// Whether another process has locked a file. It is not locked from here on.
-fn trouble_of(file: &File) -> Trouble {
-    match file.try_lock() {
-        Err(TryLockError::WouldBlock) => Trouble::Held,
-        _ => Trouble::None,
-    }
-}
-
-/// What keeps a new file from having so many lines of zeros on the disk.
-fn trouble_of_filling(file: &File, lines: u64) -> Trouble {
-    match fill(file, lines) {
-        Ok(()) => Trouble::None,
-        Err(error) => trouble_by(error.kind()),
-    }
-}
-
-/// Writes so many lines of zeros, and has them on the disk.
-fn fill(file: &File, lines: u64) -> io::Result<()> {
-    file.set_len(lines.saturating_mul(LINE_BYTES))?;
-    let zeros = [0; BLOCK_BYTES];
-    let mut file = file;
-    for _ in 0..lines.div_ceil(BLOCK_LINES) {
-        file.write_all(&zeros)?;
-    }
-    file.sync_all()
-}
-
-/// What an error of this kind says of a file that is to be made. One that was not found, in a folder that is there, has no name.
-fn trouble_by(kind: ErrorKind) -> Trouble {
-    match kind {
-        ErrorKind::PermissionDenied => Trouble::Forbidden,
-        ErrorKind::ReadOnlyFilesystem => Trouble::ReadOnly,
-        ErrorKind::NotFound | ErrorKind::InvalidFilename | ErrorKind::InvalidInput =>
-            Trouble::BadName,
-        ErrorKind::StorageFull | ErrorKind::QuotaExceeded => Trouble::NoRoom,
-        ErrorKind::FileTooLarge => Trouble::TooLarge,
-        ErrorKind::AlreadyExists => Trouble::Closed,
-        _ => Trouble::None,
-    }
-}
-
 impl<'a> Images for Files<'a> {
     type Device = FilePmem;
 
@@ -215,23 +164,41 @@ impl<'a> Images for Files<'a> {
     }
 
     fn trouble(&self, name: &str) -> Trouble {
-        if self.is_no_file(name) {
-            return Trouble::Closed;
+        match self.locked(name) {
+            Ok(_file) => Trouble::None,
+            Err(trouble) => trouble,
         }
-        match File::options().read(true).write(true).open(self.rt, name) {
-            Ok(file) => trouble_of(&file),
-            Err(error) => self.trouble_by_opening(name, error.kind()),
+    }
+
+    fn trouble_of_using(&self, name: &str) -> Trouble {
+        match self.locked(name) {
+            Ok(file) => trouble_of_using(&file),
+            Err(trouble) => trouble,
+        }
+    }
+
+    fn trouble_of_reading(&self, name: &str) -> Trouble {
+        if self.is_no_file(name) {
+            return Trouble::NoFile;
+        }
+        match File::open(self.rt, name) {
+            Ok(file) => trouble_of_reading(&file),
+            Err(error) => self.trouble_by_opening(name, &error),
         }
     }
 
     fn trouble_of_making(&self, name: &str, lines: u64) -> Trouble {
-        match self.trouble(name) {
+        match self.trouble_of_using(name) {
             Trouble::Missing => self.try_to_make(name, lines),
+            Trouble::NoFolder => Trouble::Refused(Step::Make, Why::NoFolder),
             trouble => trouble,
         }
     }
 
     fn create(&self, name: &str, lines: u64) -> Result<FilePmem, Refusal> {
+        if MIN_LINES <= lines && lines <= MAX_LINES && self.is_no_file(name) {
+            return Err(Refusal::Fault);
+        }
         FilePmem::create(self.rt, name, lines)
     }
 

@@ -13,11 +13,13 @@ mod pair;
 mod promoting;
 mod reading;
 mod serve_error;
+mod trouble;
+mod unfinished;
 
-pub use causes::{tell_cause, tell_cause_of_making};
+pub use causes::{tell_cause, tell_cause_of_making, tell_cause_of_reading};
 pub use failure::{DONE, Failure, Kept, tell};
 pub use formatting::format;
-pub use images::{Files, Images, Trouble};
+pub use images::{Files, Images};
 pub use inspecting::inspect;
 pub use migrating::migrate;
 pub use pair::{
@@ -27,3 +29,4 @@ pub use pair::{
 pub use promoting::promote;
 pub use reading::status;
 pub use serve_error::ServeError;
+pub use trouble::{Step, Trouble, Why};

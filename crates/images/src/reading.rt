@@ -6,12 +6,13 @@ ghost use Rattle.pmem.specs.Crash.{image_of};
 ghost use Rattle.images.specs.Printed.{number_line};
 ghost use Rattle.images.specs.Status.{IsReading, status_text};
 
-use crate::causes::tell_cause;
+use crate::causes::tell_cause_of_reading;
 use crate::failure::Failure;
-use crate::images::{Images, Trouble};
+use crate::images::Images;
 use crate::inspecting::{print_number, print_role};
 use crate::pair::pair_of;
 use crate::serve_error::ServeError;
+use crate::trouble::Trouble;
 use heap_layout::{Versions, read_versions};
 use kv_types::Refusal;
 use model::{LAYOUT, Layout, Record};
@@ -81,7 +82,7 @@ fn tell_status<I: Images, W: Write, E: Write>(
     writer: &mut W,
     errors: &mut E,
 ) -> Result<u64, Failure> {
-    let is_held = tell_cause(alloc, images, name, &read, errors);
+    let is_held = tell_cause_of_reading(alloc, images, name, &read, errors);
     match read {
         Ok(reading) => told(reading, writer),
         Err(failure) => Err(failure.while_held(is_held)),

@@ -8,7 +8,7 @@ use crate::options::{PROGRAM, Task, options};
 use crate::serve::serve;
 use images::{
     DONE, Failure, Images, ServeError, format, inspect, migrate, new_pair, promote, status, tell,
-    tell_cause, tell_cause_of_making,
+    tell_cause, tell_cause_of_making, tell_cause_of_reading,
 };
 use pmem::Pmem;
 use std::alloc::Global;
@@ -140,7 +140,8 @@ fn work<S: RandomSource, I: Images, R: Read, W: Write, E: Write>(
         }
         Task::Inspect { image } => {
             let done = inspect(alloc, images, image, writer);
-            told(alloc, images, image, done, errors)
+            let is_held = tell_cause_of_reading(alloc, images, image, &done, errors);
+            while_held(done, is_held)
         }
         Task::Status { image, behind } => status(alloc, images, image, behind, writer, errors),
         Task::Promote {
