@@ -53,7 +53,9 @@ TIME = re.compile(rb"(?m)^\d{4}-\d\d-\d\dT\d\d:\d\d:\d\d\.\d{3}Z ")
 NEWS = re.compile(
     rb"(?:wbl-server \d+ \(logic [0-9a-f]{16}\)|room for \d+ clients: [^\n]+|opened at position \d+, epoch \d+, with \d+ keys|listening on \S+|link open to \S+ at position \d+"
     rb"|(?:link to \S+ lost|no link to \S+|link ended|left the link|standby ahead|closed a connection from \S+|stopped|cannot listen at \S*): [^\n]+"
-    rb"|\S+: the standby lacks what this primary cannot send: [^\n]+|\S+ at position \d+ ended \d+ links in a row [^\n]+"
+    rb"|\S+: the standby (?:lacks what this primary cannot send|belongs to another pair|is of a release that this one does not link with): [^\n]+"
+    rb"|a connection was closed before it greeted: [^\n]+|took over the number of its pair, \d+"
+    rb"|\S+ at position \d+ ended \d+ links in a row [^\n]+"
     rb"|waiting for the standby since \d+ seconds|the standby has answered after \d+ seconds|taking a frame since \d+ seconds: [^\n]+"
     rb"|at position \d+, (?:standby at \d+, )?\d+ keys, \d+ of \d+ versions and \d+ of \d+ lines,"
     rb" (?:\d+ of 1024 clients, \d+ requests a second, longest wait \d+ ms|\d+ frames a second)"

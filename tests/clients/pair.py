@@ -18,6 +18,7 @@ import time
 import common
 import plain_image
 from common import TakesTooLong
+from plain_wire import GREETING_BYTES, Greeting, read_greeting, text
 from spelling import spell
 
 LINES = 65_536
@@ -65,6 +66,15 @@ def wait_until(holds, what, seconds=PATIENCE):
         if time.monotonic() > end:
             raise TakesTooLong(what)
         time.sleep(0.005)
+
+
+def greet(link, greeting=Greeting()):
+    """Greets the other side of a link so, by default of no pair, and returns how that greets."""
+    link.sendall(text(greeting))
+    come = link.recv(GREETING_BYTES, socket.MSG_WAITALL)
+    if len(come) < GREETING_BYTES:
+        raise Ended(f"with {come!r} of a greeting")
+    return read_greeting(come)
 
 
 class Port:

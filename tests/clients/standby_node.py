@@ -9,15 +9,15 @@ import time
 
 import plain_image
 from common import SECONDS, program, without_news
+from pair import Ended, greet
 from plain_image import LAYOUT, PRIMARY, STANDBY, Words
 from plain_keyspace import Clear, Drop, DropKey, Put
-from plain_wire import Group
+from plain_wire import Greeting, Group
 from test_images import FAILED, LINES, ROLES, Images, image_bytes, words_of
 
 LIMIT = 2**62
 NOWHERE = "192.0.2.1:7000"
 CANNOT_LISTEN = b"cannot listen\n"
-ACK_BYTES = 17
 KEYS, FIELDS = [b"a", b"b", b"c", b"ab"], [b"", b"f", b"g"]
 NAMES = [(key,) for key in KEYS] + [(key, field) for key in KEYS for field in FIELDS]
 
@@ -57,9 +57,9 @@ def with_record(words, record):
     return words | plain_image.record_in_place(LINES, record)
 
 
-def without_records(words):
+def without_records(words, lines=LINES):
     """These words but for the records and the root."""
-    first, end = LAYOUT.slot_word(LINES, 0), LAYOUT.slot_word(LINES, 1) + LAYOUT.record_words
+    first, end = LAYOUT.slot_word(lines, 0), LAYOUT.slot_word(lines, 1) + LAYOUT.record_words
     return {at: word for at, word in words.items() if at != LAYOUT.root_word and not first <= at < end}
 
 
@@ -99,22 +99,30 @@ class Node:
     def is_there(self):
         end = time.monotonic() + SECONDS
         while self.child.poll() is None and time.monotonic() < end:
-            with contextlib.suppress(ConnectionRefusedError), self.link():
+            with contextlib.suppress(ConnectionRefusedError), self.connect():
                 return True
             time.sleep(0.005)
         return False
 
-    def link(self):
+    def connect(self):
+        """A connection on which nothing is said yet."""
         link = socket.create_connection(self.address, SECONDS)
         link.setsockopt(socket.IPPROTO_TCP, socket.TCP_NODELAY, 1)
         return link
 
-    def exchange(self, data=b"", piece=2**20):
-        """All that is answered to these bytes, in pieces, up to the link's end."""
+    def link(self, greeting=Greeting()):
+        """A link on which both sides have greeted."""
+        link = self.connect()
+        greet(link, greeting)
+        return link
+
+    def exchange(self, data=b"", piece=2**20, greeting=Greeting()):
+        """All that is answered to these bytes, in pieces, behind the greetings up to the link's end."""
         answered = b""
-        with self.link() as link:
+        with self.connect() as link:
             # (a link that was ended meanwhile takes no more)
-            with contextlib.suppress(OSError):
+            with contextlib.suppress(OSError, Ended):
+                greet(link, greeting)
                 for at in range(0, len(data), piece):
                     link.sendall(data[at:at + piece])
                 link.shutdown(socket.SHUT_WR)
@@ -154,7 +162,7 @@ class StandingBy(Images):
         wanted = plain_image.reopened(image.record)[-1]
         versions = plain_image.read_versions(before, image.record)
         left = plain_image.read_versions(after, wanted)
-        self.assertEqual(plain_image.read_image(after), plain_image.Image(wanted, image.map))
+        self.assertEqual(plain_image.read_image(after), plain_image.Image(wanted, image.map, image.pair))
         self.assertEqual(left.counted, versions.counted)
         # (an entry of a gap that was cleared is free)
         self.assertLessEqual(set(left.gapped), set(versions.gapped))

@@ -8,9 +8,9 @@ from damaged_frames import SET_A, damaged, drawn_group, written
 from pair import PATIENCE
 from plain_image import STANDBY
 from plain_keyspace import Put
-from plain_wire import Acknowledgement, Group, read_stream, text
+from plain_wire import ACK_BYTES, Acknowledgement, Group, read_stream, text
 from plain_writer import Writer
-from standby_node import ACK_BYTES, LIMIT, Node, StandingBy, with_record
+from standby_node import LIMIT, Node, StandingBy, with_record
 from test_images import LINES, words_of
 from worked_cases import DELTA
 

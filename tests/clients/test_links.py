@@ -1,13 +1,12 @@
 """The link of the pair: who else comes to the standby's address, and nodes whose images do not go together."""
 
 import contextlib
-import socket
 import time
 
-from pair import LINES, Client, ServingCases
+from pair import LINES, Client, ServingCases, greet
 from plain_replies import array, bulk
+from plain_wire import ACK_BYTES, GREETING_BYTES, Acknowledgement, Greeting, text
 from spelling import spell
-from standby_node import ACK_BYTES
 from worked_cases import GET_A, ONE, SET_A
 
 PROGRAMS = ["server"]
@@ -18,9 +17,10 @@ class Links(ServingCases):
     """A pair whose link others disturb, and pairs of images that do not go together."""
 
     def test_strangers_at_the_address_of_the_standby(self):
-        """Bytes that are no frame end that link alone, and the primary's is opened again."""
+        """Bytes that are no greeting, or behind one no frame, end that link alone, and the primary's is opened again."""
         self.assert_serves(5)
-        for data in (b"", b"PING\r\n", b"\x03", bytes(17), 1_000_000 * b"\xff", spell("SET", "a", "1")):
+        strange = [b"", b"PING\r\n", b"\x03", bytes(17), 1_000_000 * b"\xff", spell("SET", "a", "1")]
+        for data in [*strange, *(text(Greeting()) + data for data in strange), text(Greeting())[:-1], 100 * text(Greeting()), text(Acknowledgement(1, 0))]:
             with self.case("stranger", data=data[:8]):
                 self.nodes.primary.end()
                 with contextlib.suppress(OSError), Client(self.nodes.link.number) as stranger:
@@ -43,8 +43,20 @@ class Links(ServingCases):
         self.assert_serves(1)
         self.nodes.primary.end()
         with Client(self.nodes.link.number) as stranger:
-            # (it is heard: the node says where it is)
-            self.assertEqual(len(stranger.socket.recv(ACK_BYTES, socket.MSG_WAITALL)), ACK_BYTES)
+            # (it is heard: the node greets)
+            self.assertEqual(len(stranger.read(GREETING_BYTES)), GREETING_BYTES)
+            self.nodes.primary.start()
+            self.nodes.wait()
+            self.assert_serves(5)
+            self.assert_bytes(stranger.read_all(), b"")
+
+    def test_a_stranger_that_was_first_and_only_greets(self):
+        """The same, where it was told where the standby is."""
+        self.assert_serves(1)
+        self.nodes.primary.end()
+        with Client(self.nodes.link.number) as stranger:
+            greet(stranger.socket)
+            self.assertEqual(len(stranger.read(ACK_BYTES)), ACK_BYTES)
             self.nodes.primary.start()
             self.nodes.wait()
             self.assert_serves(5)

@@ -15,10 +15,10 @@ from pair import PATIENCE, PairCases, wait_until
 from plain_image import MORE_LINES, STANDBY, Words
 from plain_keyspace import Put
 from plain_replies import OK
-from plain_wire import Acknowledgement, Group, text
+from plain_wire import ACK_BYTES, Acknowledgement, Group, text
 from plain_writer import Writer
 from spelling import spell
-from standby_node import ACK_BYTES, Node, StandingBy, cut_short, take
+from standby_node import Node, StandingBy, cut_short, take
 from test_images import FAILED, LINES, refusal
 
 PROGRAMS = ["server"]

@@ -11,9 +11,9 @@ import plain_image
 from damaged_frames import SET_A
 from plain_image import STANDBY, Words
 from plain_keyspace import DropKey, Put
-from plain_wire import Acknowledgement, Group, read_stream, text
+from plain_wire import ACK_BYTES, Acknowledgement, Group, read_stream, text
 from plain_writer import Writer
-from standby_node import ACK_BYTES, LIMIT, Node, StandingBy, crashed, cut_short, drawn_change, drawn_frames, take
+from standby_node import LIMIT, Node, StandingBy, crashed, cut_short, drawn_change, drawn_frames, take
 from test_images import FAILED, LINE_BYTES, LINES, PASSING, limited, refusal, words_of
 from worked_cases import DELTA
 

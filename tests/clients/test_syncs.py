@@ -278,7 +278,7 @@ class Formatting(NotedCases):
 
     MADE = ["made file", "length file", "sync file", "sync folder"]
     WRITTEN_BACK = [*(("write", 65_536 * block) for block in range(LINES // 1_024)), ("data", None)]
-    WRITES = [*WRITTEN_BACK, *3 * [("write", 0), ("data", None)]]
+    WRITES = [*WRITTEN_BACK, *4 * [("write", 0), ("data", None)]]
 
     def format(self, image, role, keeps):
         noting = Noting(self.loaded, image, keeps=keeps)
@@ -288,7 +288,8 @@ class Formatting(NotedCases):
         return noting
 
     def assert_writes(self, noting):
-        """The file is written back, with a sync behind it; then three writes from the first byte on, each with a sync, and nothing more."""
+        """The file is written back, with a sync behind it; then four writes from the first byte on, the last of which is that of the number of the pair, each with
+        a sync, and nothing more."""
         calls = [call for call in noting.calls() if call.word in ("write", "data")]
         self.assertEqual([(call.word, call.numbers[0] if call.numbers else None) for call in calls], self.WRITES)
         self.assertEqual({call.path for call in calls}, {str(noting.image)})
@@ -322,7 +323,7 @@ class Formatting(NotedCases):
         """Status 1 and the text of a fault, and nothing is written behind it. A file that is not whole yet is not there any more."""
         if not self.loaded:
             return
-        for fails in range(1, 7):
+        for fails in range(1, 8):
             with self.case("sync", number=fails):
                 image = self.folder / f"fails{fails}.img"
                 noting = Noting(self.loaded, image, fails=fails, keeps=False)
@@ -344,7 +345,7 @@ class Formatting(NotedCases):
         if not self.loaded:
             return
         lacking = 0
-        for fails in range(1, 7):
+        for fails in range(1, 8):
             with self.case("sync", number=fails):
                 image = self.folder / f"read{fails}.img"
                 self.format(image, "standby", keeps=False)

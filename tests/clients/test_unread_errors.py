@@ -10,7 +10,7 @@ import tempfile
 import time
 
 import common
-from pair import DESCRIPTORS, HOST, LINES, PATIENCE, PairCases, launch, wait_until
+from pair import DESCRIPTORS, HOST, LINES, PATIENCE, PairCases, greet, launch, wait_until
 from plain_replies import OK
 from plain_wire import Acknowledgement, text
 from spelling import spell
@@ -145,10 +145,11 @@ class Unread(PairCases):
         self.assertLessEqual(at + dropped, 2 * links + 1 + 3 + links)
 
     def accepted(self, listener):
-        """The primary's next link."""
+        """The primary's next link, greeted."""
         link, _ = listener.accept()
         self.addCleanup(link.close)
         link.settimeout(PATIENCE)
+        greet(link)
         return link
 
     def test_a_process_that_ends_does_so_soon(self):

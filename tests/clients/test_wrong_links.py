@@ -8,14 +8,14 @@ import threading
 
 import common
 from damaged_frames import SET_A
-from pair import HOST, LINES, PATIENCE, Client, PairCases, Port, ServingCases, wait_until
+from pair import HOST, LINES, PATIENCE, Client, PairCases, ServingCases, greet, wait_until
 from plain_image import STANDBY
 from plain_keyspace import Put
 from plain_replies import OK
-from plain_wire import Acknowledgement, Group, number, text
+from plain_wire import ACK_BYTES, Acknowledgement, Group, number, text
 from plain_writer import Writer
 from spelling import spell
-from standby_node import ACK_BYTES, Node, StandingBy
+from standby_node import Node, StandingBy
 from test_images import LINES as IMAGE_LINES
 
 PROGRAMS = ["server"]
@@ -146,10 +146,11 @@ class FakeStandby(PairCases):
         return listener
 
     def accepted(self, listener):
-        """The next connection."""
+        """The next link, greeted."""
         link, _ = listener.accept()
         self.addCleanup(link.close)
         link.settimeout(PATIENCE)
+        greet(link)
         return link
 
 
@@ -163,7 +164,8 @@ class SlowStrangers(ServingCases):
         position = self.nodes.primary.inspect()["position"]
         begun = head(1, position, position + 1, 2**30) + BEGUN_CHANGE
         with Client(self.nodes.link.number) as stranger:
-            self.assertEqual(len(stranger.socket.recv(ACK_BYTES, socket.MSG_WAITALL)), ACK_BYTES)
+            greet(stranger.socket)
+            self.assertEqual(len(stranger.read(ACK_BYTES)), ACK_BYTES)
             over = threading.Event()
             sender = threading.Thread(target=self.dribble, args=(stranger, begun, over), daemon=True)
             sender.start()
@@ -249,15 +251,16 @@ class WrongFrames(StandingBy):
         """A connection from another host is closed at once, with nothing said but to whoever runs the node."""
         with self.standby("--from", "127.0.0.2") as (node, errors):
             for _ in range(5):
-                with contextlib.closing(node.link()) as stranger:
+                with contextlib.closing(node.connect()) as stranger:
                     stranger.settimeout(PATIENCE)
                     self.assertEqual(stranger.recv(1), b"")
             wait_until(lambda: b"closed a connection from 127.0.0.1" in errors.read_bytes(), "a stranger that is told")
             link = socket.create_connection(node.address, PATIENCE, source_address=("127.0.0.2", 0))
             with contextlib.closing(link):
+                greet(link)
                 self.assertEqual(link.recv(ACK_BYTES, socket.MSG_WAITALL), text(Acknowledgement(1, 0)))
                 # neither does one that waits end a link on which nothing comes
-                with contextlib.closing(node.link()) as stranger:
+                with contextlib.closing(node.connect()) as stranger:
                     stranger.settimeout(PATIENCE)
                     self.assertEqual(stranger.recv(1), b"")
                 link.sendall(SET_A)

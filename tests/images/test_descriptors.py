@@ -12,12 +12,12 @@ from common import Cases, program, run_program
 from pair import Client, Port, wait_until
 from plain_image import PRIMARY, STANDBY
 from plain_replies import OK
-from plain_wire import Acknowledgement, text
+from plain_wire import Acknowledgement, Greeting, text
 from plain_writer import Writer
 from standby_node import NOWHERE
 from stored_server import StoredServer
 from spelling import spell
-from test_images import DONE, FAILED, LINES, MISUSED, ROLES, format_words, image_bytes
+from test_images import DONE, FAILED, LINES, MISUSED, ROLES, format_words, image_bytes, new_image
 from test_promote import STOPPED, with_groups
 from worked_cases import SET_A
 
@@ -59,7 +59,7 @@ class ClosedStreams(Cases):
                 self.assertEqual(found, wanted)
 
     def check_image(self, words, before, after, output):
-        """A subcommand over this image leaves that one, whatever is closed. It is done where its output is open."""
+        """A subcommand over this image leaves the one that this tells of what is there, whatever is closed. It is done where its output is open."""
         for streams in STREAMS:
             with self.closed(streams, words=words) as folder:
                 path = folder / "i.img"
@@ -67,24 +67,24 @@ class ClosedStreams(Cases):
                     path.write_bytes(before)
                 finished = run_closed("server", [words[0], "--image", str(path), *words[1:]], streams)
                 self.assert_ended(finished, streams, FAILED if OUTPUT in streams else DONE, output)
-                self.assert_bytes(path.read_bytes(), after)
+                self.assert_bytes(path.read_bytes(), after(path.read_bytes()))
 
 
 class Server(ClosedStreams):
     def test_format(self):
         for role, name in ROLES.items():
             words = ["format", "--lines", str(LINES), "--role", name]
-            self.check_image(words, None, image_bytes(LINES, Writer(LINES, role).words), None)
+            self.check_image(words, None, lambda left, role=role: new_image(LINES, role, left), None)
 
     def test_inspect(self):
         image = image_bytes(LINES, with_groups().words)
-        self.check_image(["inspect"], image, image, None)
+        self.check_image(["inspect"], image, lambda _: image, None)
 
     def test_promote(self):
         standby = with_groups()
         before = image_bytes(LINES, standby.words)
         standby.promote()
-        self.check_image(["promote", STOPPED], before, image_bytes(LINES, standby.words), None)
+        self.check_image(["promote", STOPPED], before, lambda _: image_bytes(LINES, standby.words), None)
 
     def test_nodes_that_cannot_listen(self):
         """The image is opened again, and is whole."""
@@ -101,7 +101,7 @@ class Server(ClosedStreams):
     def test_nodes_that_serve(self):
         for role, links, asked, wanted in [
             ("primary", ["--link", NOWHERE], spell("PING"), b"+PONG\r\n"),
-            ("standby", [], b"", text(Acknowledgement(1, 0))),
+            ("standby", [], text(Greeting()), text(Greeting()) + text(Acknowledgement(1, 0))),
         ]:
             for streams in STREAMS:
                 with self.closed(streams, role=role) as folder:

@@ -77,7 +77,7 @@ class Damaged(Inspected, StandingBy):
             layout = plain_image.LAYOUTS.get(damaged.get(1, 0), plain_image.LAYOUT)
             try:
                 image = plain_image.read_image(Words(LINES, damaged), layout)
-                wanted = (DONE, told(image.record, len(image.map)), b"")
+                wanted = (DONE, told(image.record, len(image.map), image.pair), b"")
             except plain_image.BadImage as bad:
                 image, wanted = None, (FAILED, b"", refusal(bad.number))
             said = "whole" if image else f"refusal {wanted[2][8:9].decode()}"

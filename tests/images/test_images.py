@@ -15,7 +15,7 @@ import tempfile
 import plain_image
 from common import CAUSE, NEWS, Cases, program, run_program, without_cause
 from damaged_images import BASE, ENTRIES_ALONE, ENTRIES_TOGETHER, RECORDS, SLOT, STRANGE, SUPERBLOCKS, entry
-from plain_image import DIRECTORY_LINE, LAYOUT, LAYOUTS, MOST_VALUE_BYTES, PRIMARY, STANDBY, WORDS_OF_LINE, Words
+from plain_image import BOUND, DIRECTORY_LINE, LAYOUT, LAYOUTS, MOST_VALUE_BYTES, PAIR_WORD, PRIMARY, STANDBY, WORDS_OF_LINE, Words
 from plain_keyspace import DropKey, Put
 from plain_writer import Writer
 
@@ -49,12 +49,23 @@ def words_of(data):
     return {word: value for word, value in enumerate(found) if value}
 
 
-def told(record, live):
-    """What `inspect` prints of a record with so many live entries."""
+def told(record, live, pair=0):
+    """What `inspect` prints of a record with so many live entries, of the pair of this number."""
     lines = [f"version {record.layout.version}", f"record {record.number}", f"position {record.position}", f"cp {record.cp}", f"cd {record.cd}"]
-    lines += [f"epoch {record.epoch}", f"role {ROLES[record.role]}", f"floor {record.floor}", f"gaps {len(record.gaps)}"]
+    lines += [f"epoch {record.epoch}", f"role {ROLES[record.role]}", f"floor {record.floor}", f"pair {pair}", f"gaps {len(record.gaps)}"]
     lines += [f"gap {first} {last}" for first, last in record.gaps]
     return "".join(f"{line}\n" for line in [*lines, f"live {live}"]).encode()
+
+
+def told_of(words, lines=LINES):
+    """What `inspect` prints of an image of these words."""
+    image = plain_image.read_image(Words(lines, words))
+    return told(image.record, len(image.map), image.pair)
+
+
+def new_image(lines, role, data):
+    """The bytes of a new image, of the pair whose number these bytes have."""
+    return image_bytes(lines, Writer(lines, role, pair=words_of(data).get(PAIR_WORD, 0)).words)
 
 
 def format_words(path, lines=LINES, role="primary"):
@@ -103,7 +114,7 @@ class Formatting(Images):
                 path = folder / "p.img"
                 finished = self.run_words(format_words(path, lines, ROLES[role]))
                 self.assert_written(finished, b"formatted %d lines, %d entries\n" % (lines, lines // 8 - 18))
-                self.assert_bytes(path.read_bytes(), image_bytes(lines, Writer(lines, role).words))
+                self.assert_bytes(path.read_bytes(), new_image(lines, role, path.read_bytes()))
                 # (its owner's alone)
                 self.assertEqual(stat.S_IMODE(path.stat().st_mode), 0o600)
 
@@ -116,6 +127,21 @@ class Formatting(Images):
             data, front = path.read_bytes(), plain_image.extents_begin(LINES) * LINE_BYTES
             self.assert_bytes(data[:front], image_bytes(LINES, Writer(LINES, STANDBY).words)[:front])
             self.assert_bytes(data[front:], b"\xa5" * (LINES * LINE_BYTES - front))
+
+    def test_the_number_of_a_pair(self):
+        """It is drawn for each image of a primary, also over an image that has one; a standby's has none."""
+        with self.folder() as folder:
+            path, found = folder / "p.img", []
+            for role in 20 * [PRIMARY] + [STANDBY] + 20 * [PRIMARY]:
+                self.assert_written(self.run_words(format_words(path, role=ROLES[role])), b"formatted 4096 lines, 494 entries\n")
+                found.append(plain_image.read_image(Words(LINES, words_of(path.read_bytes()))).pair)
+                self.assert_written(self.inspect(path), told(Writer(LINES, role).record, 0, found[-1]))
+            drawn = found[:20] + found[21:]
+            self.assertEqual((found[20], len(set(drawn))), (0, len(drawn)))
+            self.assertTrue(all(0 < number < BOUND for number in drawn), drawn)
+            # (each bit is drawn)
+            for bit in range(62):
+                self.assertEqual({number >> bit & 1 for number in drawn}, {0, 1}, bit)
 
     def test_numbers_of_lines_that_no_image_has(self):
         with self.folder() as folder:
@@ -176,7 +202,7 @@ class Formatting(Images):
             self.assertEqual(finished.status, FAILED)
             self.assertRegex(finished.errors, rb"\A[^\n]+\n\Z")
             # the image is there all the same
-            self.assert_written(self.inspect(folder / "p.img"), told(Writer(LINES, PRIMARY).record, 0))
+            self.assert_written(self.inspect(folder / "p.img"), told_of(words_of((folder / "p.img").read_bytes())))
 
 
 class Inspecting(Images):
@@ -192,16 +218,16 @@ class Inspecting(Images):
         """Three SETs as one group, before a reopening and after it."""
         writer = Writer(LINES, PRIMARY)
         writer.commit([[Put((key,), b"1")] for key in (b"a", b"b", b"c")])
-        self.assert_told(LINES, writer.words, b"version 2\nrecord 2\nposition 3\ncp 3\ncd 4100\nepoch 1\nrole primary\nfloor 0\ngaps 0\nlive 3\n")
+        self.assert_told(LINES, writer.words, b"version 2\nrecord 2\nposition 3\ncp 3\ncd 4100\nepoch 1\nrole primary\nfloor 0\npair 0\ngaps 0\nlive 3\n")
         writer.reopen()
-        text = b"version 2\nrecord 3\nposition 3\ncp 4100\ncd 8197\nepoch 1\nrole primary\nfloor 0\ngaps 1\ngap 4 4099\nlive 3\n"
+        text = b"version 2\nrecord 3\nposition 3\ncp 4100\ncd 8197\nepoch 1\nrole primary\nfloor 0\npair 0\ngaps 1\ngap 4 4099\nlive 3\n"
         self.assert_told(LINES, writer.words, text)
 
     def test_new_images(self):
         for lines, role in [(4_096, PRIMARY), (4_103, STANDBY), (40_000, STANDBY)]:
             with self.case("image", lines=lines, role=role):
                 name = ROLES[role].encode()
-                text = b"version 2\nrecord 1\nposition 0\ncp 0\ncd 4097\nepoch 1\nrole %s\nfloor 0\ngaps 0\nlive 0\n" % name
+                text = b"version 2\nrecord 1\nposition 0\ncp 0\ncd 4097\nepoch 1\nrole %s\nfloor 0\npair 0\ngaps 0\nlive 0\n" % name
                 self.assert_told(lines, Writer(lines, role).words, text)
 
     def test_versions_that_have_ended_are_not_live(self):
@@ -239,16 +265,13 @@ class Inspecting(Images):
     def test_images_that_break_no_rule(self):
         for name, changes in STRANGE:
             with self.case(name):
-                words = BASE.words | changes
-                image = plain_image.read_image(Words(LINES, words))
-                self.assert_told(LINES, words, told(image.record, len(image.map)))
+                self.assert_told(LINES, BASE.words | changes, told_of(BASE.words | changes))
 
     def test_large_numbers(self):
         changes = dict(enumerate([2**62 - 2, 2**62 - 1], SLOT + 1))
         changes |= {SLOT + 2: 2**62 - 4_098, SLOT + 3: 2**62 - 1, SLOT + 4: 2**62 - 1}
-        words = BASE.words | changes
-        record = plain_image.read_image(Words(LINES, words)).record
-        self.assert_told(LINES, words, told(record, len(plain_image.read_image(Words(LINES, words)).map)))
+        changes |= {PAIR_WORD: 2**62 - 1}
+        self.assert_told(LINES, BASE.words | changes, told_of(BASE.words | changes))
 
 
 def of_its_version(words):
@@ -316,7 +339,7 @@ class Refusals(Images):
             with open(path, "r+b") as held:
                 fcntl.flock(held, fcntl.LOCK_EX | fcntl.LOCK_NB)
                 self.assert_refused(format_words(path), 1, cause=b"is held by another process", status=PASSING)
-                self.assert_written(self.inspect(path), told(BASE.record, len(plain_image.read_image(Words(LINES, BASE.words)).map)))
+                self.assert_written(self.inspect(path), told_of(BASE.words))
             self.assert_bytes(path.read_bytes(), data)
 
     def test_an_image_that_may_not_be_written(self):
@@ -324,7 +347,7 @@ class Refusals(Images):
             path = folder / "p.img"
             path.write_bytes(image_bytes(LINES, BASE.words))
             finished = self.run_words(["inspect", "--image", str(path)], preexec_fn=limited(0))
-            self.assert_written(finished, told(BASE.record, len(plain_image.read_image(Words(LINES, BASE.words)).map)))
+            self.assert_written(finished, told_of(BASE.words))
 
 
 class CommandLines(Images):

@@ -129,7 +129,7 @@ class Killed(StandingBy):
                     with Node(path):
                         pass
                     after = self.words(path)
-                    self.assertEqual(plain_image.read_image(after), plain_image.Image(record, image.map))
+                    self.assertEqual(plain_image.read_image(after), plain_image.Image(record, image.map, image.pair))
                     self.assertEqual(len(record.gaps), min(count, LAYOUT.most_gaps))
                     left = plain_image.read_versions(after, record).gapped
                     self.assertEqual(left, cut if count <= LAYOUT.most_gaps else [])

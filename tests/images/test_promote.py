@@ -40,8 +40,8 @@ FIRST_RECORD_WORD, EXTENTS_WORD = LAYOUT.slot_word(LINES, 0), extents_begin(LINE
 class Standby(Writer):
     """A standby's image, which is promoted once it is opened again."""
 
-    def __init__(self, lines=LINES):
-        super().__init__(lines, STANDBY)
+    def __init__(self, lines=LINES, pair=0):
+        super().__init__(lines, STANDBY, pair=pair)
 
     def number(self, **values):
         """Gives the record these numbers, as if it had come so far."""
@@ -57,9 +57,9 @@ class Standby(Writer):
         self._put_record()
 
 
-def with_groups():
+def with_groups(pair=0):
     """A standby that took three frames, of which one ended what an earlier one had made."""
-    standby = Standby()
+    standby = Standby(pair=pair)
     standby.commit([[Put((b"a",), b"1")], [Put((b"b",), b"2")]])
     standby.commit([[Put((b"h", b"f"), b"3")], [Put((b"a",), b"4")]])
     standby.commit([[DropKey(b"b")]])
@@ -122,7 +122,7 @@ class Promoting(Promotions):
             after = plain_image.read_image(Words(standby.lines, words_of(data)))
             self.assertEqual((after.record.role, after.record.epoch), (PRIMARY, before.record.epoch + 1))
             self.assertEqual((after.record.position, after.map), (before.record.position, before.map))
-            self.assert_inspected(path, told(after.record, len(before.map)))
+            self.assert_inspected(path, told(after.record, len(before.map), before.pair))
 
     def test_a_new_image(self):
         for lines in (4_096, 4_103, 40_000):
@@ -132,6 +132,7 @@ class Promoting(Promotions):
     def test_images_that_hold_something(self):
         for name, standby in [
             ("three frames", with_groups()),
+            ("the number of a pair", with_groups(pair=2**62 - 1)),
             ("32 gaps", with_32_gaps()),
             ("a later epoch", of_epoch(7)),
             ("the last epoch but one", of_epoch(LAST_COUNTER - 1)),
@@ -144,7 +145,7 @@ class Promoting(Promotions):
             path = folder / "s.img"
             self.assert_written(run_program("server", format_words(path, role="standby")), b"formatted 4096 lines, 494 entries\n")
             self.assert_promotes(self.promote(path, STOPPED), 2)
-            text = b"version 2\nrecord 3\nposition 0\ncp 4097\ncd 8194\nepoch 2\nrole primary\nfloor 0\ngaps 1\ngap 1 4096\nlive 0\n"
+            text = b"version 2\nrecord 3\nposition 0\ncp 4097\ncd 8194\nepoch 2\nrole primary\nfloor 0\npair 0\ngaps 1\ngap 1 4096\nlive 0\n"
             self.assert_inspected(path, text)
 
     def test_output_that_fails(self):

@@ -205,18 +205,19 @@ class OfTheServer(Status):
 
     def told(self, name, words):
         device = Words(LINES, words)
-        record = plain_image.read_image(device).record
+        image = plain_image.read_image(device)
+        record = image.record
         versions = plain_image.read_versions(device, record)
         room = LINES - 8 - LINES // 8
         rows = {
-            "role": {PRIMARY: "primary", STANDBY: "standby"}[record.role], "epoch": record.epoch, "position": record.position,
+            "role": {PRIMARY: "primary", STANDBY: "standby"}[record.role], "epoch": record.epoch, "pair": image.pair, "position": record.position,
             "versions": len(versions.counted), "ended": sum(end != 0 for _, end in versions.counted), "cut": len(versions.gapped),
             "entries": LAYOUT.entries(LINES), "lines": room - len(plain_image.free_lines(device, record)), "room": room, "gaps": len(record.gaps),
         }
         return "".join(f"{word} {value}\n" for word, value in rows.items())
 
     def test_two_images(self):
-        first, second = Writer(LINES, PRIMARY), Writer(LINES, STANDBY)
+        first, second = Writer(LINES, PRIMARY, pair=2**62 - 1), Writer(LINES, STANDBY)
         first.commit([[Put((b"a",), b"1")], [Put((b"b",), b"1")], [Put((b"a",), b"2")]])
         second.commit([[Put((b"a",), b"1")]])
         pairs = [("one.img", first), ("two.img", second)]

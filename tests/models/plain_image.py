@@ -10,6 +10,8 @@ WORDS_OF_LINE = 8
 LEAST_LINES, MOST_LINES = 4_096, 2**31
 MAGIC = int.from_bytes(b"WBLIMG01", "little")
 DIRECTORY_LINE = 8
+# Of the superblock: the number of the pair, 0 if there is none yet.
+PAIR_WORD = 6
 GAPS_WORD = 6
 STAMPS_BETWEEN_RECORDS = 4_097
 BOUND = 2**62
@@ -129,10 +131,11 @@ class Entry(typing.NamedTuple):
 
 @dataclasses.dataclass
 class Image:
-    """A whole image: its record, and its map from (key,) or (key, field) to values."""
+    """A whole image: its record, its map from (key,) or (key, field) to values, and the number of its pair."""
 
     record: Record
     map: dict
+    pair: int = 0
 
 
 class Words:
@@ -166,7 +169,7 @@ def read_image(device, layout=LAYOUT):
         raise BadImage(WRONG_SIZE, "lines in the superblock")
     _whole(room == device.lines // 8, "word 3 of the superblock")
     record = _read_record(device, layout)
-    return Image(record, _read_map(device, record, _read_entries(device, layout)))
+    return Image(record, _read_map(device, record, _read_entries(device, layout)), *device.slice(PAIR_WORD, 1))
 
 
 def read_versions(device, record):

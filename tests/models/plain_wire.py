@@ -1,12 +1,23 @@
-"""What passes between the two nodes as bytes, written and read from docs/replication.md, "Frames"."""
+"""What passes between the two nodes as bytes, written and read from docs/replication.md, "The greeting" and "Frames"."""
 
 import typing
 
 from plain_keyspace import Clear, Drop, DropKey, Put
 
-GROUP, ACKNOWLEDGEMENT = 1, 2
+GROUP, ACKNOWLEDGEMENT, GREETING = 1, 2, 8
+# what this release says of the link
+LINK_VERSION = 1
+# how many bytes a greeting has, and an acknowledgement
+GREETING_BYTES = ACK_BYTES = 17
 # the first byte of a change: of a put with one name or two, a drop with one or two, and of the two others
 PUTS, DROPS, DROP_KEY, CLEAR = {1: 1, 2: 2}, {3: 1, 4: 2}, 5, 6
+
+
+class Greeting(typing.NamedTuple):
+    """What each side says first on a link: by which version of it, and of which pair it is; 0 if it does not know."""
+
+    pair: int = 0
+    version: int = LINK_VERSION
 
 
 class Group(typing.NamedTuple):
@@ -43,7 +54,9 @@ def change_text(change):
 
 
 def text(message):
-    """The bytes of a frame or of an acknowledgement."""
+    """The bytes of a greeting, a frame or an acknowledgement."""
+    if isinstance(message, Greeting):
+        return bytes([GREETING]) + number(message.version) + number(message.pair)
     if isinstance(message, Acknowledgement):
         return bytes([ACKNOWLEDGEMENT]) + number(message.epoch) + number(message.position)
     body = b"".join(map(change_text, message.changes))
@@ -65,6 +78,17 @@ class Reader:
 
     def number(self, size=8):
         return int.from_bytes(self.take(size), "big")
+
+
+def read_greeting(data):
+    """The greeting whose bytes these are, with none left over."""
+    reader = Reader(data)
+    if reader.number(1) != GREETING:
+        raise ValueError("no greeting")
+    message = Greeting(version=reader.number(), pair=reader.number())
+    if reader.data:
+        raise ValueError("bytes are left over")
+    return message
 
 
 def read_change(reader):

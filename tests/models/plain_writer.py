@@ -3,8 +3,8 @@ candidates."""
 
 import plain_image
 from plain_device import Device
-from plain_image import (DIRECTORY_LINE, FIELD, LAYOUT, LENGTH_SHIFT, MAGIC, PRIMARY, STAMPS_BETWEEN_RECORDS, STRING, WORDS_OF_LINE, Entry, Record, Words,
-                         extents_begin, record_words, reopened, without_oldest_gap)
+from plain_image import (DIRECTORY_LINE, FIELD, LAYOUT, LENGTH_SHIFT, MAGIC, PAIR_WORD, PRIMARY, STAMPS_BETWEEN_RECORDS, STRING, WORDS_OF_LINE, Entry, Record,
+                         Words, extents_begin, record_words, reopened, without_oldest_gap)
 from plain_keyspace import Put
 from plain_room import Part, Place, Room, Table
 
@@ -12,13 +12,13 @@ __all__ = ["Part", "Place", "Room", "Table", "Writer"]
 
 
 class Writer:
-    """A new image of this layout, to which groups are committed one after another, from which what has ended is freed, and which is opened again. Beside
-    it is what its node holds in memory: the free room, and the entry of each record. A primary's is ahead of the image by what waits for a
-    commit. `places_may_differ` once a standby may have moved versions or cleared gaps to make room: the places of versions, their stamps, and the record's
-    number, stamps and gaps are one way then of many. A fence that fails raises Fault: the image is to crash then."""
+    """A new image of this layout and of the pair of this number, to which groups are committed one after another, from which what has ended is freed, and which
+    is opened again. Beside it is what its node holds in memory: the free room, and the entry of each record. A primary's is ahead of the image by what waits
+    for a commit. `places_may_differ` once a standby may have moved versions or cleared gaps to make room: the places of versions, their stamps, and the
+    record's number, stamps and gaps are one way then of many. A fence that fails raises Fault: the image is to crash then."""
 
-    def __init__(self, lines, role, device=None, layout=LAYOUT):
-        self.lines, self.layout = lines, layout
+    def __init__(self, lines, role, device=None, layout=LAYOUT, pair=0):
+        self.lines, self.layout, self.pair = lines, layout, pair
         self.device = device or Device()
         self.record = Record(1, 0, 0, STAMPS_BETWEEN_RECORDS, 1, (), role, layout)
         # by its entry each version that is not freed: its name and its place
@@ -54,6 +54,8 @@ class Writer:
         self._fence([*range(DIRECTORY_LINE), *self._slot(self.record)])
         self._put(0, [MAGIC])
         self._fence([0])
+        if self.pair:
+            self._number(self.pair)
 
     def crash(self, picks=()):
         """What is in memory is gone. The image is what the picks leave of it, and what is in memory is made anew from that."""
@@ -63,7 +65,8 @@ class Writer:
     def read(self):
         """What is in memory is made anew from the image."""
         device = Words(self.lines, self.words)
-        self.record = plain_image.read_image(device, self.layout).record
+        image = plain_image.read_image(device, self.layout)
+        self.record, self.pair = image.record, image.pair
         self._versions, self._ended = {}, {}
         versions = plain_image.read_versions(device, self.record)
         for entry, end in versions.counted:
@@ -195,6 +198,17 @@ class Writer:
         if len(self.record.gaps) == self.layout.most_gaps:
             self.room.give(self.clear_gap())
         self._put_record(reopened(self.record)[-1])
+
+    def take_over(self, pair):
+        """A standby takes over the number of its primary's pair, and is opened again."""
+        self._number(pair)
+        self.reopen()
+
+    def _number(self, pair):
+        """It has this number of a pair."""
+        self._put(PAIR_WORD, [pair])
+        self._fence([0])
+        self.pair = pair
 
     def promote(self):
         """It is a primary's, of the next epoch. All that has ended may have been freed."""

@@ -76,11 +76,11 @@ class Upgrades(Migrating):
         writer.reopen()
         writer.reopen()
         self.write(writer.words)
-        text_before = b"record 4\nposition 3\ncp 8197\ncd 12294\nepoch 1\nrole primary\nfloor 0\ngaps 2\ngap 4 4099\ngap 4101 8196\nlive 3\n"
+        text_before = b"record 4\nposition 3\ncp 8197\ncd 12294\nepoch 1\nrole primary\nfloor 0\npair 0\ngaps 2\ngap 4 4099\ngap 4101 8196\nlive 3\n"
         self.assert_written(self.inspect(self.path), b"version 1\n" + text_before)
         self.assert_migrates(writer.words)
         # it was opened again, three gaps were cleared, and the record of version 2 was written
-        self.assert_written(self.inspect(self.path), b"version 2\nrecord 9\nposition 3\ncp 12294\ncd 16391\nepoch 1\nrole primary\nfloor 3\ngaps 0\nlive 3\n")
+        self.assert_written(self.inspect(self.path), b"version 2\nrecord 9\nposition 3\ncp 12294\ncd 16391\nepoch 1\nrole primary\nfloor 3\npair 0\ngaps 0\nlive 3\n")
         migrated = self.path.read_bytes()
         self.assert_written(run_program("server", migrate_words(self.path)), MIGRATED)
         self.assert_bytes(self.path.read_bytes(), migrated)

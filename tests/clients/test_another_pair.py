@@ -1,0 +1,431 @@
+"""The number of a pair: the standby of another pair is refused and the right one is taken, and a new standby takes over the number of its primary
+(docs/replication.md, "The greeting"; docs/image.md)."""
+
+import contextlib
+import os
+import random
+import shutil
+import signal
+import time
+import unittest
+
+import common
+import held_syncs
+import noted_calls
+import plain_image
+from damaged_frames import SET_A
+from load import WRITERS, Load
+from noted_calls import Noting, mixed
+from pair import LINES, greet, run, wait_until
+from plain_image import BOUND, PAIR_WORD, STANDBY, BadImage
+from plain_keyspace import Put
+from plain_replies import OK, bulk
+from plain_wire import ACK_BYTES, Acknowledgement, Greeting, Group, text
+from plain_writer import Writer
+from spelling import spell
+from standby_node import Node, StandingBy, take, without_records
+from test_images import FAILED, LINES as FEW_LINES, refusal, words_of
+from test_whose_image import NO_ANSWER, SECONDS, TELLING, Images
+
+PROGRAMS = ["server"]
+IS_SLOW = True
+QUICK = ["Numbers.test_a_new_standby", "TakingOver.test_with_its_first_frame", "TakingOver.test_not_from_a_primary_that_is_refused"]
+
+REFUSED = b"refusal 18: wrong pair"
+# A number of a pair, and what a standby tells that takes it over.
+NUMBER = 2**61 + 7
+TAKEN_OVER = b"took over the number of its pair, %d\n"
+# How often a standby is killed about when it takes the number over.
+KILLS = 15
+
+
+def with_number(data, number):
+    """The bytes of an image with this number of a pair."""
+    return data[:8 * PAIR_WORD] + number.to_bytes(8, "little") + data[8 * PAIR_WORD + 8:]
+
+
+def number_in(path):
+    """The number of the pair in an image, also of a node that runs."""
+    with open(path, "rb") as file:
+        return int.from_bytes(os.pread(file.fileno(), 8, 8 * PAIR_WORD), "little")
+
+
+class Pairs(Images):
+    def numbers(self):
+        """Those of the primary and of the standby."""
+        return [number_in(node.image) for node in (self.nodes.primary, self.nodes.standby)]
+
+    def settle(self, nodes=None):
+        """Waits until a pair whose standby has taken a frame has one number, and returns that."""
+        nodes = nodes or self.nodes
+        number = number_in(nodes.primary.image)
+        wait_until(lambda: number_in(nodes.standby.image) == number, "a standby that has taken over the number", TELLING)
+        return number
+
+    def renumber(self, node, number):
+        """Gives the image of a node that has ended this number."""
+        node.image.write_bytes(with_number(node.image.read_bytes(), number))
+
+    def start(self, node):
+        node.start()
+        wait_until(node.is_listening, f"a {node.role} that listens")
+
+    def assert_told(self, node, words):
+        wait_until(lambda: words in self.told(node), f"the word of the {node.role}", TELLING)
+
+    def kept(self, node):
+        """What a node keeps in its image while nobody can change it: all but the record, of which a standby clears gaps; and what that says of the list."""
+        def read():
+            words = words_of(node.image.read_bytes())
+            with contextlib.suppress(BadImage):
+                return plain_image.read_image(plain_image.Words(LINES, words)).record.told(), without_records(words, LINES)
+
+        return wait_until(read, "an image that can be read")
+
+    def position_of(self, node):
+        """How far the image of a node is; 0 where it was read while the node wrote it."""
+        with contextlib.suppress(BadImage):
+            return node.read_image().record.position
+        return 0
+
+
+class AnotherPair(Pairs):
+    """A standby that belongs to another pair, of the same epoch and not ahead."""
+
+    def setUp(self):
+        super().setUp()
+        self.others = self.pair()
+        with self.others.client() as client:
+            self.assertEqual(client.ask("SET", "theirs", "1"), OK)
+        self.assertEqual([self.ask("SET", f"ours{at}", "1") for at in range(5)], 5 * [OK])
+        self.assertNotEqual(self.settle(), self.settle(self.others))
+        self.others.end()
+
+    def assert_refused(self, nodes):
+        """By both, in words, and neither image is another then; nothing is answered."""
+        wanted = [self.kept(node) for node in nodes]
+        with self.nodes.client() as client:
+            client.send(spell("SET", "late", "1"))
+            self.assert_told(self.nodes.primary, b"no link to %s: %s\n" % (self.nodes.link.address().encode(), REFUSED))
+            self.assert_told(self.nodes.standby, b"link ended: %s\n" % REFUSED)
+            self.assertTrue(client.is_silent(SECONDS))
+        self.assertEqual([self.kept(node) for node in nodes], wanted)
+
+    def test_it_is_refused_and_the_right_one_is_taken(self):
+        """By a primary that is started over it."""
+        numbers = self.numbers()
+        self.nodes.end()
+        ours = self.copied(self.nodes.standby, "ours.img")
+        shutil.copyfile(self.others.standby.image, self.nodes.standby.image)
+        for node in (self.nodes.standby, self.nodes.primary):
+            self.start(node)
+        self.assert_refused([self.nodes.primary, self.nodes.standby])
+        for _ in range(2):
+            # (however often either is started)
+            self.restart(self.nodes.standby)
+            self.restart(self.nodes.primary)
+            self.assert_refused([self.nodes.primary, self.nodes.standby])
+        self.assertEqual(self.asked("GET", "ours0"), NO_ANSWER)
+        # the primary still runs
+        self.put_back(self.nodes.standby, ours)
+        self.assertEqual([self.ask("GET", key) for key in ("ours0", "theirs")], [bulk(b"1"), b"$-1\r\n"])
+        self.assertEqual((self.ask("SET", "again", "1"), self.numbers()), (OK, numbers))
+
+    def test_under_a_primary_that_runs(self):
+        """It comes in the place of the right one, and that comes back."""
+        numbers = self.numbers()
+        self.nodes.standby.end()
+        ours = self.copied(self.nodes.standby, "ours.img")
+        shutil.copyfile(self.others.standby.image, self.nodes.standby.image)
+        with self.nodes.client() as client:
+            client.send(spell("SET", "waiting", "1"))
+            self.start(self.nodes.standby)
+            self.assert_refused([self.nodes.standby])
+            self.put_back(self.nodes.standby, ours)
+            self.assertEqual(client.reply(), OK)
+        self.assertEqual([self.ask("GET", key) for key in ("ours0", "waiting", "theirs")], [bulk(b"1"), bulk(b"1"), b"$-1\r\n"])
+        self.assertEqual(self.numbers(), numbers)
+        first, second = self.assert_positions(self.nodes)
+        self.assertEqual((first, self.map_of(self.nodes.primary)), (second, self.map_of(self.nodes.standby)))
+
+    def test_what_there_is_to_do_is_told(self):
+        """By the primary, at first and then ever more seldom."""
+        self.nodes.standby.end()
+        shutil.copyfile(self.others.standby.image, self.nodes.standby.image)
+        self.start(self.nodes.standby)
+        self.assert_told(self.nodes.primary, b'"A standby of another pair" in docs/operating.md')
+        time.sleep(10)
+        lines = self.told(self.nodes.primary).splitlines()
+        told = [sum(words in line for line in lines) for words in (b'"A standby of another pair"', b"no link to ")]
+        self.assertTrue(1 <= told[0] <= 6 and 1 <= told[1] <= 6, lines)
+        ended = sum(b"link ended: " + REFUSED in line for line in self.told(self.nodes.standby).splitlines())
+        self.assertTrue(1 <= ended <= 8, self.told(self.nodes.standby))
+
+
+class Numbers(Pairs):
+    """What number the two nodes of a pair have."""
+
+    def test_a_new_standby(self):
+        """It has none, also once it is linked; it takes that of its primary over with its first frame, and says so."""
+        number = self.numbers()[0]
+        self.assertTrue(0 < number < BOUND)
+        self.assertEqual(self.nodes.client().ask("PING"), b"+PONG\r\n")
+        wait_until(lambda: b"link open to " in self.told(self.nodes.primary), "a link")
+        time.sleep(1)
+        self.assertEqual(self.numbers(), [number, 0])
+        self.assertEqual(self.ask("SET", "a", "1"), OK)
+        self.assertEqual(self.settle(), number)
+        self.assert_told(self.nodes.standby, TAKEN_OVER % number)
+        self.assertEqual([self.ask("SET", "a", "2"), self.ask("GET", "a")], [OK, bulk(b"2")])
+        time.sleep(1)
+        self.assertEqual(self.told(self.nodes.standby).count(b"took over the number"), 1)
+        found = self.told(self.nodes.primary)
+        self.assertEqual((found.count(b"link open to "), found.count(b"no link to ")), (2, 0), found)
+        self.nodes.end()
+        self.assertEqual([found["pair"] for found in self.nodes.inspect()], 2 * [number])
+
+    def test_one_that_fills_again_from_a_delta(self):
+        """A new standby of a primary that holds something: its first frame is the delta."""
+        self.assertEqual([self.ask("SET", f"k{at}", "1") for at in range(5)], 5 * [OK])
+        number = self.settle()
+        self.nodes.end()
+        self.nodes.standby.format(LINES)
+        self.assertEqual(self.numbers(), [number, 0])
+        for node in (self.nodes.standby, self.nodes.primary):
+            self.start(node)
+        self.assertEqual(self.ask("GET", "k0"), bulk(b"1"))
+        self.assertEqual(self.settle(), number)
+        self.assertEqual(self.ask("SET", "k5", "1"), OK)
+
+    def test_it_is_kept(self):
+        """Over restarts, a promotion and a migration, which leaves an image of this version as it is; and after a failover the new standby takes it over."""
+        self.assertEqual(self.ask("SET", "a", "1"), OK)
+        number = self.settle()
+        for _ in range(3):
+            self.nodes.restart(self.nodes.standby, self.nodes.primary)
+            self.nodes.wait()
+            self.assertEqual((self.ask("SET", "a", "2"), self.numbers()), (OK, 2 * [number]))
+        self.nodes.end()
+        for node in (self.nodes.primary, self.nodes.standby):
+            run("migrate", "--image", str(node.image))
+        self.assertEqual(self.numbers(), 2 * [number])
+        for epoch in (2, 3):
+            self.nodes.fail_over()
+            self.assertEqual((number_in(self.nodes.primary.image), self.ask("GET", "a")), (number, bulk(b"2")))
+            self.assertEqual((self.ask("SET", "b", f"{epoch}"), self.settle()), (OK, number))
+        self.nodes.end()
+        self.assertEqual([(found["epoch"], found["pair"]) for found in self.nodes.inspect()], 2 * [(3, number)])
+
+    def test_images_from_before(self):
+        """One without a number is taken on either side. A standby takes over that of its primary; a primary has none, and neither takes one from its
+        standby."""
+        self.assertEqual(self.ask("SET", "a", "0"), OK)
+        number = self.settle()
+        for count, (before, after) in enumerate([((number, 0), [number, number]), ((0, number), [0, number]), ((0, 0), [0, 0])], 1):
+            with self.case("numbers", before=before):
+                self.nodes.end()
+                for node, value in zip((self.nodes.primary, self.nodes.standby), before):
+                    self.renumber(node, value)
+                for node in (self.nodes.standby, self.nodes.primary):
+                    self.start(node)
+                self.assertEqual([self.ask("GET", "a"), self.ask("SET", "a", f"{count}")], [bulk(b"%d" % (count - 1)), OK])
+                wait_until(lambda: self.numbers() == after, "the numbers", TELLING)
+                self.assertEqual(self.ask("GET", "a"), bulk(b"%d" % count))
+                time.sleep(0.5)
+                self.assertEqual(self.numbers(), after)
+                self.assertNotIn(REFUSED, self.told(self.nodes.primary) + self.told(self.nodes.standby))
+        # (and then a primary without one goes over to that of the standby which is promoted)
+        self.nodes.end()
+        self.renumber(self.nodes.standby, number)
+        self.nodes.fail_over()
+        self.assertEqual((self.ask("SET", "a", "4"), self.settle()), (OK, number))
+
+    def test_under_writers(self):
+        """New standbys one after another: nothing that was answered is gone, though each leaves its first link."""
+        load = Load(self.nodes)
+        load.start()
+        load.wait_for(5 * WRITERS)
+        load.end()
+        number = self.settle()
+        for _ in range(4):
+            self.nodes.fail_over()
+            load.start()
+            load.wait_for(5 * WRITERS)
+            load.end()
+            load.check("a new standby")
+            self.assertEqual((load.answered(), self.settle()), (load.asked(), number))
+        self.assertEqual(self.assert_positions(self.nodes), (load.answered(), load.answered()))
+
+    def test_killed_as_it_takes_the_number_over(self):
+        """New standbys, each killed about when it does, started again and killed again: nothing that was answered is lost, and it has the number in the end."""
+        draws, counted = random.Random(f"takeovers {time.time()}"), {}
+        value = 0
+        for count in range(KILLS):
+            with self.case("killed", count=count):
+                if count:
+                    self.nodes.fail_over()
+                    self.assertEqual(self.ask("GET", "a"), bulk(b"%d" % value))
+                number = number_in(self.nodes.primary.image)
+                value += 1
+                with self.nodes.client() as client:
+                    client.send(spell("SET", "a", f"{value}"))
+                    for delay in (draws.choice([0, draws.uniform(0, 0.02)]), draws.uniform(0, 0.1)):
+                        wait_until(lambda: self.position_of(self.nodes.standby) > 0, "a frame that is taken")
+                        time.sleep(delay)
+                        self.nodes.standby.end()
+                        found = number_in(self.nodes.standby.image)
+                        self.assertIn(found, (0, number))
+                        counted["had it" if found else "had it not"] = counted.get("had it" if found else "had it not", 0) + 1
+                        self.nodes.standby.start()
+                    self.assertEqual(client.reply(), OK)
+                self.assertEqual(self.ask("GET", "a"), bulk(b"%d" % value))
+                value += 1
+                self.assertEqual((self.ask("SET", "a", f"{value}"), self.settle()), (OK, number))
+        common.tell("standbys that were killed about when they took a number over", counted)
+
+
+class TakingOver(StandingBy):
+    """A standby whose primary is this test."""
+
+    def new(self, folder, number=0):
+        """The writer of a new standby's image, and its file."""
+        writer = Writer(FEW_LINES, STANDBY, pair=number)
+        return writer, self.made(folder, writer.words)
+
+    def settled(self, path, number):
+        wait_until(lambda: number_in(path) == number, "a number that is taken over", TELLING)
+
+    def assert_is(self, path, writer):
+        """The image is the plain one's, but for gaps that were cleared where nothing came for a second."""
+        wait_until(lambda: self.is_readable(path), "an image that can be read")
+        self.assert_words(words_of(path.read_bytes()), writer.words)
+
+    def is_readable(self, path):
+        with contextlib.suppress(BadImage):
+            plain_image.read_image(self.words(path))
+            return True
+
+    def test_with_its_first_frame(self):
+        """It acknowledges it, ends the link, and has the number in the words of the image alone; on the next link it greets with that."""
+        frames = [Group(1, 0, 1, (Put((b"a",), b"1"),)), Group(1, 1, 2, (Put((b"b",), b"2"),))]
+        with self.folder() as folder:
+            writer, path = self.new(folder)
+            writer.reopen()
+            errors = common.ToldFile(folder / "errors")
+            with open(errors, "ab") as told, Node(path, stderr=told) as node:
+                with node.connect() as link:
+                    self.assertEqual(greet(link, Greeting(NUMBER)), Greeting(0))
+                    self.assertEqual(link.recv(ACK_BYTES), text(Acknowledgement(1, 0)))
+                    self.assertEqual(number_in(path), 0)
+                    link.sendall(text(frames[0]))
+                    found = b""
+                    with contextlib.suppress(ConnectionError):
+                        while more := link.recv(2**16):
+                            found += more
+                    self.assertEqual(found, text(Acknowledgement(1, 1)))
+                take(writer, frames[0])
+                writer.take_over(NUMBER)
+                self.settled(path, NUMBER)
+                wait_until(lambda: TAKEN_OVER % NUMBER in errors.read_bytes(), "a standby that says so")
+                with node.connect() as link:
+                    self.assertEqual(greet(link, Greeting(NUMBER)), Greeting(NUMBER))
+                    self.assertEqual(link.recv(ACK_BYTES), text(Acknowledgement(1, 1)))
+                self.assertEqual(node.exchange(text(frames[1]), greeting=Greeting(NUMBER)), text(Acknowledgement(1, 1)) + text(Acknowledgement(1, 2)))
+                take(writer, frames[1])
+                self.assert_is(path, writer)
+
+    def test_not_from_a_primary_that_is_refused(self):
+        """Nor from one that sends nothing, or less than a frame; a stranger's number stays with the stranger."""
+        change = (Put((b"b",), b"2"),)
+        with self.folder() as folder:
+            writer, path = self.new(folder)
+            with Node(path) as node:
+                node.exchange(SET_A)
+                for name, data in [
+                    ("nothing", b""), ("a part of a frame", text(Group(1, 1, 2, change))[:-1]), ("no frame", b"\xff"), ("another epoch", text(Group(2, 1, 2, change))),
+                    ("a gap", text(Group(1, 7, 8, change))), ("an acknowledgement", text(Acknowledgement(1, 1))),
+                    ("no room", text(Group(1, 1, 2, tuple(Put((b"%d" % at,), 65_536 * b"v") for at in range(8))))),
+                ]:
+                    with self.case("refused", name=name):
+                        self.assertEqual(node.exchange(data, greeting=Greeting(NUMBER + 1)), text(Acknowledgement(1, 1)))
+                        self.assertEqual(number_in(path), 0)
+                time.sleep(0.5)
+                self.assertEqual(number_in(path), 0)
+                # (nor does one without a number give it one)
+                self.assertEqual(node.exchange(text(Group(1, 1, 2, change))), text(Acknowledgement(1, 1)) + text(Acknowledgement(1, 2)))
+                self.assertEqual(number_in(path), 0)
+                node.exchange(text(Group(1, 2, 3, change)), greeting=Greeting(NUMBER))
+                self.settled(path, NUMBER)
+
+    def test_one_that_has_a_number_keeps_it(self):
+        """It takes frames of a primary that has the same or none, and of no other."""
+        with self.folder() as folder:
+            writer, path = self.new(folder, NUMBER)
+            with Node(path) as node:
+                for position, greeting in enumerate([Greeting(NUMBER), Greeting(0)]):
+                    frame = Group(1, position, position + 1, (Put((b"a",), b"1"),))
+                    found = node.exchange(text(frame), greeting=greeting)
+                    self.assertEqual(found, text(Acknowledgement(1, position)) + text(Acknowledgement(1, position + 1)))
+                for number in (1, NUMBER - 1, NUMBER + 1, BOUND, 2**64 - 1, int.from_bytes(NUMBER.to_bytes(8, "little"), "big")):
+                    with self.case("another", number=number):
+                        self.assertEqual(node.exchange(text(Group(1, 2, 3, ())), greeting=Greeting(number)), b"")
+                self.assertEqual((number_in(path), plain_image.read_image(self.words(path)).record.position), (NUMBER, 2))
+
+    def test_killed_at_once(self):
+        """It acknowledges its first frame and is killed, at once or a moment later: it holds that frame, and the number or none; then it takes what follows."""
+        draws, counted = random.Random(f"killed {time.time()}"), {}
+        frames = [Group(1, at, at + 1, (Put((b"k%d" % at,), b"%d" % at),)) for at in range(3)]
+        for count in range(KILLS):
+            with self.case("killed", count=count), self.folder() as folder:
+                _, path = self.new(folder)
+                with Node(path) as node, node.link(Greeting(NUMBER)) as link:
+                    link.recv(ACK_BYTES)
+                    link.sendall(text(frames[0]))
+                    self.assertEqual(link.recv(ACK_BYTES), text(Acknowledgement(1, 1)))
+                    time.sleep(draws.choice([0, draws.uniform(0, 0.01)]))
+                    node.child.send_signal(signal.SIGKILL)
+                    node.child.wait()
+                image = plain_image.read_image(self.words(path))
+                self.assertIn(image.pair, (0, NUMBER))
+                self.assertEqual((image.record.position, image.map), (1, {(b"k0",): b"0"}))
+                counted["had it" if image.pair else "had it not"] = counted.get("had it" if image.pair else "had it not", 0) + 1
+                with Node(path) as node:
+                    self.assertEqual(node.exchange(text(frames[1]), greeting=Greeting(NUMBER)), text(Acknowledgement(1, 1)) + text(Acknowledgement(1, 2)))
+                    self.settled(path, NUMBER)
+                    self.assertEqual(node.exchange(text(frames[2]), greeting=Greeting(NUMBER)), text(Acknowledgement(1, 2)) + text(Acknowledgement(1, 3)))
+                image = plain_image.read_image(self.words(path))
+                self.assertEqual((image.record.position, sorted(image.map.values()), image.pair), (3, [b"0", b"1", b"2"], NUMBER))
+        common.tell("standbys that were killed behind their first frame", counted)
+
+    @unittest.skipUnless(held_syncs.HAS_COMPILER, "there is no gcc")
+    def test_each_sync_of_it_fails(self):
+        """The node ends, and whatever is left of the words that were not durable, the image holds the frame; started again it has the number soon."""
+        frames = [Group(1, at, at + 1, (Put((b"k%d" % at,), b"%d" % at),)) for at in range(3)]
+        with self.folder() as folder:
+            library = noted_calls.library(folder)
+            _, path = self.new(folder)
+            noting = Noting(library, path)
+            with Node(path, env=os.environ | noting.settings) as node:
+                node.exchange(text(frames[0]), greeting=Greeting(NUMBER))
+                self.settled(path, NUMBER)
+                node.exchange(text(frames[1]), greeting=Greeting(NUMBER))
+            syncs = sum(call.word == "data" for call in noting.calls())
+            # (three of opening the image, three of the frame, one of the number, three of opening it again, and three of the next frame)
+            self.assertGreaterEqual(syncs, 10)
+            for number in range(7, syncs - 2):
+                with self.case("sync", number=number):
+                    _, path = self.new(folder)
+                    noting = Noting(library, path, fails=number)
+                    with Node(path, env=os.environ | noting.settings) as node:
+                        self.assertEqual(node.exchange(text(frames[0]), greeting=Greeting(NUMBER)), text(Acknowledgement(1, 0)) + text(Acknowledgement(1, 1)))
+                        self.assertEqual(node.ended(), (FAILED, b"", refusal(1)))
+                    left, durable, drawn = path.read_bytes(), noting.synced.read_bytes(), random.Random(number)
+                    for data in (left, durable, mixed(left, durable, drawn), mixed(left, durable, drawn)):
+                        path.write_bytes(data)
+                        image = plain_image.read_image(self.words(path))
+                        self.assertEqual((image.record.position, image.map), (1, {(b"k0",): b"0"}))
+                        self.assertIn(image.pair, (0, NUMBER))
+                        with Node(path) as node:
+                            found = node.exchange(text(frames[1]), greeting=Greeting(NUMBER))
+                            self.assertEqual(found, text(Acknowledgement(1, 1)) + text(Acknowledgement(1, 2)))
+                            self.settled(path, NUMBER)
