@@ -29,6 +29,9 @@ PATIENCE = 60 * common.BUSY
 MEMORY = "/dev/shm"
 # Ports below those that the system gives to sockets that name none.
 PORTS = range(10_000, 32_000)
+# Where an image has the number of its pair.
+WORD_BYTES = 8
+PAIR_AT = WORD_BYTES * plain_image.PAIR_WORD
 # Descriptors of a primary: one for each connection, and some more.
 DESCRIPTORS = 2_048
 
@@ -214,6 +217,18 @@ def inspected(image):
     return {name: int(value) if value.isdigit() else value for name, value in rows}
 
 
+def number_in(image):
+    """The number of the pair in an image, also of a node that runs."""
+    with open(image, "rb") as file:
+        return int.from_bytes(os.pread(file.fileno(), WORD_BYTES, PAIR_AT), "little")
+
+
+def give_number(image, number):
+    """Gives an image that no node runs this number of a pair."""
+    with open(image, "r+b") as file:
+        os.pwrite(file.fileno(), number.to_bytes(WORD_BYTES, "little"), PAIR_AT)
+
+
 class Node:
     """A primary or a standby: the image, how the program is called over it, and its process while it runs."""
 
@@ -297,17 +312,17 @@ class Node:
 
 class Pair:
     """A primary and a standby over two new images, both running, and the clients of it. The standby's image has as many lines as the primary's,
-    or as many as are said."""
+    or as many as are said. It takes over the number of the pair with its first frame, and leaves a link for that; or it has it from the first."""
 
-    def __init__(self, lines=LINES, descriptors=DESCRIPTORS, folder=None, standby_lines=None):
+    def __init__(self, lines=LINES, descriptors=DESCRIPTORS, folder=None, standby_lines=None, has_number=False):
         self.parts = contextlib.ExitStack()
         try:
-            self._make(lines, descriptors, folder, standby_lines or lines)
+            self._make(lines, descriptors, folder, standby_lines or lines, has_number)
         except BaseException:
             self.close()
             raise
 
-    def _make(self, lines, descriptors, folder, standby_lines):
+    def _make(self, lines, descriptors, folder, standby_lines, has_number):
         self.folder = pathlib.Path(self.parts.enter_context(tempfile.TemporaryDirectory(prefix="wbl-pair-", dir=folder)))
         self.door, self.link = (self.parts.enter_context(contextlib.closing(Port())) for _ in range(2))
         self.descriptors, self.lines = descriptors, lines
@@ -315,6 +330,9 @@ class Pair:
         self.primary = self.primary_over(self.folder / "primary.img")
         for node, size in ((self.standby, standby_lines), (self.primary, lines)):
             node.format(size)
+        if has_number:
+            give_number(self.standby.image, number_in(self.primary.image))
+        for node in (self.standby, self.primary):
             node.start(descriptors)
         self.wait()
 
@@ -420,9 +438,12 @@ class PairCases(common.Cases):
 class ServingCases(PairCases):
     """Tests over a pair of which others than the client that is tried are to be served."""
 
+    # Whether the standby has the number of the pair from the first.
+    HAS_NUMBER = False
+
     def setUp(self):
         super().setUp()
-        self.nodes = self.pair()
+        self.nodes = self.pair(has_number=self.HAS_NUMBER)
 
     def assert_serves(self, count=20):
         """Another connection writes and reads."""

@@ -16,8 +16,8 @@ import plain_image
 from damaged_frames import SET_A
 from load import WRITERS, Load
 from noted_calls import Noting, mixed
-from pair import LINES, greet, run, wait_until
-from plain_image import BOUND, PAIR_WORD, STANDBY, BadImage
+from pair import LINES, give_number, greet, number_in, run, wait_until
+from plain_image import BOUND, STANDBY, BadImage
 from plain_keyspace import Put
 from plain_replies import OK, bulk
 from plain_wire import ACK_BYTES, Acknowledgement, Greeting, Group, text
@@ -39,17 +39,6 @@ TAKEN_OVER = b"took over the number of its pair, %d\n"
 KILLS = 15
 
 
-def with_number(data, number):
-    """The bytes of an image with this number of a pair."""
-    return data[:8 * PAIR_WORD] + number.to_bytes(8, "little") + data[8 * PAIR_WORD + 8:]
-
-
-def number_in(path):
-    """The number of the pair in an image, also of a node that runs."""
-    with open(path, "rb") as file:
-        return int.from_bytes(os.pread(file.fileno(), 8, 8 * PAIR_WORD), "little")
-
-
 class Pairs(Images):
     def numbers(self):
         """Those of the primary and of the standby."""
@@ -61,10 +50,6 @@ class Pairs(Images):
         number = number_in(nodes.primary.image)
         wait_until(lambda: number_in(nodes.standby.image) == number, "a standby that has taken over the number", TELLING)
         return number
-
-    def renumber(self, node, number):
-        """Gives the image of a node that has ended this number."""
-        node.image.write_bytes(with_number(node.image.read_bytes(), number))
 
     def start(self, node):
         node.start()
@@ -225,7 +210,7 @@ class Numbers(Pairs):
             with self.case("numbers", before=before):
                 self.nodes.end()
                 for node, value in zip((self.nodes.primary, self.nodes.standby), before):
-                    self.renumber(node, value)
+                    give_number(node.image, value)
                 for node in (self.nodes.standby, self.nodes.primary):
                     self.start(node)
                 self.assertEqual([self.ask("GET", "a"), self.ask("SET", "a", f"{count}")], [bulk(b"%d" % (count - 1)), OK])
@@ -236,7 +221,7 @@ class Numbers(Pairs):
                 self.assertNotIn(REFUSED, self.told(self.nodes.primary) + self.told(self.nodes.standby))
         # (and then a primary without one goes over to that of the standby which is promoted)
         self.nodes.end()
-        self.renumber(self.nodes.standby, number)
+        give_number(self.nodes.standby.image, number)
         self.nodes.fail_over()
         self.assertEqual((self.ask("SET", "a", "4"), self.settle()), (OK, number))
 

@@ -37,7 +37,7 @@ class FewDescriptors(PairCases):
         """Does this with a pair for each limit, and with how many clients it has room for."""
         self.assertTrue(allow_descriptors(LIMITS[-1] + 300), "this process may not have so many descriptors")
         for limit in LIMITS:
-            with self.case("limit", limit=limit), contextlib.closing(self.pair(descriptors=limit)) as pair:
+            with self.case("limit", limit=limit), contextlib.closing(self.pair(descriptors=limit, has_number=True)) as pair:
                 work(pair, limit - KEPT)
 
     def crowd(self, pair, count):

@@ -1,5 +1,5 @@
-"""What the two sides of a link say first (docs/replication.md, "The greeting"): nodes of another release, and strangers that greet otherwise or not at all. Each
-is refused and told, nothing is changed, and no client is answered."""
+"""What the two sides of a link say first (docs/replication.md, "The greeting"): nodes of another release, and strangers that greet otherwise or not at
+all. Each is refused and told, nothing is changed, and no client is answered."""
 
 import contextlib
 import functools

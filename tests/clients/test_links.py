@@ -16,6 +16,8 @@ IS_SLOW = True
 class Links(ServingCases):
     """A pair whose link others disturb, and pairs of images that do not go together."""
 
+    HAS_NUMBER = True
+
     def test_strangers_at_the_address_of_the_standby(self):
         """Bytes that are no greeting, or behind one no frame, end that link alone, and the primary's is opened again."""
         self.assert_serves(5)

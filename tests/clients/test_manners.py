@@ -223,6 +223,8 @@ class Leaving(ServingCases):
 class Ends(ServingCases):
     """The ends of a node, and nodes that cannot begin."""
 
+    HAS_NUMBER = True
+
     def assert_no_torn_line(self, node):
         for file in (node.output, node.errors):
             text = file.read_bytes()

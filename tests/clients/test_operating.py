@@ -12,7 +12,7 @@ from load import Load
 from old_images import LINES, OldWriter, held, with_hashes, with_nothing_last
 from operated import FIRST, PAGE, SECOND, Operated, Page
 from page_shell import blocks_below
-from pair import Client, PairCases, inspected, wait_until
+from pair import Client, PairCases, give_number, inspected, number_in, wait_until
 from plain_image import HALFWAY, STANDBY
 from plain_replies import NULL_BULK, OK, bulk, integer
 from spelling import spell
@@ -67,6 +67,28 @@ class Procedures(Operated):
             self.assertTrue(client.is_silent(0.5))
         self.do("A lost standby")
         self.assertEqual(self.client().ask("GET", "a"), bulk(b"1"))
+
+    def test_a_standby_of_another_pair(self):
+        """What the page says of it: both logs, that nothing is answered, how the two images are told apart, and what there is to do."""
+        self.assertEqual(self.client().ask("SET", "a", "1"), OK)
+        number = number_in(self.shell.folder / "a.img")
+        wait_until(lambda: number_in(self.shell.folder / "b.img") == number, "a standby that has the number")
+        self.kill("b.img")
+        image = self.shell.folder / "b.img"
+        give_number(image, number + 1)
+        start = self.line("The process of the standby", " standby ")
+        with Client(self.shell.port(FIRST)) as client:
+            self.shell.run(start)
+            client.send(spell("SET", "b", "2"))
+            for name in "ab":
+                wait_until(lambda name=name: b": refusal 18: wrong pair\n" in self.log(name), f"the word of {name}")
+            wait_until(lambda: b'see "A standby of another pair" in docs/operating.md' in self.log("a"), "the primary's word on what to do")
+            self.assertTrue(client.is_silent(0.5))
+            printed = self.do("A standby of another pair")
+            self.assertEqual(printed, f"position 1\nepoch 1\npair {number}\nposition 1\nepoch 1\npair {number + 1}\n")
+        self.do("A lost standby")
+        self.assertEqual(self.client().ask("GET", "a"), bulk(b"1"))
+        self.assertEqual(number_in(image), number)
 
     def line(self, heading, words):
         """The line of the one block below this heading that starts a node and has these words."""
@@ -135,7 +157,7 @@ class Procedures(Operated):
         self.assertRegex(self.shell.run("bin/wbl-status b.img a.img"), r"(?s)\Ab\.img: primary, epoch 2, .* of 16366 .*a\.img: standby, epoch 2, .* of 18709 ")
 
     def test_a_new_version(self):
-        self.check("A new version of the program")
+        self.check("From one release to the next")
 
     def test_backup_and_restore(self):
         """A backup under writers loses nothing, and what it holds is what comes back."""
@@ -161,7 +183,7 @@ class OtherPlace(Operated):
     def test_each_block(self):
         self.do("A lost primary")
         client, count = self.client(SECOND), 0
-        for heading in ("How far a pair was", "A lost standby", "Backup", "A new version of the program", "A larger image", "Images of releases up to 18"):
+        for heading in ("How far a pair was", "A lost standby", "Backup", "From one release to the next", "A larger image", "Images of releases up to 18"):
             with self.case("block", heading=heading):
                 self.assertEqual(client.ask("SET", "count", f"{count}"), OK)
                 self.do_exchanged(heading)

@@ -50,7 +50,7 @@ class Unread(PairCases):
 
     def unread(self, *roles):
         """A pair whose nodes of these roles tell where nobody reads, and the ends where one could."""
-        nodes, sources = self.pair(), []
+        nodes, sources = self.pair(has_number=True), []
         nodes.end()
         for node in (nodes.standby, nodes.primary):
             if node.role in roles:

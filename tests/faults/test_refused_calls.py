@@ -165,7 +165,7 @@ class Reads(Refused):
 
     def test_a_read_of_the_link_that_a_signal_interrupts_is_made_again(self):
         """The link is opened once, and stays."""
-        nodes = self.pair(lines=LINES)
+        nodes = self.pair(lines=LINES, has_number=True)
         for first in (1, 2):
             with self.case("first", first=first):
                 self.restart(nodes, "recv", first, FOR_EVER, every=2, how=errno.EINTR)
