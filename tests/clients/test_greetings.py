@@ -2,19 +2,16 @@
 all. Each is refused and told, nothing is changed, and no client is answered."""
 
 import contextlib
-import functools
 import gzip
-import pathlib
 import select
 import socket
 import subprocess
-import tempfile
 import time
 
 import common
 import plain_image
 from damaged_frames import SET_A
-from pair import HOST, LINES, PATIENCE, PairCases, ServingCases, wait_until
+from pair import HOST, LINES, PATIENCE, PairCases, ServingCases, number_in, wait_until
 from plain_image import STANDBY
 from plain_keyspace import Put
 from plain_replies import OK, bulk
@@ -57,16 +54,15 @@ def wrong_greetings(pair):
     ]
 
 
-@functools.cache
-def former_program():
-    """The server of that release, where the repository's history has it."""
+def former_program(folder):
+    """The server of that release, in this folder, where the repository's history has it."""
     def git(*words):
         ran = subprocess.run(["git", "-C", common.ROOT, *words], capture_output=True, check=False)
         return ran.stdout if ran.returncode == 0 else b""
 
     for commit in git("log", "--format=%H", "--", "releases/LIST").decode().split():
         if f"release {FORMER}\n".encode() in git("show", f"{commit}:releases/LIST"):
-            path = pathlib.Path(tempfile.mkdtemp(prefix="wbl-former-"), "wbl-server")
+            path = folder / "former-server"
             path.write_bytes(gzip.decompress(git("show", f"{commit}:releases/wbl-server.gz")))
             path.chmod(0o755)
             return str(path)
@@ -179,8 +175,8 @@ class ToAPrimary(PairCases):
         self.nodes = self.pair()
         with self.nodes.client() as client:
             self.assertEqual(client.ask("SET", "a", "1"), OK)
-        self.number = self.nodes.primary.read_image().pair
-        wait_until(lambda: self.nodes.standby.read_image().pair == self.number, "a standby that has the number")
+        self.number = number_in(self.nodes.primary.image)
+        wait_until(lambda: number_in(self.nodes.standby.image) == self.number, "a standby that has the number")
         self.nodes.end()
         self.listener = socket.create_server((HOST, self.nodes.link.number))
         self.addCleanup(self.listener.close)
@@ -192,6 +188,14 @@ class ToAPrimary(PairCases):
         self.addCleanup(link.close)
         link.settimeout(PATIENCE)
         return link
+
+    def forget_dials(self):
+        """Closes the connections that are there already."""
+        self.listener.settimeout(0)
+        with contextlib.suppress(BlockingIOError):
+            while True:
+                self.listener.accept()[0].close()
+        self.listener.settimeout(PATIENCE)
 
     def start(self):
         self.nodes.primary.start()
@@ -262,6 +266,7 @@ class ToAPrimary(PairCases):
         ]:
             with self.case("pieces", name=name):
                 self.nodes.primary.end()
+                self.forget_dials()
                 self.start()
                 link = self.accepted()
                 for piece in pieces:
@@ -279,8 +284,8 @@ class AnotherRelease(ServingCases):
     def setUp(self):
         super().setUp()
         self.assert_serves(5)
-        number = self.nodes.primary.read_image().pair
-        wait_until(lambda: self.nodes.standby.read_image().pair == number, "a standby that has the number")
+        number = number_in(self.nodes.primary.image)
+        wait_until(lambda: number_in(self.nodes.standby.image) == number, "a standby that has the number")
         self.nodes.end()
 
     def start(self, node, program):
@@ -317,13 +322,13 @@ class AnotherRelease(ServingCases):
         self.nodes.end()
 
     def test_both_ways(self):
-        former, own = former_program(), common.program("server")
+        former, own = former_program(self.nodes.folder), common.program("server")
         if former is None:
             print(f"{self.id()}: skipped, since the history of the repository is not there", flush=True)
             return
         fault = b"refusal 10: frame fault"
         with self.case("the primary is of the former release"):
-            self.check(former, own, (fault, b"link ended: "))
+            self.check(former, own, (fault, b"a connection was closed before it greeted"))
         with self.case("the standby is of the former release"):
             self.check(own, former, (WRONG_LINK, fault))
         with self.case("both are of the former release, over these images"):
@@ -336,4 +341,4 @@ class AnotherRelease(ServingCases):
                 node.start()
             self.nodes.wait()
             self.assert_serves(5)
-            self.assertNotEqual(self.nodes.primary.read_image().pair, 0)
+            self.assertNotEqual(number_in(self.nodes.primary.image), 0)
