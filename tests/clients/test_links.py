@@ -3,7 +3,7 @@
 import contextlib
 import time
 
-from pair import LINES, Client, ServingCases, greet
+from pair import LINES, Client, ServingCases, give_number, greet, number_in
 from plain_replies import array, bulk
 from plain_wire import ACK_BYTES, GREETING_BYTES, Acknowledgement, Greeting, text
 from spelling import spell
@@ -94,7 +94,9 @@ class Links(ServingCases):
         """A primary that was formatted since finds a standby that holds more than it: nothing that rests on the standby is answered."""
         self.assert_serves(5)
         self.nodes.primary.end()
+        number = number_in(self.nodes.primary.image)
         self.nodes.primary.format(LINES)
+        give_number(self.nodes.primary.image, number)
         self.nodes.primary.start()
         self.nodes.wait()
         client = self.nodes.client()

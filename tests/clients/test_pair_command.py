@@ -15,7 +15,7 @@ import types
 
 import common
 from page_shell import PageShell, blocks_below
-from pair import HOST, PATIENCE, Client, PairCases, Port, TakesTooLong, inspected, launch, run, wait_until
+from pair import HOST, PATIENCE, Client, PairCases, Port, TakesTooLong, inspected, launch, number_in, run, wait_until
 from plain_replies import OK, bulk
 
 PROGRAMS = ["server", "client"]
@@ -307,14 +307,15 @@ class NotStarting(CommandCases):
         self.assertFalse(self.images["primary"].exists())
 
     def test_a_pair_that_does_not_serve(self):
-        """The standby holds what the primary never had: it says so within the time that is given."""
+        """The standby belongs to another pair than the primary: it says so within the time that is given."""
         command, _ = self.started()
         self.assertEqual(self.ask(command, "SET", "a", "1"), OK)
+        wait_until(lambda: number_in(self.images["standby"]) == number_in(self.images["primary"]), "a standby that has the number")
         command.end(signal.SIGTERM)
         run("format", "--image", str(self.images["primary"]), "--lines", "65536", "--role", "primary")
         told = self.refused("--wait", 3 * common.BUSY, output="both nodes have ended\n")
         self.assertRegex(told, r"\Athe pair does not serve after [\d.]+ seconds\.\nThe last that the primary told, in ziltovna-pair/primary\.log:\n(?:    .*\n)*"
-                               r"    standby ahead: .*\n(?:    .*\n)*The last that the standby told, in ziltovna-pair/standby\.log:\n(?:    .*\n)+\Z")
+                               r"    \S+: the standby belongs to another pair: .*\n(?:    .*\n)*The last that the standby told, in ziltovna-pair/standby\.log:\n(?:    .*\n)+\Z")
 
     def test_a_port_that_is_taken(self):
         port = self.new_port()

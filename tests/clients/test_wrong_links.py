@@ -8,7 +8,7 @@ import threading
 
 import common
 from damaged_frames import SET_A
-from pair import HOST, LINES, PATIENCE, Client, PairCases, ServingCases, greet, wait_until
+from pair import HOST, LINES, PATIENCE, Client, PairCases, ServingCases, give_number, greet, number_in, wait_until
 from plain_image import STANDBY
 from plain_keyspace import Put
 from plain_replies import OK
@@ -51,7 +51,10 @@ class WrongNodes(ServingCases):
         """Once it was, nothing that it acknowledges counts, also where this node has come to hold as much: no write is answered that it does not hold."""
         self.assert_serves(5)
         self.nodes.primary.end()
+        number = number_in(self.nodes.primary.image)
         self.nodes.primary.format(LINES)
+        # (as a primary's that was restored; one of another pair is refused for that)
+        give_number(self.nodes.primary.image, number)
         self.nodes.primary.start()
         self.nodes.wait()
         errors = self.nodes.primary.errors

@@ -50,7 +50,7 @@ class FaultyPair(FaultyCases, PairCases):
 
     def faulty_pair(self, lines):
         """A new one, with the faults of each node by its role; the standby has more lines."""
-        nodes = self.pair(lines=lines, standby_lines=lines + MORE_LINES)
+        nodes = self.pair(lines=lines, standby_lines=lines + MORE_LINES, has_number=True)
         self.by_role = {node.role: self.faults(f"{node.role}.{id(nodes)}") for node in (nodes.standby, nodes.primary)}
         for node in (nodes.primary, nodes.standby):
             node.end()

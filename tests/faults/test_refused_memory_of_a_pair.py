@@ -7,7 +7,7 @@ import threading
 
 from common import drawn, tell
 from faulty_pair import NO_MEMORY, FaultyPair
-from pair import LINES, Client, Ended
+from pair import LINES, Client, Ended, give_number, number_in
 from plain_image import MORE_LINES
 from plain_replies import bulk
 from plain_starved import REFUSED
@@ -127,6 +127,8 @@ class Deltas(FaultyPair):
         faults = self.by_role[role]
         nodes.end()
         nodes.standby.format(FEW_LINES + MORE_LINES)
+        # (one that takes the number over opens its image again, and ends without memory for that: test_failing_steps)
+        give_number(nodes.standby.image, number_in(nodes.primary.image))
         for node in (nodes.primary, nodes.standby) if role == "primary" else (nodes.standby, nodes.primary):
             # (it listens before the other one is there)
             node.start(nodes.descriptors)
