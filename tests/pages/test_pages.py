@@ -27,7 +27,7 @@ NUMBER = re.compile(r"(\d{1,3}(?:,\d{3})+|\d+)(?:\^(\d+))?")
 LATER = ["IsFenced", "raise_round", "rejoin"]
 OUTSIDE = {
     "DBSIZE", "FLUSHDB", "QUIT", "HELLO", "Clone", "Copy", "bytes::BufMut", "io::Write", "slab", "indexmap", "clap", "crossbeam_utils", "KEY", "WBLIMG01",
-    "dmesg", "smartctl", "MALLOC_MMAP_THRESHOLD_", "MALLOC_TRIM_THRESHOLD_", "GLIBC_TUNABLES", "malloc_trim",
+    "dmesg", "smartctl", "MALLOC_MMAP_THRESHOLD_", "MALLOC_TRIM_THRESHOLD_", "GLIBC_TUNABLES",
 }
 
 # By crate and constant the pages that state it: README, a page of docs/ or the README of a crate.
