@@ -386,8 +386,8 @@ class TakingOver(StandingBy):
                 node.exchange(text(frames[0]), greeting=Greeting(NUMBER))
                 self.settled(path, NUMBER)
                 node.exchange(text(frames[1]), greeting=Greeting(NUMBER))
-            syncs = sum(call.word == "data" for call in noting.calls())
-            # (three of opening the image, three of the frame, one of the number, three of opening it again, and three of the next frame)
+            syncs = sum(call.word in ("data", "sync") for call in noting.calls())
+            # (three of opening the image, three of the frame, those of the number and of opening it again, and three of the next frame)
             self.assertGreaterEqual(syncs, 10)
             for number in range(7, syncs - 2):
                 with self.case("sync", number=number):
