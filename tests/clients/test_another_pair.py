@@ -86,7 +86,7 @@ class AnotherPair(Pairs):
         with self.nodes.client() as client:
             client.send(spell("SET", "late", "1"))
             self.assert_told(self.nodes.primary, b"no link to %s: %s\n" % (self.nodes.link.address().encode(), REFUSED))
-            self.assert_told(self.nodes.standby, b"link ended: %s\n" % REFUSED)
+            self.assert_told(self.nodes.standby, b"left the link: %s\n" % REFUSED)
             self.assertTrue(client.is_silent(SECONDS))
         self.assertEqual([self.kept(node) for node in nodes], wanted)
 
@@ -137,7 +137,7 @@ class AnotherPair(Pairs):
         lines = self.told(self.nodes.primary).splitlines()
         told = [sum(words in line for line in lines) for words in (b'"A standby of another pair"', b"no link to ")]
         self.assertTrue(1 <= told[0] <= 6 and 1 <= told[1] <= 6, lines)
-        ended = sum(b"link ended: " + REFUSED in line for line in self.told(self.nodes.standby).splitlines())
+        ended = sum(b"left the link: " + REFUSED in line for line in self.told(self.nodes.standby).splitlines())
         self.assertTrue(1 <= ended <= 8, self.told(self.nodes.standby))
 
 

@@ -108,7 +108,7 @@ class ToAStandby(StandingBy):
                     self.assert_stays(path, before)
                     self.assertGreaterEqual(errors.read_bytes().count(words), told)
             for words in (WRONG_LINK, WRONG_PAIR):
-                wait_until(lambda words=words: b"link ended: " + words + b"\n" in errors.read_bytes(), "a refusal that is told")
+                wait_until(lambda words=words: b"left the link: " + words + b"\n" in errors.read_bytes(), "a refusal that is told")
             self.assertEqual(node.exchange(greeting=Greeting(NUMBER)), text(Acknowledgement(1, 1)))
 
     def test_who_leaves_before_it_greets(self):
@@ -162,7 +162,9 @@ class ToAStandby(StandingBy):
                         stranger.send(bytes([byte]))
                     if select.select([link], [], [], 0.5)[0]:
                         break
-                found = link.recv(GREETING_BYTES + ACK_BYTES, socket.MSG_WAITALL)
+                found = b""
+                while len(found) < GREETING_BYTES + ACK_BYTES and (piece := link.recv(GREETING_BYTES + ACK_BYTES - len(found))):
+                    found += piece
                 self.assertEqual(found, text(Greeting(NUMBER)) + text(Acknowledgement(1, 1)))
             self.assert_in_time(time.monotonic() - began, 15 * common.BUSY)
 
