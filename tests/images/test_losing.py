@@ -199,7 +199,7 @@ class Kept(Losing):
                 self.assertEqual(os.listdir(folder), ["p.img"])
 
     def test_new_over_what_a_format_left(self):
-        """The image that is asked for, which no node has opened, stays as it is; what was left of it where it was cut is made whole; any other one is kept."""
+        """The image that is asked for, which no node has opened, and what was left of it where it was cut are made anew; any other one is kept."""
         for role, name in ROLES.items():
             new, opened = Writer(LINES, role), Writer(LINES, role)
             opened.reopen()
@@ -212,7 +212,10 @@ class Kept(Losing):
                     with self.case("left", role=name, left=left):
                         path.write_bytes(data)
                         self.assertEqual(run_program("server", words), (DONE, FORMATTED, b""))
-                        self.assert_bytes(path.read_bytes(), whole)
+                        found = path.read_bytes()
+                        number = found[48:56]
+                        self.assertEqual(any(number), role == PRIMARY)
+                        self.assert_bytes(found, whole[:48] + number + whole[56:])
                 for there, data in [
                     ("of the other role", other), ("opened", image_bytes(LINES, opened.words)), ("longer", whole + bytes(64)), ("shorter", bytes(len(whole) - 64)),
                     *((f"a byte at {at}", bytes(at) + b"\1" + bytes(len(whole) - at - 1)) for at in (0, 7, 64 * 8, slot - 1, extents, len(whole) - 1)),

@@ -17,7 +17,7 @@ PROGRAMS = ["server"]
 
 KEPT = 3
 # What is told of an image by `status`.
-ROWS = 10
+ROWS = 11
 NOWHERE = "127.0.0.1:1"
 # How long a program takes at most that waits for nobody.
 SECONDS = 10 * common.BUSY
