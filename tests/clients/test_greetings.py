@@ -328,11 +328,10 @@ class AnotherRelease(ServingCases):
         if former is None:
             print(f"{self.id()}: skipped, since the history of the repository is not there", flush=True)
             return
-        fault = b"refusal 10: frame fault"
         with self.case("the primary is of the former release"):
-            self.check(former, own, (fault, b"a connection was closed before it greeted"))
+            self.check(former, own, (b"no standby says where it is", b"a connection was closed before it greeted"))
         with self.case("the standby is of the former release"):
-            self.check(own, former, (WRONG_LINK, fault))
+            self.check(own, former, (WRONG_LINK, b"refusal 10: frame fault"))
         with self.case("both are of the former release, over these images"):
             for node in (self.nodes.standby, self.nodes.primary):
                 self.start(node, former)
