@@ -150,7 +150,7 @@ class Mounted(Told):
             whole = pathlib.Path(name, "whole.img")
             whole.write_bytes(image_of(STANDBY))
             found = self.run_there(
-                f'cp {whole} p.img; mount -o remount,ro none . ; "$0" promote --image p.img --old-primary-stopped 2>&1; "$0" status --image p.img | head -n 1; '
+                f'cp {whole} p.img; mount -o remount,ro none . ; "$0" promote --image p.img --old-primary-stopped 2>&1; "$0" status --image p.img | sed -n 1p; '
                 f'"$0" format --image q.img --lines {LINES} --role primary 2>&1')
         refused = "refusal 1: device fault"
         self.assertEqual(found, ["p.img could not be opened: its file system is read-only", refused, "role standby", "q.img could not be made: its file system is read-only", refused])
