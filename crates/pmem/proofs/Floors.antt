@@ -1,9 +1,10 @@
 -- What a crash leaves from the floor on.
-use Rattle.std.proofs.Common.{◌≡◌, ◌⊎◌, ℕ, ◌≤◌, suc, true, List, [], ◌∷◌, Option, None, Result, Ok, Err, OnOk, OnErr, inl, inr, sym, subst, arith}
-use Rattle.pmem.specs.Device.{Word, State, moment}
+use Rattle.std.proofs.Common.{◌≡◌, ◌⊎◌, ℕ, ◌-◌, ◌≤◌, suc, Bool, true, false, ◌==◌, if◌then◌else◌, List, [], ◌∷◌, Option, Some, None, Result, Ok, Err, OnOk, OnErr, inl, inr, sym, ap, subst, arith}
+use Rattle.pmem.specs.Device.{Word, State, Fences, fences_after, is_unsure, moment}
+use Rattle.pmem.specs.Device.Fences.{Unsure, Sure}
 use Rattle.pmem.specs.Crash.{IsImage, HadImage, MayLeave, words_to_crash}
 use Rattle.pmem.specs.Floor.{MayBeLeft, LeavesPresentWords, LeavesNoMore, AreEnough, MomentsAreEnough, Chain, CallsChain}
-use Rattle.pmem.specs.Runs.{LeavesOnly, Staged, StageFailed}
+use Rattle.pmem.specs.Runs.{LeavesOnly, Staged, StageFailed, HasCause}
 use Rattle.pmem.proofs.Leaving.{MayLeave-now, LeavesOnly-then, LeavesOnly-weaken}
 
 HadImage-earlier : (past : List (ℕ → Word)) (t later : ℕ) (image : ℕ → ℕ) → t ≤ later → HadImage past later image → HadImage past t image
@@ -64,8 +65,22 @@ Staged-unsynced {a} {b} {c} pairs lines staged e =
     subst (λ (d : State). StageFailed a d pairs) (sym e)
     (record {
       newest = staged.newest;
-      failures = omega (arith, staged.failures);
+      failures = ap suc staged.failures;
       fences = staged.fences;
       stays = record { lines = staged.stays.lines; kept = staged.stays.kept; starved = staged.stays.starved };
       moments = record { passed = record { more = staged.moments.passed.more; goes_on = staged.moments.passed.goes_on }; each = λ image may. staged.moments.each image may };
     })
+
+-- one fence later as much is promised
+unsure_if : (b : Bool) (x y : Option ℕ) → is_unsure (if b then Sure x else Sure y) ≡ true → ⊥
+unsure_if true x y e = absurd (let no : false ≡ true = e in cc)
+unsure_if false x y e = absurd (let no : false ≡ true = e in cc)
+
+unsure_after : (fences : Fences) → is_unsure (fences_after fences) ≡ true → is_unsure fences ≡ true
+unsure_after Unsure e = e
+unsure_after (Sure None) e = e
+unsure_after (Sure (Some n)) e = absurd (unsure_if (n == 1) None (Some (n - 1)) e)
+
+-- one that fails comes where any fence may fail
+pub cause_unsynced : (fences : Fences) (b new : State) → b.fences ≡ fences_after fences → is_unsure b.fences ≡ true → HasCause fences new
+cause_unsynced fences b new after e = inr (inr (unsure_after fences (subst (λ (f : Fences). is_unsure f ≡ true) after e)))

@@ -61,7 +61,11 @@ pub fn persist<P: Pmem>(device: &mut P, pairs: &[(u64, u64)], lines: &[u64]) -> 
 }
 
 /// Persists as `persist` does, and then syncs: that is durable, and all that was fenced before. On `Err` any of the values may be lost, each independently.
-pub fn persist_durably<P: Pmem>(device: &mut P, pairs: &[(u64, u64)], lines: &[u64]) -> Result<(), Fault>
+pub fn persist_durably<P: Pmem>(
+    device: &mut P,
+    pairs: &[(u64, u64)],
+    lines: &[u64],
+) -> Result<(), Fault>
     requires words_in_range { All (λ pair. pair.0 < 8 * (P.state device.old).lines) pairs.now }
     requires lines_in_range { All (λ line. line < (P.state device.old).lines) lines.now }
     ensures ok { OnOk result (Staged (P.state device.old) (P.state device.new) pairs.now lines.now) }
