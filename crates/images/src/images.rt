@@ -232,7 +232,7 @@ impl<'a> Images for Files<'a> {
     }
 
     fn create(&self, name: &str, lines: u64) -> Result<FilePmem, Refusal> {
-        FilePmem::create(self.rt, name, lines)
+        FilePmem::create(self.rt, name, lines, true)
     }
 
     fn open(&self, name: &str) -> Result<FilePmem, Refusal> {

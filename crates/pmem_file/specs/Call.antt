@@ -1,7 +1,7 @@
 -- What was asked of a file since it was opened, and what a crash, or the end of the process, may leave of it: what was written before a sync that
 -- succeeded, and each value written since, each word by itself. The list begins anew at each opening, which has brought to the disk what it read. That a
 -- file is one of these images follows from the premise, the model of a page cache (PageCache): `FilePmem::leaves_what_is_allowed`.
-use Rattle.std.specs.Prelude.{◌≡◌, ℕ, ◌+◌, ◌/◌, ◌-◌, Bool, true, false, not, ◌&&◌, ◌||◌, ◌==◌, nat_lt, nat_le, if◌then◌else◌, List, [], ◌∷◌, length, slice_index}
+use Rattle.std.specs.Prelude.{◌≡◌, ℕ, ◌+◌, ◌/◌, ◌-◌, Bool, true, false, not, ◌&&◌, ◌||◌, ◌==◌, nat_lt, nat_le, if◌then◌else◌, List, [], ◌∷◌, ◌++◌, length, slice_index}
 use Rattle.pmem_file.specs.declared.file_calls.FileCalls.{FileCalls}
 use Rattle.pmem_file.specs.declared.file_calls.FileCalls.TheVariants.{Read, Wrote', Measured', Synced'}
 use Rattle.pmem_file.specs.Byte.{words_in}
@@ -61,14 +61,14 @@ Brings words old new =
 
 -- the words that the file held when it was read
 abbrev pub read_of : FileCalls → List ℕ
-read_of (Read words) = words.value
+read_of (Read words behind) = words.value ++ behind.value
 read_of (Wrote' offset bytes done mark before) = read_of before
 read_of (Measured' bytes done mark before) = read_of before
 read_of (Synced' done mark before) = read_of before
 
 -- the calls since, the newest first
 abbrev pub calls_of : FileCalls → List Call
-calls_of (Read words) = []
+calls_of (Read words behind) = []
 calls_of (Wrote' offset bytes done mark before) = Wrote offset.value bytes.value.items done.value ∷ calls_of before
 calls_of (Measured' bytes done mark before) = Measured bytes.value done.value ∷ calls_of before
 calls_of (Synced' done mark before) = Synced done.value ∷ calls_of before

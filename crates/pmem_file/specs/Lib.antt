@@ -2,6 +2,7 @@ pub mod Byte
 pub mod Call
 pub mod Device
 pub mod Holding
+pub mod Journaled
 pub mod Known
 pub mod Line
 pub mod Noted

@@ -9,8 +9,8 @@ use std::snapshot::Snapshot;
 /// snapshot has no bytes.
 #[derive(Drop)]
 pub enum FileCalls {
-    /// Nothing yet: these words were read.
-    Read(Snapshot<Words>),
+    /// Nothing yet: these words were read, the first ones and those behind them.
+    Read(Snapshot<Words>, Snapshot<Words>),
     /// A write of these bytes from this byte of the file on.
     Wrote(Snapshot<u64>, Snapshot<Vec<u8>>, Snapshot<bool>, Snapshot<FileCalls>),
     /// A look at the file's length, whether it is so many bytes.
@@ -20,12 +20,12 @@ pub enum FileCalls {
 }
 
 impl FileCalls {
-    /// Nothing was asked of a file yet that holds these words.
-    pub fn read(words: &Words) -> FileCalls
-        ensures read { read_of result ≡ words.now }
+    /// Nothing was asked of a file yet that holds these words, and behind them those.
+    pub fn read(words: &Words, behind: &Words) -> FileCalls
+        ensures read { read_of result ≡ words.now ++ behind.now }
         ensures calls { calls_of result ≡ [] }
     {
-        FileCalls::Read(Snapshot::of(words))
+        FileCalls::Read(Snapshot::of(words), Snapshot::of(behind))
     }
 
     /// Adds a write.

@@ -4,6 +4,7 @@
 mod bytes;
 mod device;
 mod file_calls;
+mod file_journal;
 mod laws;
 mod logged_file;
 mod notes;

@@ -1,14 +1,19 @@
 // A file with the list of what was asked of it.
-ghost use Rattle.std.specs.Prelude.{◌≡◌, ℕ, ◌+◌, ◌*◌, ◌^◌, ◌<◌, ◌≤◌, [], ◌∷◌, true, false, not, length, vec_capacity};
+ghost use Rattle.std.specs.Prelude.{◌≡◌, ℕ, ◌+◌, ◌*◌, ◌^◌, ◌<◌, ◌≤◌, [], ◌∷◌, true, false, not, length, replicate, vec_capacity};
 ghost use Rattle.pmem_file.specs.Call.{read_of, calls_of, has_failed, Brings, Wrote, Measured, Synced};
+ghost use Rattle.pmem_file.specs.Journaled.{WritesWords, BringsWords};
 ghost use Rattle.pmem_file.specs.Line.{has_line, runs_of, run_bytes, with_writes, Fixes};
 
+use crate::bytes::{encode, fill_zeros};
 use crate::file_calls::FileCalls;
 use crate::run::{LINES_A_WRITE, Run};
 use crate::words::Words;
 use std::fs::File;
 use std::io::{Seek, SeekFrom};
 use std::os::unix::fs::FileExt;
+
+/// How many words one write has at most.
+const WORDS_A_WRITE: usize = 8_192;
 
 /// An open file. Each call of the system stands in a method of its own, which notes it with what came of it.
 #[derive(Drop)]
@@ -21,16 +26,23 @@ pub struct LoggedFile {
 }
 
 impl LoggedFile {
-    /// A file that held these words when it was read.
-    pub fn new(file: File, words: &Words) -> LoggedFile
-        ensures read { read_of result.calls ≡ words.now }
+    /// A file that held these words when it was read, and behind them those.
+    pub fn new(file: File, words: &Words, behind: &Words) -> LoggedFile
+        ensures read { read_of result.calls ≡ words.now ++ behind.now }
         ensures calls { calls_of result.calls ≡ [] }
     {
         LoggedFile {
             file,
             failed: false,
-            calls: FileCalls::read(words),
+            calls: FileCalls::read(words, behind),
         }
+    }
+
+    /// Whether some call has failed.
+    pub fn has_failed(&self) -> bool
+        ensures { result ≡ has_failed (calls_of self.now.calls) }
+    {
+        self.failed
     }
 
     /// Whether the file is exactly `bytes` bytes long.
@@ -115,8 +127,64 @@ impl LoggedFile {
         self.write_run(buffer, words, run)
     }
 
+    /// Writes these words from this word of the file on, as many at a time as the buffer has room for, and ends where a write fails.
+    pub fn write_words(&mut self, buffer: &mut Vec<u8>, first: u64, words: &[u64]) -> bool
+        requires room { 64 * LINES_A_WRITE ≤ vec_capacity buffer.old }
+        requires countable { 8 * (first + length words.now) < 2 ^ 64 }
+        requires unfailed { has_failed (calls_of self.old.calls) ≡ false }
+        ensures read { read_of self.new.calls ≡ read_of self.old.calls }
+        ensures failed { has_failed (calls_of self.new.calls) ≡ not result }
+        ensures done { result ≡ true → WritesWords first words.now (calls_of self.old.calls) (calls_of self.new.calls) }
+        ensures within { BringsWords first words.now (calls_of self.old.calls) (calls_of self.new.calls) }
+        ensures capacity { vec_capacity buffer.old ≤ vec_capacity buffer.new }
+    {
+        let mut at = first;
+        let mut rest = words;
+        while !rest.is_empty() {
+            let (block, later) = rest.split_at(rest.len().min(WORDS_A_WRITE));
+            encode(block, buffer);
+            if !self.write(8 * at, buffer) {
+                return false;
+            }
+            at += block.len() as u64;
+            rest = later;
+        }
+        true
+    }
+
+    /// Writes so many zeros from this word of the file on.
+    pub fn write_zeros(&mut self, buffer: &mut Vec<u8>, first: u64, count: u64) -> bool
+        requires room { 64 * LINES_A_WRITE ≤ vec_capacity buffer.old }
+        requires countable { 8 * (first + count) < 2 ^ 64 }
+        requires unfailed { has_failed (calls_of self.old.calls) ≡ false }
+        ensures read { read_of self.new.calls ≡ read_of self.old.calls }
+        ensures failed { has_failed (calls_of self.new.calls) ≡ not result }
+        ensures done { result ≡ true → WritesWords first (replicate count 0) (calls_of self.old.calls) (calls_of self.new.calls) }
+        ensures within { BringsWords first (replicate count 0) (calls_of self.old.calls) (calls_of self.new.calls) }
+        ensures capacity { vec_capacity buffer.old ≤ vec_capacity buffer.new }
+    {
+        let mut at = first;
+        let mut left = count;
+        while left > 0 {
+            let block = left.min(WORDS_A_WRITE as u64);
+            fill_zeros(buffer, 8 * block as usize);
+            if !self.write(8 * at, buffer) {
+                return false;
+            }
+            at += block;
+            left -= block;
+        }
+        true
+    }
+
     /// Brings these lines of these words to the disk, and says whether it did. Nothing more is asked once a call has failed.
-    pub fn persist(&mut self, buffer: &mut Vec<u8>, words: &Words, lines: &[u64]) -> bool
+    pub fn persist(
+        &mut self,
+        buffer: &mut Vec<u8>,
+        words: &Words,
+        lines: &[u64],
+        bytes: u64,
+    ) -> bool
         requires in_range { (line : ℕ) → has_line lines.now line ≡ true → 8 * line + 8 ≤ length words.now }
         requires room { 64 * LINES_A_WRITE ≤ vec_capacity buffer.old }
         requires countable { 8 * length words.now < 2 ^ 64 }
@@ -132,7 +200,7 @@ impl LoggedFile {
         if self.failed {
             return false;
         }
-        if !self.measure(8 * words.len() as u64) {
+        if !self.measure(bytes) {
             return false;
         }
         if !self.write_lines(buffer, words, lines) {

@@ -5,6 +5,7 @@ ghost use Rattle.pmem.specs.History.{words_of, past_of, failures_of};
 ghost use Rattle.pmem_file.specs.Byte.{bytes_of, words_in};
 
 use crate::bytes::{are_zeros, decode};
+use journal::replay;
 use pmem::History;
 use std::alloc::{AllocError, Global};
 use std::marker::Model;
@@ -58,6 +59,25 @@ impl Words {
             Some(value) => *value,
             None => 0,
         }
+    }
+
+    /// The first words, all that another than 0 is among.
+    pub fn kept(&self) -> &[u64]
+        ensures { (word : ℕ) → slice_index result.now word ≡ slice_index self.now word }
+    {
+        &self.kept
+    }
+
+    /// Keeps all words. It takes no memory.
+    pub fn keep_all(&mut self)
+        ensures words { self.new ≡ self.old }
+    {
+        fill(&mut self.kept, self.count);
+    }
+
+    /// Brings the lines of the records of a journal to these words, and says how many words the records have.
+    pub fn replay(&mut self, journal: &[u64]) -> usize {
+        replay(self.count as u64 / 8, journal, &mut self.kept)
     }
 
     /// Puts a value in the place of a word. It takes no memory.
