@@ -102,3 +102,9 @@ reads-noted source source' old new noted offered offered' held same reads = reco
   };
   consumed = reads.consumed;
 }
+
+-- nothing was read or offered, and what else a reader notes may have changed
+pub reads-waited : (source : Option (List ℕ)) (old new : RequestReader) (offered offered' : List Item) → offered' ≡ offered → new.held ≡ old.held → new.inbound ≡ old.inbound
+    → Reads source source old new offered offered'
+reads-waited source old new offered offered' unchanged held same =
+    subst (λ o. Reads source source old new offered o) (sym unchanged) (reads-none source source old new offered [] (Consumes-nil source) refl held same)

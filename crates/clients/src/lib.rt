@@ -13,6 +13,7 @@ mod look_ahead;
 mod outbox;
 mod places;
 mod queues;
+mod read_ahead;
 mod reading;
 mod registration;
 mod reply_side;
