@@ -39,7 +39,7 @@ def blocks():
 BLOCKS = blocks()
 BACKUP, RESTORE = "Backup 1", "Restore 1"
 # Those that change nothing, and so start nothing either.
-LOOKS = ["What to look at 1", "What to look at 2", "How far a pair was 1"]
+LOOKS = ["What to look at 1", "What to look at 2", "How far a pair was 1", "A standby of another pair 1"]
 
 
 class After(Operated):
@@ -156,7 +156,7 @@ class EachAfterEach(After):
         self.assertLessEqual({BACKUP, RESTORE, *LOOKS}, set(BLOCKS))
         for name, lines in BLOCKS.items():
             with self.case("block", name=name):
-                self.assertTrue(any(line.strip().startswith(("bin/", "if bin/", "if cp ", "grep", "[ ")) for line in lines))
+                self.assertTrue(any(line.strip().startswith(("bin/", "if bin/", "if cp ", "for it in ", "grep", "[ ")) for line in lines))
 
 
 for at, first in enumerate(BLOCKS):
