@@ -2,6 +2,7 @@ pub mod CutsLemmas
 pub mod Chaining
 pub mod Chains
 pub mod Compacting
+pub mod Floors
 pub mod Keeping
 pub mod Leaving
 pub mod Picking

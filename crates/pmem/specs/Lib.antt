@@ -2,6 +2,7 @@ pub mod Cell
 pub mod Crash
 pub mod Cuts
 pub mod Device
+pub mod Floor
 pub mod History
 pub mod Keep
 pub mod Known

@@ -20,6 +20,8 @@ pub enum History {
     Fenced(Snapshot<History>),
     /// A fence that failed.
     Failed(Snapshot<History>),
+    /// A sync that failed.
+    Unsynced(Snapshot<History>),
     /// A crash, and the words that it left.
     Crashed(Snapshot<Vec<u64>>, Snapshot<History>),
 }
@@ -70,6 +72,15 @@ impl History {
         ensures failures { failures_of self.new ≡ suc (failures_of self.old) }
     {
         *self = History::Failed(Snapshot::of(self));
+    }
+
+    /// Adds a sync that failed, which is no moment of its own.
+    pub fn unsynced(&mut self)
+        ensures words { words_of self.new ≡ words_of self.old }
+        ensures past { past_of self.new ≡ past_of self.old }
+        ensures failures { failures_of self.new ≡ suc (failures_of self.old) }
+    {
+        *self = History::Unsynced(Snapshot::of(self));
     }
 
     /// Adds a crash that left these words.

@@ -1,6 +1,6 @@
 // Runs of stores and flushes: the only loops over words and lines.
 ghost use Rattle.std.specs.Prelude.{◌≡◌, ℕ, suc, ◌+◌, ◌*◌, ◌≤◌, ◌<◌, All, length, OnOk, OnErr, IsErr, IsTrue};
-ghost use Rattle.pmem.specs.Device.{must_fail};
+ghost use Rattle.pmem.specs.Device.{moment, must_fail};
 ghost use Rattle.pmem.specs.Runs.{Runs, Staged, StageFailed, HasCause, stores, flushes, pairs_from, lines_from};
 
 use crate::device::{Fault, Pmem};
@@ -58,4 +58,22 @@ pub fn persist<P: Pmem>(device: &mut P, pairs: &[(u64, u64)], lines: &[u64]) -> 
     store_all(device, pairs);
     flush_all(device, lines);
     device.fence()
+}
+
+/// Persists as `persist` does, and then syncs: that is durable, and all that was fenced before. On `Err` any of the values may be lost, each independently.
+pub fn persist_durably<P: Pmem>(
+    device: &mut P,
+    pairs: &[(u64, u64)],
+    lines: &[u64],
+) -> Result<(), Fault>
+    requires words_in_range { All (λ pair. pair.0 < 8 * (P.state device.old).lines) pairs.now }
+    requires lines_in_range { All (λ line. line < (P.state device.old).lines) lines.now }
+    ensures ok { OnOk result (Staged (P.state device.old) (P.state device.new) pairs.now lines.now) }
+    ensures synced { OnOk result (P.floor device.new ≡ moment (P.state device.new)) }
+    ensures err { OnErr result (StageFailed (P.state device.old) (P.state device.new) pairs.now) }
+    ensures asked { IsTrue (must_fail (P.state device.old)) → IsErr result }
+    ensures unasked { IsErr result → HasCause (P.state device.old).fences (P.state device.new) }
+{
+    persist(device, pairs, lines)?;
+    device.sync()
 }

@@ -49,11 +49,14 @@ impl SimPmem {
 }
 
 impl Pmem for SimPmem {
-    ghost use Rattle.std.specs.Prelude.{◌≡◌, ◌⊎◌, true, suc, OnOk, OnErr, IsErr, IsTrue};
-    ghost use Rattle.pmem.specs.Device.{Steps, store_at, flush_at, fenced, must_fail, may_fail};
+    ghost use Rattle.std.specs.Prelude.{◌≡◌, ◌⊎◌, ◌≤◌, true, suc, OnOk, OnErr, IsErr, IsTrue};
+    ghost use Rattle.std.proofs.Common.{le_refl};
+    ghost use Rattle.pmem.specs.Device.{Steps, store_at, flush_at, fenced, moment, must_fail, may_fail};
     ghost use Rattle.pmem.specs.Sim.{state_of, IsRefusedGrowth, IsRefusedCopy};
 
     ghost state = { state_of };
+
+    ghost floor = { λ device. moment (state_of device) };
 
     fn load(&self, word: u64) -> u64 {
         self.cells.newest[word as usize]
@@ -66,6 +69,7 @@ impl Pmem for SimPmem {
         // it becomes starved only if it was refused memory
         ensures starves { (state_of self.new).starved ≡ true
             → ((state_of self.old).starved ≡ true) ⊎ (IsRefusedGrowth self.old self.new ⊎ IsRefusedCopy self.old self.new) }
+        ensures rises { moment (state_of self.old) ≤ moment (state_of self.new) }
     {
         let refused = self.cells.store(word, value).is_err();
         self.history.stored(word, value);
@@ -79,6 +83,7 @@ impl Pmem for SimPmem {
             (flush_at line (state_of self.old).words) (state_of self.old).failures (state_of self.old).fences }
         ensures starves { (state_of self.new).starved ≡ true
             → ((state_of self.old).starved ≡ true) ⊎ IsRefusedCopy self.old self.new }
+        ensures rises { moment (state_of self.old) ≤ moment (state_of self.new) }
     {
         self.cells.flush(line);
         self.history.flushed(line);
@@ -94,6 +99,7 @@ impl Pmem for SimPmem {
         ensures unasked { IsErr result → IsTrue (may_fail (state_of self.old)) }
         ensures starves { (state_of self.new).starved ≡ true
             → ((state_of self.old).starved ≡ true) ⊎ IsRefusedCopy self.old self.new }
+        ensures rises { moment (state_of self.old) ≤ moment (state_of self.new) }
     {
         if pass_fence(&mut self.fail_in) | self.starved {
             self.history.failed();
@@ -108,6 +114,11 @@ impl Pmem for SimPmem {
         }
     }
 
+    /// Each fence is durable as it returns.
+    fn sync(&mut self) -> Result<(), Fault> {
+        Ok(())
+    }
+
     fn lines(&self) -> u64 {
         self.cells.heads.len() as u64
     }
@@ -117,6 +128,8 @@ impl Pmem for SimPmem {
     }
 
     ghost countable = { λ device. device.countable };
+
+    ghost reached = { λ device. le_refl (moment (state_of device)) };
 }
 
 /// Whether the next fence was asked to fail. Counts that fence.
@@ -167,4 +180,6 @@ impl Crashing for SimPmem {
     }
 
     ghost sure = { λ device. refl };
+
+    ghost durable = { λ device. refl };
 }

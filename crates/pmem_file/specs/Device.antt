@@ -1,9 +1,10 @@
 -- A device over a file: what it has gone through, and what it asked of its file.
-use Rattle.std.specs.Prelude.{◌≡◌, ℕ, ◌*◌, ◌^◌, ◌<◌, true, false, List, [], ◌∷◌, Some, None, length, vec_len, slice_index}
+use Rattle.std.specs.Prelude.{◌≡◌, ℕ, ◌*◌, ◌^◌, ◌<◌, ◌≤◌, true, false, List, [], ◌∷◌, Some, None, length, vec_len, slice_index}
 use Rattle.std.specs.Int.{div_ceil}
 use Rattle.std.specs.List.Sorted.{IsNonDecreasing}
 use Rattle.pmem_file.specs.declared.device.FilePmem.{FilePmem}
-use Rattle.pmem.specs.Device.{State, settled}
+use Rattle.std.proofs.Common.{le_refl}
+use Rattle.pmem.specs.Device.{State, settled, moment}
 use Rattle.pmem.specs.Device.Fences.{Unsure}
 use Rattle.pmem.specs.History.{words_of, past_of, failures_of}
 use Rattle.pmem_file.specs.Call.{Call, Measured, Synced, read_of, calls_of}
@@ -24,6 +25,13 @@ state_of device =
       fences = Unsure;
       kept = None;
     }
+
+-- a fence that succeeds syncs the file, so what the file may hold is an image of the present words
+abbrev pub floor_of : FilePmem → ℕ
+floor_of device = moment (state_of device)
+
+pub reached : (device : FilePmem) → floor_of device ≤ moment (state_of device)
+reached device = le_refl (moment (state_of device))
 
 -- its words can be counted
 pub countable : (device : FilePmem) → 8 * (state_of device).lines < 2 ^ 64

@@ -40,10 +40,9 @@ pub struct FilePmem {
 
 impl FilePmem {
     ghost use Rattle.std.specs.Prelude.{ℕ, ◌≡◌, length, slice_index};
-    ghost use Rattle.pmem.specs.Device.{moment};
-    ghost use Rattle.pmem.specs.Crash.{MayLeave};
+    ghost use Rattle.pmem.specs.Floor.{MayBeLeft};
     ghost use Rattle.pmem_file.specs.Call.{IsFileImage};
-    ghost use Rattle.pmem_file.specs.Device.{state_of, read_by, asked_by, opening_by, IsFresh};
+    ghost use Rattle.pmem_file.specs.Device.{state_of, floor_of, read_by, asked_by, opening_by, IsFresh};
     ghost use Rattle.pmem_file.specs.Opening.{steps_of};
 
     /// A device over an open file that holds these words. There is room to note every line of these words and for the bytes of one write.
@@ -77,17 +76,19 @@ impl FilePmem {
     /// that a crash may leave of the device.
     pub fn leaves_an_image(&self)
         ensures { (image : ℕ → ℕ) → IsFileImage (read_by self.now) (asked_by self.now) image
-            → MayLeave (state_of self.now) (moment (state_of self.now)) image }
+            → MayBeLeft (state_of self.now) (floor_of self.now) image }
     {}
 }
 
 impl Pmem for FilePmem {
-    ghost use Rattle.std.specs.Prelude.{◌≡◌, ◌*◌, ◌<◌, ◌+◌, true, suc, OnOk, OnErr, IsErr, IsTrue};
+    ghost use Rattle.std.specs.Prelude.{◌≡◌, ◌*◌, ◌<◌, ◌≤◌, ◌+◌, true, suc, OnOk, OnErr, IsErr, IsTrue};
     ghost use Rattle.pmem.specs.Device.{Steps, store_at, flush_at, fenced, fences_after, must_fail, may_fail};
     ghost use Rattle.pmem_file.specs.Call.{has_failed};
-    ghost use Rattle.pmem_file.specs.Device.{state_of, read_by, asked_by, opening_by, Persists, countable};
+    ghost use Rattle.pmem_file.specs.Device.{state_of, floor_of, read_by, asked_by, opening_by, Persists, countable, reached};
 
     ghost state = { state_of };
+
+    ghost floor = { floor_of };
 
     fn load(&self, word: u64) -> u64 {
         self.words.get(word as usize)
@@ -97,6 +98,7 @@ impl Pmem for FilePmem {
         requires { word < 8 * (state_of self.old).lines }
         ensures steps { Steps (state_of self.old) (state_of self.new)
             (store_at word value (state_of self.old).words) (state_of self.old).failures (state_of self.old).fences }
+        ensures rises { floor_of self.old ≤ floor_of self.new }
         // the file is not touched
         ensures file { asked_by self.new ≡ asked_by self.old }
         ensures opening { opening_by self.new ≡ opening_by self.old }
@@ -110,6 +112,7 @@ impl Pmem for FilePmem {
         requires { line < (state_of self.old).lines }
         ensures steps { Steps (state_of self.old) (state_of self.new)
             (flush_at line (state_of self.old).words) (state_of self.old).failures (state_of self.old).fences }
+        ensures rises { floor_of self.old ≤ floor_of self.new }
         ensures file { asked_by self.new ≡ asked_by self.old }
         ensures opening { opening_by self.new ≡ opening_by self.old }
         ensures read { read_by self.new ≡ read_by self.old }
@@ -125,6 +128,7 @@ impl Pmem for FilePmem {
             (state_of self.old).words (suc (state_of self.old).failures) (fences_after (state_of self.old).fences)) }
         ensures asked { IsTrue (must_fail (state_of self.old)) → IsErr result }
         ensures unasked { IsErr result → IsTrue (may_fail (state_of self.old)) }
+        ensures rises { floor_of self.old ≤ floor_of self.new }
         ensures written { OnOk result (Persists self.old self.new) }
         // it fails just where a call of this fence or of an earlier one failed
         ensures cause { OnErr result (has_failed (asked_by self.new) ≡ true) }
@@ -148,6 +152,11 @@ impl Pmem for FilePmem {
         }
     }
 
+    /// Does nothing: each fence that succeeds syncs the file.
+    fn sync(&mut self) -> Result<(), Fault> {
+        Ok(())
+    }
+
     fn lines(&self) -> u64 {
         self.words.len() as u64 / 8
     }
@@ -157,4 +166,6 @@ impl Pmem for FilePmem {
     }
 
     ghost countable = { countable };
+
+    ghost reached = { reached };
 }

@@ -48,5 +48,6 @@ pub mod StagingLemmas
 pub mod StoredBy
 pub mod Storing
 pub mod SuccessorLemmas
+pub mod SyncedContents
 pub mod VersionLemmas
 pub mod WithoutLemmas

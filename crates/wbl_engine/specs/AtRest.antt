@@ -94,3 +94,7 @@ IsLawful-prop r = hlevel (props, AreGaps-prop)
 -- it has at most one proof
 pub at_rest_prop : (faulted : Bool) (r : Record) (d : State) → IsProp (faulted ≡ false → IsAtRest r d)
 at_rest_prop faulted r d = hlevel (props, HasRecord-prop, IsEntry-prop, IsLawful-prop)
+
+-- nor has this more than one: the floor of the device is the present moment
+pub synced_prop : (faulted : Bool) (floor now : ℕ) → IsProp (faulted ≡ false → floor ≡ now)
+synced_prop faulted floor now = hlevel props

@@ -1,7 +1,8 @@
 -- What an engine holds and what its device holds.
-use Rattle.std.specs.Prelude.{◌≡◌, ℕ, ◌+◌, ◌<◌, ◌≤◌, ◌⊎◌, [], None, true}
-use Rattle.pmem.specs.Device.{State}
+use Rattle.std.specs.Prelude.{◌≡◌, ◌↔◌, ℕ, ◌+◌, ◌<◌, ◌≤◌, ◌⊎◌, [], None, true}
+use Rattle.pmem.specs.Device.{State, moment}
 use Rattle.pmem.specs.Crash.{IsImage}
+use Rattle.pmem.specs.Floor.{MayBeLeft}
 use Rattle.model.specs.declared.group.Group.{Group}
 use Rattle.model.specs.declared.image.TheConstants.{COUNTER_LIMIT, STAMP_WINDOW}
 use Rattle.model.specs.declared.layout.TheConstants.{LAYOUT}
@@ -19,9 +20,17 @@ pub record Keeps (contents : Contents) (image : Image) : Type 0 where
   pub versions : (i : ℕ) → i < entries_of contents → version_at contents.current image i ≡ contents.versions i
   pub entries : (i : ℕ) → i < entries_of contents → IsUnder contents.current contents.lines image i
 
--- every crash now leaves an image that holds the contents
+-- every crash leaves an image that holds the contents, of a device whose floor is the present moment, as it is between the calls of an engine
 abbrev pub IsDurable : State → Contents → Type 0
 IsDurable device contents = (image : Image) → IsImage device.words image → Keeps contents image
+
+-- the same of a device with this floor
+abbrev pub IsDurableFrom : ℕ → State → Contents → Type 0
+IsDurableFrom floor device contents = (image : Image) → MayBeLeft device floor image → Keeps contents image
+
+-- Where the floor is the present moment, the two say the same.
+abbrev pub SyncedIsDurable : Type 0
+SyncedIsDurable = (device : State) (contents : Contents) → IsDurableFrom (moment device) device contents ↔ IsDurable device contents
 
 -- two contents say the same of each entry
 pub record Same (old new : Contents) : Type 0 where

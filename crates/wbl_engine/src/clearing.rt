@@ -1,5 +1,6 @@
 //! A gap leaves the record once no stamp in it is left on the device.
 ghost use Rattle.std.specs.Prelude.{◌≡◌, ◌⊎◌, ◌+◌, ◌<◌, ◌≤◌, ◌++◌, ◌∷◌, [], ◌↔◌, if◌then◌else◌, length, IsTrue, IfOk, OnOk, OnErr};
+ghost use Rattle.pmem.specs.Device.{moment};
 ghost use Rattle.pmem.specs.Crash.{image_of};
 ghost use Rattle.pmem.specs.Runs.{LeavesOnly};
 ghost use Rattle.model.specs.declared.image.TheConstants.{COUNTER_LIMIT, MIN_LINES};
@@ -17,7 +18,7 @@ use kv_types::EntryNo;
 use model::{COUNTER_LIMIT, Gap, Layout, Record};
 use pmem::{Fault, Pmem};
 use std::alloc::{AllocError, Global};
-use wbl_record::write_next;
+use wbl_record::write_durably;
 
 /// The entries of the directory that have a stamp in a gap.
 #[derive(Debug, Drop)]
@@ -87,9 +88,9 @@ pub fn oldest_gap(current: &Record) -> Gap
     current.gaps[0]
 }
 
-/// Erases the stamps in the oldest gap of the current record, and then writes the next record, which lacks that gap and is returned.
+/// Erases the stamps in the oldest gap of the current record, and then writes the next record, which lacks that gap and is returned, and syncs.
 ///
-/// At any moment a crash leaves the same versions, under the current record or the next one. On `Err` a fence has failed.
+/// At any moment a crash leaves the same versions, under the current record or the next one. On `Err` a fence or the sync has failed.
 pub fn clear_oldest<P: Pmem>(
     device: &mut P,
     current: &Record,
@@ -109,6 +110,7 @@ pub fn clear_oldest<P: Pmem>(
     ensures fault { OnErr result ((P.state device.old).failures < (P.state device.new).failures) }
     ensures stays { OnErr result
         (KeepsVersions (contents_of current.now (P.state device.old)) (contents_of current.now (P.state device.new))) }
+    ensures synced { OnOk result (P.floor device.new ≡ moment (P.state device.new)) }
     ensures asked_moment { (P.state device.new).kept ≡ (P.state device.old).kept }
     ensures moments { LeavesOnly (P.state device.old) (P.state device.new) (λ image.
         Keeps (contents_of current.now (P.state device.old)) image
@@ -116,7 +118,7 @@ pub fn clear_oldest<P: Pmem>(
 {
     erase_stamps(device, stamped.begins.as_slice(), stamped.ends.as_slice())?;
     let next = without_oldest_gap(current);
-    write_next(device, &next)?;
+    write_durably(device, &next)?;
     Ok(next)
 }
 

@@ -1,5 +1,6 @@
 //! Parts are stored, and then the record that makes them count.
 ghost use Rattle.std.specs.Prelude.{◌≡◌, ◌⊎◌, ◌<◌, OnOk, OnErr};
+ghost use Rattle.pmem.specs.Device.{moment};
 ghost use Rattle.pmem.specs.Runs.{LeavesOnly};
 ghost use Rattle.model.specs.Group.{IsGroup, next_record, after_group};
 ghost use Rattle.wbl_engine.specs.AtRest.{IsAtRest, contents_of};
@@ -10,9 +11,9 @@ ghost use Rattle.wbl_record.specs.Current.{IsLawful};
 use crate::staging::stage_parts;
 use model::{Group, Part, Record};
 use pmem::{Fault, Pmem};
-use wbl_record::write_next;
+use wbl_record::write_durably;
 
-/// Stores a group and the record after it. At any moment a crash leaves the contents before the group or those after it.
+/// Stores a group and the record after it, and syncs. At any moment a crash leaves the contents before the group or those after it.
 pub fn commit_group<P: Pmem>(
     device: &mut P,
     group: &Group,
@@ -29,6 +30,7 @@ pub fn commit_group<P: Pmem>(
     ensures sound { OnOk result ((P.state device.new).failures ≡ (P.state device.old).failures) }
     ensures stays { OnErr result (Same (contents_of current.now (P.state device.old)) (contents_of current.now (P.state device.new))) }
     ensures fault { OnErr result ((P.state device.old).failures < (P.state device.new).failures) }
+    ensures synced { OnOk result (P.floor device.new ≡ moment (P.state device.new)) }
     ensures asked_moment { (P.state device.new).kept ≡ (P.state device.old).kept }
     ensures moments { LeavesOnly (P.state device.old) (P.state device.new) (λ image.
         Keeps (contents_of current.now (P.state device.old)) image
@@ -37,7 +39,7 @@ pub fn commit_group<P: Pmem>(
     commit_parts(device, group.parts.as_slice(), current, next)
 }
 
-/// Stores parts and the record after them. At any moment a crash leaves the contents before the parts or those after them.
+/// Stores parts and the record after them, and syncs. At any moment a crash leaves the contents before the parts or those after them.
 pub(crate) fn commit_parts<P: Pmem>(
     device: &mut P,
     parts: &[Part],
@@ -54,11 +56,12 @@ pub(crate) fn commit_parts<P: Pmem>(
     ensures sound { OnOk result ((P.state device.new).failures ≡ (P.state device.old).failures) }
     ensures stays { OnErr result (Same (contents_of current.now (P.state device.old)) (contents_of current.now (P.state device.new))) }
     ensures fault { OnErr result ((P.state device.old).failures < (P.state device.new).failures) }
+    ensures synced { OnOk result (P.floor device.new ≡ moment (P.state device.new)) }
     ensures asked_moment { (P.state device.new).kept ≡ (P.state device.old).kept }
     ensures moments { LeavesOnly (P.state device.old) (P.state device.new) (λ image.
         Keeps (contents_of current.now (P.state device.old)) image
         ⊎ Keeps (after_parts (contents_of current.now (P.state device.old)) parts.now next.now.position next.now.epoch next.now.floor) image) }
 {
     stage_parts(device, parts, current.cp + 1)?;
-    write_next(device, next)
+    write_durably(device, next)
 }

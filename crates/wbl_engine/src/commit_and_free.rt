@@ -1,6 +1,7 @@
 //! A group is committed, and versions that had ended before it are freed, under the same fences.
 ghost use Rattle.std.specs.Prelude.{◌≡◌, ◌+◌, ◌^◌, ◌<◌, ◌++◌, [], length, OnOk, OnErr};
 ghost use Rattle.std.specs.List.{AllByRecursion};
+ghost use Rattle.pmem.specs.Device.{moment};
 ghost use Rattle.pmem.specs.Runs.{LeavesOnly, Staged, StageFailed};
 ghost use Rattle.model.specs.Layout.{directory_room};
 ghost use Rattle.model.specs.Group.{HasItsLines, IsGroup, IsPlaced, next_record, after_group};
@@ -17,10 +18,10 @@ use crate::staging::{flush_ends, flush_parts, store_parts};
 use kv_types::EntryNo;
 use model::{Group, Part, Record};
 use pmem::{Fault, Pmem};
-use wbl_record::write_next;
+use wbl_record::write_durably;
 
-/// Stores a group and the record after it, and erases the begins of entries whose versions had ended before it. At any moment a crash leaves the contents
-/// from before without some of these versions, or those after the group without all of them.
+/// Stores a group and the record after it, erases the begins of entries whose versions had ended before it, and syncs. At any moment a crash leaves the
+/// contents from before without some of these versions, or those after the group without all of them.
 pub(crate) fn commit_and_erase<P: Pmem>(
     device: &mut P,
     group: &Group,
@@ -40,6 +41,7 @@ pub(crate) fn commit_and_erase<P: Pmem>(
     ensures sound { OnOk result ((P.state device.new).failures ≡ (P.state device.old).failures) }
     ensures stays { OnErr result (Same (after_free entries.now (contents_of current.now (P.state device.old))) (contents_of current.now (P.state device.new))) }
     ensures fault { OnErr result ((P.state device.old).failures < (P.state device.new).failures) }
+    ensures synced { OnOk result (P.floor device.new ≡ moment (P.state device.new)) }
     ensures asked_moment { (P.state device.new).kept ≡ (P.state device.old).kept }
     ensures moments { LeavesOnly (P.state device.old) (P.state device.new)
         (KeepsFreedOr entries.now (contents_of current.now (P.state device.old))
@@ -48,8 +50,8 @@ pub(crate) fn commit_and_erase<P: Pmem>(
     commit_parts_and_erase(device, group.parts.as_slice(), entries, current, next)
 }
 
-/// Stores parts and the record after them, and erases these begins. At any moment a crash leaves the contents from before without some of the versions of
-/// the entries, or those after the parts without all of them.
+/// Stores parts and the record after them, erases these begins, and syncs. At any moment a crash leaves the contents from before without some of the
+/// versions of the entries, or those after the parts without all of them.
 fn commit_parts_and_erase<P: Pmem>(
     device: &mut P,
     parts: &[Part],
@@ -69,13 +71,14 @@ fn commit_parts_and_erase<P: Pmem>(
     ensures sound { OnOk result ((P.state device.new).failures ≡ (P.state device.old).failures) }
     ensures stays { OnErr result (Same (after_free entries.now (contents_of current.now (P.state device.old))) (contents_of current.now (P.state device.new))) }
     ensures fault { OnErr result ((P.state device.old).failures < (P.state device.new).failures) }
+    ensures synced { OnOk result (P.floor device.new ≡ moment (P.state device.new)) }
     ensures asked_moment { (P.state device.new).kept ≡ (P.state device.old).kept }
     ensures moments { LeavesOnly (P.state device.old) (P.state device.new)
         (KeepsFreedOr entries.now (contents_of current.now (P.state device.old))
         (after_parts (after_free entries.now (contents_of current.now (P.state device.old))) parts.now next.now.position next.now.epoch next.now.floor)) }
 {
     stage_and_erase(device, parts, entries, current.cp + 1)?;
-    write_next(device, next)
+    write_durably(device, next)
 }
 
 /// Stores 0 over the begins of the entries, and the puts and the ends of all parts, flushes their lines, and fences. The first part takes `stamp`, and each

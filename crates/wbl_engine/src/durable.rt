@@ -1,6 +1,6 @@
 //! What the layers above know of an engine.
-ghost use Rattle.std.specs.Prelude.{◌≡◌, ◌⊎◌, ◌+◌, ◌<◌, ◌≤◌, [], length, Bool, false, Some, Err, IsOk, IsErrOf, IfOk, IfErr, OnOk, OnErr};
-ghost use Rattle.pmem.specs.Device.{State};
+ghost use Rattle.std.specs.Prelude.{◌≡◌, ◌⊎◌, ℕ, ◌+◌, ◌<◌, ◌≤◌, [], length, Bool, false, Some, Err, IsOk, IsErrOf, IfOk, IfErr, OnOk, OnErr};
+ghost use Rattle.pmem.specs.Device.{State, moment};
 ghost use Rattle.pmem.specs.Runs.{LeavesOnly};
 ghost use Rattle.model.specs.declared.group.Group.{Group};
 ghost use Rattle.model.specs.Image.{Version};
@@ -21,18 +21,22 @@ use model::{Group, Part, Record};
 use pmem::Pmem;
 use std::alloc::{AllocError, Global};
 
-/// An engine: its contents change by whole groups, and each crash leaves the contents before a call or those after it. No call changes the moment that its device was
-/// asked to keep.
+/// An engine: its contents change by whole groups, and each crash leaves the contents before a call or those after it. Each call that changes them ends with
+/// a sync of the device, so what `Ok` says is durable; a sync that failed is as a fence that failed. No call changes the moment that its device was asked to
+/// keep.
 pub trait Durable {
     type Device: Pmem;
 
     /// What the engine's device has gone through.
     ghost device: { Self → State };
 
+    /// The floor of the engine's device: a crash leaves an image of a moment from there on.
+    ghost device_floor: { Self → ℕ };
+
     /// What the engine holds. After a fault, what the call that faulted says.
     ghost contents: { Self → Contents };
 
-    /// A fence failed: each later commit returns `Refusal::Fault`, until the image is reopened.
+    /// A fence or a sync failed: each later commit returns `Refusal::Fault`, until the image is reopened.
     ghost is_faulted: { Self → Bool };
 
     /// Commits a group under one record, which has this floor if that is higher than the one before. `Fault` if a fence failed, in this call or an earlier
@@ -99,7 +103,7 @@ pub trait Durable {
             (λ image. Keeps (contents self.old) image ⊎ Keeps (after_relocation (contents self.old) part.now) image) };
 
     /// Frees entries whose versions have ended, at this floor or below: erases the begin of each, by one fence. If the record has a lower floor, a record of
-    /// its own that has this one is made durable before, by two fences more. `Fault` if a fence failed, in this call or an earlier one; `Exhausted` if the
+    /// its own that has this one is written before, by two fences more. `Fault` if a fence failed, in this call or an earlier one; `Exhausted` if the
     /// number of that record would reach 2^62, and `Memory` if an allocation was refused, both with nothing changed.
     ///
     /// At any moment a crash leaves the contents from before; or, under a record with the floor, the contents without some of these versions, perhaps none
@@ -196,4 +200,7 @@ pub trait Durable {
 
     /// The image fills its device.
     ghost sized: { (engine : Self) → (contents engine).lines ≡ (device engine).lines };
+
+    /// The device of a sound engine is synced: a crash leaves an image of its present words, of which `IsDurable` speaks.
+    ghost synced: { (engine : Self) → is_faulted engine ≡ false → device_floor engine ≡ moment (device engine) };
 }

@@ -1,6 +1,7 @@
 //! The engine: a device with an image, and the image's current record.
 ghost use Rattle.std.specs.Prelude.{◌≡◌, ◌↔◌, false, IsTrue};
-ghost use Rattle.wbl_engine.specs.AtRest.{IsAtRest, at_rest_prop};
+ghost use Rattle.pmem.specs.Device.{moment};
+ghost use Rattle.wbl_engine.specs.AtRest.{IsAtRest, at_rest_prop, synced_prop};
 
 use crate::clearing::{clear_oldest, has_no_gap, is_last, oldest_gap, stamped_in};
 use crate::commit::commit_group;
@@ -28,9 +29,11 @@ pub struct WblEngine<P: Pmem> {
     device: P,
     /// The current record. After a fault, the record before the commit that faulted.
     current: Record,
-    /// A fence failed: the image has to be reopened.
+    /// A fence or a sync failed: the image has to be reopened.
     faulted: bool,
     ghost at_rest: { faulted ≡ false → IsAtRest current (P.state device) } by { at_rest_prop faulted current (P.state device) },
+    // no call answers before what it wrote is durable
+    ghost synced: { faulted ≡ false → P.floor device ≡ moment (P.state device) } by { synced_prop faulted (P.floor device) (moment (P.state device)) },
 }
 
 impl<P: Pmem> WblEngine<P> {
@@ -146,11 +149,15 @@ impl<P: Pmem> Durable for WblEngine<P> {
 
     ghost device = { λ engine. P.state engine.device };
 
+    ghost device_floor = { λ engine. P.floor engine.device };
+
     ghost contents = { λ engine. contents_of engine.current (P.state engine.device) };
 
     ghost is_faulted = { λ engine. engine.faulted };
 
     ghost sized = { λ engine. refl };
+
+    ghost synced = { λ engine. engine.synced };
 
     fn commit(&mut self, group: &Group, floor: u64) -> Result<Committed, Refusal> {
         if self.faulted {
@@ -348,7 +355,7 @@ impl<P: Crashing> Restarting for WblEngine<P> {
     }
 }
 
-/// Whether the refusal says that a fence failed.
+/// Whether the refusal says that a fence or a sync failed.
 fn is_fault(refusal: Refusal) -> bool
     ensures { IsTrue result ↔ (refusal ≡ Refusal.Fault) }
 {

@@ -1,5 +1,6 @@
 //! A new image: no magic until everything else is durable.
 ghost use Rattle.std.specs.Prelude.{◌≡◌, ◌+◌, ◌*◌, ◌<◌, ◌≤◌, replicate, OnOk, OnErr};
+ghost use Rattle.pmem.specs.Device.{moment};
 ghost use Rattle.pmem.specs.Runs.{LeavesOnly, Runs, Staged, StageFailed, stores, pairs_from, lines_from};
 ghost use Rattle.model.specs.declared.image.TheConstants.{MIN_LINES, MAX_LINES};
 ghost use Rattle.model.specs.Image.{first_extent_line};
@@ -8,18 +9,19 @@ ghost use Rattle.wbl_engine.specs.Formatting.{first_record, new_pairs, IsFormatt
 
 use arrayvec::ArrayVec;
 use model::{FIRST_EPOCH, LAYOUT, LINE_WORDS, Layout, MAGIC, Record, Role, STAMP_WINDOW};
-use pmem::{Fault, Pmem, flush_lines, persist, store_words};
+use pmem::{Fault, Pmem, flush_lines, persist, persist_durably, store_words};
 use wbl_record::words_of;
 
-/// Formats a device: erases the magic, then writes everything else, then writes the magic.
+/// Formats a device: erases the magic, then writes everything else, then writes the magic, and syncs.
 ///
-/// At any moment a crash leaves an image from before, the new one whole, or one without the magic. On `Err` a fence has failed.
+/// At any moment a crash leaves an image from before, the new one whole, or one without the magic. On `Err` a fence or the sync has failed.
 pub fn format_device<P: Pmem>(device: &mut P, first: &Record) -> Result<(), Fault>
     requires many { MIN_LINES ≤ (P.state device.old).lines }
     requires few { (P.state device.old).lines ≤ MAX_LINES }
     requires first { first.now ≡ first_record first.now.role }
     ensures rest { OnOk result (IsAtRest first.now (P.state device.new)) }
     ensures lines { (P.state device.new).lines ≡ (P.state device.old).lines }
+    ensures synced { OnOk result (P.floor device.new ≡ moment (P.state device.new)) }
     ensures sound { OnOk result ((P.state device.new).failures ≡ (P.state device.old).failures) }
     ensures fault { OnErr result ((P.state device.old).failures < (P.state device.new).failures) }
     ensures moments { LeavesOnly (P.state device.old) (P.state device.new)
@@ -27,7 +29,7 @@ pub fn format_device<P: Pmem>(device: &mut P, first: &Record) -> Result<(), Faul
 {
     persist(device, &[(0, 0)], &[0])?;
     write_new(device, first)?;
-    persist(device, &[(0, MAGIC)], &[0])
+    persist_durably(device, &[(0, MAGIC)], &[0])
 }
 
 /// Writes everything but the magic, up to the extents: zeros, and then the superblock, the first record in its slot, and its number as the root.

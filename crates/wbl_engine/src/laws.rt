@@ -1,5 +1,5 @@
 //! Laws of the definitions, each the contract of a function that does nothing.
-ghost use Rattle.std.specs.Prelude.{◌≡◌, ◌⊎◌, ℕ, ◌+◌, ◌<◌, ◌≤◌, Bool, IsTrue, List};
+ghost use Rattle.std.specs.Prelude.{◌≡◌, ◌⊎◌, ℕ, ◌+◌, ◌<◌, ◌≤◌, Bool, false, IsTrue, List};
 ghost use Rattle.kv_types.specs.declared.place.EntryNo.{EntryNo};
 ghost use Rattle.kv_types.specs.declared.refusal.Refusal.{Refusal};
 ghost use Rattle.kv_types.specs.declared.refusal.Refusal.TheVariants.{Exhausted, Memory};
@@ -12,12 +12,14 @@ ghost use Rattle.model.specs.declared.record.Role.{Role};
 ghost use Rattle.model.specs.declared.record.Role.TheVariants.{Primary};
 ghost use Rattle.model.specs.Group.{Contents, IsConsistent, IsGroup, after_group, entries_of, is_ended_version};
 ghost use Rattle.model.specs.Image.{Image, IsMapOf};
-ghost use Rattle.wbl_engine.specs.Contents.{Keeps, IsNew, Same, Exhausts};
+ghost use Rattle.wbl_engine.specs.Contents.{Keeps, IsDurable, IsDurableFrom, IsNew, Same, Exhausts, SyncedIsDurable};
 ghost use Rattle.wbl_engine.specs.Freeing.{Clears, without};
 ghost use Rattle.wbl_engine.specs.Lawful.{AreLawful, IsUndamaged};
 ghost use Rattle.wbl_engine.specs.Promoting.{ExhaustsPromotion, promoted, promoted_record};
 ghost use Rattle.wbl_engine.specs.Relocating.{ExhaustsRelocation, IsRelocation, KeepsKeyspace, after_relocation};
 ghost use Rattle.wbl_engine.specs.Reopening.{ExhaustsReopening, KeepsThrough, RefusesReopening, Reopens};
+
+use crate::durable::Durable;
 
 /// The contents of a new image, of a size that an image may have, obey the rules.
 pub fn new_contents_are_lawful()
@@ -101,4 +103,16 @@ pub fn promoted_contents_are_reopened()
     ensures { (contents : Contents) (image : Image) (refusal : Refusal) → AreLawful contents → ¬ ExhaustsPromotion contents.current
         → Keeps (promoted contents) image → RefusesReopening contents.current.layout contents.lines image Primary refusal
         → (refusal ≡ Memory) ⊎ ((refusal ≡ Exhausted) × ExhaustsReopening (promoted_record contents.current)) }
+{}
+
+/// What is durable of a synced device is what a crash leaves.
+pub fn synced_contents_are_durable()
+    ensures { SyncedIsDurable }
+{}
+
+/// Of a sound engine whose contents are durable a crash leaves nothing but images that hold them, of whichever moment from the floor of its device on.
+pub fn durable_contents_are_left<E: Durable>(engine: &E)
+    requires sound { E.is_faulted engine.now ≡ false }
+    requires durable { IsDurable (E.device engine.now) (E.contents engine.now) }
+    ensures { IsDurableFrom (E.device_floor engine.now) (E.device engine.now) (E.contents engine.now) }
 {}

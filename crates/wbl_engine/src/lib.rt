@@ -28,9 +28,10 @@ pub use freeing::Freed;
 pub use heap_layout::Versions;
 pub use inspecting::inspect;
 pub use laws::{
-    groups_keep_contents_lawful, lawful_contents_are_reopened, lawful_contents_are_undamaged,
-    new_contents_are_lawful, promoted_contents_are_lawful, promoted_contents_are_reopened,
-    reopening_keeps_contents, same_contents_are_lawful,
+    durable_contents_are_left, groups_keep_contents_lawful, lawful_contents_are_reopened,
+    lawful_contents_are_undamaged, new_contents_are_lawful, promoted_contents_are_lawful,
+    promoted_contents_are_reopened, reopening_keeps_contents, same_contents_are_lawful,
+    synced_contents_are_durable,
 };
 pub use model::{Gap, Record, Role};
 pub use reopening::layout_in;

@@ -1,5 +1,6 @@
 //! The record that makes an image a primary's.
 ghost use Rattle.std.specs.Prelude.{◌≡◌, ◌⊎◌, ◌<◌, IfSome, IfNone, OnOk, OnErr};
+ghost use Rattle.pmem.specs.Device.{moment};
 ghost use Rattle.pmem.specs.Runs.{LeavesOnly};
 ghost use Rattle.wbl_record.specs.Current.{IsLawful};
 ghost use Rattle.wbl_engine.specs.AtRest.{IsAtRest, contents_of};
@@ -9,7 +10,7 @@ ghost use Rattle.wbl_engine.specs.Promoting.{ExhaustsPromotion, promoted, promot
 use crate::successor::copy_gaps;
 use model::{COUNTER_LIMIT, Record, Role};
 use pmem::{Fault, Pmem};
-use wbl_record::write_next;
+use wbl_record::write_durably;
 
 /// The record after a promotion, or `None` if its number or its epoch would reach 2^62.
 pub fn promoted_record(current: &Record) -> Option<Record>
@@ -37,8 +38,8 @@ pub fn promoted_record(current: &Record) -> Option<Record>
     }
 }
 
-/// Writes the record after a promotion. At any moment a crash leaves the same versions, under the current record or the promoted one. On `Err` a
-/// fence has failed.
+/// Writes the record after a promotion, and syncs. At any moment a crash leaves the same versions, under the current record or the promoted one. On `Err`
+/// a fence or the sync has failed.
 pub fn write_promoted<P: Pmem>(device: &mut P, current: &Record, next: &Record) -> Result<(), Fault>
     requires rest { IsAtRest current.now (P.state device.old) }
     requires after { next.now ≡ promoted_record current.now }
@@ -48,10 +49,11 @@ pub fn write_promoted<P: Pmem>(device: &mut P, current: &Record, next: &Record) 
     ensures sound { OnOk result ((P.state device.new).failures ≡ (P.state device.old).failures) }
     ensures stays { OnErr result (Same (contents_of current.now (P.state device.old)) (contents_of current.now (P.state device.new))) }
     ensures fault { OnErr result ((P.state device.old).failures < (P.state device.new).failures) }
+    ensures synced { OnOk result (P.floor device.new ≡ moment (P.state device.new)) }
     ensures asked_moment { (P.state device.new).kept ≡ (P.state device.old).kept }
     ensures moments { LeavesOnly (P.state device.old) (P.state device.new) (λ image.
         Keeps (contents_of current.now (P.state device.old)) image
         ⊎ Keeps (promoted (contents_of current.now (P.state device.old))) image) }
 {
-    write_next(device, next)
+    write_durably(device, next)
 }

@@ -1,5 +1,6 @@
 //! A record that raises the floor, before what has ended up to it is freed.
 ghost use Rattle.std.specs.Prelude.{◌≡◌, ◌⊎◌, ◌<◌, IfSome, IfNone, OnOk, OnErr};
+ghost use Rattle.pmem.specs.Device.{moment};
 ghost use Rattle.pmem.specs.Runs.{LeavesOnly};
 ghost use Rattle.model.specs.Floor.{raised_record};
 ghost use Rattle.wbl_record.specs.Current.{IsLawful};
@@ -8,7 +9,7 @@ ghost use Rattle.wbl_engine.specs.Contents.{Keeps, Same};
 ghost use Rattle.wbl_engine.specs.Freeing.{AreEnded, KeepsFreed, after_free};
 ghost use Rattle.wbl_engine.specs.Raising.{ExhaustsRaising, IsRaised, under};
 
-use crate::erasing::erase_stamps;
+use crate::erasing::erase_durably;
 use crate::successor::copy_gaps;
 use kv_types::EntryNo;
 use model::{COUNTER_LIMIT, Record};
@@ -52,8 +53,8 @@ fn raised_number(current: &Record, floor: u64) -> u64
     }
 }
 
-/// Writes the record with the floor, unless it is the current one, and erases the begins of the entries behind it. At any moment a crash leaves the contents
-/// from before, or those under that record without some of the versions of the entries. On `Err` a fence has failed.
+/// Writes the record with the floor, unless it is the current one, erases the begins of the entries behind it, and syncs. At any moment a crash leaves the
+/// contents from before, or those under that record without some of the versions of the entries. On `Err` a fence or the sync has failed.
 pub(crate) fn free_under<P: Pmem>(
     device: &mut P,
     entries: &[EntryNo],
@@ -72,12 +73,13 @@ pub(crate) fn free_under<P: Pmem>(
         × Same (contents_of current.now (P.state device.old)) (contents_of current.now (P.state device.new)))
         ⊎ Same (after_free entries.now (contents_of current.now (P.state device.old))) (contents_of current.now (P.state device.new))) }
     ensures fault { OnErr result ((P.state device.old).failures < (P.state device.new).failures) }
+    ensures synced { OnOk result (P.floor device.new ≡ moment (P.state device.new)) }
     ensures asked_moment { (P.state device.new).kept ≡ (P.state device.old).kept }
     ensures moments { LeavesOnly (P.state device.old) (P.state device.new)
         (KeepsFreed entries.now (contents_of current.now (P.state device.old)) (under next.now (contents_of current.now (P.state device.old)))) }
 {
     write_raised(device, current, next)?;
-    erase_stamps(device, entries, &[])
+    erase_durably(device, entries, &[])
 }
 
 /// Writes the record with the floor, unless it is the current one. At any moment a crash leaves the same versions, under the current record or this one.

@@ -1,5 +1,6 @@
 //! A live version is moved to another place, under a record of the same position.
 ghost use Rattle.std.specs.Prelude.{◌≡◌, ◌⊎◌, ◌<◌, IfSome, IfNone, OnOk, OnErr};
+ghost use Rattle.pmem.specs.Device.{moment};
 ghost use Rattle.pmem.specs.Runs.{LeavesOnly};
 ghost use Rattle.wbl_record.specs.Current.{IsLawful};
 ghost use Rattle.wbl_engine.specs.AtRest.{IsAtRest, contents_of};
@@ -38,8 +39,8 @@ pub fn relocated_record(current: &Record) -> Option<Record>
     }
 }
 
-/// Stores the part that moves a version, and the record after it. At any moment a crash leaves the contents before the part or those after it.
-/// On `Err` a fence has failed.
+/// Stores the part that moves a version, and the record after it, and syncs. At any moment a crash leaves the contents before the part or those after it.
+/// On `Err` a fence or the sync has failed.
 pub fn commit_relocation<P: Pmem>(
     device: &mut P,
     part: &Part,
@@ -56,6 +57,7 @@ pub fn commit_relocation<P: Pmem>(
     ensures sound { OnOk result ((P.state device.new).failures ≡ (P.state device.old).failures) }
     ensures stays { OnErr result (Same (contents_of current.now (P.state device.old)) (contents_of current.now (P.state device.new))) }
     ensures fault { OnErr result ((P.state device.old).failures < (P.state device.new).failures) }
+    ensures synced { OnOk result (P.floor device.new ≡ moment (P.state device.new)) }
     ensures asked_moment { (P.state device.new).kept ≡ (P.state device.old).kept }
     ensures moments { LeavesOnly (P.state device.old) (P.state device.new) (λ image.
         Keeps (contents_of current.now (P.state device.old)) image

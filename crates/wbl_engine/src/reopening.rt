@@ -1,7 +1,7 @@
 //! Reopening: a record in which no stamp counts that a crash may have cut off.
 ghost use Rattle.std.specs.Prelude.{◌≡◌, ◌⊎◌, ◌↔◌, ℕ, ◌+◌, ◌<◌, ◌≤◌, IsTrue, Some, Err, length, OnOk, OnErr, IfOk, IfErr, IsErrOf};
 ghost use Rattle.kv_types.specs.declared.refusal.Refusal.{Refusal as Cause};
-ghost use Rattle.pmem.specs.Device.{Only};
+ghost use Rattle.pmem.specs.Device.{Only, moment};
 ghost use Rattle.pmem.specs.Crash.{image_of};
 ghost use Rattle.pmem.specs.Runs.{LeavesOnly};
 ghost use Rattle.model.specs.declared.image.TheConstants.{COUNTER_LIMIT, MAX_LINES, MIN_LINES, STAMP_WINDOW};
@@ -26,7 +26,7 @@ use kv_types::{EntryNo, Refusal};
 use model::{COUNTER_LIMIT, Gap, Layout, Record, Role, STAMP_WINDOW};
 use pmem::{Fault, Pmem};
 use std::alloc::{AllocError, Global};
-use wbl_record::write_next;
+use wbl_record::{write_durably, write_next};
 
 /// The layout of the image, as its version tells. One of a version that there is not counts as of version 1, by which it is refused.
 pub fn layout_in<P: Pmem>(device: &P) -> Layout
@@ -69,6 +69,7 @@ pub fn reopen_device<P: Pmem>(
     ensures superblock { (refusal : Cause) → super_refusal layout (P.state device.old).lines (image_of (P.state device.old).words) ≡ Some refusal
         → result ≡ Err refusal }
     ensures lines { (P.state device.new).lines ≡ (P.state device.old).lines }
+    ensures synced { OnOk result (P.floor device.new ≡ moment (P.state device.new)) }
     ensures asked_moment { (P.state device.new).kept ≡ (P.state device.old).kept }
     ensures moments { (r : CommitRecord) → IsUndamaged (P.state device.old).lines r (image_of (P.state device.old).words)
         → LeavesOnly (P.state device.old) (P.state device.new) (StaysReadable (P.state device.old).lines r (image_of (P.state device.old).words)) }
@@ -195,6 +196,7 @@ fn write_reopened<P: Pmem>(
     ensures causes { IfErr result (λ refusal. (refusal ≡ Refusal.Fault) ⊎ (refusal ≡ Refusal.Memory)) }
     ensures memory { IsErrOf result Refusal.Memory → device.new ≡ device.old }
     ensures fault { IsErrOf result Refusal.Fault → (P.state device.old).failures < (P.state device.new).failures }
+    ensures synced { OnOk result (P.floor device.new ≡ moment (P.state device.new)) }
     ensures asked_moment { (P.state device.new).kept ≡ (P.state device.old).kept }
     ensures moments { LeavesOnly (P.state device.old) (P.state device.new)
         (StaysReadable (P.state device.old).lines current (image_of (P.state device.old).words)) }
@@ -282,7 +284,7 @@ fn erase_gap<P: Pmem>(alloc: Global, device: &mut P, current: &Record) -> Result
     }
 }
 
-/// Writes the record in which the stamps that were perhaps given out after the current one are a gap. On `Err` a fence has failed.
+/// Writes the record in which the stamps that were perhaps given out after the current one are a gap, and syncs. On `Err` a fence or the sync has failed.
 fn add_open_gap<P: Pmem>(device: &mut P, current: Record) -> Result<Record, Fault>
     requires readable { IsReadable current (P.state device.old) }
     requires room { length current.gaps.items < max_gaps current.layout }
@@ -295,12 +297,13 @@ fn add_open_gap<P: Pmem>(device: &mut P, current: Record) -> Result<Record, Faul
     ensures lines { (P.state device.new).lines ≡ (P.state device.old).lines }
     ensures sound { OnOk result ((P.state device.new).failures ≡ (P.state device.old).failures) }
     ensures fault { OnErr result ((P.state device.old).failures < (P.state device.new).failures) }
+    ensures synced { OnOk result (P.floor device.new ≡ moment (P.state device.new)) }
     ensures asked_moment { (P.state device.new).kept ≡ (P.state device.old).kept }
     ensures moments { LeavesOnly (P.state device.old) (P.state device.new)
         (StaysReadable (P.state device.old).lines current (image_of (P.state device.old).words)) }
 {
     let next = with_open_gap(current);
-    write_next(device, &next)?;
+    write_durably(device, &next)?;
     Ok(next)
 }
 

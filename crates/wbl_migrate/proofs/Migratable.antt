@@ -115,11 +115,22 @@ later lines r q s image goes (inl halfway) =
 later lines r q s image goes (inr new) =
     record { current = renewed q; goes_on = goes_renewed r q goes; is = inr (inr (movable_image Version2 lines (renewed q) s image new)) }
 
-pub new_migrated : (d : State) (lines : ℕ) (r q : Record) (s : Keyspace) → GoesOnFrom r q → Leaves d (IsMovable Version2 lines (renewed q) s)
-    → Leaves d (IsMigrated lines r s)
-new_migrated d lines r q s goes all image is =
+-- (its floor is the position of the record that it goes on from)
+new_migrated : (d : State) (lines : ℕ) (r q : Record) (s : Keyspace) → ¬ (r.layout ≡ Version2) → GoesOnFrom r q
+    → Leaves d (IsMovable Version2 lines (renewed q) s) → Leaves d (IsMigrated lines r s)
+new_migrated d lines r q s older goes all image is =
     let new : IsMovable Version2 lines (renewed q) s image = all image is in
-    record { current = renewed q; goes_on = goes_renewed r q goes; is = movable_image Version2 lines (renewed q) s image new }
+    record {
+      current = renewed q;
+      goes_on = goes_renewed r q goes;
+      is = movable_image Version2 lines (renewed q) s image new;
+      kept = λ same. absurd (older same);
+      floor = λ other. goes.position;
+    }
+
+-- a record of another layout is not of version 2
+not_new : (layout : Layout) (r : Record) → ¬ (layout ≡ Version2) → r.layout ≡ layout → ¬ (r.layout ≡ Version2)
+not_new layout r differ is same = differ (sym is ∙ same)
 
 -- an image that was halfway, whose record was read
 halfway_movable : (d : State) (r q : Record) (s : Keyspace) → IsCertain d → HasGapless d.lines (image_of d.words) q
@@ -138,7 +149,8 @@ pub finished : (d e : State) (r q : Record) (s : Keyspace) → IsCertain d → H
     → (Leaves d (IsMovable Halfway d.lines q s) → Leaves e (IsMovable Version2 d.lines (renewed q) s))
     → IsHalfwayImage d.lines r s (image_of d.words) → Leaves e (IsMigrated d.lines r s)
 finished d e r q s certain current done halfway =
-    new_migrated e d.lines r q s (halfway_goes d r q s current halfway) (done (halfway_movable d r q s certain current halfway))
+    new_migrated e d.lines r q s (not_new Halfway r (λ e. cc) halfway.is.layout) (halfway_goes d r q s current halfway)
+    (done (halfway_movable d r q s certain current halfway))
 
 pub finishing : (d e : State) (r q : Record) (s : Keyspace) → IsCertain d → HasGapless d.lines (image_of d.words) q
     → (Leaves d (IsMovable Halfway d.lines q s) → LeavesOnly d e (IsHalfwayOrNew d.lines q s))
@@ -158,11 +170,11 @@ pub vacating : (a b : State) (lines : ℕ) (r : Record) (s : Keyspace) → Leave
 vacating a b lines r s moments = LeavesOnly-weaken (StaysMigratable lines r s) (old_stays lines r s) moments
 
 -- after the entries were emptied the image was switched
-pub upgraded : (a b c : State) (r q : Record) (s : Keyspace) → b.lines ≡ a.lines → GoesOnFrom r q → Leaves b (IsMovable Version1 a.lines q s)
+pub upgraded : (a b c : State) (r q : Record) (s : Keyspace) → r.layout ≡ Version1 → b.lines ≡ a.lines → GoesOnFrom r q → Leaves b (IsMovable Version1 a.lines q s)
     → (Leaves b (IsMovable Version1 b.lines q s) → Leaves c (IsMovable Version2 b.lines (renewed q) s)) → Leaves c (IsMigrated a.lines r s)
-upgraded a b c r q s counted goes vacated done =
+upgraded a b c r q s is_old counted goes vacated done =
     subst (λ (n : ℕ). Leaves c (IsMigrated n r s)) counted
-    (new_migrated c b.lines r q s goes (done (subst (λ (n : ℕ). Leaves b (IsMovable Version1 n q s)) (sym counted) vacated)))
+    (new_migrated c b.lines r q s (not_new Version1 r (λ e. cc) is_old) goes (done (subst (λ (n : ℕ). Leaves b (IsMovable Version1 n q s)) (sym counted) vacated)))
 
 pub upgrading : (a b c : State) (r q : Record) (s : Keyspace) → b.lines ≡ a.lines → GoesOnFrom r q → Leaves b (IsMovable Version1 a.lines q s)
     → LeavesOnly a b (StaysOld a.lines r s)
@@ -228,4 +240,5 @@ only_new lines r s image has (inl old) =
     let a = has.version in let b = old.undamaged.superblock.version ∙ ap version old.layout in absurd (omega (arith, a, b))
 only_new lines r s image has (inr (inl halfway)) =
     let a = has.version in let b = halfway.is.undamaged.superblock.version ∙ ap version halfway.is.layout in absurd (omega (arith, a, b))
-only_new lines r s image has (inr (inr new)) = record { current = r; goes_on = goes_nowhere r; is = new }
+only_new lines r s image has (inr (inr new)) =
+    record { current = r; goes_on = goes_nowhere r; is = new; kept = λ same. refl; floor = λ older. absurd (older new.layout) }

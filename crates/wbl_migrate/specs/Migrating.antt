@@ -59,8 +59,11 @@ pub record StaysMigratable (lines' : ℕ) (r : Record) (s : Keyspace) (image : I
   pub goes_on : GoesOnFrom r current
   pub is : IsMigratable lines' current s image
 
--- under a record that goes on from this one, the image is of version 2, breaks no rule of the format and has this keyspace
+-- Under a record that goes on from this one, the image is of version 2, breaks no rule of the format and has this keyspace. One that was of version 2 keeps its
+-- record, and so its floor; of any other one the floor is the position.
 pub record IsMigrated (lines' : ℕ) (r : Record) (s : Keyspace) (image : Image) : Type 0 where
   pub current : Record
   pub goes_on : GoesOnFrom r current
   pub is : IsNewImage lines' current s image
+  pub kept : r.layout ≡ Version2 → current ≡ r
+  pub floor : ¬ (r.layout ≡ Version2) → current.floor ≡ r.position

@@ -1,6 +1,7 @@
 //! The version of an image is one word, so that each mark is stored whole or not at all.
 ghost use Rattle.std.specs.Prelude.{◌≡◌, ◌⊎◌, ◌<◌, OnOk, OnErr};
 ghost use Rattle.kv_types.specs.Keyspace.{Keyspace};
+ghost use Rattle.pmem.specs.Device.{moment};
 ghost use Rattle.pmem.specs.Crash.{IsImage};
 ghost use Rattle.pmem.specs.Runs.{LeavesOnly};
 ghost use Rattle.model.specs.declared.layout.Layout.TheVariants.{Version1, Version2, Halfway};
@@ -9,7 +10,7 @@ ghost use Rattle.wbl_migrate.specs.Stage.{IsMovable};
 ghost use Rattle.wbl_migrate.specs.Steps.{Leaves, KeepsOthers, IsRenewed, renewed};
 
 use model::Layout;
-use pmem::{Fault, Pmem, persist};
+use pmem::{Fault, Pmem, persist, persist_durably};
 
 /// The word of an image that says its version.
 pub const VERSION_WORD: u64 = 1;
@@ -38,14 +39,15 @@ pub fn mark_halfway<P: Pmem>(device: &mut P) -> Result<(), Fault>
     persist(device, &[(VERSION_WORD, Layout::Halfway.version())], &[0])
 }
 
-/// Marks an image that is halfway, and that has its record of version 2, as one of version 2.
+/// Marks an image that is halfway, and that has its record of version 2, as one of version 2, and syncs.
 ///
-/// On `Err` a fence has failed, and a crash may leave the image with either mark.
+/// On `Err` a fence or the sync has failed, and a crash may leave the image with either mark.
 pub fn mark_new<P: Pmem>(device: &mut P) -> Result<(), Fault>
     requires { 0 < (P.state device.old).lines }
     ensures ok { OnOk result ((r : CommitRecord) (s : Keyspace)
         → Leaves (P.state device.old) (IsRenewed (P.state device.old).lines r s)
         → Leaves (P.state device.new) (IsMovable Version2 (P.state device.old).lines (renewed r) s)) }
+    ensures synced { OnOk result (P.floor device.new ≡ moment (P.state device.new)) }
     ensures sound { OnOk result ((P.state device.new).failures ≡ (P.state device.old).failures) }
     ensures err { OnErr result ((P.state device.old).failures < (P.state device.new).failures) }
     ensures elsewhere { KeepsOthers (P.state device.old) (P.state device.new) (λ word. word ≡ VERSION_WORD) }
@@ -54,5 +56,5 @@ pub fn mark_new<P: Pmem>(device: &mut P) -> Result<(), Fault>
         → LeavesOnly (P.state device.old) (P.state device.new) (λ image.
         IsRenewed (P.state device.old).lines r s image ⊎ IsMovable Version2 (P.state device.old).lines (renewed r) s image) }
 {
-    persist(device, &[(VERSION_WORD, Layout::Version2.version())], &[0])
+    persist_durably(device, &[(VERSION_WORD, Layout::Version2.version())], &[0])
 }

@@ -2,7 +2,7 @@
 ghost use Rattle.std.specs.Prelude.{◌≡◌, ◌⊎◌, ◌<◌, ◌≤◌, ℕ, Ok, Err, None, Some, IfOk, IfErr, IsErrOf, OnOk, MatchResult};
 ghost use Rattle.kv_types.specs.declared.refusal.Refusal.{Refusal as Cause};
 ghost use Rattle.kv_types.specs.Keyspace.{Keyspace};
-ghost use Rattle.pmem.specs.Device.{Only};
+ghost use Rattle.pmem.specs.Device.{Only, moment};
 ghost use Rattle.pmem.specs.Crash.{image_of};
 ghost use Rattle.pmem.specs.Runs.{LeavesOnly};
 ghost use Rattle.model.specs.declared.image.TheConstants.{MIN_LINES};
@@ -26,9 +26,11 @@ use std::alloc::Global;
 use wbl_engine::inspect;
 use wbl_record::read_current;
 
-/// Makes an image one of version 2: an old one by all steps, one that a crash left halfway by those that are left. One of version 2 it leaves as it is.
+/// Makes an image one of version 2: an old one by all steps, one that a crash left halfway by those that are left. One of version 2 it leaves as it is, and so
+/// its floor; of any other one the floor is its position then.
 ///
-/// At any moment a crash leaves an image with the same map, position, epoch and role, from which the migration goes on.
+/// At any moment a crash leaves an image with the same map, position, epoch and role, from which the migration goes on. The steps ask of a fence that it
+/// orders, and the last one syncs.
 ///
 /// # Errors
 ///
@@ -51,6 +53,8 @@ pub fn migrate<P: Pmem>(alloc: Global, device: P) -> Result<P, (Refusal, P)>
         → ((r : CommitRecord) (s : Keyspace) → ¬ IsHalfwayImage (P.state device).lines r s (image_of (P.state device).words))
         → (result ≡ Err (Refusal.Damaged, device)) ⊎ (result ≡ Err (Refusal.Memory, device)) }
     ensures line_count { IfOk result (λ after. (P.state after).lines ≡ (P.state device).lines) }
+    // what was written is durable
+    ensures synced { IfOk result (λ after. (after ≡ device) ⊎ (P.floor after ≡ moment (P.state after))) }
     ensures sound { IfOk result (λ after. (P.state after).failures ≡ (P.state device).failures) }
     ensures causes { IfErr result (λ refused. (stage_refusal (P.state device).lines (image_of (P.state device).words) ≡ Some refused.0)
         ⊎ ((refused.0 ≡ Refusal.Damaged)
@@ -97,6 +101,7 @@ fn upgrade<P: Pmem>(alloc: Global, device: P) -> Result<P, (Refusal, P)>
         → Leaves (P.state after) (IsMigrated (P.state device).lines r s)) }
     ensures only { OnOk result (CanBeMigrated (P.state device).lines (image_of (P.state device).words)) }
     ensures line_count { IfOk result (λ after. (P.state after).lines ≡ (P.state device).lines) }
+    ensures synced { IfOk result (λ after. P.floor after ≡ moment (P.state after)) }
     ensures sound { IfOk result (λ after. (P.state after).failures ≡ (P.state device).failures) }
     ensures causes { IfErr result (λ refused. (refused.0 ≡ Refusal.Damaged)
         ⊎ ((refused.0 ≡ Refusal.Full) ⊎ ((refused.0 ≡ Refusal.Fault) ⊎ ((refused.0 ≡ Refusal.Exhausted) ⊎ (refused.0 ≡ Refusal.Memory))))) }
@@ -158,6 +163,7 @@ fn finish<P: Pmem>(alloc: Global, device: P) -> Result<P, (Refusal, P)>
     ensures broken { ((r : CommitRecord) (s : Keyspace) → ¬ IsHalfwayImage (P.state device).lines r s (image_of (P.state device).words))
         → (result ≡ Err (Refusal.Damaged, device)) ⊎ (result ≡ Err (Refusal.Memory, device)) }
     ensures line_count { IfOk result (λ after. (P.state after).lines ≡ (P.state device).lines) }
+    ensures synced { IfOk result (λ after. P.floor after ≡ moment (P.state after)) }
     ensures sound { IfOk result (λ after. (P.state after).failures ≡ (P.state device).failures) }
     ensures causes { IfErr result (λ refused. (refused.0 ≡ Refusal.Damaged)
         ⊎ ((refused.0 ≡ Refusal.Fault) ⊎ ((refused.0 ≡ Refusal.Exhausted) ⊎ (refused.0 ≡ Refusal.Memory)))) }

@@ -1,6 +1,7 @@
 //! The last steps, one after the other.
 ghost use Rattle.std.specs.Prelude.{◌≡◌, ◌⊎◌, ◌+◌, ◌<◌, ◌≤◌, Err, IsErrOf, IfErr, OnOk};
 ghost use Rattle.kv_types.specs.Keyspace.{Keyspace};
+ghost use Rattle.pmem.specs.Device.{moment};
 ghost use Rattle.pmem.specs.Crash.{IsImage};
 ghost use Rattle.pmem.specs.Runs.{LeavesOnly};
 ghost use Rattle.model.specs.declared.image.TheConstants.{COUNTER_LIMIT, MIN_LINES};
@@ -25,6 +26,7 @@ pub fn switch<P: Pmem>(device: &mut P, current: &Record) -> Result<(), Refusal>
     ensures ok { OnOk result ((s : Keyspace)
         → Leaves (P.state device.old) (IsMovable Version1 (P.state device.old).lines current.now s)
         → Leaves (P.state device.new) (IsMovable Version2 (P.state device.old).lines (renewed current.now) s)) }
+    ensures synced { OnOk result (P.floor device.new ≡ moment (P.state device.new)) }
     ensures sound { OnOk result ((P.state device.new).failures ≡ (P.state device.old).failures) }
     ensures causes { IfErr result (λ refusal. (refusal ≡ Refusal.Fault) ⊎ (refusal ≡ Refusal.Exhausted)) }
     ensures err { IsErrOf result Refusal.Fault → (P.state device.old).failures < (P.state device.new).failures }
@@ -63,6 +65,7 @@ pub fn go_on<P: Pmem>(device: &mut P, current: &Record) -> Result<(), Refusal>
     ensures ok { OnOk result ((s : Keyspace)
         → Leaves (P.state device.old) (IsMovable Halfway (P.state device.old).lines current.now s)
         → Leaves (P.state device.new) (IsMovable Version2 (P.state device.old).lines (renewed current.now) s)) }
+    ensures synced { OnOk result (P.floor device.new ≡ moment (P.state device.new)) }
     ensures sound { OnOk result ((P.state device.new).failures ≡ (P.state device.old).failures) }
     ensures causes { IfErr result (λ refusal. (refusal ≡ Refusal.Fault) ⊎ (refusal ≡ Refusal.Exhausted)) }
     ensures err { IsErrOf result Refusal.Fault → (P.state device.old).failures < (P.state device.new).failures }

@@ -1,5 +1,5 @@
 -- The two steps of writing a record: the body, and the root.
-use Rattle.std.proofs.Common.{◌≡◌, ◌≢◌, ◌⊎◌, ℕ, Bool, cond, eq-eqb, ◌+◌, ◌*◌, ◌/◌, ◌<◌, ◌≤◌, List, [], ◌∷◌, length, get_or, refl, inl, inr, sym, ap, subst, ◌∙◌, arith}
+use Rattle.std.proofs.Common.{◌≡◌, ◌≢◌, ◌⊎◌, ℕ, suc, Bool, cond, eq-eqb, ◌+◌, ◌*◌, ◌/◌, ◌<◌, ◌≤◌, List, [], ◌∷◌, length, get_or, refl, inl, inr, sym, ap, subst, ◌∙◌, arith}
 use Rattle.pmem.specs.Device.{State, MayBe}
 use Rattle.pmem.specs.Crash.{IsImage, image_of}
 use Rattle.pmem.specs.Runs.{LeavesOnly, Staged, StageFailed, IsPartlyStored, IsStored, IsOutside, IsLine, written, pairs_from, lines_from}
@@ -119,6 +119,16 @@ root_fault {a} {b} {c} next body root =
       failures = omega (arith, root.failures, body.failures);
       stays = Stays-then body.stays root.stays;
     }
+
+-- the sync behind both failed
+pub unsynced_fault : {a b c : State} (next : Record) → IsRecorded a b next → c ≡ record b { failures = suc b.failures } → IsRecordFault a c next
+unsynced_fault {a} {b} {c} next recorded e =
+    subst (λ (d : State). IsRecordFault a d next) (sym e)
+    (record {
+      newest = recorded.newest;
+      failures = omega (arith, recorded.failures);
+      stays = record { lines = recorded.stays.lines; kept = recorded.stays.kept; starved = recorded.stays.starved };
+    })
 
 -- the current record's words are in none of the next one's
 current_outside : (lines : ℕ) (current next : Record) (word : ℕ) → next.layout ≡ current.layout → next.number ≡ current.number + 1

@@ -7,4 +7,4 @@ mod record;
 
 pub use current::read_current;
 pub use laws::images_have_one_current_record;
-pub use record::{MAX_RECORD_WORDS, words_of, write_next};
+pub use record::{MAX_RECORD_WORDS, words_of, write_durably, write_next};

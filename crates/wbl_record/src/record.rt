@@ -1,6 +1,6 @@
 //! The commit record of an image: its body goes into the slot that the last record does not use, and then its number becomes the root.
 ghost use Rattle.std.specs.Prelude.{◌≡◌, ◌+◌, ◌*◌, ◌≤◌, ◌++◌, length, slice_index_or, OnOk, OnErr};
-ghost use Rattle.pmem.specs.Device.{State};
+ghost use Rattle.pmem.specs.Device.{State, moment};
 ghost use Rattle.pmem.specs.Runs.{LeavesOnly, Staged, StageFailed, pairs_from, lines_from};
 ghost use Rattle.model.specs.declared.record.Record.{Record};
 ghost use Rattle.model.specs.Layout.{first_word};
@@ -31,6 +31,21 @@ pub fn write_next<P: Pmem>(device: &mut P, next: &Record) -> Result<(), Fault>
     let words = words_of(next);
     persist_words(device, first_line, layout.slot_lines(), words.as_slice())?;
     persist(device, &[(layout.root_word(), next.number)], &[0])
+}
+
+/// Writes the next record as `write_next` does, and then syncs: it is durable, and so is all that was fenced before. It allocates no memory.
+///
+/// On `Err` a fence or the sync has failed, and a crash may leave either record.
+pub fn write_durably<P: Pmem>(device: &mut P, next: &Record) -> Result<(), Fault>
+    requires { MIN_LINES ≤ (P.state device.old).lines }
+    ensures ok { OnOk result (IsRecorded (P.state device.old) (P.state device.new) next.now) }
+    ensures synced { OnOk result (P.floor device.new ≡ moment (P.state device.new)) }
+    ensures err { OnErr result (IsRecordFault (P.state device.old) (P.state device.new) next.now) }
+    ensures moments { (current : Record) → IsSucceeded (P.state device.old) current next.now
+        → LeavesOnly (P.state device.old) (P.state device.new) (IsEitherRecord (P.state device.old) current next.now) }
+{
+    write_next(device, next)?;
+    device.sync()
 }
 
 /// Stores `words` starting at line `line`, flushes `lines` lines from there, and fences.

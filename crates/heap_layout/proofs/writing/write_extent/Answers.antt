@@ -20,7 +20,7 @@ loop-i-preserved g c =
     Runs-next_store (pairs_from (8 * line) (packed bytes 0 count)) c.loop-i.i below c.loop-i.invariant
     (subst (λ (pair : ℕ × ℕ). Steps old (g.P.Pmem.state c.store.new.self) (store_at pair.0 pair.1 old.words) old.failures old.fences)
     (extent_pair line bytes count c.loop-i.i c.word_at.result c.loop-i-test.true c.word_at.ensures)
-    c.store.ensures)
+    c.store.ensures.steps)
 
 pub returns-clause-stored : goal.returns-clause-stored
 returns-clause-stored g c =

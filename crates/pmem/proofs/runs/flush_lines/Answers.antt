@@ -15,7 +15,7 @@ loop-i-preserved g c =
     let old = g.P.Pmem.state c.loop-i.device in
     Runs-next_flush (lines_from c.args.first c.args.count) c.loop-i.i below c.loop-i.invariant
     (subst (λ (line : ℕ). Steps old (g.P.Pmem.state c.flush.new.self) (flush_at line old.words) old.failures old.fences)
-    (sym (get_or-lines_from c.args.first c.args.count c.loop-i.i c.loop-i-test.true)) c.flush.ensures)
+    (sym (get_or-lines_from c.args.first c.args.count c.loop-i.i c.loop-i-test.true)) c.flush.ensures.steps)
 
 pub returns : goal.returns
 returns g c =

@@ -15,7 +15,7 @@ loop-i-preserved g c =
     let old = g.P.Pmem.state c.loop-i.device in
     Runs-next_store (pairs_from c.args.first c.args.values.now) c.loop-i.i below c.loop-i.invariant
     (subst (λ (pair : ℕ × ℕ). Steps old (g.P.Pmem.state c.store.new.self) (store_at pair.0 pair.1 old.words) old.failures old.fences)
-    (sym (get_or-pairs_from c.args.first c.args.values.now c.loop-i.i c.loop-i-test.true)) c.store.ensures)
+    (sym (get_or-pairs_from c.args.first c.args.values.now c.loop-i.i c.loop-i-test.true)) c.store.ensures.steps)
 
 pub returns : goal.returns
 returns g c =

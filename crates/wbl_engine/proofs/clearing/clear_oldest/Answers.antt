@@ -31,34 +31,34 @@ returns-in_err-erase_stamps-clause-moments g c =
     let begun = clearing c.requires.rest c.requires.some c.as_slice.ensures.value c.as_slice-2.ensures.value c.requires.begins c.requires.ends in
     erase_moments begun c.in_err-erase_stamps.ensures.err.moments
 
-pub returns-in_err-write_next-clause-stays : goal.returns-in_err-write_next-clause-stays
-returns-in_err-write_next-clause-stays g c =
+pub returns-in_err-write_durably-clause-stays : goal.returns-in_err-write_durably-clause-stays
+returns-in_err-write_durably-clause-stays g c =
     let begun = clearing c.requires.rest c.requires.some c.as_slice.ensures.value c.as_slice-2.ensures.value c.requires.begins c.requires.ends in
     let staged = c.in_ok-erase_stamps.ensures.ok in
-    let after = g.P.Pmem.state c.write_next.new.device in
-    let fault = c.in_err-write_next.ensures.err in
-    on_err_from c.from_residual-in_err-write_next.result
+    let after = g.P.Pmem.state c.write_durably.new.device in
+    let fault = c.in_err-write_durably.ensures.err in
+    on_err_from c.from_residual-in_err-write_durably.result
     (keeps_versions begun after (fault.stays.lines ∙ staged.stays.lines)
     (recorded_erased after c.without_oldest_gap-next.result (ap (λ (q : Record). q.layout) c.without_oldest_gap-next.ensures.next) begun staged fault.newest))
 
-pub returns-in_err-write_next-clause-moments : goal.returns-in_err-write_next-clause-moments
-returns-in_err-write_next-clause-moments g c =
+pub returns-in_err-write_durably-clause-moments : goal.returns-in_err-write_durably-clause-moments
+returns-in_err-write_durably-clause-moments g c =
     let begun = clearing c.requires.rest c.requires.some c.as_slice.ensures.value c.as_slice-2.ensures.value c.requires.begins c.requires.ends in
     let b = g.P.Pmem.state c.erase_stamps.new.device in
-    let after = g.P.Pmem.state c.write_next.new.device in
+    let after = g.P.Pmem.state c.write_durably.new.device in
     clear_moments begun c.without_oldest_gap-next.ensures.lawful c.in_ok-erase_stamps.ensures.ok
     (subst (λ (q : Record). (current : Record) → IsSucceeded b current q → LeavesOnly b after (IsEitherRecord b current q))
-    c.without_oldest_gap-next.ensures.next c.write_next.ensures.moments)
+    c.without_oldest_gap-next.ensures.next c.write_durably.ensures.moments)
 
 pub returns-clause-rest : goal.returns-clause-rest
 returns-clause-rest g c =
     let begun = clearing c.requires.rest c.requires.some c.as_slice.ensures.value c.as_slice-2.ensures.value c.requires.begins c.requires.ends in
     let next = c.without_oldest_gap-next in
     let b = g.P.Pmem.state c.erase_stamps.new.device in
-    let after = g.P.Pmem.state c.write_next.new.device in
+    let after = g.P.Pmem.state c.write_durably.new.device in
     subst (λ (q : Record). IsAtRest q after) (sym next.ensures.next)
     (cleared_rest begun next.ensures.lawful c.in_ok-erase_stamps.ensures.ok
-    (subst (λ (q : Record). IsRecorded b after q) next.ensures.next c.in_ok-write_next.ensures.ok))
+    (subst (λ (q : Record). IsRecorded b after q) next.ensures.next c.in_ok-write_durably.ensures.ok))
 
 pub returns-clause-clears : goal.returns-clause-clears
 returns-clause-clears g c =
@@ -66,9 +66,9 @@ returns-clause-clears g c =
     let r = c.args.current.now in
     let d = g.P.Pmem.state c.args.device.now in
     let staged = c.in_ok-erase_stamps.ensures.ok in
-    let after = g.P.Pmem.state c.write_next.new.device in
+    let after = g.P.Pmem.state c.write_durably.new.device in
     let next = c.without_oldest_gap-next in
-    let recorded = c.in_ok-write_next.ensures.ok in
+    let recorded = c.in_ok-write_durably.ensures.ok in
     subst (λ (l : List EntryNo). Clears (contents_of r d) l (contents_of next.result after)) c.as_slice.ensures.value
     (subst (λ (q : Record). Clears (contents_of r d) c.as_slice.result.now (contents_of q after)) (sym next.ensures.next)
     (clears begun after (recorded.stays.lines ∙ staged.stays.lines)
@@ -78,7 +78,7 @@ pub returns-clause-moments : goal.returns-clause-moments
 returns-clause-moments g c =
     let begun = clearing c.requires.rest c.requires.some c.as_slice.ensures.value c.as_slice-2.ensures.value c.requires.begins c.requires.ends in
     let b = g.P.Pmem.state c.erase_stamps.new.device in
-    let after = g.P.Pmem.state c.write_next.new.device in
+    let after = g.P.Pmem.state c.write_durably.new.device in
     clear_moments begun c.without_oldest_gap-next.ensures.lawful c.in_ok-erase_stamps.ensures.ok
     (subst (λ (q : Record). (current : Record) → IsSucceeded b current q → LeavesOnly b after (IsEitherRecord b current q))
-    c.without_oldest_gap-next.ensures.next c.write_next.ensures.moments)
+    c.without_oldest_gap-next.ensures.next c.write_durably.ensures.moments)

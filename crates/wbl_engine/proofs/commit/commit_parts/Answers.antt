@@ -31,21 +31,21 @@ returns-in_err-stage_parts-clause-moments g c =
 pub returns-clause-rest : goal.returns-clause-rest
 returns-clause-rest g c =
     let begun = committing c.args.next.now c.requires.rest c.requires.asked c.in_ok-stage_parts.ensures.writable in
-    on_ok_weaker c.write_next.result
+    on_ok_weaker c.write_durably.result
     (λ recorded. done_rest begun c.requires.after c.in_ok-stage_parts.ensures.ok c.requires.lawful recorded)
-    c.write_next.ensures.ok
+    c.write_durably.ensures.ok
 
 pub returns-clause-moved : goal.returns-clause-moved
 returns-clause-moved g c =
     let begun = committing c.args.next.now c.requires.rest c.requires.asked c.in_ok-stage_parts.ensures.writable in
-    on_ok_weaker c.write_next.result (λ recorded. done_same begun c.requires.after c.in_ok-stage_parts.ensures.ok recorded) c.write_next.ensures.ok
+    on_ok_weaker c.write_durably.result (λ recorded. done_same begun c.requires.after c.in_ok-stage_parts.ensures.ok recorded) c.write_durably.ensures.ok
 
 pub returns-clause-stays : goal.returns-clause-stays
 returns-clause-stays g c =
     let begun = committing c.args.next.now c.requires.rest c.requires.asked c.in_ok-stage_parts.ensures.writable in
-    on_err_weaker c.write_next.result (λ fault. later_fault begun c.requires.after c.in_ok-stage_parts.ensures.ok fault) c.write_next.ensures.err
+    on_err_weaker c.write_durably.result (λ fault. later_fault begun c.requires.after c.in_ok-stage_parts.ensures.ok fault) c.write_durably.ensures.err
 
 pub returns-clause-moments : goal.returns-clause-moments
 returns-clause-moments g c =
     let begun = committing c.args.next.now c.requires.rest c.requires.asked c.in_ok-stage_parts.ensures.writable in
-    done_moments begun c.requires.after c.in_ok-stage_parts.ensures.ok c.write_next.ensures.moments
+    done_moments begun c.requires.after c.in_ok-stage_parts.ensures.ok c.write_durably.ensures.moments

@@ -44,23 +44,23 @@ returns-in_err-stage_and_erase-clause-moments g c =
 pub returns-clause-rest : goal.returns-clause-rest
 returns-clause-rest g c =
     let begun = committing c.args.next.now c.requires.rest c.requires.asked c.in_ok-stage_and_erase.ensures.writable in
-    on_ok_weaker c.write_next.result
+    on_ok_weaker c.write_durably.result
     (λ recorded. both_rest c.args.entries.now begun c.requires.ended c.requires.freed c.in_ok-stage_and_erase.ensures.ok c.requires.after c.requires.lawful recorded)
-    c.write_next.ensures.ok
+    c.write_durably.ensures.ok
 
 pub returns-clause-moved : goal.returns-clause-moved
 returns-clause-moved g c =
     let begun = committing c.args.next.now c.requires.rest c.requires.asked c.in_ok-stage_and_erase.ensures.writable in
-    on_ok_weaker c.write_next.result
-    (λ recorded. both_same c.args.entries.now begun c.requires.ended c.requires.freed c.in_ok-stage_and_erase.ensures.ok c.requires.after recorded) c.write_next.ensures.ok
+    on_ok_weaker c.write_durably.result
+    (λ recorded. both_same c.args.entries.now begun c.requires.ended c.requires.freed c.in_ok-stage_and_erase.ensures.ok c.requires.after recorded) c.write_durably.ensures.ok
 
 pub returns-clause-stays : goal.returns-clause-stays
 returns-clause-stays g c =
     let begun = committing c.args.next.now c.requires.rest c.requires.asked c.in_ok-stage_and_erase.ensures.writable in
-    on_err_weaker c.write_next.result
-    (λ fault. later_fails c.args.entries.now begun c.requires.ended c.requires.freed c.in_ok-stage_and_erase.ensures.ok c.requires.after fault) c.write_next.ensures.err
+    on_err_weaker c.write_durably.result
+    (λ fault. later_fails c.args.entries.now begun c.requires.ended c.requires.freed c.in_ok-stage_and_erase.ensures.ok c.requires.after fault) c.write_durably.ensures.err
 
 pub returns-clause-moments : goal.returns-clause-moments
 returns-clause-moments g c =
     let begun = committing c.args.next.now c.requires.rest c.requires.asked c.in_ok-stage_and_erase.ensures.writable in
-    both_moments c.args.entries.now begun c.requires.ended c.requires.freed c.in_ok-stage_and_erase.ensures.ok c.requires.after c.write_next.ensures.moments
+    both_moments c.args.entries.now begun c.requires.ended c.requires.freed c.in_ok-stage_and_erase.ensures.ok c.requires.after c.write_durably.ensures.moments

@@ -26,4 +26,4 @@ loop-entry-preserved g c =
     entries_stored (λ (entry : EntryNo). (entry_word entry.0 c.args.k, 0)) c.args.entries.now c.loop-entry.entry-index no_entry c.loop-entry-test.true c.loop-entry.invariant
     (Runs-step_store _ 0
     (subst (λ (word : ℕ). Steps old (g.P.Pmem.state c.store.new.self) (store_at word 0 old.words) old.failures old.fences)
-    c.entry_word.ensures c.store.ensures))
+    c.entry_word.ensures c.store.ensures.steps))

@@ -25,11 +25,11 @@ returns-clause-rest g c =
     let role = c.args.first.now.role in
     let first = c.in_ok-persist.ensures.ok in
     let second = second_staged d.lines role c.args.first.now first.stays.lines c.requires.first c.in_ok-write_new.ensures.ok in
-    on_ok_weaker c.persist-2.result
+    on_ok_weaker c.persist_durably.result
     (λ third.
-    subst (λ (r : Record). IsAtRest r (g.P.Pmem.state c.persist-2.new.device)) (sym c.requires.first)
+    subst (λ (r : Record). IsAtRest r (g.P.Pmem.state c.persist_durably.new.device)) (sym c.requires.first)
     (format_rest role c.requires.many c.requires.few first second third))
-    c.persist-2.ensures.ok
+    c.persist_durably.ensures.ok
 
 pub returns-clause-moments : goal.returns-clause-moments
 returns-clause-moments g c =
@@ -37,8 +37,8 @@ returns-clause-moments g c =
     let role = c.args.first.now.role in
     let first = c.in_ok-persist.ensures.ok in
     let second = second_staged lines role c.args.first.now first.stays.lines c.requires.first c.in_ok-write_new.ensures.ok in
-    let third : LeavesOnly (g.P.Pmem.state c.write_new.new.device) (g.P.Pmem.state c.persist-2.new.device)
+    let third : LeavesOnly (g.P.Pmem.state c.write_new.new.device) (g.P.Pmem.state c.persist_durably.new.device)
     (IsPartlyStored (magic_pairs magic_number) (g.P.Pmem.state c.write_new.new.device).words) =
-    on_both c.persist-2.result (on_ok_weaker c.persist-2.result (λ staged. staged.moments) c.persist-2.ensures.ok)
-    (on_err_weaker c.persist-2.result (λ failed. failed.moments) c.persist-2.ensures.err) in
+    on_both c.persist_durably.result (on_ok_weaker c.persist_durably.result (λ staged. staged.moments) c.persist_durably.ensures.ok)
+    (on_err_weaker c.persist_durably.result (λ failed. failed.moments) c.persist_durably.ensures.err) in
     third_moments lines role c.requires.many first second third

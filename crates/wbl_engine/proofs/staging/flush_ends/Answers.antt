@@ -23,4 +23,4 @@ pub loop-entry-preserved : goal.loop-entry-preserved
 loop-entry-preserved g c =
     let old = g.P.Pmem.state c.loop-entry.device in
     entries_flushed (λ (entry : EntryNo). entry_line entry.0) c.args.ended.now c.loop-entry.entry-index no_entry c.loop-entry-test.true c.loop-entry.invariant
-    (subst (λ (line : ℕ). Runs old (g.P.Pmem.state c.flush.new.self) (flushes (line ∷ []) old.words)) c.entry_line.ensures (Runs-step_flush _ c.flush.ensures))
+    (subst (λ (line : ℕ). Runs old (g.P.Pmem.state c.flush.new.self) (flushes (line ∷ []) old.words)) c.entry_line.ensures (Runs-step_flush _ c.flush.ensures.steps))

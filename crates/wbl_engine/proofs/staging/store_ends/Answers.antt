@@ -25,4 +25,4 @@ loop-entry-preserved g c =
     entries_stored (λ (entry : EntryNo). (entry_word entry.0 1, c.args.stamp)) c.args.ended.now c.loop-entry.entry-index no_entry c.loop-entry-test.true c.loop-entry.invariant
     (Runs-step_store _ c.args.stamp
     (subst (λ (word : ℕ). Steps old (g.P.Pmem.state c.store.new.self) (store_at word c.args.stamp old.words) old.failures old.fences)
-    c.entry_word.ensures c.store.ensures))
+    c.entry_word.ensures c.store.ensures.steps))

@@ -18,7 +18,7 @@ loop-i-preserved g c =
     Runs-next_store pairs c.loop-i.i below c.loop-i.invariant
     (subst (λ (pair : ℕ × ℕ). Steps old (g.P.Pmem.state c.store.new.self) (store_at pair.0 pair.1 old.words) old.failures old.fences)
     (copied_pair c.args.line c.args.to_line c.args.count c.loop-i.i c.load-value.result c.loop-i-test.true c.requires.apart c.loop-i.invariant c.load-value.ensures)
-    c.store.ensures)
+    c.store.ensures.steps)
 
 pub returns : goal.returns
 returns g c =

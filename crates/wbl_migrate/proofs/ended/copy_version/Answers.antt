@@ -42,7 +42,7 @@ returns-clause-ok g c =
     (copy_runs from to line c.load-first_line.result c.load-lines.result c.requires (loaded old c.load-first_line.ensures c.entry_word.ensures)
     (loaded old c.load-lines.ensures c.entry_word-2.ensures) c.copy_extent.ensures c.copy_entry.ensures c.flush_lines.ensures
     (subst (λ (l : ℕ). Runs flushed (g.P.Pmem.state c.flush.new.self) (flushes (l ∷ []) flushed.words)) c.entry_line.ensures
-    (Runs-step_flush _ c.flush.ensures)))
+    (Runs-step_flush _ c.flush.ensures.steps)))
     step)
     c.fence.ensures.ok
 
@@ -60,6 +60,6 @@ returns-clause-err g c =
     (copy_runs from to line c.load-first_line.result c.load-lines.result c.requires (loaded old c.load-first_line.ensures c.entry_word.ensures)
     (loaded old c.load-lines.ensures c.entry_word-2.ensures) c.copy_extent.ensures c.copy_entry.ensures c.flush_lines.ensures
     (subst (λ (l : ℕ). Runs flushed (g.P.Pmem.state c.flush.new.self) (flushes (l ∷ []) flushed.words)) c.entry_line.ensures
-    (Runs-step_flush _ c.flush.ensures)))
+    (Runs-step_flush _ c.flush.ensures.steps)))
     step)
     c.fence.ensures.err

@@ -1,4 +1,4 @@
-use Rattle.std.proofs.Common.{subst}
+use Rattle.std.proofs.Common.{inr, subst}
 use Rattle.std.proofs.lemmas.Result.{IfOk-weaker}
 use Rattle.pmem.specs.Crash.{image_of}
 use Rattle.model.specs.declared.layout.Layout.TheVariants.{Version1, Version2, Halfway}
@@ -46,3 +46,9 @@ returns-in-Ok-Halfway-clause-ok g c =
     let halfway : HasSuperblock Halfway d.lines (image_of d.words) =
     subst (λ (layout : Layout). HasSuperblock layout d.lines (image_of d.words)) c.in-Ok-Halfway.field-0-is c.in-Ok-Halfway.ensures.ok in
     IfOk-weaker c.finish.result _ _ (λ after told r s migratable. told r s (only_halfway d.lines r s (image_of d.words) halfway migratable)) c.finish.ensures.ok
+
+pub returns-in-Ok-Version1-clause-synced : goal.returns-in-Ok-Version1-clause-synced
+returns-in-Ok-Version1-clause-synced g c = IfOk-weaker c.upgrade.result _ _ (λ after is. inr is) c.upgrade.ensures.synced
+
+pub returns-in-Ok-Halfway-clause-synced : goal.returns-in-Ok-Halfway-clause-synced
+returns-in-Ok-Halfway-clause-synced g c = IfOk-weaker c.finish.result _ _ (λ after is. inr is) c.finish.ensures.synced

@@ -9,7 +9,7 @@ pub returns-in-Ok-switch-clause-ok : goal.returns-in-Ok-switch-clause-ok
 returns-in-Ok-switch-clause-ok g c r s old =
     let vacated = c.in-Ok-vacate.ensures in
     upgraded (g.P.Pmem.state c.args.device) (g.P.Pmem.state c.in-Ok-vacate.device) (g.P.Pmem.state c.switch.new.device) r c.in-Ok-vacate.current s
-    vacated.line_count (vacated.goes_on r s old) (vacated.ok r s old) (c.in-Ok-switch.ensures.ok s)
+    old.layout vacated.line_count (vacated.goes_on r s old) (vacated.ok r s old) (c.in-Ok-switch.ensures.ok s)
 
 pub returns-in-Ok-switch-clause-moments : goal.returns-in-Ok-switch-clause-moments
 returns-in-Ok-switch-clause-moments g c r s old =

@@ -1,8 +1,10 @@
-use Rattle.std.proofs.Common.{◌≡◌, false, length, refl, ap}
-use Rattle.wbl_engine.specs.AtRest.{IsAtRest, at_rest_prop}
+use Rattle.std.proofs.Common.{◌≡◌, false, length, refl}
+use Rattle.pmem.specs.Device.{moment}
+use Rattle.wbl_engine.specs.AtRest.{IsAtRest, at_rest_prop, synced_prop}
 use Rattle.wbl_engine.proofs.ClearingLemmas.{clear_none}
 use Rattle.wbl_engine.proofs.Erased.{rest_keeps}
 use Rattle.wbl_engine.proofs.GapLemmas.{some_gap}
+use Rattle.wbl_engine.proofs.SyncedContents.{same_of_props}
 use Rattle.wbl_engine.proofs.engine.WblEngineDurable.clear_gap.Goals as goal
 
 pub returns-then-has_no_gap-clause-durable : goal.returns-then-has_no_gap-clause-durable
@@ -36,8 +38,11 @@ returns-then-has_no_gap-clause-none g c sound none =
     let self = c.args.self.now in (
       refl,
       c.none.ensures.entries,
-      (ap (λ (x : self.faulted ≡ false → IsAtRest self.current (g.P.Pmem.state self.device)). record self { at_rest = x })
-          (at_rest_prop self.faulted self.current (g.P.Pmem.state self.device) _ self.at_rest)),
+      (same_of_props
+          (λ (x : self.faulted ≡ false → IsAtRest self.current (g.P.Pmem.state self.device))
+          (y : self.faulted ≡ false → g.P.Pmem.floor self.device ≡ moment (g.P.Pmem.state self.device)). record self { at_rest = x; synced = y })
+          _ self.at_rest _ self.synced (at_rest_prop self.faulted self.current (g.P.Pmem.state self.device))
+          (synced_prop self.faulted (g.P.Pmem.floor self.device) (moment (g.P.Pmem.state self.device)))),
     )
 
 pub returns-then-is_last-clause-exhausted : goal.returns-then-is_last-clause-exhausted
@@ -45,12 +50,18 @@ returns-then-is_last-clause-exhausted g c is_exhausted =
     let self = c.args.self.now in (
       some_gap (length self.current.gaps.items) c.has_no_gap.result c.has_no_gap.ensures c.if-has_no_gap.false,
       c.is_last.ensures.0 c.if-is_last.true,
-      (ap (λ (x : self.faulted ≡ false → IsAtRest self.current (g.P.Pmem.state self.device)). record self { at_rest = x })
-          (at_rest_prop self.faulted self.current (g.P.Pmem.state self.device) _ self.at_rest)),
+      (same_of_props
+          (λ (x : self.faulted ≡ false → IsAtRest self.current (g.P.Pmem.state self.device))
+          (y : self.faulted ≡ false → g.P.Pmem.floor self.device ≡ moment (g.P.Pmem.state self.device)). record self { at_rest = x; synced = y })
+          _ self.at_rest _ self.synced (at_rest_prop self.faulted self.current (g.P.Pmem.state self.device))
+          (synced_prop self.faulted (g.P.Pmem.floor self.device) (moment (g.P.Pmem.state self.device)))),
     )
 
 pub returns-in_err-stamped-clause-memory : goal.returns-in_err-stamped-clause-memory
 returns-in_err-stamped-clause-memory g c is_memory =
     let self = c.args.self.now in
-    (ap (λ (x : self.faulted ≡ false → IsAtRest self.current (g.P.Pmem.state self.device)). record self { at_rest = x })
-    (at_rest_prop self.faulted self.current (g.P.Pmem.state self.device) _ self.at_rest))
+    (same_of_props
+    (λ (x : self.faulted ≡ false → IsAtRest self.current (g.P.Pmem.state self.device))
+    (y : self.faulted ≡ false → g.P.Pmem.floor self.device ≡ moment (g.P.Pmem.state self.device)). record self { at_rest = x; synced = y })
+    _ self.at_rest _ self.synced (at_rest_prop self.faulted self.current (g.P.Pmem.state self.device))
+    (synced_prop self.faulted (g.P.Pmem.floor self.device) (moment (g.P.Pmem.state self.device))))

@@ -6,4 +6,7 @@ use Rattle.wbl_engine.proofs.engine.WblEngineRestarting.fail_at.Goals as goal
 pub invariant_of-self : goal.invariant_of-self
 invariant_of-self g c =
     let self = c.args.self.now in
-    record { at_rest = λ sound. rest_asked self.current (g.P.Pmem.state self.device) (g.P.Pmem.state c.fail_at.new.self) (ap (λ (d : State). d.words) c.fail_at.ensures) (ap (λ (d : State). d.lines) c.fail_at.ensures) (self.at_rest sound) }
+    record {
+      at_rest = λ sound. rest_asked self.current (g.P.Pmem.state self.device) (g.P.Pmem.state c.fail_at.new.self) (ap (λ (d : State). d.words) c.fail_at.ensures) (ap (λ (d : State). d.lines) c.fail_at.ensures) (self.at_rest sound);
+      synced = λ sound. g.met.P.Crashing.durable c.fail_at.new.self;
+    }

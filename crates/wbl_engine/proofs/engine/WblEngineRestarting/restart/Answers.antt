@@ -2,8 +2,9 @@ use Rattle.std.proofs.Common.{◌≡◌, Bool, false, ◌||◌, inl, inr, sym, a
 use Rattle.std.proofs.lemmas.Bool.{cases_Bool}
 use Rattle.std.proofs.Math.Bool.{or-false}
 use Rattle.model.specs.declared.layout.Layout.{Layout}
+use Rattle.pmem.specs.Device.{moment}
 use Rattle.pmem.specs.Crash.{image_of}
-use Rattle.wbl_engine.specs.AtRest.{IsAtRest, at_rest_prop}
+use Rattle.wbl_engine.specs.AtRest.{IsAtRest, at_rest_prop, synced_prop}
 use Rattle.wbl_engine.specs.Reopening.{RefusesReopening}
 use Rattle.wbl_engine.proofs.Readable.{settled_stays}
 use Rattle.wbl_engine.proofs.engine.WblEngineRestarting.restart.Goals as goal
@@ -24,14 +25,19 @@ returns-in-Err-clause-refused g c =
                 inr (
                   subst (λ (layout : Layout). RefusesReopening layout d.lines (image_of d.words) c.args.role c.in-Err.refusal) c.layout_in-layout.ensures kept.0,
                   subst (λ (faulted : Bool). (at_rest : faulted ≡ false → IsAtRest self.current (g.P.Pmem.state c.reopen_device.new.device))
-                      → record self { device = c.reopen_device.new.device; faulted = faulted; at_rest = at_rest } ≡ self)
+                      (synced : faulted ≡ false → g.P.Pmem.floor c.reopen_device.new.device ≡ moment (g.P.Pmem.state c.reopen_device.new.device))
+                      → record self { device = c.reopen_device.new.device; faulted = faulted; at_rest = at_rest; synced = synced } ≡ self)
                       (sym (ap (λ (b : Bool). self.faulted || b) other ∙ or-false self.faulted))
                       (subst (λ (device : _). (at_rest : self.faulted ≡ false → IsAtRest self.current (g.P.Pmem.state device))
-                      → record self { device = device; at_rest = at_rest } ≡ self)
+                      (synced : self.faulted ≡ false → g.P.Pmem.floor device ≡ moment (g.P.Pmem.state device))
+                      → record self { device = device; at_rest = at_rest; synced = synced } ≡ self)
                       (sym kept.1)
-                      (λ at_rest. ap (λ (x : self.faulted ≡ false → IsAtRest self.current d). record self { at_rest = x })
-                      (at_rest_prop self.faulted self.current d at_rest self.at_rest)))
-                      _,
+                      (λ at_rest synced. λ i.
+                      record self {
+                        at_rest = at_rest_prop self.faulted self.current d at_rest self.at_rest i;
+                        synced = synced_prop self.faulted (g.P.Pmem.floor self.device) (moment d) synced self.synced i;
+                      }))
+                      _ _,
                 )
           ]
     ]
