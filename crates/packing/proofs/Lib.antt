@@ -1,4 +1,5 @@
 pub mod Apart
+pub mod Marks
 pub mod Ordered
 pub mod SlideLemmas
 pub mod Stack

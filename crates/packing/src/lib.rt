@@ -8,6 +8,7 @@ mod placed;
 mod plan;
 mod sliding;
 mod stretches;
+mod taken;
 mod windows;
 
 pub use moves::Move;

@@ -15,7 +15,8 @@ use std::alloc::{AllocError, Global};
 ///
 /// An extent goes straight down where the hole below it is long enough; where it is not, it goes to the lines from `end` on, and from there down. So there are
 /// moves wherever the extents share no line, lie between `first` and `end`, have no more lines each than there are from `end` up to `lines`, and leave `need`
-/// lines free in all. They may be more than other plans take. `AllocError` where a growth was refused.
+/// lines free in all. They may be more than other plans take. They are checked on a table of one byte for each of `lines`. `AllocError` where memory was
+/// refused.
 pub fn slide_down(
     alloc: Global,
     extents: &[Extent],

@@ -6,7 +6,7 @@ use crate::choice::{Choice, keep_cheapest};
 use crate::holes::{by_length, total_of};
 use crate::moves::{Move, moves_at_most};
 use crate::placed::{Placed, gaps, in_order, sums};
-use crate::plan::{Bounds, checked};
+use crate::plan::{Bounds, leaves_run};
 use crate::stretches::{Emptied, empty};
 use kv_types::Extent;
 use std::alloc::{AllocError, Global};
@@ -20,7 +20,7 @@ const LENGTHS: u64 = 32;
 /// Each goes to lines from `first` up to `lines` that no extent has at its turn. The extents, which share no line, come in any order. Only those move that
 /// begin in one stretch of the lines. Each goes to the shortest hole elsewhere that is long enough. Where none is it goes down to where the stretch begins:
 /// straight, or by way of the lines from `end` on. Stretches as long as the run come first, then longer ones; of equally long ones the plan with the
-/// fewest moves is taken. `AllocError` where a growth was refused.
+/// fewest moves is taken. A plan is checked on a table of one byte for each of `lines`. `AllocError` where memory was refused.
 pub fn make_window(
     alloc: Global,
     extents: &[Extent],
@@ -91,9 +91,11 @@ fn within(
         first_line: found.floor,
         lines: need,
     };
-    match checked(alloc, bounds, extents, found.moves, run)? {
-        Some(moves) if moves_at_most(most, moves.as_slice()) => Ok(Some(moves)),
-        _ => Ok(None),
+    let moves = found.moves.as_slice();
+    if moves_at_most(most, moves) && leaves_run(alloc, bounds, extents, moves, run)? {
+        Ok(Some(found.moves))
+    } else {
+        Ok(None)
     }
 }
 
