@@ -34,4 +34,12 @@ pub enum Breach {
     Between,
     #[error("the run ended though no fence was to fail unasked")]
     Ended,
+    #[error("a node over an older image refused for another cause than that")]
+    Cause,
+    #[error("an image changed though the link was refused, or that of a primary")]
+    Touched,
+    #[error("a primary that lacks a released call was not refused")]
+    Older,
+    #[error("a standby does not hold what its primary holds once nothing is left to send")]
+    Apart,
 }

@@ -4,6 +4,7 @@ ghost use Rattle.world.specs.Pair.{HasWorld};
 use crate::breach::Breach;
 use crate::drawing::Drawing;
 use crate::found::Found;
+use crate::restored::{Keeper, Restoring, see_restored};
 use crate::script::Failure;
 use crate::shown::{ShowingPmem, Shown};
 use crate::tally::Tally;
@@ -23,10 +24,11 @@ const LINES: u64 = 4_096;
 /// The most events of a history.
 const MOST_EVENTS: u64 = 10_000;
 
-/// A history: which fence of a node is to fail, if one is that no event asks to, and the events.
+/// A history: which fence of a node is to fail, if one is that no event asks to, the image that is put back at its end, if one is, and the events.
 #[derive(Drop)]
 pub struct Case {
     pub failure: Option<Failure>,
+    pub restoring: Option<Restoring>,
     pub events: Vec<Event>,
 }
 
@@ -66,6 +68,7 @@ impl Source<'_> {
 pub fn play_case(
     alloc: Global,
     failure: Option<Failure>,
+    restoring: Option<Restoring>,
     source: &mut Source<'_>,
     hash_builder: RandomState,
     events: &mut Vec<Event>,
@@ -78,9 +81,18 @@ pub fn play_case(
         Ok((pair, history)) => {
             let mut pair = pair;
             let mut history = history;
-            let ended = play_through(&mut pair, &mut history, source, &mut witness, events);
+            let mut keeper = Keeper::new(restoring);
+            let ended = play_through(
+                &mut pair,
+                &mut history,
+                source,
+                &mut witness,
+                &mut keeper,
+                events,
+            );
             let devices = pair.into_devices();
             let left = see_end(ended, devices, source, &history, &mut witness, events);
+            let left = see_restored(alloc, left, keeper, &mut witness, hash_builder);
             tally.add(witness.tally);
             left
         }
@@ -112,12 +124,14 @@ fn play_through<S: Stepper>(
     history: &mut History,
     source: &mut Source<'_>,
     witness: &mut Witness,
+    keeper: &mut Keeper,
     events: &mut Vec<Event>,
 ) -> Result<bool, Found>
     requires world { HasWorld (S.parts stepper.old history.old) }
 {
     witness.begin()?;
-    for _event in 0..MOST_EVENTS {
+    for number in 0..MOST_EVENTS {
+        keeper.see(number, witness)?;
         let Some(event) = source.next(history, witness)? else {
             return Ok(false);
         };
@@ -155,7 +169,7 @@ fn see_refusal(witness: &mut Witness, event: &Event, refusal: Refusal) -> Result
     }
 }
 
-/// Looks at what is left once a run is over: where a fence ended it, after crashes of the devices.
+/// Looks at what is left once a run is over: where a fence ended it, after crashes of the devices. Returns whether it ended well.
 fn see_end(
     ended: Result<bool, Found>,
     devices: (ShowingPmem<SimPmem>, ShowingPmem<SimPmem>),
@@ -163,13 +177,14 @@ fn see_end(
     history: &History,
     witness: &mut Witness,
     events: &mut Vec<Event>,
-) -> Result<(), Found> {
+) -> Result<bool, Found> {
     if ended? {
         source.end()?;
         crash_devices(devices, source, history, witness, events)?;
         witness.see_left()?;
+        return Ok(false);
     }
-    Ok(())
+    Ok(true)
 }
 
 /// Crashes the devices as the events say that are left.

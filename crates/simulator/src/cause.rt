@@ -21,6 +21,10 @@ pub enum Cause {
     NotNode,
     #[error("fail after the first event")]
     FailAfterEvent,
+    #[error("no image of this node was kept")]
+    NothingKept,
+    #[error("a word behind the restore")]
+    BehindRestore,
     #[error("more than 16777216 events")]
     TooManyEvents,
 }

@@ -60,6 +60,11 @@ impl Drawing {
         Ok(drawing)
     }
 
+    /// How many events are left, but for those of the end.
+    pub fn left(&self) -> u64 {
+        self.left
+    }
+
     /// The next event, or `None` where the history is over.
     pub fn next(
         &mut self,

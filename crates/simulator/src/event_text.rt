@@ -9,6 +9,7 @@ use crate::error::SimulatorError;
 use crate::line_words::LineWords;
 use crate::node::name_of;
 use crate::quoted::Quoted;
+use crate::restored::Restoring;
 use crate::spelling::spelled;
 use bytes::Bytes;
 use hex::FromHexError;
@@ -146,10 +147,27 @@ pub fn write_case<W: Write>(alloc: Global, out: &mut W, case: &Case) -> Result<(
         let fence = failure.fence;
         writeln!(out, "fail {node} {fence}")?;
     }
-    for event in case.events.as_slice() {
+    for (place, event) in case.events.iter().enumerate() {
+        write_keep(out, case.restoring, place as u64)?;
         write_event(alloc, out, event)?;
     }
+    write_keep(out, case.restoring, case.events.len() as u64)?;
+    if let Some(restoring) = case.restoring {
+        let node = name_of(restoring.node);
+        writeln!(out, "restore {node}")?;
+    }
     Ok(())
+}
+
+/// That an image is kept, if it is behind so many events.
+fn write_keep<W: Write>(out: &mut W, restoring: Option<Restoring>, events: u64) -> io::Result<()> {
+    match restoring {
+        Some(restoring) if restoring.after == events => {
+            let node = name_of(restoring.node);
+            writeln!(out, "keep {node}")
+        }
+        _ => Ok(()),
+    }
 }
 
 /// Prints an event, in a line. Bytes stand in hex digits, and before them, in a comment, as they are.

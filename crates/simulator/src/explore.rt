@@ -7,6 +7,7 @@ use crate::error::SimulatorError;
 use crate::event_text::write_case;
 use crate::found::Found;
 use crate::options::Exploration;
+use crate::restored::Restoring;
 use crate::script::Failure;
 use crate::shortening::shorten;
 use crate::tally::Tally;
@@ -30,6 +31,8 @@ pub fn explore<W: Write>(
     hash_builder: RandomState,
 ) -> Result<(), SimulatorError> {
     let mut dice = Dice::new(exploration.seed);
+    // (what is put back is drawn apart, so that the histories of a seed are what they are without it)
+    let mut restores = Dice::new(!exploration.seed);
     let mut tally = Tally::new();
     for _history in 0..exploration.events {
         if exploration.events <= tally.events {
@@ -37,9 +40,12 @@ pub fn explore<W: Write>(
         }
         let mut case = Case {
             failure: draw_failure(&mut dice),
+            restoring: None,
             events: Vec::new(alloc),
         };
-        if let Some(breach) = play_one(alloc, &mut dice, &mut case, &mut tally, hash_builder)? {
+        let drawing = Drawing::new(alloc, dice.number())?;
+        case.restoring = draw_restoring(&mut restores, drawing.left());
+        if let Some(breach) = play_one(alloc, drawing, &mut case, &mut tally, hash_builder)? {
             return tell_breach(alloc, out, exploration, tally, case, breach, hash_builder);
         }
     }
@@ -59,18 +65,30 @@ fn draw_failure(dice: &mut Dice) -> Option<Failure> {
     Some(Failure { node, fence })
 }
 
+/// At the end of one of four histories the image of a node is put back that was kept before one of its events.
+fn draw_restoring(dice: &mut Dice, events: u64) -> Option<Restoring> {
+    let node = match dice.below(8) {
+        0 => Node::Primary,
+        1 => Node::Standby,
+        _ => return None,
+    };
+    let after = dice.below(events.max(1));
+    Some(Restoring { node, after })
+}
+
 /// Plays one history that is drawn. Returns what it breaks.
 fn play_one(
     alloc: Global,
-    dice: &mut Dice,
+    drawing: Drawing,
     case: &mut Case,
     tally: &mut Tally,
     hash_builder: RandomState,
 ) -> Result<Option<Breach>, AllocError> {
-    let mut source = Source::Drawn(Drawing::new(alloc, dice.number())?);
+    let mut source = Source::Drawn(drawing);
     let found = play_case(
         alloc,
         case.failure,
+        case.restoring,
         &mut source,
         hash_builder,
         &mut case.events,

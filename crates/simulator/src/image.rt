@@ -23,7 +23,7 @@ pub fn read_device<P: Pmem>(alloc: Global, device: &P) -> Result<DeviceImage, Al
 }
 
 /// The newest value of each word of a device.
-fn words_of<P: Pmem>(alloc: Global, device: &P) -> Result<Vec<u64>, AllocError>
+pub fn words_of<P: Pmem>(alloc: Global, device: &P) -> Result<Vec<u64>, AllocError>
     ensures { IfOk result (λ words. words.items
         ≡ map (newest_at (P.state device.now)) (range_with_len 0 (8 * (P.state device.now).lines))) }
 {

@@ -27,6 +27,8 @@ mod plain_replies;
 mod play;
 mod quoted;
 mod report;
+mod restored;
+mod restoring;
 mod schedule;
 mod script;
 mod shortening;

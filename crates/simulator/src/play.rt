@@ -4,9 +4,10 @@ ghost use Rattle.std.specs.List.{range_with_len};
 ghost use Rattle.world.specs.Pair.{HasWorld};
 
 use crate::error::SimulatorError;
+use crate::image::words_of;
 use crate::options::Options;
-use crate::report::write_event;
-use crate::schedule::Schedule;
+use crate::report::{write_event, write_kept};
+use crate::restoring::{Keep, Restore, Restored, device_with, start_again, write_outcome};
 use crate::script::{Failure, Script};
 use kv_types::Refusal;
 use machine::{Event, Node};
@@ -44,11 +45,11 @@ pub fn play<W: Write>(
     let (primary, standby) = new_devices(alloc, options, script.failures.as_slice())?;
     let schedule = &script.schedule;
     let mut played = if options.whole {
-        play_whole(alloc, out, primary, standby, schedule, hash_builder)?
+        play_whole(alloc, out, primary, standby, script, hash_builder)?
     } else if options.list {
-        play_over::<W, ListKeyspace>(alloc, out, primary, standby, schedule, hash_builder)?
+        play_over::<W, ListKeyspace>(alloc, out, primary, standby, script, hash_builder)?
     } else {
-        play_over::<W, MvKeyspace>(alloc, out, primary, standby, schedule, hash_builder)?
+        play_over::<W, MvKeyspace>(alloc, out, primary, standby, script, hash_builder)?
     };
     if played.primary.starved() || played.standby.starved() {
         return Err(SimulatorError::Memory);
@@ -61,7 +62,61 @@ pub fn play<W: Write>(
     if let Some(unplayed) = schedule.events().get(reached..) {
         crash_devices(alloc, &mut played, unplayed)?;
     }
+    if let Some(restore) = script.restore
+        && played.ended.is_none()
+    {
+        let kept = words_kept(alloc, options, script, restore.kept, hash_builder)?;
+        put_back(alloc, out, &mut played, restore, kept, hash_builder)?;
+    }
     Ok(played)
+}
+
+/// The words of the image that is kept: the same events always leave the same, so they happen once more, over new devices.
+fn words_kept(
+    alloc: Global,
+    options: &Options,
+    script: &Script,
+    keep: Keep,
+    hash_builder: RandomState,
+) -> Result<Vec<u64>, SimulatorError> {
+    let (primary, standby) = new_devices(alloc, options, script.failures.as_slice())?;
+    let devices = vec![in alloc; primary, standby]?;
+    let events = script.schedule.events();
+    let events = events.get(..keep.after).unwrap_or(events);
+    let trace = run(alloc, devices, events, hash_builder);
+    // (they all happened before)
+    if trace.ended.is_some() {
+        return Err(SimulatorError::Memory);
+    }
+    let (primary, standby) = first_two(trace.devices);
+    Ok(match keep.node {
+        Node::Primary => words_of(alloc, &primary)?,
+        Node::Standby => words_of(alloc, &standby)?,
+    })
+}
+
+/// Puts an image that was kept in the place of its node's own, starts both nodes again, and prints what came of it.
+fn put_back<W: Write>(
+    alloc: Global,
+    out: &mut W,
+    played: &mut Played,
+    restore: Restore,
+    kept: Vec<u64>,
+    hash_builder: RandomState,
+) -> Result<(), SimulatorError> {
+    let (primary, standby) = match restore.kept.node {
+        Node::Primary => (kept, words_of(alloc, &played.standby)?),
+        Node::Standby => (words_of(alloc, &played.primary)?, kept),
+    };
+    let Restored {
+        outcome,
+        primary,
+        standby,
+    } = start_again(alloc, primary.as_slice(), standby.as_slice(), hash_builder)?;
+    write_outcome(out, restore.line, outcome)?;
+    played.primary = device_with(alloc, primary.as_slice())?;
+    played.standby = device_with(alloc, standby.as_slice())?;
+    Ok(())
 }
 
 /// The primary's device and the standby's, which fail as told.
@@ -87,14 +142,14 @@ fn play_over<W: Write, K: Keyspace + Drop>(
     out: &mut W,
     primary: SimPmem,
     standby: SimPmem,
-    schedule: &Schedule,
+    script: &Script,
     hash_builder: RandomState,
 ) -> Result<Played, SimulatorError> {
     match Pair::<WblEngine<SimPmem>, K>::open(alloc, primary, standby, 0, hash_builder) {
         Ok((pair, history)) => {
             let mut pair = pair;
             let mut history = history;
-            let ended = play_each(out, &mut pair, &mut history, schedule);
+            let ended = play_each(out, &mut pair, &mut history, script);
             let (primary, standby) = pair.into_devices();
             Ok(Played {
                 ended: ended?,
@@ -113,9 +168,10 @@ fn play_whole<W: Write>(
     out: &mut W,
     primary: SimPmem,
     standby: SimPmem,
-    schedule: &Schedule,
+    script: &Script,
     hash_builder: RandomState,
 ) -> Result<Played, SimulatorError> {
+    let schedule = &script.schedule;
     let devices = vec![in alloc; primary, standby]?;
     let Trace {
         history,
@@ -123,8 +179,13 @@ fn play_whole<W: Write>(
         ended,
         devices,
     } = run(alloc, devices, schedule.events(), hash_builder);
+    let mut keeps = script.keeps.as_slice();
     for (number, (did, line)) in done.iter().zip(schedule.lines()).enumerate() {
+        keeps = write_kept(out, keeps, number)?;
         write_event(out, number, *line, *did)?;
+    }
+    if !matches!(ended, Some(EarlyEnd::AtFormatting(_))) {
+        let _ = write_kept(out, keeps, done.len())?;
     }
     let (primary, standby) = first_two(devices);
     Ok(Played {
@@ -160,17 +221,21 @@ fn play_each<W: Write, S: Stepper>(
     out: &mut W,
     stepper: &mut S,
     history: &mut History,
-    schedule: &Schedule,
+    script: &Script,
 ) -> Result<Option<EarlyEnd>, SimulatorError>
     requires world { HasWorld (S.parts stepper.old history.old) }
 {
+    let schedule = &script.schedule;
+    let mut keeps = script.keeps.as_slice();
     let events = schedule.events().iter().zip(schedule.lines());
     for (number, (event, line)) in events.enumerate() {
+        keeps = write_kept(out, keeps, number)?;
         match stepper.step(history, event) {
             Ok(did) => write_event(out, number, *line, did)?,
             Err(refusal) => return Ok(Some(EarlyEnd::AtEvent(number, refusal))),
         }
     }
+    let _ = write_kept(out, keeps, schedule.events().len())?;
     Ok(None)
 }
 

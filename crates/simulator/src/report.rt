@@ -4,6 +4,7 @@ use crate::node_report::write_nodes;
 use crate::options::Options;
 use crate::play::Played;
 use crate::quoted::Quoted;
+use crate::restoring::Keep;
 use crate::wire_report::{write_acknowledgements, write_frames};
 use kv_types::{Item, Refusal, Reply};
 use model::Call;
@@ -35,6 +36,22 @@ pub fn report<W: Write>(
 pub fn write_event<W: Write>(out: &mut W, number: usize, line: u64, did: bool) -> io::Result<()> {
     let outcome = if did { "done" } else { "not enabled" };
     writeln!(out, "event {number}, line {line}: {outcome}")
+}
+
+/// The images, in the order of their lines, that are kept behind so many events or fewer. Answers those that are left.
+pub fn write_kept<'a, W: Write>(
+    out: &mut W,
+    keeps: &'a [Keep],
+    events: usize,
+) -> io::Result<&'a [Keep]> {
+    for (place, keep) in keeps.iter().enumerate() {
+        if events < keep.after {
+            return Ok(keeps.get(place..).unwrap_or(&[]));
+        }
+        let line = keep.line;
+        writeln!(out, "keep, line {line}: done")?;
+    }
+    Ok(&[])
 }
 
 fn write_calls<W: Write>(alloc: Global, out: &mut W, calls: &[Call]) -> Result<(), SimulatorError> {
@@ -97,7 +114,8 @@ fn write_end<W: Write>(out: &mut W, lines: &[u64], ended: Option<EarlyEnd>) -> i
     }
 }
 
-fn write_refusal<W: Write>(out: &mut W, refusal: Refusal) -> io::Result<()> {
+/// A refusal, by its number and its text.
+pub fn write_refusal<W: Write>(out: &mut W, refusal: Refusal) -> io::Result<()> {
     let number = refusal.number();
     writeln!(out, "refusal {number}: {refusal}")
 }

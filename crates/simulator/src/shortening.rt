@@ -2,6 +2,7 @@
 use crate::breach::Breach;
 use crate::case::{Case, Source, play_case};
 use crate::found::Found;
+use crate::restored::Restoring;
 use crate::script::Failure;
 use crate::tally::Tally;
 use machine::Event;
@@ -11,15 +12,19 @@ use std::hash::RandomState;
 /// More than the pieces of a history can be halved.
 const MOST_HALVINGS: usize = 64;
 
-/// Leaves out of a history what it does not need to break the promise so: the failing fence, and then pieces of its events, the longest first.
+/// Leaves out of a history what it does not need to break the promise so: the failing fence, the image that is put back, and then pieces of its events, the
+/// longest first.
 pub fn shorten(
     alloc: Global,
     case: &mut Case,
     breach: Breach,
     hash_builder: RandomState,
 ) -> Result<(), AllocError> {
-    if breaks_so(alloc, case, None, breach, hash_builder)? {
+    if breaks_so(alloc, case, None, case.restoring, breach, hash_builder)? {
         case.failure = None;
+    }
+    if breaks_so(alloc, case, case.failure, None, breach, hash_builder)? {
+        case.restoring = None;
     }
     let mut size = (case.events.len() / 2).max(1);
     for _halving in 0..MOST_HALVINGS {
@@ -46,7 +51,14 @@ fn leave_out(
         if shorter.events.len() == case.events.len() {
             return Ok(());
         }
-        if breaks_so(alloc, &shorter, shorter.failure, breach, hash_builder)? {
+        if breaks_so(
+            alloc,
+            &shorter,
+            shorter.failure,
+            shorter.restoring,
+            breach,
+            hash_builder,
+        )? {
             *case = shorter;
         } else {
             start = start.saturating_add(size);
@@ -63,17 +75,23 @@ fn without(alloc: Global, case: &Case, start: usize, size: usize) -> Result<Case
             events.push(event.try_clone()?)?;
         }
     }
+    let restoring = match case.restoring {
+        Some(restoring) => Some(restoring.without(start, size)),
+        None => None,
+    };
     Ok(Case {
         failure: case.failure,
+        restoring,
         events,
     })
 }
 
-/// Whether the events of a history, with this failing fence, break the promise in this way.
+/// Whether the events of a history, with this failing fence and this image that is put back, break the promise in this way.
 fn breaks_so(
     alloc: Global,
     case: &Case,
     failure: Option<Failure>,
+    restoring: Option<Restoring>,
     breach: Breach,
     hash_builder: RandomState,
 ) -> Result<bool, AllocError> {
@@ -83,6 +101,7 @@ fn breaks_so(
     match play_case(
         alloc,
         failure,
+        restoring,
         &mut source,
         hash_builder,
         &mut events,

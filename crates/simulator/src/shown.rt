@@ -12,7 +12,7 @@ pub struct ShownWords {
     pub words: Vec<u64>,
     /// Whether one was stored, or the device crashed, since this was last looked at.
     pub is_changed: bool,
-    /// Whether a fence failed since the device crashed last.
+    /// Whether a fence or a sync failed since the device crashed last.
     pub is_torn: bool,
 }
 
@@ -56,7 +56,7 @@ impl<P: Pmem + Drop> ShowingPmem<P> {
 }
 
 impl<P: Pmem> ShowingPmem<P> {
-    /// A fence failed.
+    /// A fence or a sync failed.
     fn tear(&self) {
         if let Ok(mut shown) = self.shown.try_borrow_mut() {
             shown.is_torn = true;
@@ -77,6 +77,8 @@ impl<P: Pmem> ShowingPmem<P> {
 
 impl<P: Pmem> Pmem for ShowingPmem<P> {
     ghost state = { λ showing. P.state showing.device };
+
+    ghost floor = { λ showing. P.floor showing.device };
 
     fn load(&self, word: u64) -> u64 {
         self.device.load(word)
@@ -101,6 +103,14 @@ impl<P: Pmem> Pmem for ShowingPmem<P> {
         fenced
     }
 
+    fn sync(&mut self) -> Result<(), Fault> {
+        let synced = self.device.sync();
+        if synced.is_err() {
+            self.tear();
+        }
+        synced
+    }
+
     fn lines(&self) -> u64 {
         self.device.lines()
     }
@@ -110,6 +120,8 @@ impl<P: Pmem> Pmem for ShowingPmem<P> {
     }
 
     ghost countable = { λ showing. P.countable showing.device };
+
+    ghost reached = { λ showing. P.reached showing.device };
 }
 
 impl<P: Crashing> Crashing for ShowingPmem<P> {
@@ -131,4 +143,6 @@ impl<P: Crashing> Crashing for ShowingPmem<P> {
     }
 
     ghost sure = { λ showing. P.sure showing.device };
+
+    ghost durable = { λ showing. P.durable showing.device };
 }

@@ -2,11 +2,12 @@
 use crate::breach::Breach;
 use crate::found::Found;
 use crate::plain_records::PlainRecords;
+use crate::restoring::copied;
 use crate::shown::Shown;
 use kv_types::{RecordId, Value};
 use machine::Node;
 use model::{FIRST_EPOCH, ImageContents, Record, Role, read_image};
-use std::alloc::Global;
+use std::alloc::{AllocError, Global};
 
 /// Where an image stands: its node's role and epoch, and its position.
 #[derive(Clone, Copy, Debug, PartialEq, Eq)]
@@ -125,6 +126,14 @@ impl DeviceSight {
         self.left.is_some()
     }
 
+    /// Its newest words.
+    fn words(&self, alloc: Global) -> Result<Vec<u64>, AllocError> {
+        match self.shown.try_borrow() {
+            Ok(shown) => copied(alloc, shown.words.as_slice()),
+            Err(_) => Ok(Vec::new(alloc)),
+        }
+    }
+
     /// Whether a word was stored since it was last looked at.
     fn is_changed(&self) -> bool {
         match self.shown.try_borrow() {
@@ -166,7 +175,7 @@ impl Glance {
 }
 
 /// Checks what an image holds.
-fn check_keyspace(contents: &ImageContents, keyspaces: &[PlainRecords]) -> Result<(), Breach> {
+pub fn check_keyspace(contents: &ImageContents, keyspaces: &[PlainRecords]) -> Result<(), Breach> {
     let Some(keyspace) = keyspaces.get(contents.record.position as usize) else {
         return Err(Breach::Ahead);
     };
@@ -226,6 +235,23 @@ impl Sight {
     /// Whether the standby was promoted, or crashed where its image was a primary's already.
     pub fn is_promoted(&self) -> bool {
         self.is_promoted
+    }
+
+    /// The newest words of the device that was given as this node's.
+    pub fn words(&self, alloc: Global, node: Node) -> Result<Vec<u64>, AllocError> {
+        self.device(node).words(alloc)
+    }
+
+    /// Whether the device that was given as this node's has seen a fence fail, and no crash since.
+    pub fn has_stopped(&self, node: Node) -> bool {
+        self.device(node).has_stopped()
+    }
+
+    fn device(&self, node: Node) -> &DeviceSight {
+        match node {
+            Node::Primary => &self.first,
+            Node::Standby => &self.second,
+        }
     }
 
     /// The node that has stopped, if one has, and may crash.

@@ -12,6 +12,9 @@ pub struct Tally {
     pub faults: u64,
     /// Replies that were compared with those of a plain Redis.
     pub replies: u64,
+    /// Links that were opened after an older image was put back, and those of them that were taken.
+    pub restores: u64,
+    pub taken: u64,
 }
 
 impl Tally {
@@ -23,6 +26,8 @@ impl Tally {
             promotions: 0,
             faults: 0,
             replies: 0,
+            restores: 0,
+            taken: 0,
         }
     }
 
@@ -32,12 +37,22 @@ impl Tally {
         self.events = self.events.saturating_add(events as u64);
     }
 
+    /// One more older image was put back, and the link was taken or not.
+    pub fn count_restore(&mut self, is_taken: bool) {
+        self.restores = self.restores.saturating_add(1);
+        if is_taken {
+            self.taken = self.taken.saturating_add(1);
+        }
+    }
+
     /// What was counted of one history.
     pub fn add(&mut self, more: Tally) {
         self.crashes = self.crashes.saturating_add(more.crashes);
         self.promotions = self.promotions.saturating_add(more.promotions);
         self.faults = self.faults.saturating_add(more.faults);
         self.replies = self.replies.saturating_add(more.replies);
+        self.restores = self.restores.saturating_add(more.restores);
+        self.taken = self.taken.saturating_add(more.taken);
     }
 }
 
@@ -50,10 +65,13 @@ impl fmt::Display for Tally {
             promotions,
             faults,
             replies,
+            restores,
+            taken,
         } = *self;
+        let refused = restores.saturating_sub(taken);
         write!(
             f,
-            "events {events}, histories {histories}, crashes {crashes}, failed fences {faults}, promotions {promotions}, replies {replies}"
+            "events {events}, histories {histories}, crashes {crashes}, failed fences {faults}, promotions {promotions}, replies {replies}, restores {restores}, refused {refused}, taken {taken}"
         )
     }
 }

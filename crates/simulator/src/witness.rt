@@ -6,11 +6,12 @@ use crate::plain_records::PlainRecords;
 use crate::plain_redis::PlainRedis;
 use crate::plain_replies::{put_array, put_bulk};
 use crate::shown::Shown;
-use crate::sight::{Glance, Sight};
+use crate::sight::{Glance, Sight, check_keyspace};
 use crate::tally::Tally;
 use bytes::Bytes;
 use kv_types::{Item, Reply};
 use machine::{Event, Node};
+use model::ImageContents;
 use resp_codec::write_reply;
 use std::alloc::{AllocError, Global};
 use world::History;
@@ -73,6 +74,33 @@ impl Witness {
             Some(client) => client.unreleased(),
             None => 0,
         }
+    }
+
+    /// The words of the image of this node, by who it was at the beginning; none where a fence of it failed, which leaves one of two. A standby that was
+    /// promoted is no standby.
+    pub fn image(&self, node: Node) -> Result<Option<Vec<u64>>, AllocError> {
+        if self.sight.has_stopped(node) {
+            return Ok(None);
+        }
+        Ok(Some(self.sight.words(self.alloc, node)?))
+    }
+
+    /// The newest words of this node's device.
+    pub fn words(&self, node: Node) -> Result<Vec<u64>, AllocError> {
+        self.sight.words(self.alloc, node)
+    }
+
+    /// Whether the standby was promoted.
+    pub fn is_promoted(&self) -> bool {
+        self.sight.is_promoted()
+    }
+
+    /// Checks what a primary holds that goes on to serve: all that was released, and what the list holds at its position.
+    pub fn check_serving(&self, contents: &ImageContents) -> Result<(), Breach> {
+        if contents.record.position < self.covered {
+            return Err(Breach::Older);
+        }
+        check_keyspace(contents, self.keyspaces.as_slice())
     }
 
     /// Looks at the pair after an event, which did its step or was not enabled.

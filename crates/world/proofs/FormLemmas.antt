@@ -163,7 +163,14 @@ pair-starts first second pair sessions sequencer none_ended none none_aside read
       parts = inl (
         ap (λ (l : Lives). runs l.primary) live,
         record {
-          sessions = sessions;
+          around = record {
+            sessions = sessions;
+            epoch = ap (λ (s : Stream). s.epoch) link;
+            frames = subst (λ (texts : List (Vec ℕ Global)). AreFramesSent pair.wire.link.epoch [] texts []) (sym no_frame) tt;
+            own = λ whole. All-nil (IsOwn pair.wire.link.epoch);
+            arrivals = arrivals pair.wire.link.epoch;
+            standby = record { stands = λ runs. standby; left = λ stopped. absurd (true≢false (sym stopped ∙ ap (λ (l : Lives). has_stopped l.standby) live)); down = λ down. absurd (true≢false (sym down ∙ ap (λ (l : Lives). has_crashed l.standby) live)) };
+          };
           sequencer = sequencer;
           follow = none-seated pair.clients.sessions.connections.items sessions.connections_stand pair.primary.sequencer;
           committing = committing-nothing [] 0 pair.primary.committing none none_aside ready mark;
@@ -180,7 +187,6 @@ pair-starts first second pair sessions sequencer none_ended none none_aside read
               (subst (λ (lists : List FreeList). RemembersFor 0 0 (past_of []) pair.primary.contents [] lists pair.primary.sequencer) (sym none_aside)
               (remembered-new (past_of []) pair.primary.contents pair.primary.sequencer unfreed));
           opening = opening-none 0 [] pair.wire.opening never_opened.0 never_opened.1;
-          epoch = ap (λ (s : Stream). s.epoch) link;
           link = subst (λ (s : Stream). LinkRefines [] s pair.primary.handed pair.wire.remote start.primary.link) (sym link)
               (record {
                 waiting = subst (λ (groups : List Group). AreGroupsOf [] groups []) (sym no_group) tt;
@@ -194,10 +200,6 @@ pair-starts first second pair sessions sequencer none_ended none none_aside read
                 copying_is = refl;
                 dropped_is = refl;
               });
-          frames = subst (λ (texts : List (Vec ℕ Global)). AreFramesSent pair.wire.link.epoch [] texts []) (sym no_frame) tt;
-          own = λ whole. All-nil (IsOwn pair.wire.link.epoch);
-          arrivals = arrivals pair.wire.link.epoch;
-          standby = record { stands = λ runs. standby; left = λ stopped. absurd (true≢false (sym stopped ∙ ap (λ (l : Lives). has_stopped l.standby) live)); down = λ down. absurd (true≢false (sym down ∙ ap (λ (l : Lives). has_crashed l.standby) live)) };
         },
       );
     }

@@ -1,6 +1,6 @@
 -- What freeing, and clearing a gap, leave of the primary's engine.
 use mathlib.Core.Path.{fun_ext}
-use Rattle.std.proofs.Common.{rules, arith, ◌≡◌, ◌⊎◌, ◌+◌, ◌<◌, ℕ, inl, inr, Bool, true, false, ◌||◌, List, refl, sym, ap, subst, ◌∙◌, true≢false, [], ◌∷◌}
+use Rattle.std.proofs.Common.{rules, arith, ◌≡◌, ◌⊎◌, ◌+◌, ◌<◌, ℕ, inl, inr, Bool, true, false, ◌||◌, List, refl, sym, ap, subst, ◌∙◌, true≢false, []}
 use Rattle.std.proofs.lemmas.Bool.{cases_lt}
 use Rattle.std.specs.List.{IsDistinct}
 use Rattle.kv_types.specs.declared.place.EntryNo.{EntryNo}
@@ -25,15 +25,13 @@ use Rattle.group_commit.proofs.FreedLemmas.{AllEnded-listed}
 use Rattle.group_commit.proofs.GroupsLemmas.{Same-is}
 use Rattle.primary.proofs.NumberedLemmas.{ended_renumbered, lawful_raised}
 use Rattle.machine.specs.declared.event.Event.{Event}
-use Rattle.machine.specs.Event.{World, Happens, Step, may_happen, At, torn}
-use Rattle.machine.proofs.SoundEvents.{sound-step}
-use Rattle.world.specs.Committing.{AreContentsAt, EngineStands, OpensAt}
+use Rattle.machine.specs.Event.{World, Happens, may_happen, torn}
+use Rattle.world.specs.Committing.{AreContentsAt, EngineStands, OpensAt, OpensAtEither, NearOnly}
 use Rattle.world.specs.Pair.{Lives, Pair, PairRefines, PartsRefine, Steps}
+use Rattle.world.proofs.RemainLemmas.{near-from}
+use Rattle.world.proofs.PairLemmas.{moves-primary, does-step, steps-to}
 use Rattle.world.proofs.EngineLemmas.{keeps-opens}
-use Rattle.world.proofs.RemainLemmas.{near-rest}
-use Rattle.world.specs.Remaining.{OpensNear}
-use Rattle.world.proofs.LivesLemmas.{Runs, SameLives, enabled-is, is_own, lives-like, own-runs}
-use Rattle.world.proofs.PairLemmas.{standby-stands}
+use Rattle.world.proofs.LivesLemmas.{Runs, SameLives, enabled-is, is_own, lives-like, own-runs, nodes-refine}
 use Rattle.world.specs.Condition as condition
 
 -- ---- the engine
@@ -151,22 +149,16 @@ cleared-moments holder calls p device device' contents are lawful room moments =
 
 -- ---- an event of it
 
--- its image stands where it stood
+-- its image stands where it stood, or where it comes to stand
 pub primary-steps : (event : Event) (first second : Holder) (w w' : World) (old new : Pair) → is_own event ≡ true → SameLives w w' → PairRefines first second old w → new.lives ≡ old.lives
     → new.standby.device ≡ old.standby.device → new.primary.device.failures ≡ old.primary.device.failures → Happens w event w' → true ≡ may_happen w event
-    → LeavesOnly old.primary.device new.primary.device (OpensAt first w.primary.calls w'.primary.committer.position) → PartsRefine first second new w' → Steps first second w event true old new
+    → NearOnly first w.primary.calls w.primary.committer.position w'.primary.committer.position old.primary.device new.primary.device → PartsRefine first second new w' → Steps first second w event true old new
 primary-steps event first second w w' old new own same stands live device' failures happens may moments parts =
     let lives : Runs first second new.lives w event = subst (λ (l : Lives). Runs first second l w event) (sym live) (own-runs stands event own) in
-    let step : Step w event true w' = record { done = may ∙ sym (enabled-is lives); happens = λ did. happens; stands = λ did. absurd (true≢false did) } in
-    record {
-      world = w';
-      step = step;
-      stands = record { sound = sound-step w event true w' step stands.sound; lives = lives-like same lives.lives; parts = inl (ap (λ (l : Lives). condition.runs l.primary) live ∙ stands.serves, parts) };
-      moves = record {
-        primary = record {
-          leaves = LeavesOnly-weaken (OpensNear first w.primary.calls w.primary.committer.position (At w'.primary.committer.position ∷ torn w.primary.life)) (λ image at. inr (inl at)) moments;
-          failures = failures;
-        };
-        standby = λ whole. near-rest second w.primary.calls w.standby.position w'.standby.position (torn w.standby.life) old.standby.device new.standby.device device' (standby-stands first second old w (inl (stands.serves, stands.parts)) whole);
-      };
-    }
+    steps-to w' (nodes-refine stands) (does-step (enabled-is lives ∙ sym may) happens) (lives-like same lives.lives) (inl (ap (λ (l : Lives). condition.runs l.primary) live ∙ stands.serves, parts))
+    (moves-primary first second old new w w' (inl (stands.serves, stands.parts)) device'
+    (near-from first w.primary.calls w.primary.committer.position w'.primary.committer.position (torn w.primary.life) old.primary.device new.primary.device (record { leaves = moments; failures = failures })))
+
+-- its image stands where it stood
+pub stays-near : (holder : Holder) (calls : List Call) (p q : ℕ) (old new : State) → LeavesOnly old new (OpensAt holder calls p) → NearOnly holder calls p q old new
+stays-near holder calls p q old new moments = LeavesOnly-weaken (OpensAtEither holder calls p q) (λ image at. inl at) moments

@@ -15,6 +15,7 @@ pub mod StandbyLemmas
 pub mod ArrivalLemmas
 pub mod RecallLemmas
 pub mod OpeningLemmas
+pub mod AroundLemmas
 pub mod PairLemmas
 pub mod FreeingLemmas
 pub mod LeftLemmas

@@ -24,12 +24,12 @@ use Rattle.world.specs.Remaining.{KeepsOne}
 use Rattle.world.specs.Standby.{Arrived, ArrivalsRefine, Node, StandbyStands}
 use Rattle.world.specs.Step.{AcksBy}
 use Rattle.world.specs.Stopping.{BreaksPromotion, BreaksStandby}
+use Rattle.world.proofs.AroundLemmas.{around-stands}
 use Rattle.world.proofs.KeptLemmas.{KeepsAsEither, keeps-either, keeps-here, keeps-left, restart-keeps}
 use Rattle.world.proofs.LivesLemmas.{crashed-as, retired-as, running-as}
 use Rattle.world.proofs.OpenedLemmas.{StaysSo}
-use Rattle.world.proofs.PairLemmas.{standby-refines}
 use Rattle.world.proofs.PairReopen.{with_standby_node}
-use Rattle.world.proofs.PairStandby.{arrivals-stand, follower, has-follower, with_node}
+use Rattle.world.proofs.PairStandby.{follower, has-follower, with_node}
 
 -- ---- a frame
 
@@ -43,7 +43,7 @@ of-standby : {P : Holder → World → Type 0} (old : Pair) → runs old.lives.s
 of-standby {P} old follows all first second w stands =
     let mine = follower follows stands.parts in
     all second w stands.sound (has-follower first second old w follows stands)
-    (subst (λ e. ArrivalsRefine e w.primary.calls old.wire.arrivals w.standby.waiting w.wire.acknowledgements) (sym mine.epoch_is) (arrivals-stand stands.parts))
+    (subst (λ e. ArrivalsRefine e w.primary.calls old.wire.arrivals w.standby.waiting w.wire.acknowledgements) (sym mine.epoch_is) (around-stands stands.parts).arrivals)
     (subst (λ e. StandbyStands second e w.primary.calls w.standby.position old.standby) (sym mine.epoch_is) mine)
 
 pub apply-breaks : (old : Pair) (arrivals : Arrived) (node' : Node) (result : Result Bool Refusal) → runs old.lives.standby ≡ true
@@ -77,7 +77,7 @@ pub reopening-breaks : (old : Pair) (node' : Node) → has_crashed old.lives.sta
     → StaysSo old.standby.device node'.device → BreaksStandby cuts.Reopen old (with_standby_node node' old.lives.standby old)
 reopening-breaks old node' fallen lines failures stays = record {
   fails = λ first second w stands.
-      let down = (standby-refines stands.parts).down fallen in
+      let down = (around-stands stands.parts).standby.down fallen in
       let calls = w.primary.calls in
       let p = w.standby.position in
       record {
@@ -86,7 +86,7 @@ reopening-breaks old node' fallen lines failures stays = record {
         failures = failures;
         lines_are = lines;
       };
-  lines_are = λ first second w stands. let down = (standby-refines stands.parts).down fallen in sym down.sized ∙ down.contents_at.lines_are;
+  lines_are = λ first second w stands. let down = (around-stands stands.parts).standby.down fallen in sym down.sized ∙ down.contents_at.lines_are;
   acknowledgements = refl;
   rest = refl;
 }

@@ -44,7 +44,7 @@ use Rattle.world.proofs.LivesLemmas.{enabled-is, nodes-refine, own-runs}
 use Rattle.world.proofs.PairLemmas.{Led, cut-for, none-added, rests-running, rests-standby, stays-does, tells}
 use Rattle.world.proofs.QueueLemmas.{clear-disabled, clear-enabled}
 use Rattle.world.proofs.PairTurns.{Took, Waiting-same, pair_of, pair_with}
-use Rattle.world.proofs.FreeingLemmas.{cleared-moments, contents-cleared, engine-cleared, lawful-cleared, primary-steps}
+use Rattle.world.proofs.FreeingLemmas.{cleared-moments, contents-cleared, engine-cleared, lawful-cleared, primary-steps, stays-near}
 use Rattle.world.specs.Remaining.{LeftBy}
 use Rattle.world.proofs.LeftLemmas.{left-running, left-still, left-there}
 use Rattle.world.proofs.PairFreeing.{fault-does, refused-does}
@@ -147,7 +147,9 @@ module _ {E : Type 0} (device : E → State) (contents : E → Contents) (is_fau
             primary-steps events.ClearGap first second w (machine.cleared w) from (cleared_with after waiting' (pair.primary.notices ++ one.clears.answer.0 ∷ []) handed) refl
             (record { allowed = refl; primary_disk = refl; standby_disk = refl; primary = refl; standby = refl; role = refl; epoch = refl })
             stands refl refl one.clears.sound.1 (inl refl)
-            (sym (clear_may first second w stands)) (cleared-then (Ok ok) one first second w stands.parts) (clear-parts ok one first second w stands);
+            (sym (clear_may first second w stands))
+            (stays-near first w.primary.calls w.primary.committer.position w.primary.committer.position (device before.engine) (device after.engine) (cleared-then (Ok ok) one first second w stands.parts))
+            (clear-parts ok one first second w stands);
         cut = tt;
         calls = none-added _ _ refl;
       }

@@ -1,5 +1,5 @@
 -- What the events of the committer do to the pair, of what they do to its parts.
-use Rattle.std.proofs.Common.{rules, ◌≡◌, inl, Bool, true, List, ◌∷◌, ◌++◌, Ok, refl, sym, ap, subst, ◌∙◌, true≢false, []}
+use Rattle.std.proofs.Common.{rules, ◌≡◌, Bool, List, ◌∷◌, ◌++◌, Ok, refl, sym, subst, []}
 use Rattle.kv_types.specs.declared.refusal.Refusal.{Refusal}
 use Rattle.kv_types.specs.declared.refusal.Refusal.TheVariants.{Memory, Fault, Exhausted}
 use Rattle.pipes.specs.Waiting.{Waiting}
@@ -8,22 +8,19 @@ use Rattle.model.specs.declared.work.FreeList.{FreeList}
 use Rattle.model.specs.declared.work.Work.{Work}
 use Rattle.model.specs.Standing.{Holder}
 use Rattle.machine.specs.declared.event.Event.TheVariants as events
-use Rattle.machine.specs.Event.{Commits, Frees, Link as MachineLink, Work as MachineWork, World, Committer as MachineCommitter, Step, may_happen, committed_first, from_group, handed, handed_to, raised_local, ready_again, with_committer, with_link, torn}
+use Rattle.machine.specs.Event.{Commits, Frees, Link as MachineLink, Work as MachineWork, World, Committer as MachineCommitter, may_happen, committed_first, handed, handed_to, raised_local, ready_again, with_committer, with_link}
 use Rattle.machine.specs.Sound.{Sound}
-use Rattle.machine.proofs.SoundEvents.{sound-step}
-use Rattle.world.proofs.LivesLemmas.{Runs, enabled-is, lives-like, nodes-refine, own-runs}
+use Rattle.world.proofs.LivesLemmas.{nodes-refine, own-runs}
 use Rattle.connections.specs.Going.{Goes}
 use Rattle.node_steps.specs.GroupSpan.{AreGroupsOf}
 use Rattle.world.specs.Cause.{Stretch, Breaks, RestsAtLimit, EndsBy, Resting}
-use Rattle.world.specs.Committing.{Committing, EngineStands, Leads, NearOnly, CommittingRefines, next_primary}
+use Rattle.world.specs.Committing.{Committing, EngineStands, Leads, CommittingRefines}
 use Rattle.world.specs.Link.{LinkRefines}
 use Rattle.world.specs.Recalling.{RemembersFor, past_of}
 use Rattle.connections.specs.Session.{SequencerRefines}
-use Rattle.world.specs.Pair.{Pair, PartsRefine, Steps, Does}
-use Rattle.world.proofs.RemainLemmas.{near-from, near-same}
+use Rattle.world.specs.Pair.{Pair, PartsRefine, Does}
 use Rattle.world.proofs.PairLink.{link-alone}
-use Rattle.world.proofs.PairLemmas.{Remain-standby, goes-map, goes-steps, none-added}
-use Rattle.world.specs.Condition.{has_ended, runs}
+use Rattle.world.proofs.PairLemmas.{goes-map, goes-steps, none-added}
 
 -- ---- a group committed
 
@@ -33,26 +30,6 @@ ends-commit Memory P Q both ends = (ends.0, both Resting ends.1)
 ends-commit Fault P Q both ends = both Breaks ends
 ends-commit Exhausted P Q both ends = both RestsAtLimit ends
 ends-commit refusal P Q both ends = absurd ends
-
--- the first group that waits has committed
-pub commit-steps : (first second : Holder) (w : World) (old new : Pair) → new.standby.device ≡ old.standby.device → new.lives.standby ≡ old.lives.standby → Sound w → Runs first second new.lives w events.Commit
-    → runs new.lives.primary ≡ true → new.primary.device.failures ≡ old.primary.device.failures
-    → NearOnly first w.primary.calls w.primary.committer.position (next_primary w) old.primary.device new.primary.device → true ≡ may_happen w events.Commit
-    → PartsRefine first second new (with_committer (committed_first (from_group w.primary.committer.waiting) w.primary.committer) w) → Steps first second w events.Commit true old new
-commit-steps first second w old new device' same sound runs serves failures only done parts =
-    let committer = committed_first (from_group w.primary.committer.waiting) w.primary.committer in
-    let w' = with_committer committer w in
-    let step : Step w events.Commit true w' = record { done = done ∙ sym (enabled-is runs); happens = λ did. inl refl; stands = λ did. absurd (true≢false did) } in
-    record {
-      world = w';
-      step = step;
-      stands = record { sound = sound-step w events.Commit true w' step sound; lives = lives-like (record { allowed = refl; primary_disk = refl; standby_disk = refl; primary = refl; standby = refl; role = refl; epoch = refl }) runs.lives; parts = inl (serves, parts) };
-      moves = record {
-        primary = near-from first w.primary.calls w.primary.committer.position (next_primary w) (torn w.primary.life) old.primary.device new.primary.device (record { leaves = only; failures = failures });
-        standby = λ whole. near-same second w.primary.calls w.standby.position (torn w.standby.life) old.standby.device new.standby.device device'
-            (Remain-standby second new.wire.link.epoch w.primary.calls w.standby.position (torn w.standby.life) new.standby new.lives.standby (ap has_ended same ∙ whole) parts.standby);
-      };
-    }
 
 pub same_closed : (works : List MachineWork) (w : World) → (committed_first works w.primary.committer).closed ≡ w.primary.committer.closed
 same_closed [] w = refl

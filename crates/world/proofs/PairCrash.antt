@@ -1,35 +1,30 @@
 -- What a crash of a node does to the pair.
-use Rattle.std.proofs.Common.{cond, rules, le_refl, ◌≡◌, inl, inr, ℕ, ◌≤◌, true, false, ◌&&◌, ◌||◌, List, map, Ok, Vec, Global, All, refl, sym, ap, subst, ◌∙◌, arith, true≢false, []}
+use Rattle.std.proofs.Common.{cond, rules, le_refl, ◌≡◌, inl, inr, ℕ, ◌≤◌, true, false, ◌&&◌, ◌||◌, List, map, Ok, Vec, Global, refl, sym, ap, subst, ◌∙◌, arith, true≢false, []}
 use Rattle.pmem.specs.Device.{State}
 use Rattle.pmem.specs.Crash.{IsImage, IsSettled, image_of}
 use Rattle.pmem.specs.Runs.{LeavesOnly}
-use Rattle.model.specs.declared.call.Call.{Call}
 use Rattle.model.specs.Call.{cut_at, position_of}
 use Rattle.model.proofs.CallsLemmas.{position_of-cut_at}
 use Rattle.model.specs.Standing.{Holder}
 use Rattle.machine.specs.declared.event.Event.TheVariants as events
 use Rattle.machine.specs.declared.event.Cut.TheVariants as cuts
 use Rattle.machine.specs.declared.event.Node.TheVariants as node
-use Rattle.machine.specs.Event.{Allowed, World, At, Life, Step, crashed, is_enabled, is_running, is_stopped, left, reach, torn, Remains, Role}
-use Rattle.machine.specs.Sound.{IsFrameWithin, IsStandbyLeft}
-use Rattle.machine.proofs.SoundEvents.{sound-step}
+use Rattle.machine.specs.Event.{Allowed, World, At, Life, crashed, is_enabled, is_running, is_stopped, left, reach, torn, Remains}
 use Rattle.connections.specs.Session.{AddsOne, HasSeat, seats_of}
 use Rattle.world.specs.Standby.{Arrived, ArrivalsRefine, Node, StandbyRefines}
 use Rattle.world.specs.Pair.{Acts, AreLives, DownRefine, EitherRefines, NodesRefine, Pair, Steps, Lives, Clients, ClientsRefine, Serving}
-use Rattle.world.proofs.CutLemmas.{AreFramesSent-cut, ArrivalsRefine-cut, IsDown-cut, StandbyStands-cut}
-use Rattle.machine.proofs.GroupLemmas.{frames_within-weaker}
+use Rattle.world.proofs.AroundLemmas.{around-stands, around-cut, arrivals-lost}
+use Rattle.world.proofs.CutLemmas.{IsDown-cut}
 use Rattle.world.proofs.DownLemmas.{crash-moves, down-crashed}
 use Rattle.world.proofs.LivesLemmas.{not-over, serves-as}
-use Rattle.world.proofs.PairLemmas.{none-added, primary-stands, primary-within, reach-below, standby-stands}
+use Rattle.world.proofs.PairLemmas.{none-added, primary-within, reach-below, moves-primary, moves-standby, does-step, steps-to}
 use Rattle.world.proofs.PairLives.{stays-acts}
-use Rattle.world.proofs.PairStandby.{arrivals-stand, follower, standby-either}
+use Rattle.world.proofs.PairStandby.{follower, standby-either}
 use Rattle.world.proofs.RecallLemmas.{recalls-crashed}
-use Rattle.frames.specs.declared.frame.Frame.{Frame}
-use Rattle.world.specs.Link.{AreAcksSent, AreFramesRead}
 use Rattle.world.specs.Condition.{life_as, runs, has_stopped}
 use Rattle.world.specs.declared.condition.Condition.{Condition}
 use Rattle.world.specs.declared.condition.Condition.TheVariants.{Running, Stopped, Crashed, Ended}
-use Rattle.world.proofs.RemainLemmas.{near-rest, near-from, LeavesOne-cut}
+use Rattle.world.proofs.RemainLemmas.{near-from}
 
 -- ---- a node that is crashed already
 
@@ -80,16 +75,6 @@ pub record HasCrashed (lines : ℕ) (old new : State) : Type 0 where
 abbrev pub with_crashed_primary : Clients → Serving → Pair → Pair
 with_crashed_primary clients serving pair = record pair { clients = clients; primary = serving; lives = record pair.lives { primary = Crashed } }
 
-pub StandbyRefines-cut : (role : Role) (holder : Holder) (epoch : ℕ) (calls : List Call) (p n high : ℕ) (remains : List Remains) (node : Node) (condition : Condition) → p ≤ high → high ≤ n → All (IsStandbyLeft role p high) remains
-    → StandbyRefines holder epoch calls p remains node condition → StandbyRefines holder epoch (cut_at calls n) p remains node condition
-StandbyRefines-cut role holder epoch calls p n high remains node condition le within bound refines =
-    let reached : p ≤ n = omega (arith, le, within) in
-    record {
-      stands = λ up. StandbyStands-cut holder epoch calls n p node reached (refines.stands up);
-      left = λ stopped. LeavesOne-cut role holder calls n p high remains node.device le within bound (refines.left stopped);
-      down = λ down. IsDown-cut holder calls n p node.device reached (refines.down down);
-    }
-
 pub primary-crashes : (old : Pair) (clients : Clients) (serving : Serving) (k : ℕ) (picks : Vec ℕ Global) (position : ℕ)
     → runs old.lives.primary ≡ true → position ≡ old.primary.contents.current.position → HasCrashed old.primary.contents.lines old.primary.device serving.device
     → ((w : World) → ClientsRefine old.clients w.primary.connections w.primary.calls → ClientsRefine clients (map left w.primary.connections) (cut_at w.primary.calls position))
@@ -110,13 +95,12 @@ primary-crashes old clients serving k picks position runs at has ends unseated a
         let p = w.primary.committer.position in
         let here : position ≡ p = at ∙ parts.engine.contents_at.at in
         let w' = crashed node.Primary (At p) w in
-        let step : Step w event true w' = record { done = sym ((crash-enabled k picks stands.lives).0 ∙ goes old.lives.primary runs); happens = λ did. record { remain = At p; one = (0, omega arith, refl); now = refl }; stands = λ did. absurd (true≢false did) } in
         let behind : reach w ≤ p = reach-below w in
         let within : p ≤ position_of calls = primary-within w sound in
         let image = IsDown-cut first calls p p serving.device (omega arith) (down-crashed first calls p old.primary.device serving.device old.primary.contents old.primary.is_faulted parts.engine has.sized has.settled has.image has.lines_are) in
         let down : DownRefine first second new w' =
         record {
-          sessions = subst (λ n. ClientsRefine clients (map left w.primary.connections) (cut_at calls n)) here (ends w parts.sessions);
+          around = around-cut w parts.around sound p behind clients (subst (λ n. ClientsRefine clients (map left w.primary.connections) (cut_at calls n)) here (ends w parts.sessions));
           unseated = unseated;
           committer = refl;
           link = refl;
@@ -126,30 +110,10 @@ primary-crashes old clients serving k picks position runs at has ends unseated a
           image = image;
           opened = refl;
           recalls = recalls-crashed w.standby.position p calls old.primary.contents old.primary.committing.waiting.items old.primary.committing.aside old.primary.sequencer parts.remembers;
-          epoch = parts.epoch;
-          own = parts.own;
-          frames = AreFramesSent-cut w.standby.role w.standby.position old.wire.link.epoch calls p old.wire.frames w.wire.frames
-              (subst (λ e. All (IsFrameWithin e w.standby.role w.standby.position p) w.wire.frames) (sym parts.epoch)
-              (frames_within-weaker w.primary.epoch w.standby.role w.standby.position (reach w) p w.wire.frames behind sound.wire.frames)) parts.frames;
-          arrivals = ArrivalsRefine-cut w.standby.role w.standby.position old.wire.link.epoch calls p old.wire.arrivals w.standby.waiting w.wire.acknowledgements
-              (subst (λ e. All (IsFrameWithin e w.standby.role w.standby.position p) w.standby.waiting) (sym parts.epoch)
-              (frames_within-weaker w.primary.epoch w.standby.role w.standby.position (reach w) p w.standby.waiting behind sound.standby.frames)) parts.arrivals;
-          standby = StandbyRefines-cut w.standby.role second old.wire.link.epoch calls w.standby.position p (reach w) (torn w.standby.life) old.standby old.lives.standby sound.standby.behind behind sound.standby_left parts.standby;
         } in
-        let refines : EitherRefines first second new w' = inr (inl (refl, down)) in
-        record {
-          world = w';
-          step = step;
-          stands = record {
-            sound = sound-step w event true w' step sound;
-            lives = search (rules, stands.lives);
-            parts = refines;
-          };
-          moves = record {
-            primary = near-from first calls p p (torn w.primary.life) old.primary.device serving.device (crash-moves first calls p old.primary.device serving.device old.primary.contents old.primary.is_faulted parts.engine has.moments has.failures);
-            standby = λ whole. near-rest second calls w.standby.position w.standby.position (torn w.standby.life) old.standby.device old.standby.device refl (standby-stands first second old w stands.parts whole);
-          };
-        }
+        steps-to w' stands (does-step ((crash-enabled k picks stands.lives).0 ∙ goes old.lives.primary runs) (record { remain = At p; one = (0, omega arith, refl); now = refl })) (search (rules, stands.lives)) (inr (inl (refl, down)))
+        (moves-primary first second old new w w' stands.parts refl
+        (near-from first calls p p (torn w.primary.life) old.primary.device serving.device (crash-moves first calls p old.primary.device serving.device old.primary.contents old.primary.is_faulted parts.engine has.moments has.failures)))
 
 -- ---- the standby
 
@@ -172,26 +136,12 @@ standby-crashes old arrivals node' k picks follows has lost told =
         let p = w.standby.position in
         let stood = follower follows stands.parts in
         let w' = crashed node.Standby (At p) w in
-        let step : Step w event true w' = record { done = sym ((crash-enabled k picks stands.lives).1 ∙ goes old.lives.standby follows); happens = λ did. record { remain = At p; one = (0, omega arith, refl); now = refl }; stands = λ did. absurd (true≢false did) } in
         let image = down-crashed second calls p old.standby.device node'.device old.standby.contents old.standby.is_faulted stood.engine has.sized has.settled has.image has.lines_are in
         let empty : ArrivalsRefine old.wire.link.epoch calls arrivals [] w.wire.acknowledgements =
-        record {
-          delivered = subst (λ (frames : List Frame). AreFramesRead old.wire.link.epoch calls frames []) (sym lost) tt;
-          acknowledged = subst (λ (acks : Vec (Vec ℕ Global) Global). AreAcksSent acks.items w.wire.acknowledgements) (sym told) (arrivals-stand stands.parts).acknowledged;
-        } in
+        arrivals-lost old.wire.arrivals arrivals old.wire.link.epoch calls lost (ap (λ (acks : Vec (Vec ℕ Global) Global). acks.items) told) (around-stands stands.parts).arrivals in
         let down : StandbyRefines second old.wire.link.epoch calls p [] node' Crashed = record { stands = λ up. absurd (true≢false (sym up)); left = λ stopped. absurd (true≢false (sym stopped)); down = λ is. image } in
         let refines : EitherRefines first second new w' = standby-either first second old arrivals node' Crashed w w'.standby w.wire.acknowledgements (not-over old.lives.standby follows) (le_refl p) stands.parts empty down in
-        record {
-          world = w';
-          step = step;
-          stands = record {
-            sound = sound-step w event true w' step stands.sound;
-            lives = search (rules, stands.lives, stands.lives.primary_disk ∙ ap (λ b. cond b 1 0) (not-over old.lives.standby follows));
-            parts = refines;
-          };
-          moves = record {
-            primary = near-rest first calls w.primary.committer.position w.primary.committer.position (torn w.primary.life) old.primary.device old.primary.device refl (primary-stands first second old w stands.parts);
-            standby = λ whole. near-from second calls p p (torn w.standby.life) old.standby.device node'.device
-                (crash-moves second calls p old.standby.device node'.device old.standby.contents old.standby.is_faulted stood.engine has.moments has.failures);
-          };
-        }
+        steps-to w' stands (does-step ((crash-enabled k picks stands.lives).1 ∙ goes old.lives.standby follows) (record { remain = At p; one = (0, omega arith, refl); now = refl }))
+        (search (rules, stands.lives, stands.lives.primary_disk ∙ ap (λ b. cond b 1 0) (not-over old.lives.standby follows))) refines
+        (moves-standby first second old new w w' stands.parts refl
+        (λ whole. near-from second calls p p (torn w.standby.life) old.standby.device node'.device (crash-moves second calls p old.standby.device node'.device old.standby.contents old.standby.is_faulted stood.engine has.moments has.failures)))

@@ -12,9 +12,9 @@ use Rattle.world.specs.Cutting.{OpensNear}
 use Rattle.world.specs.Effect.{LeavesPicked}
 use Rattle.world.specs.Pair.{Pair}
 use Rattle.world.specs.Remaining.{KeepsOne}
+use Rattle.world.proofs.AroundLemmas.{around-stands}
 use Rattle.world.proofs.LivesLemmas.{stopped-as, stopped-not-over}
 use Rattle.world.proofs.PairFallen.{HasFallen}
-use Rattle.world.proofs.PairLemmas.{standby-refines}
 use Rattle.world.proofs.RemainLemmas.{keeps-near}
 
 pub stopped-falls : (old : Pair) (last : State) (k : ℕ) (picks : Vec ℕ Global) → has_stopped old.lives.standby ≡ true → LeavesPicked picks.items old.standby.device last
@@ -27,7 +27,7 @@ stopped-falls old last k picks stopped picked lines failures moments = record {
       let calls = w.primary.calls in
       let p = w.standby.position in
       let others = torn w.standby.life in
-      let left = (standby-refines stands.parts).left stopped in
+      let left = (around-stands stands.parts).standby.left stopped in
       record {
         may = or_right (is_running w.standby.life) (is_stopped w.standby.life) (ap is_stopped stands.lives.standby ∙ stopped-as old.lives.standby others ∙ stopped);
         lines_are = sym left.lines_are ∙ sym lines;

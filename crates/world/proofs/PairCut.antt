@@ -1,5 +1,5 @@
 -- What a crash inside a call of the primary does to the pair.
-use Rattle.std.proofs.Common.{rules, ◌≡◌, ℕ, ◌<◌, ◌≤◌, true, false, ◌&&◌, ◌||◌, List, ◌++◌, map, Ok, Vec, Global, All, inl, inr, refl, sym, ap, subst, ◌∙◌, arith, true≢false}
+use Rattle.std.proofs.Common.{rules, ◌≡◌, ℕ, ◌<◌, ◌≤◌, true, false, ◌&&◌, ◌||◌, List, ◌++◌, map, Ok, Vec, Global, inl, inr, refl, sym, ap, subst, ◌∙◌, arith, true≢false}
 use Rattle.pmem.specs.Device.{IsOlder, Older, Only, State, Word}
 use Rattle.pmem.specs.Crash.{IsSettled, image_of}
 use Rattle.pmem.specs.Crash as crash
@@ -24,8 +24,7 @@ use Rattle.machine.specs.declared.event.Event.TheVariants as events
 use Rattle.machine.specs.declared.event.Node.{Node}
 use Rattle.machine.specs.declared.event.Node.TheVariants as node
 use Rattle.machine.specs.Event.{Allowed, At, Connection, Step, World, crashed, is_between, is_crashed, is_enabled, left, left_by, may_cut, reach, torn}
-use Rattle.machine.specs.Sound.{IsFrameWithin, Sound}
-use Rattle.machine.proofs.GroupLemmas.{frames_within-weaker}
+use Rattle.machine.specs.Sound.{Sound}
 use Rattle.machine.proofs.SoundEvents.{sound-step}
 use Rattle.primary.specs.Recalling.{RecallsEach}
 use Rattle.connections.specs.Session.{AddsOne, HasSeat, seats_of}
@@ -36,18 +35,18 @@ use Rattle.world.specs.Pair.{AreLives, DownRefine, EitherRefines, HasWorld, Node
 use Rattle.world.specs.Recalling.{RecallsFor, past_of}
 use Rattle.world.specs.Step.{CutsOrStays, Leaves}
 use Rattle.world.specs.Stopping.{BreaksPrimary}
-use Rattle.world.proofs.CutLemmas.{AreFramesSent-cut, ArrivalsRefine-cut, IsDown-cut}
+use Rattle.world.proofs.AroundLemmas.{around-stands, around-cut}
+use Rattle.world.proofs.CutLemmas.{IsDown-cut}
 use Rattle.world.proofs.KeptLemmas.{CrashedIn, crash-leaves, leaves-cut, left-is}
 use Rattle.world.specs.Remaining.{LeftBy}
 use Rattle.world.proofs.RecallLemmas.{recalled-cut}
 use Rattle.world.proofs.LeftLemmas.{left-there}
 use Rattle.world.proofs.LivesLemmas.{crashed-as}
 use Rattle.world.proofs.OpenedLemmas.{StaysSo}
-use Rattle.world.proofs.PairCrash.{StandbyRefines-cut, with_crashed_primary}
-use Rattle.world.proofs.PairLemmas.{reach-below, sessions-stand, standby-refines}
+use Rattle.world.proofs.PairCrash.{with_crashed_primary}
+use Rattle.world.proofs.PairLemmas.{reach-below, does-step}
 use Rattle.world.proofs.PairLives.{stays-acts}
 use Rattle.world.proofs.PairReopen.{fallen-parts}
-use Rattle.world.proofs.PairStandby.{arrivals-stand, frames-stand, link-epoch, own-frames}
 use Rattle.world.proofs.RemainLemmas.{left-opens}
 
 -- ---- a node that is in no such call
@@ -97,27 +96,22 @@ module _ (old : Pair) (call : Cut) (k : ℕ) (picks : Vec ℕ Global) (clients :
       let event = events.Crash node.Primary call k picks in
       let image = image_of serving.device.words in
       let sound = stands.sound in
+      let around = around-stands stands.parts in
       let calls = w.primary.calls in
       let p = left-it.position in
       let w' = crashed node.Primary (At p) w in
-      let step : Step w event true w' =
-      record {
-        done = sym enabled;
-        happens = λ did. record { remain = At p; one = left-it.one; now = refl };
-        stands = λ did. absurd (true≢false did);
-      } in
+      let step : Step w event true w' = does-step enabled (record { remain = At p; one = left-it.one; now = refl }) in
       let sized : left-it.contents.lines ≡ serving.device.lines = left-it.contents_at.lines_are ∙ lines_are in
       let down : IsDown first calls p serving.device =
       record { contents = left-it.contents; contents_at = left-it.contents_at; lawful = left-it.lawful; keeps = left-it.keeps; settled = settled; sized = sized } in
       let undamaged : IsUndamaged serving.device.lines left-it.contents.current image =
       subst (λ n. IsUndamaged n left-it.contents.current image) sized (lawful_undamaged left-it.contents image left-it.lawful left-it.keeps) in
       let ended : ClientsRefine clients (map left w.primary.connections) (cut_at calls left-it.contents.current.position) =
-      ends left-it.contents.current (omega (arith, sized, left-it.lawful.many)) (omega (arith, sized, left-it.lawful.few)) undamaged w.primary.connections calls (sessions-stand stands.parts) in
+      ends left-it.contents.current (omega (arith, sized, left-it.lawful.many)) (omega (arith, sized, left-it.lawful.few)) undamaged w.primary.connections calls around.sessions in
       let behind : reach w ≤ p = omega (arith, reach-below w, left-it.rises) in
-      let epoch = link-epoch stands.parts in
       let parts : DownRefine first second fallen w' =
       record {
-        sessions = subst (λ n. ClientsRefine clients (map left w.primary.connections) (cut_at calls n)) left-it.contents_at.at ended;
+        around = around-cut w around sound p behind clients (subst (λ n. ClientsRefine clients (map left w.primary.connections) (cut_at calls n)) left-it.contents_at.at ended);
         unseated = unseated;
         committer = refl;
         link = refl;
@@ -127,15 +121,6 @@ module _ (old : Pair) (call : Cut) (k : ℕ) (picks : Vec ℕ Global) (clients :
         image = IsDown-cut first calls p p serving.device (omega arith) down;
         opened = refl;
         recalls = recalled-cut w.standby.position p calls left-it.contents left-it.recalls;
-        epoch = epoch;
-        own = own-frames stands.parts;
-        frames = AreFramesSent-cut w.standby.role w.standby.position old.wire.link.epoch calls p old.wire.frames w.wire.frames
-            (subst (λ e. All (IsFrameWithin e w.standby.role w.standby.position p) w.wire.frames) (sym epoch)
-            (frames_within-weaker w.primary.epoch w.standby.role w.standby.position (reach w) p w.wire.frames behind sound.wire.frames)) (frames-stand stands.parts);
-        arrivals = ArrivalsRefine-cut w.standby.role w.standby.position old.wire.link.epoch calls p old.wire.arrivals w.standby.waiting w.wire.acknowledgements
-            (subst (λ e. All (IsFrameWithin e w.standby.role w.standby.position p) w.standby.waiting) (sym epoch)
-            (frames_within-weaker w.primary.epoch w.standby.role w.standby.position (reach w) p w.standby.waiting behind sound.standby.frames)) (arrivals-stand stands.parts);
-        standby = StandbyRefines-cut w.standby.role second old.wire.link.epoch calls w.standby.position p (reach w) (torn w.standby.life) old.standby old.lives.standby sound.standby.behind behind sound.standby_left (standby-refines stands.parts);
       } in
       let refines : EitherRefines first second fallen w' = inr (inl (refl, parts)) in
       record {

@@ -21,15 +21,15 @@ use Rattle.world.specs.Link.{AreFramesRead}
 use Rattle.world.specs.Pair.{Acts, HasStandby, HasWorld, NodesRefine, Pair}
 use Rattle.world.specs.Remaining.{KeepsOne}
 use Rattle.world.specs.Standby.{Arrived, Node}
+use Rattle.world.proofs.AroundLemmas.{around-stands}
 use Rattle.world.proofs.ArrivalLemmas.{some-wait}
 use Rattle.world.proofs.KeptLemmas.{CrashedIn, IsDown-kept, crash-leaves, keeps-here, keeps-left, leaves-cut, left-is, restart-keeps}
 use Rattle.world.proofs.LivesLemmas.{crashed-as, crashed-not-over, crashed-whole, not-over, running-as, runs-whole, whole-torn}
 use Rattle.world.proofs.OpenedLemmas.{StaysSo}
 use Rattle.world.proofs.PairCrash.{with_crashed_standby}
 use Rattle.world.proofs.PairFallen.{HasFallen, are_behind, fall-enabled, one-behind, stays-behind}
-use Rattle.world.proofs.PairLemmas.{standby-refines}
 use Rattle.world.proofs.PairLives.{stays-acts}
-use Rattle.world.proofs.PairStandby.{arrivals-stand, follower}
+use Rattle.world.proofs.PairStandby.{follower}
 use Rattle.world.proofs.RemainLemmas.{keeps-near}
 
 -- ---- which crash may come
@@ -52,7 +52,7 @@ pub frame-idle : (old : Pair) (k : ℕ) (picks : Vec ℕ Global) → runs old.li
 frame-idle old k picks down = call-idle old cuts.Apply k picks (λ first second w stands. takes-frame stands ∙ ap (λ b. b && is_nonempty w.standby.waiting) down)
 
 none_wait : {first second : Holder} {pair : Pair} {w : World} → length pair.wire.arrivals.delivered.items ≡ 0 → NodesRefine first second pair w → is_nonempty w.standby.waiting ≡ false
-none_wait {first} {second} {pair} {w} none stands = none_of pair.wire.link.epoch w.primary.calls pair.wire.arrivals.delivered.items w.standby.waiting none (arrivals-stand stands.parts).delivered
+none_wait {first} {second} {pair} {w} none stands = none_of pair.wire.link.epoch w.primary.calls pair.wire.arrivals.delivered.items w.standby.waiting none (around-stands stands.parts).arrivals.delivered
   where
     none_of : (epoch : ℕ) (calls : List Call) (frames : List Frame) (waiting : List Sent) → length frames ≡ 0 → AreFramesRead epoch calls frames waiting → is_nonempty waiting ≡ false
     none_of epoch calls [] [] none are = refl
@@ -136,7 +136,7 @@ frame-cuts old arrivals node' kept mid k picks follows some lost told is sized l
     fallen =
         cut-falls old cuts.Apply kept mid node'.device k picks refl (not-over old.lives.standby follows) (runs-whole old.lives.standby follows) is
         (λ first second w stands. record {
-          may = takes-frame stands ∙ ap₂ (λ a b. a && b) follows (some-wait old.wire.link.epoch w old.wire.arrivals some (arrivals-stand stands.parts));
+          may = takes-frame stands ∙ ap₂ (λ a b. a && b) follows (some-wait old.wire.link.epoch w old.wire.arrivals some (around-stands stands.parts).arrivals);
           lines_are = sym (follower follows stands.parts).engine.contents_at.lines_are ∙ sized ∙ sym lines ∙ sym is.lines_are;
           keeps = LeavesOnly-weaken (KeepsOne second w.primary.calls w.standby.position (left_by w node.Standby cuts.Apply))
               (keeps-left second w.primary.calls w.standby.position (left_by w node.Standby cuts.Apply)) (only first second w stands);
@@ -160,7 +160,7 @@ opening-cuts old arrivals node' kept mid k picks down lost told is lines stays a
         (λ first second w stands.
         let calls = w.primary.calls in
         let p = w.standby.position in
-        let was = (standby-refines stands.parts).down down in
+        let was = (around-stands stands.parts).standby.down down in
         record {
           may = is-opened stands ∙ down;
           lines_are = sym was.contents_at.lines_are ∙ was.sized ∙ sym is.keeps.lines ∙ sym lines ∙ sym is.lines_are;

@@ -1,5 +1,5 @@
 -- What it does to the pair that a fence of a device is asked to fail.
-use Rattle.std.proofs.Common.{rules, le_refl, ◌≡◌, inl, inr, ℕ, nat_lt, Bool, true, ◌&&◌, List, ◌∷◌, Ok, refl, sym, ap, ap₂, subst, ◌∙◌, true≢false, []}
+use Rattle.std.proofs.Common.{rules, le_refl, ◌≡◌, inl, inr, ℕ, nat_lt, Bool, true, ◌&&◌, List, ◌∷◌, Ok, refl, sym, ap, ap₂, subst, ◌∙◌, []}
 use Rattle.pmem.specs.Device.{State}
 use Rattle.pmem.specs.Runs.{LeavesOnly}
 use Rattle.pmem.proofs.Leaving.{MayLeave-now}
@@ -10,18 +10,17 @@ use Rattle.model.specs.Standing.{Holder}
 use Rattle.machine.specs.declared.event.Event.TheVariants.{FailFence}
 use Rattle.machine.specs.declared.event.Node.{Node as Which}
 use Rattle.machine.specs.declared.event.Node.TheVariants as node
-use Rattle.machine.specs.Event.{Allowed, At, Remains, World, Step, asked_to_fail, is_enabled, is_running, on_disk, torn}
-use Rattle.machine.proofs.SoundEvents.{sound-step}
+use Rattle.machine.specs.Event.{Allowed, At, Remains, World, asked_to_fail, is_enabled, is_running, on_disk, torn}
 use Rattle.world.specs.Committing.{EngineStands}
 use Rattle.world.specs.Remaining.{MovesNear, OpensNear, Remain}
 use Rattle.world.specs.Condition.{runs}
 use Rattle.world.specs.Effect.{asked}
 use Rattle.world.specs.Pair.{FreeingRefines, Acts, EitherRefines, NodesRefine, Pair, PartsRefine, Steps, takes_part, Serving}
 use Rattle.world.specs.Standby.{Node, StandbyRefines, StandbyStands}
+use Rattle.world.proofs.AroundLemmas.{around-stands}
 use Rattle.world.proofs.LivesLemmas.{not-crashed, not-over, not-still, stopped-still, running-as, serves-as}
-use Rattle.world.proofs.PairLemmas.{none-added, primary-stands, standby-stands, asked-either}
-use Rattle.world.proofs.PairStandby.{arrivals-stand, follower, standby-either, with_standby_as}
-use Rattle.world.proofs.RemainLemmas.{near-rest}
+use Rattle.world.proofs.PairLemmas.{none-added, primary-stands, standby-stands, asked-either, moves-primary, moves-standby, does-step, steps-to}
+use Rattle.world.proofs.PairStandby.{follower, standby-either, with_standby_as}
 
 -- ---- the device
 
@@ -65,24 +64,12 @@ primary-failing old n up = record { steps = steps; cut = tt; calls = none-added 
         let p = w.primary.committer.position in
         let parts = (serves-as up stands).parts in
         let w' = on_disk node.Primary (asked_to_fail n) w in
-        let step : Step w event true w' = record { done = sym (primary-may n up stands); happens = λ did. refl; stands = λ did. absurd (true≢false did) } in
         let freeing : FreeingRefines new.primary.sequencer new.primary.notices new.primary.contents w'.primary =
         record { ended = parts.freeing.ended; newest = parts.freeing.newest; notices_are = parts.freeing.notices_are; gaps = parts.freeing.gaps } in
         let engine = asked-stands first calls p n old.primary.device old.primary.contents old.primary.is_faulted parts.engine in
         let refined : PartsRefine first second new w' = search (rules, freeing, engine, parts) in
-        record {
-          world = w';
-          step = step;
-          stands = record {
-            sound = sound-step w event true w' step stands.sound;
-            lives = search (rules, stands.lives);
-            parts = inl (up, refined);
-          };
-          moves = record {
-            primary = asked-moves first calls p n (torn w.primary.life) old.primary.device (primary-stands first second old w stands.parts);
-            standby = λ whole. near-rest second calls w.standby.position w.standby.position (torn w.standby.life) old.standby.device old.standby.device refl (standby-stands first second old w stands.parts whole);
-          };
-        }
+        steps-to w' stands (does-step (primary-may n up stands) refl) (search (rules, stands.lives)) (inl (up, refined))
+        (moves-primary first second old new w w' stands.parts refl (asked-moves first calls p n (torn w.primary.life) old.primary.device (primary-stands first second old w stands.parts)))
 
 pub primary-asked : (old : Pair) (serving : Serving) (n : ℕ) → runs old.lives.primary ≡ true → serving ≡ record old.primary { device = asked n old.primary.device }
     → Acts old (FailFence node.Primary n) (Ok true) (with_failing_primary n serving old)
@@ -113,7 +100,6 @@ standby-failing old n follows = record { steps = steps; cut = tt; calls = none-a
         let p = w.standby.position in
         let stood = follower follows stands.parts in
         let w' = on_disk node.Standby (asked_to_fail n) w in
-        let step : Step w event true w' = record { done = sym (standby-may n follows stands); happens = λ did. refl; stands = λ did. absurd (true≢false did) } in
         let still : StandbyStands second old.wire.link.epoch calls p node' =
         record {
           engine = asked-stands second calls p n old.standby.device old.standby.contents old.standby.is_faulted stood.engine;
@@ -130,20 +116,9 @@ standby-failing old n follows = record { steps = steps; cut = tt; calls = none-a
         } in
         let parts : EitherRefines first second new w' =
         asked-either first second (with_standby_as old.wire.arrivals node' old.lives.standby old) (record old.lives.asked { standby = nat_lt 0 n }) w'
-        (standby-either first second old old.wire.arrivals node' old.lives.standby w w'.standby w.wire.acknowledgements (not-over old.lives.standby follows) (le_refl p) stands.parts (arrivals-stand stands.parts) refined) in
-        record {
-          world = w';
-          step = step;
-          stands = record {
-            sound = sound-step w event true w' step stands.sound;
-            lives = search (rules, stands.lives);
-            parts = parts;
-          };
-          moves = record {
-            primary = near-rest first calls w.primary.committer.position w.primary.committer.position (torn w.primary.life) old.primary.device old.primary.device refl (primary-stands first second old w stands.parts);
-            standby = λ whole. asked-moves second calls p n (torn w.standby.life) old.standby.device (standby-stands first second old w stands.parts whole);
-          };
-        }
+        (standby-either first second old old.wire.arrivals node' old.lives.standby w w'.standby w.wire.acknowledgements (not-over old.lives.standby follows) (le_refl p) stands.parts (around-stands stands.parts).arrivals refined) in
+        steps-to w' stands (does-step (standby-may n follows stands) refl) (search (rules, stands.lives)) parts
+        (moves-standby first second old new w w' stands.parts refl (λ whole. asked-moves second calls p n (torn w.standby.life) old.standby.device (standby-stands first second old w stands.parts whole)))
 
 pub standby-asked : (old : Pair) (node' : Node) (n : ℕ) → runs old.lives.standby ≡ true → node' ≡ record old.standby { device = asked n old.standby.device }
     → Acts old (FailFence node.Standby n) (Ok true) (with_failing_standby n node' old)

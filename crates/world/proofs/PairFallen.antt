@@ -1,5 +1,5 @@
 -- What a crash of the standby, inside a call of it or once it had stopped, does to the pair: its image is a standby's still, or that of the primary which it becomes.
-use Rattle.std.proofs.Common.{rules, ◌≡◌, ◌≢◌, ◌⊎◌, inl, inr, ℕ, zero, suc, ◌+◌, ◌<◌, ◌≤◌, Bool, true, false, ◌||◌, ◌&&◌, cond, if◌then◌else◌, List, [], ◌∷◌, ◌++◌, length, get_or, map, Option, Some, None, All, Ok, Vec, Global, refl, sym, ap, subst, ◌∙◌, arith, true≢false}
+use Rattle.std.proofs.Common.{rules, ◌≡◌, ◌≢◌, ◌⊎◌, inl, inr, ℕ, zero, suc, ◌+◌, ◌<◌, ◌≤◌, Bool, true, false, ◌||◌, ◌&&◌, cond, if◌then◌else◌, List, [], ◌∷◌, ◌++◌, length, get_or, map, Option, Some, None, Ok, Vec, Global, refl, sym, ap, subst, ◌∙◌, arith, true≢false}
 use Rattle.std.proofs.lemmas.Bool.{or_right}
 use Rattle.std.specs.Prelude.{Contains}
 use Rattle.pmem.specs.Device.{State}
@@ -15,32 +15,31 @@ use Rattle.model.specs.Standing.{Holder}
 use Rattle.model.proofs.CallsLemmas.{position_of-cut_at}
 use Rattle.wbl_engine.specs.Lawful.{IsUndamaged}
 use Rattle.wbl_engine.proofs.LawfulLemmas.{lawful_undamaged}
-use Rattle.frames.specs.declared.frame.Frame.{Frame}
 use Rattle.machine.specs.declared.event.Event.TheVariants as events
 use Rattle.machine.specs.declared.event.Cut.{Cut}
 use Rattle.machine.specs.declared.event.Node.TheVariants as node
-use Rattle.machine.specs.Event.{Allowed, AsFollower, AsPrimary, At, Follower, Remains, Role as MachineRole, Step, World, crashed, crashed_standby, is_between, is_enabled, left, left_by, may_cut, may_remain, promoted, reach, torn, with_standby}
-use Rattle.machine.specs.Sound.{IsFrameWithin}
+use Rattle.machine.specs.Event.{Allowed, AsFollower, AsPrimary, At, Follower, Remains, Role as MachineRole, Step, World, crashed, crashed_standby, is_between, is_enabled, left, left_by, may_cut, may_remain, promoted, torn, with_standby}
 use Rattle.machine.proofs.GrowLemmas.{grows-step}
-use Rattle.machine.proofs.SoundEvents.{sound-step}
+use Rattle.machine.proofs.SoundEvents.{sound-promoted, sound-step}
+use Rattle.connections.specs.Session.{HasSeat, seats_of}
 use Rattle.world.specs.Committing.{IsDown, promoted_holder}
-use Rattle.world.specs.Condition.{has_crashed, has_ended, has_stopped, life_as, runs}
+use Rattle.world.specs.Condition.{has_crashed, has_ended, life_as}
 use Rattle.world.specs.Cutting.{ComesForward, Cuts, CutsStandby, FallsBehind, Finds, GoesByImage, LeavesOf, OpensNear}
 use Rattle.world.specs.declared.condition.AskedFences.{AskedFences}
 use Rattle.world.specs.declared.condition.Condition.{Condition}
-use Rattle.world.specs.declared.condition.Condition.TheVariants.{Crashed}
-use Rattle.world.specs.Link.{AreAcksSent, AreFramesRead, AreFramesSent}
-use Rattle.world.specs.Pair.{AreLives, DownRefine, EitherRefines, HasStandby, NodesRefine, Pair, first_device, primary_number, second_device, Lives, ClientsRefine}
+use Rattle.world.specs.declared.condition.Condition.TheVariants.{Crashed, Ended}
+use Rattle.world.specs.Pair.{AreLives, DownRefine, EitherRefines, HasStandby, NodesRefine, Pair, first_device, primary_number, second_device, Lives, ClientsRefine, surroundings_of}
 use Rattle.world.specs.Remaining.{KeepsAs, KeepsAt, KeepsOne, KeepsPromoted}
 use Rattle.world.specs.Standby.{Arrived, ArrivalsRefine, Node, StandbyRefines}
+use Rattle.world.proofs.AroundLemmas.{around-stands, around-promoted, arrivals-lost}
 use Rattle.world.proofs.CutLemmas.{IsDown-cut}
 use Rattle.world.proofs.KeptLemmas.{kept-down, promoted-down}
 use Rattle.world.proofs.RecallLemmas.{recalled-none}
 use Rattle.world.specs.Recalling.{past_of}
 use Rattle.world.proofs.PairCrash.{with_crashed_standby}
-use Rattle.world.proofs.PairLemmas.{none-added, sessions-stand, standby-within}
-use Rattle.world.proofs.PairStandby.{arrivals-stand, frames-stand, link-epoch, standby-either}
-use Rattle.world.proofs.PromotionLemmas.{former_holder, frames-earlier}
+use Rattle.world.proofs.PairLemmas.{none-added, standby-within, does-step}
+use Rattle.world.proofs.PairStandby.{standby-either}
+use Rattle.world.proofs.PromotionLemmas.{former_holder}
 
 -- ---- which crash may come
 
@@ -112,12 +111,9 @@ standby-cut old arrivals node' call k picks whole lost told first second w stand
     let event = events.Crash node.Standby call k picks in
     let calls = w.primary.calls in
     let w' = crashed node.Standby (At p) w in
-    let step : Step w event true w' = record { done = sym enabled; happens = λ did. record { remain = one; one = may; now = crashed-of w p one stands.lives.follows of }; stands = λ did. absurd (true≢false did) } in
+    let step : Step w event true w' = does-step enabled (record { remain = one; one = may; now = crashed-of w p one stands.lives.follows of }) in
     let empty : ArrivalsRefine old.wire.link.epoch calls arrivals [] w.wire.acknowledgements =
-    record {
-      delivered = subst (λ (frames : List Frame). AreFramesRead old.wire.link.epoch calls frames []) (sym lost) tt;
-      acknowledged = subst (λ (acks : Vec (Vec ℕ Global) Global). AreAcksSent acks.items w.wire.acknowledgements) (sym told) (arrivals-stand stands.parts).acknowledged;
-    } in
+    arrivals-lost old.wire.arrivals arrivals old.wire.link.epoch calls lost (ap (λ (acks : Vec (Vec ℕ Global) Global). acks.items) told) (around-stands stands.parts).arrivals in
     let down : StandbyRefines second old.wire.link.epoch calls p [] node' Crashed =
     record { stands = λ up. absurd (true≢false (sym up)); left = λ stopped. absurd (true≢false (sym stopped)); down = λ is. image } in
     let later : w.standby.position ≤ p = (grows-step w event true w' step stands.sound).safe in
@@ -194,6 +190,50 @@ same_found found r s in_r in_s = cc
 apart : role.Standby ≡ role.Primary → ⊥
 apart is = cc
 
+-- The pair goes on as the primary that the standby became, which is crashed: its image stands where the standby did.
+pub promoted-stands : {first second : Holder} {old : Pair} (new : Pair) (w : World) → NodesRefine first second old w → (down : IsDown (promoted_holder second) w.primary.calls w.standby.position new.primary.device)
+    → down.contents.current.floor ≡ w.standby.position → new.wire.link.epoch ≡ second.epoch + 1 → ClientsRefine new.clients (map left w.primary.connections) (cut_at w.primary.calls w.standby.position)
+    → ((c seat : ℕ) → ¬ HasSeat (seats_of new.clients.sessions.connections.items) c seat) → new.wire.frames ≡ old.wire.frames → new.wire.arrivals.delivered.items ≡ [] → new.wire.arrivals.acknowledgements ≡ old.wire.arrivals.acknowledgements
+    → new.lives.primary ≡ Crashed → new.lives.standby ≡ Ended → new.lives.asked ≡ record old.lives.asked { primary = old.lives.asked.standby } → NodesRefine (promoted_holder second) (former_holder second) new (promoted w)
+promoted-stands {first} {second} {old} new w stands down floor ours ended unseated frames lost told primary standby asked =
+    let calls = w.primary.calls in
+    let p = w.standby.position in
+    let lives = stands.lives in
+    let sound = stands.sound in
+    let epoch : second.epoch + 1 ≡ w.standby.epoch + 1 = ap (λ n. n + 1) (lives.second_epoch ∙ sym sound.standby.epoch_is) in
+    let within : p ≤ position_of calls = standby-within w sound in
+    let parts : DownRefine (promoted_holder second) (former_holder second) new (promoted w) =
+    record {
+      around = around-promoted w (around-stands stands.parts) sound (former_holder second) (surroundings_of new) ended (ours ∙ epoch) frames lost told standby;
+      unseated = unseated;
+      committer = refl;
+      link = refl;
+      ends = omega (arith, position_of-cut_at calls p, within);
+      newest = refl;
+      none_told = refl;
+      image = IsDown-cut (promoted_holder second) calls p p new.primary.device (omega arith) down;
+      opened = refl;
+      recalls = recalled-none p p (past_of (cut_at calls p)) down.contents (omega (arith, floor)) (omega (arith, floor));
+    } in
+    record {
+      sound = sound-promoted w sound;
+      lives = record {
+        allowed_are = lives.allowed_are;
+        primary_disk = lives.standby_disk ∙ sym (ap primary_number standby);
+        standby_disk = lives.standby_disk;
+        primary_failing = lives.standby_failing ∙ sym (ap (λ (asked : AskedFences). asked.primary) asked);
+        standby_failing = lives.standby_failing ∙ sym (ap (λ (asked : AskedFences). asked.standby) asked);
+        primary = sym (ap (λ (c : Condition). life_as c []) primary);
+        standby = sym (ap (λ (c : Condition). life_as c []) standby);
+        follows = lives.follows;
+        first_role = refl;
+        second_role = refl;
+        first_epoch = epoch;
+        second_epoch = epoch;
+      };
+      parts = inr (inl (ap has_crashed primary, parts));
+    }
+
 comes-forward : (old : Pair) (node' : Node) (call : Cut) (k : ℕ) (picks : Vec ℕ Global) (new : Pair) (found : Option Record) (r : Record) → HasFallen old call k picks node'.device → Finds found node'.device → found ≡ Some r
     → r.role ≡ role.Primary → ComesForward r.position r.epoch (record old { standby = node' }) new → Cuts old (events.Crash node.Standby call k picks) (Ok true) new
 comes-forward old node' call k picks new found r fallen finds is_found own comes =
@@ -227,13 +267,10 @@ comes-forward old node' call k picks new found r fallen finds is_found own comes
         let told_as = same_found found r here.contents.current is_found (finds-kept second w.primary.calls q found node'.device finds it.lines_are here) in
         apart (sym (here.contents_at.role_is ∙ stands.lives.second_role) ∙ sym (ap (λ (one : Record). one.role) told_as) ∙ own))
 
-    fallen-stands : (first second : Holder) (w : World) → NodesRefine first second old w → Step w (events.Crash node.Standby call k picks) true (promoted w)
-        → NodesRefine (promoted_holder second) (former_holder second) new (promoted w)
-    fallen-stands first second w stands step =
+    fallen-stands : (first second : Holder) (w : World) → NodesRefine first second old w → NodesRefine (promoted_holder second) (former_holder second) new (promoted w)
+    fallen-stands first second w stands =
         let calls = w.primary.calls in
         let p = w.standby.position in
-        let lives = stands.lives in
-        let sound = stands.sound in
         let it = fallen.falls first second w stands in
         let ahead_held = (ahead first second w stands).1 in
         let held = ahead_held.kept in
@@ -241,74 +278,21 @@ comes-forward old node' call k picks new found r fallen finds is_found own comes
         let fell : (down : IsDown (promoted_holder second) calls p new.primary.device) × (down.contents.current.floor ≡ p) =
         subst (λ (d : State). (down : IsDown (promoted_holder second) calls p d) × (down.contents.current.floor ≡ p)) (sym comes.taken)
         (promoted-down second calls p node'.device ahead_held fallen.settled it.lines_are) in
-        let image = fell.0 in
         let here : r.position ≡ p = ap (λ (one : Record). one.position) told_as ∙ held.contents_at.at in
-        let epoch : second.epoch + 1 ≡ w.standby.epoch + 1 = ap (λ n. n + 1) (lives.second_epoch ∙ sym sound.standby.epoch_is) in
-        let ours : new.wire.link.epoch ≡ w.standby.epoch + 1 = comes.epoch_is ∙ ap (λ (one : Record). one.epoch) told_as ∙ held.contents_at.epoch_is ∙ epoch in
-        let less : old.wire.link.epoch < new.wire.link.epoch = omega (arith, ours, link-epoch stands.parts, sound.standby.epoch_is) in
-        let within : p ≤ position_of calls = standby-within w sound in
-        let down : DownRefine (promoted_holder second) (former_holder second) new (promoted w) =
-        record {
-          sessions = subst (λ n. ClientsRefine new.clients (map left w.primary.connections) (cut_at calls n)) here (comes.ends w (sessions-stand stands.parts));
-          unseated = comes.unseated;
-          committer = refl;
-          link = refl;
-          ends = omega (arith, position_of-cut_at calls p, within);
-          newest = refl;
-          none_told = refl;
-          image = IsDown-cut (promoted_holder second) calls p p new.primary.device (omega arith) image;
-          opened = refl;
-          recalls = recalled-none p p (past_of (cut_at calls p)) image.contents (omega (arith, fell.1)) (omega (arith, fell.1));
-          epoch = ours;
-          frames = frames-earlier w.standby.role w.standby.position old.wire.link.epoch new.wire.link.epoch (reach w) calls (cut_at calls p) new.wire.frames w.wire.frames less
-              (subst (λ e. All (IsFrameWithin e w.standby.role w.standby.position (reach w)) w.wire.frames) (sym (link-epoch stands.parts)) sound.wire.frames)
-              (subst (λ (texts : List (Vec ℕ Global)). AreFramesSent old.wire.link.epoch calls texts w.wire.frames) (sym comes.frames) (frames-stand stands.parts));
-          own = λ still. absurd (true≢false (sym over ∙ still));
-          arrivals = record {
-            delivered = subst (λ (frames : List Frame). AreFramesRead new.wire.link.epoch (cut_at calls p) frames []) (sym comes.lost) tt;
-            acknowledged = subst (λ (acks : Vec (Vec ℕ Global) Global). AreAcksSent acks.items w.wire.acknowledgements) (sym comes.told) (arrivals-stand stands.parts).acknowledged;
-          };
-          standby = record {
-            stands = λ up. absurd (true≢false (sym (sym (ap runs comes.standby) ∙ up)));
-            left = λ stopped. absurd (true≢false (sym (sym (ap has_stopped comes.standby) ∙ stopped)));
-            down = λ fell. absurd (true≢false (sym (sym (ap has_crashed comes.standby) ∙ fell)));
-          };
-        } in
-        let refines : EitherRefines (promoted_holder second) (former_holder second) new (promoted w) = inr (inl (ap has_crashed comes.primary, down)) in
-        record {
-          sound = sound-step w (events.Crash node.Standby call k picks) true (promoted w) step sound;
-          lives = record {
-            allowed_are = lives.allowed_are;
-            primary_disk = lives.standby_disk ∙ sym (ap primary_number comes.standby);
-            standby_disk = lives.standby_disk;
-            primary_failing = lives.standby_failing ∙ sym (ap (λ (asked : AskedFences). asked.primary) comes.asked);
-            standby_failing = lives.standby_failing ∙ sym (ap (λ (asked : AskedFences). asked.standby) comes.asked);
-            primary = sym (ap (λ (c : Condition). life_as c []) comes.primary);
-            standby = sym (ap (λ (c : Condition). life_as c []) comes.standby);
-            follows = lives.follows;
-            first_role = refl;
-            second_role = refl;
-            first_epoch = epoch;
-            second_epoch = epoch;
-          };
-          parts = refines;
-        }
+        let ended = subst (λ n. ClientsRefine new.clients (map left w.primary.connections) (cut_at calls n)) here (comes.ends w (around-stands stands.parts).sessions) in
+        promoted-stands new w stands fell.0 fell.1 (comes.epoch_is ∙ ap (λ (one : Record). one.epoch) told_as ∙ held.contents_at.epoch_is) ended comes.unseated comes.frames comes.lost comes.told comes.primary comes.standby comes.asked
 
     shortened : (first second : Holder) (w : World) → NodesRefine first second old w → CutsStandby first second w call k picks old new
     shortened first second w stands =
         let it = fallen.falls first second w stands in
         let others = torn w.standby.life ++ left_by w node.Standby call in
         let step : Step w (events.Crash node.Standby call k picks) true (promoted w) =
-        record {
-          done = sym (fall-enabled call k picks stands.lives ∙ it.may);
-          happens = λ did. record { remain = AsPrimary; one = subst (λ (one : Remains). Contains (may_remain w node.Standby call) one) (ahead first second w stands).0 it.held.is_one; now = refl };
-          stands = λ did. absurd (true≢false did);
-        } in
+        does-step (fall-enabled call k picks stands.lives ∙ it.may) (record { remain = AsPrimary; one = subst (λ (one : Remains). Contains (may_remain w node.Standby call) one) (ahead first second w stands).0 it.held.is_one; now = refl }) in
         record {
           world = promoted w;
           step = step;
           began = fallen.whole;
-          goes = inr (record { former = former_holder second; stands = fallen-stands first second w stands step; ended = over });
+          goes = inr (record { former = former_holder second; stands = fallen-stands first second w stands; ended = over });
           leaves = subst (λ (d : State). LeavesOnly d (second_device new) (OpensNear second w.primary.calls w.standby.position others)) (sym (devices-are old fallen.whole).1)
               (subst (λ (d : State). LeavesOnly old.standby.device d (OpensNear second w.primary.calls w.standby.position others)) (sym second_is) it.leaves);
           first_stays = first_is ∙ sym (devices-are old fallen.whole).0;

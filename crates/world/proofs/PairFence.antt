@@ -1,5 +1,5 @@
 -- What the fence of the primary does to the pair.
-use Rattle.std.proofs.Common.{rules, ◌≡◌, inl, inr, true, false, not, ◌&&◌, Ok, refl, sym, ap, subst, ◌∙◌, true≢false}
+use Rattle.std.proofs.Common.{rules, ◌≡◌, inl, inr, true, false, not, ◌&&◌, Ok, refl, sym, ap, subst, ◌∙◌}
 use Rattle.pmem.specs.Crash.{IsImage}
 use Rattle.model.specs.Image.{Image}
 use Rattle.model.specs.Standing.{Holder}
@@ -7,18 +7,17 @@ use Rattle.wbl_engine.specs.Contents.{Keeps}
 use Rattle.machine.specs.declared.event.Cut.TheVariants as cut
 use Rattle.machine.specs.declared.event.Event.TheVariants.{Fence}
 use Rattle.machine.specs.declared.event.Node.TheVariants as node
-use Rattle.machine.specs.Event.{Allowed, Life, Retired, World, Step, is_enabled, is_retired, torn, with_life}
-use Rattle.machine.proofs.SoundEvents.{sound-step}
+use Rattle.machine.specs.Event.{Allowed, Life, Retired, World, is_enabled, is_retired, torn, with_life}
 use Rattle.world.specs.Condition.{has_ended}
 use Rattle.world.specs.Remaining.{LeftBy}
 use Rattle.world.specs.declared.condition.Condition.TheVariants.{Ended}
-use Rattle.world.specs.Pair.{Acts, AreLives, EitherRefines, NodesRefine, Pair, StillRefine, Steps, Lives}
+use Rattle.world.specs.Pair.{Acts, AreLives, NodesRefine, Pair, StillRefine, Steps, Lives}
+use Rattle.world.proofs.AroundLemmas.{around-stands}
 use Rattle.world.proofs.DownLemmas.{settled-image}
 use Rattle.world.proofs.LeftLemmas.{left-fenced, left-running, left-there}
 use Rattle.world.proofs.LivesLemmas.{retired-as}
-use Rattle.world.proofs.PairLemmas.{none-added, sessions-stand, standby-refines, untouched}
+use Rattle.world.proofs.PairLemmas.{none-added, untouched, does-step, steps-to}
 use Rattle.world.proofs.PairLives.{stays-acts}
-use Rattle.world.proofs.PairStandby.{arrivals-stand, frames-stand, link-epoch, own-frames}
 
 -- it is enabled where the primary was not fenced
 fence-enabled : {first second : Holder} {lives : Lives} {w : World} → AreLives first second lives w → is_enabled w Fence ≡ not (has_ended lives.primary)
@@ -60,22 +59,10 @@ primary-fences old unfenced sized = record { steps = steps; cut = tt; calls = no
     steps first second w stands =
         let lives = stands.lives in
         let w' = with_life node.Primary (Retired (torn w.primary.life)) w in
-        let step : Step w Fence true w' = record { done = sym (fence-enabled lives ∙ ap not unfenced); happens = λ did. refl; stands = λ did. absurd (true≢false did) } in
         let still : StillRefine first second new w' =
         record {
-          sessions = sessions-stand stands.parts;
+          around = around-stands stands.parts;
           lines_are = primary-lines first second old w sized stands;
           left = λ image is. left-fenced first w image (primary-left first second old w stands image is);
-          epoch = link-epoch stands.parts;
-          frames = frames-stand stands.parts;
-          own = own-frames stands.parts;
-          arrivals = arrivals-stand stands.parts;
-          standby = standby-refines stands.parts;
         } in
-        let refines : EitherRefines first second new w' = inr (inr (refl, still)) in
-        record {
-          world = w';
-          step = step;
-          stands = record { sound = sound-step w Fence true w' step stands.sound; lives = search (rules, lives); parts = refines };
-          moves = untouched first second old new w w' refl refl stands.parts;
-        }
+        steps-to w' stands (does-step (fence-enabled lives ∙ ap not unfenced) refl) (search (rules, lives)) (inr (inr (refl, still))) (untouched first second old new w w' refl refl stands.parts)

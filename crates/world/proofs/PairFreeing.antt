@@ -1,5 +1,5 @@
 -- What freeing a list does to the pair, of what it does to its parts.
-use Rattle.std.proofs.Common.{rules, ◌≡◌, ◌⊎◌, ◌-◌, ◌<◌, ◌≤◌, ℕ, inl, inr, Bool, true, false, cond, List, ◌∷◌, ◌++◌, length, drop, Result, Ok, Err, refl, sym, ap, subst, ◌∙◌, arith, length-append, true≢false, []}
+use Rattle.std.proofs.Common.{rules, ◌≡◌, ◌⊎◌, ◌-◌, ◌<◌, ◌≤◌, inl, inr, Bool, true, false, cond, List, ◌∷◌, ◌++◌, length, drop, Result, Ok, Err, refl, sym, ap, subst, ◌∙◌, arith, length-append, true≢false, []}
 use Rattle.kv_types.specs.declared.refusal.Refusal.{Refusal}
 use Rattle.kv_types.specs.declared.refusal.Refusal.TheVariants.{Memory, Exhausted, Fault}
 use Rattle.std.proofs.Math.Nat.{le-max_left, le-max_right}
@@ -37,7 +37,7 @@ use Rattle.machine.specs.declared.event.Event.TheVariants as events
 use Rattle.machine.specs.Event.{Work as MachineWork, World, has_room, may_happen, reached_lists}
 use Rattle.machine.specs.Event as machine
 use Rattle.world.specs.Cause.{Breaks, EndsBy, IsAtLimit, Resting, RestsAtLimit, asks_memory}
-use Rattle.world.specs.Committing.{CommittingRefines, Leads, OpensAt, OpensAtEither, StageRefines, link_has_room, next_primary, reached_now}
+use Rattle.world.specs.Committing.{CommittingRefines, Leads, OpensAt, StageRefines, link_has_room, next_primary, reached_now}
 use Rattle.node_steps.specs.GroupSpan.{AreWorkOf, positions_of_lists}
 use Rattle.world.specs.Pair.{Does, FreeingRefines, IsCut, Pair, PairRefines, PartsRefine}
 use Rattle.world.specs.Effect.{FreesOldest}
@@ -57,7 +57,7 @@ use Rattle.world.proofs.EngineLemmas.{Opens-engine}
 use Rattle.world.proofs.PairLemmas.{Led, cut-for, cut-same, none-added, rests-running, rests-standby, stays-does, tells}
 use Rattle.world.proofs.QueueLemmas.{free-disabled, free-enabled, reached-positions, room-link}
 use Rattle.world.proofs.PairTurns.{Took, Waiting-same, pair_of, pair_with}
-use Rattle.world.proofs.FreeingLemmas.{contents-raised, contents-without, engine-freed, freed-moments, primary-steps, raising-limit}
+use Rattle.world.proofs.FreeingLemmas.{contents-raised, contents-without, engine-freed, freed-moments, primary-steps, raising-limit, stays-near}
 use Rattle.world.specs.Remaining.{LeftBy}
 use Rattle.world.proofs.LeftLemmas.{left-running, left-still, left-there}
 use Rattle.world.proofs.RecallLemmas.{remembered-from, remembers-raised, remembers-renumbered}
@@ -120,7 +120,7 @@ module _ {E : Type 0} (device : E → State) (contents : E → Contents) (is_fau
             | inl was ↦ absurd (true≢false (sym was ∙ stands.parts.engine.sound))
             | inr now ↦ now
           ] in
-          let leaves = LeavesOnly-weaken (OpensAtEither first w.primary.calls w.primary.committer.position (next_primary w)) (λ image at. inl at) (moments first second w stands.parts) in
+          let leaves = stays-near first w.primary.calls w.primary.committer.position (next_primary w) (device before.engine) (device after.engine) (moments first second w stands.parts) in
           cut-for first second event refusal old new w (nodes-refine stands) (tells pair.clients.transcript) refl (enabled-is (own-runs stands event own) ∙ enabled first second w stands)
           (subst (λ (r : Refusal). EndsBy r event (Led first second old new w)) (sym fault)
           (breaks first second w old new (inl (record { leaves = leaves; failures = failed }), rests-standby first second old w (nodes-refine stands))))
@@ -260,7 +260,9 @@ module _ {E : Type 0} (device : E → State) (contents : E → Contents) (is_fau
             primary-steps events.Free first second w (machine.freed w) old (freed_with after waiting' (pair.primary.notices ++ frees.frees.answer.0 ∷ []) handed) refl
             (record { allowed = refl; primary_disk = refl; standby_disk = refl; primary = refl; standby = refl; role = refl; epoch = refl })
             stands refl refl frees.frees.sound.1 (inl refl)
-            (sym (free_may first second w stands)) (moments-then (Ok ok) frees first second w stands.parts) (free-parts ok frees first second w stands);
+            (sym (free_may first second w stands))
+            (stays-near first w.primary.calls w.primary.committer.position w.primary.committer.position (device before.engine) (device after.engine) (moments-then (Ok ok) frees first second w stands.parts))
+            (free-parts ok frees first second w stands);
         cut = tt;
         calls = none-added _ _ refl;
       }

@@ -1,5 +1,5 @@
 -- What each event does to a pair whose primary runs, of what it does to its parts.
-use Rattle.std.proofs.Common.{rules, ◌≡◌, inl, inr, ℕ, ◌≤◌, Bool, true, false, List, ◌∷◌, ◌++◌, length, slice_index_or, Result, Ok, Err, IfOk, IfErr, OnErr, Vec, Global, refl, sym, ap, ap₂, subst, ◌∙◌, arith, le_refl, true≢false, [], All}
+use Rattle.std.proofs.Common.{rules, ◌≡◌, inl, inr, ℕ, ◌≤◌, Bool, true, false, List, ◌∷◌, ◌++◌, length, slice_index_or, Result, Ok, Err, IfOk, IfErr, OnErr, Vec, Global, refl, sym, ap, ap₂, subst, ◌∙◌, arith, le_refl, true≢false, []}
 use Rattle.std.proofs.lemmas.List.{length-map}
 use Rattle.kv_types.specs.declared.refusal.Refusal.{Refusal}
 use Rattle.kv_types.specs.declared.refusal.Refusal.TheVariants.{Memory}
@@ -11,18 +11,19 @@ use Rattle.machine.specs.declared.event.Event.{Event}
 use Rattle.machine.specs.declared.event.Event.TheVariants as events
 use Rattle.machine.specs.declared.event.Mark.{Mark}
 use Rattle.machine.specs.Connection.{having_seen, is_open_at, may_enter, with_outbound}
-use Rattle.machine.specs.Event.{Connection, Remains, Role, World, reach, Happens, Step, Turns, changed_at, left, new_connection, is_enabled, may_happen, called, torn, with_connections}
+use Rattle.machine.specs.Event.{Connection, Remains, World, reach, Happens, Step, Turns, changed_at, left, new_connection, is_enabled, may_happen, called, torn, with_connections}
 use Rattle.machine.proofs.SoundConnection.{reach-low, uncalled}
-use Rattle.machine.specs.Sound.{IsStandbyLeft, Sound}
+use Rattle.machine.specs.Sound.{Sound}
 use Rattle.machine.proofs.GroupLemmas.{chain-le}
 use Rattle.machine.proofs.SoundEvents.{sound-step}
 use Rattle.connections.specs.Going.{Goes}
 use Rattle.world.specs.Cause.{OrLies, Stretch, EndsBy, asks_memory, Resting}
 use Rattle.world.specs.Committing.{Rests, next_primary, next_standby}
-use Rattle.world.specs.Remaining.{Remain}
+use Rattle.world.specs.Remaining.{Remain, MovesNear}
 use Rattle.connections.specs.Session.{IsListOf, SequencerRefines, SeatsFollow, KeepsSeats, AddsOne, StandsStill, TakesTurn, TellsTheSame, seats_of}
-use Rattle.world.specs.Pair.{Clients, ClientsRefine, HasStandby, Pair, EitherRefines, NodesRefine, PartsRefine, PairRefines, IsCut, MovesBoth, Steps, Does}
+use Rattle.world.specs.Pair.{Clients, ClientsRefine, HasStandby, Pair, EitherRefines, NodesRefine, PartsRefine, PairRefines, IsCut, MovesBoth, Steps, Does, AreLives}
 use Rattle.world.specs.Standby.{Node, StandbyRefines}
+use Rattle.world.proofs.AroundLemmas.{around-stands, around-clients, around-grows}
 use Rattle.world.proofs.LivesLemmas.{Runs, enabled-is, is_own, is_plain, lives-step, nodes-refine, own-runs}
 use Rattle.primary.specs.Standing.{StandsOver}
 use Rattle.primary.proofs.AheadLemmas.{laid-engine}
@@ -39,13 +40,10 @@ use Rattle.node_steps.proofs.RecallLemmas.{remembers-still}
 use Rattle.world.proofs.OpeningLemmas.{opening-still}
 use Rattle.node_steps.proofs.EngineLemmas.{EngineStands-grows}
 use Rattle.world.proofs.EngineLemmas.{Opens-engine, rests-same}
-use Rattle.world.proofs.RemainLemmas.{LeavesOne-grows, keeps-near, left-near, lies-still, near-rest, remain-from}
+use Rattle.world.proofs.RemainLemmas.{keeps-near, left-near, lies-still, near-rest, remain-from}
 use Rattle.node_steps.proofs.CommittingLemmas.{CommittingRefines-grows}
-use Rattle.world.proofs.FrameLemmas.{AreFramesSent-grows}
 use Rattle.world.proofs.LinkLemmas.{LinkRefines-grows}
-use Rattle.world.proofs.StandbyLemmas.{StandbyStands-grows}
-use Rattle.world.proofs.DownLemmas.{IsDown-grows, Opens-down}
-use Rattle.world.proofs.ArrivalLemmas.{ArrivalsRefine-grows}
+use Rattle.world.proofs.DownLemmas.{Opens-down}
 use Rattle.world.specs.Condition.{has_ended, runs}
 use Rattle.world.specs.declared.condition.Condition.{Condition}
 use Rattle.world.specs.declared.condition.Condition.TheVariants.{Running, Stopped, Crashed, Ended}
@@ -71,29 +69,14 @@ Remain-standby holder epoch calls position remains node Stopped whole refines = 
 Remain-standby holder epoch calls position remains node Crashed whole refines = remain-from holder calls position remains node.device (Opens-down holder calls position node.device (refines.down refl))
 Remain-standby holder epoch calls position remains node Ended whole refines = absurd (true≢false whole)
 
--- the standby, whether the primary runs or not
-pub standby-refines : {first second : Holder} {pair : Pair} {w : World} → EitherRefines first second pair w → StandbyRefines second pair.wire.link.epoch w.primary.calls w.standby.position (torn w.standby.life) pair.standby pair.lives.standby
-standby-refines parts = elim parts [
-  | inl up ↦ up.1.standby
-  | inr (inl down) ↦ down.1.standby
-  | inr (inr still) ↦ still.1.standby
-]
-
 pub standby-stands : (first second : Holder) (pair : Pair) (w : World) → EitherRefines first second pair w → HasStandby pair → Remain second w.primary.calls w.standby.position (torn w.standby.life) pair.standby.device
-standby-stands first second pair w parts whole = Remain-standby second pair.wire.link.epoch w.primary.calls w.standby.position (torn w.standby.life) pair.standby pair.lives.standby whole (standby-refines parts)
+standby-stands first second pair w parts whole = Remain-standby second pair.wire.link.epoch w.primary.calls w.standby.position (torn w.standby.life) pair.standby pair.lives.standby whole (around-stands parts).standby
 
 pub primary-stands : (first second : Holder) (pair : Pair) (w : World) → EitherRefines first second pair w → Remain first w.primary.calls w.primary.committer.position (torn w.primary.life) pair.primary.device
 primary-stands first second pair w parts = elim parts [
   | inl up ↦ remain-from first w.primary.calls w.primary.committer.position (torn w.primary.life) pair.primary.device (Opens-engine _ _ _ _ _ _ up.1.engine)
   | inr (inl down) ↦ remain-from first w.primary.calls w.primary.committer.position (torn w.primary.life) pair.primary.device (Opens-down first w.primary.calls w.primary.committer.position pair.primary.device down.1.image)
   | inr (inr still) ↦ λ image is. left-near first w image (still.1.left image is)
-]
-
-pub sessions-stand : {first second : Holder} {pair : Pair} {w : World} → EitherRefines first second pair w → ClientsRefine pair.clients w.primary.connections w.primary.calls
-sessions-stand parts = elim parts [
-  | inl up ↦ up.1.sessions
-  | inr (inl down) ↦ down.1.sessions
-  | inr (inr still) ↦ still.1.sessions
 ]
 
 -- of what was asked of the devices nothing is said there
@@ -114,25 +97,41 @@ untouched first second old new w w' device device' parts =
       standby = λ whole. near-rest second w.primary.calls w.standby.position w'.standby.position (torn w.standby.life) old.standby.device new.standby.device device' (standby-stands first second old w parts whole);
     }
 
+-- the primary's was moved, and the standby's was not touched
+pub moves-primary : (first second : Holder) (old new : Pair) (w w' : World) → EitherRefines first second old w → new.standby.device ≡ old.standby.device
+    → MovesNear first w.primary.calls w.primary.committer.position w'.primary.committer.position (torn w.primary.life) old.primary.device new.primary.device → MovesBoth first second old new w w'
+moves-primary first second old new w w' parts same moves =
+    record { primary = moves; standby = λ whole. near-rest second w.primary.calls w.standby.position w'.standby.position (torn w.standby.life) old.standby.device new.standby.device same (standby-stands first second old w parts whole) }
+
+-- the standby's was, and the primary's was not
+pub moves-standby : (first second : Holder) (old new : Pair) (w w' : World) → EitherRefines first second old w → new.primary.device ≡ old.primary.device
+    → (HasStandby old → MovesNear second w.primary.calls w.standby.position w'.standby.position (torn w.standby.life) old.standby.device new.standby.device) → MovesBoth first second old new w w'
+moves-standby first second old new w w' parts same moves =
+    record { primary = near-rest first w.primary.calls w.primary.committer.position w'.primary.committer.position (torn w.primary.life) old.primary.device new.primary.device same (primary-stands first second old w parts); standby = moves }
+
+-- an event that was enabled
+pub does-step : {w w' : World} {event : Event} → is_enabled w event ≡ true → Happens w event w' → Step w event true w'
+does-step enabled happens = record { done = sym enabled; happens = λ did. happens; stands = λ did. absurd (true≢false did) }
+
+pub steps-to : {first second : Holder} {w : World} {event : Event} {old new : Pair} (w' : World) → NodesRefine first second old w → Step w event true w' → AreLives first second new.lives w' → EitherRefines first second new w'
+    → MovesBoth first second old new w w' → Steps first second w event true old new
+steps-to {first} {second} {w} {event} w' stands step lives parts moves =
+    record { world = w'; step = step; stands = record { sound = sound-step w event true w' step stands.sound; lives = lives; parts = parts }; moves = moves }
+
+-- one that was not
+pub steps-none : {first second : Holder} {w : World} {event : Event} {old new : Pair} → NodesRefine first second old w → is_enabled w event ≡ false → NodesRefine first second new w
+    → new.primary.device ≡ old.primary.device → new.standby.device ≡ old.standby.device → Steps first second w event false old new
+steps-none {first} {second} {w} {event} {old} {new} before never after device device' =
+    record { world = w; step = record { done = sym never; happens = λ did. absurd (true≢false (sym did)); stands = λ did. refl }; stands = after; moves = untouched first second old new w w device device' before.parts }
+
 -- an event that touches no device
 pub goes-either : (first second : Holder) (w w' : World) (event : Event) (did : Bool) (old new : Pair) → new.primary.device ≡ old.primary.device → new.standby.device ≡ old.standby.device → NodesRefine first second old w
     → Runs first second new.lives w event → is_plain event ≡ true → Happens w event w'
     → Goes (may_happen w event) did (EitherRefines first second new w') (EitherRefines first second new w) → Steps first second w event did old new
 goes-either first second w w' event true old new device device' before runs plain happens goes =
-    let step : Step w event true w' = record { done = goes.done ∙ sym (enabled-is runs); happens = λ did. happens; stands = λ did. absurd (true≢false did) } in
-    record {
-      world = w';
-      step = step;
-      stands = record { sound = sound-step w event true w' step before.sound; lives = lives-step runs plain happens; parts = goes.goes refl };
-      moves = untouched first second old new w w' device device' before.parts;
-    }
+    steps-to w' before (does-step (enabled-is runs ∙ sym goes.done) happens) (lives-step runs plain happens) (goes.goes refl) (untouched first second old new w w' device device' before.parts)
 goes-either first second w w' event false old new device device' before runs plain happens goes =
-    record {
-      world = w;
-      step = record { done = goes.done ∙ sym (enabled-is runs); happens = λ did. absurd (true≢false (sym did)); stands = λ did. refl };
-      stands = record { sound = before.sound; lives = runs.lives; parts = goes.stays refl };
-      moves = untouched first second old new w w device device' before.parts;
-    }
+    steps-none before (enabled-is runs ∙ sym goes.done) (record { sound = before.sound; lives = runs.lives; parts = goes.stays refl }) device device'
 
 -- of one whose primary runs
 pub goes-steps : (first second : Holder) (w w' : World) (event : Event) (did : Bool) (old new : Pair) → new.primary.device ≡ old.primary.device → new.standby.device ≡ old.standby.device → NodesRefine first second old w
@@ -166,7 +165,7 @@ Led first second old new w first_last second_last =
 pub cut-for : (first second : Holder) (event : Event) (refusal : Refusal) (old new : Pair) (w : World) → NodesRefine first second old w → TellsTheSame old.clients.transcript new.clients.transcript
     → has_ended new.lives.standby ≡ has_ended old.lives.standby → is_enabled w event ≡ true → EndsBy refusal event (Led first second old new w) → IsCut first second event refusal old new w
 cut-for first second event refusal old new w stands same nodes enabled cause =
-    let told = (sessions-stand stands.parts).told in
+    let told = (around-stands stands.parts).sessions.told in
     record {
       enabled = enabled;
       calls = same.calls ∙ told.calls_are;
@@ -209,12 +208,7 @@ none-added old new same = subst (AddsOne old) (sym same) (record { one = omega a
 pub stays-does : (old : Pair) (event : Event) → is_own event ≡ true → ((first second : Holder) (w : World) → PairRefines first second old w → false ≡ may_happen w event) → Does old event (Ok false) old
 stays-does old event own never =
     record {
-      steps = λ first second w stands. record {
-        world = w;
-        step = record { done = never first second w stands ∙ sym (enabled-is (own-runs stands event own)); happens = λ did. absurd (true≢false (sym did)); stands = λ did. refl };
-        stands = nodes-refine stands;
-        moves = untouched first second old old w w refl refl (inl (stands.serves, stands.parts));
-      };
+      steps = λ first second w stands. steps-none (nodes-refine stands) (enabled-is (own-runs stands event own) ∙ sym (never first second w stands)) (nodes-refine stands) refl refl;
       cut = tt;
       calls = none-added _ _ refl;
     }
@@ -237,6 +231,7 @@ seats-parts : (first second : Holder) (old : Pair) (clients : Clients) (sequence
 seats-parts first second old clients sequencer connections w parts stand sequencer_stands follow still =
     search (
       rules,
+      around-clients parts.around clients connections stand,
       leads-still old.primary.contents old.primary.committing.waiting.items old.primary.committing.aside old.primary.sequencer sequencer old.primary.notices still parts.leads,
       freeing-still old.primary.sequencer sequencer old.primary.notices old.primary.contents w.primary (with_connections connections w).primary still refl refl refl refl parts.freeing,
       remembered-on w.standby.position w.standby.position w.primary.committer.position (past_of w.primary.calls) old.primary.contents old.primary.committing.waiting.items old.primary.committing.aside old.primary.sequencer sequencer (le_refl w.standby.position) still.ended still.newest parts.remembers,
@@ -344,16 +339,6 @@ reach-within w s = omega (arith, reach-below w, primary-within w s)
 pub standby-within : (w : World) → Sound w → w.standby.position ≤ position_of w.primary.calls
 standby-within w s = omega (arith, s.standby.behind, reach-within w s)
 
-StandbyRefines-grows : (role : Role) (holder : Holder) (epoch : ℕ) (calls more : List Call) (p high : ℕ) (remains : List Remains) (node : Node) (condition : Condition) → p ≤ high → high ≤ position_of calls
-    → All (IsStandbyLeft role p high) remains → StandbyRefines holder epoch calls p remains node condition → StandbyRefines holder epoch (calls ++ more) p remains node condition
-StandbyRefines-grows role holder epoch calls more p high remains node condition le within bound refines =
-    let reached : p ≤ position_of calls = omega (arith, le, within) in
-    record {
-      stands = λ up. StandbyStands-grows holder epoch calls more p node reached (refines.stands up);
-      left = λ stopped. LeavesOne-grows role holder calls more p high remains node.device le within bound (refines.left stopped);
-      down = λ down. IsDown-grows holder calls more p node.device reached (refines.down down);
-    }
-
 called-parts : (first second : Holder) (old : Pair) (clients : Clients) (sequencer : Sequencing) (w : World) (c : ℕ) (call : Call) → PairRefines first second old w
     → ClientsRefine clients (called c call w).primary.connections (w.primary.calls ++ call ∷ []) → SequencerRefines (w.primary.calls ++ call ∷ []) w.primary.committer.closed sequencer
     → SeatsFollow (w.primary.calls ++ call ∷ []) (seats_of clients.sessions.connections.items) sequencer → StandsStill old.primary.sequencer sequencer
@@ -361,7 +346,7 @@ called-parts : (first second : Holder) (old : Pair) (clients : Clients) (sequenc
 called-parts first second old clients sequencer w c call stands sessions_stand sequencer_stands follow still =
     let parts = stands.parts in
     record {
-      sessions = sessions_stand;
+      around = around-grows w parts.around stands.sound (reach-within w stands.sound) clients (called c call w).primary.connections (call ∷ []) sessions_stand;
       sequencer = sequencer_stands;
       follow = follow;
       committing = CommittingRefines-grows w.primary.calls (call ∷ []) old.primary.committing w.primary.committer parts.committing;
@@ -372,13 +357,7 @@ called-parts first second old clients sequencer w c call stands sessions_stand s
           (remembers-still old.primary.contents.current.floor w.primary.committer.position w.primary.committer.closed w.primary.calls (call ∷ []) old.primary.contents old.primary.committing.waiting.items old.primary.committing.aside old.primary.sequencer sequencer
           old.primary.notices parts.engine.contents_at.at parts.sequencer parts.leads still.ended still.newest parts.remembers.remembers);
       opening = opening-still w.standby.position w.standby.position w.primary.opened w.primary.calls (call ∷ []) old.wire.opening (le_refl w.standby.position) parts.opening;
-      epoch = parts.epoch;
       link = LinkRefines-grows w.primary.calls (call ∷ []) old.wire.link old.primary.handed old.wire.remote w.primary.link parts.link;
-      frames = AreFramesSent-grows old.wire.link.epoch w.primary.calls (call ∷ []) old.wire.frames w.wire.frames parts.frames;
-      own = parts.own;
-      arrivals = ArrivalsRefine-grows old.wire.link.epoch w.primary.calls (call ∷ []) old.wire.arrivals w.standby.waiting w.wire.acknowledgements parts.arrivals;
-      standby = StandbyRefines-grows w.standby.role second old.wire.link.epoch w.primary.calls (call ∷ []) w.standby.position (reach w) (torn w.standby.life) old.standby old.lives.standby stands.sound.standby.behind
-          (reach-within w stands.sound) stands.sound.standby_left parts.standby;
     }
 
 turn-steps : (first second : Holder) (old : Pair) (clients : Clients) (sequencer : Sequencing) (w : World) (c : ℕ) (did : Bool) → PairRefines first second old w
@@ -401,13 +380,7 @@ turn-steps first second old clients sequencer w c false stands takes keeps still
     (subst (SequencerRefines w.primary.calls w.primary.committer.closed) (sym stayed.1) stands.parts.sequencer)
     (subst (SeatsFollow w.primary.calls (seats_of clients.sessions.connections.items)) (sym stayed.1)
     (follow-kept w.primary.calls old.clients.sessions.connections.items clients.sessions.connections.items old.primary.sequencer keeps stands.parts.follow)) still in
-    let runs = own-runs stands (events.Turn c) refl in
-    record {
-      world = w;
-      step = record { done = takes.done ∙ sym (enabled-is runs); happens = λ did. absurd (true≢false (sym did)); stands = λ did. refl };
-      stands = record { sound = stands.sound; lives = stands.lives; parts = inl (stands.serves, parts) };
-      moves = untouched first second old (with_turn clients sequencer old) w w refl refl (inl (stands.serves, stands.parts));
-    }
+    steps-none (nodes-refine stands) (enabled-is (own-runs stands (events.Turn c) refl) ∙ sym takes.done) (record { sound = stands.sound; lives = stands.lives; parts = inl (stands.serves, parts) }) refl refl
 
 pub turn-does : (old : Pair) (clients : Clients) (sequencer : Sequencing) (c : ℕ) (did : Bool)
     → ((machines : List Connection) (list : List Call) (closed : ℕ) → IsListOf machines list → ClientsRefine old.clients machines list → SequencerRefines list closed old.primary.sequencer

@@ -19,15 +19,16 @@ use Rattle.wbl_engine.specs.declared.freeing.Freed.{Freed}
 use Rattle.stream_codec.specs.Message.{Acknowledged, IsWithinLimits, sent_of_ack, sent_of_frame, sent_text}
 use Rattle.machine.specs.declared.event.TheConstants.{KEPT_GROUPS}
 use Rattle.machine.specs.declared.event.Event.TheVariants as events
-use Rattle.machine.specs.Event.{Changes, Copying, World, Primary, Link as MachineLink, counts as machine_counts, Frame as Sent, Span, Acknowledgement, may_happen, may_send, next_to_send, framed, sent, sent_next, sent_with, option_items, knowing, raised_remote, told, with_link, with_sent, torn}
+use Rattle.machine.specs.Event.{Changes, Copying, World, Primary, Link as MachineLink, counts as machine_counts, Frame as Sent, Span, Acknowledgement, may_happen, may_send, next_to_send, framed, sent, sent_next, sent_with, option_items, knowing, raised_remote, told, with_link, with_sent}
 use Rattle.std.proofs.lemmas.List.Elements.{All-append, All-cons, All-head, All-nil}
 use Rattle.machine.specs.Sound.{IsToldWithin}
 use Rattle.machine.proofs.StandbyLemmas.{all-at}
+use Rattle.world.proofs.AroundLemmas.{around-sent}
 use Rattle.world.proofs.LivesLemmas.{nodes-refine, own-runs}
 use Rattle.world.specs.Condition.{has_ended}
 use Rattle.world.specs.Link.{IsFrameOf, AreFramesOf, IsFrameSent, IsOwn, IsAckSent, AreFramesSent, LinkRefines}
 use Rattle.world.specs.Recalling.{OpeningLeads}
-use Rattle.world.specs.Standby.{StandbyRefines, ArrivalsRefine, told_by}
+use Rattle.world.specs.Standby.{told_by}
 use Rattle.world.specs.Pair.{Does, FreeingRefines, Pair, PairRefines, PartsRefine, Steps}
 use Rattle.world.proofs.FrameLemmas.{AreFramesSent-push, may_be_sent, ack_of_read, ack_of_number, length-acks}
 use Rattle.world.proofs.LinkLemmas.{Answers as LinkAnswers, sends}
@@ -55,11 +56,7 @@ link-parts first second old waiting link remote frames w machine passed parts sa
     search (
       rules,
       freeing-linked {link = machine} parts.freeing,
-      same ∙ parts.epoch,
-      subst (λ e. AreFramesSent e w.primary.calls frames passed) (sym same) frames_passed,
-      λ (whole : has_ended old.lives.standby ≡ false). subst (λ e. All (IsOwn e) passed) (sym same) (own whole),
-      subst (λ e. ArrivalsRefine e w.primary.calls old.wire.arrivals w.standby.waiting w.wire.acknowledgements) (sym same) parts.arrivals,
-      subst (λ e. StandbyRefines second e w.primary.calls w.standby.position (torn w.standby.life) old.standby old.lives.standby) (sym same) parts.standby,
+      around-sent parts.around link.epoch same frames passed frames_passed own,
     )
 
 -- no frame passed

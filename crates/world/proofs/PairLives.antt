@@ -10,7 +10,7 @@ use Rattle.machine.specs.declared.event.Node.TheVariants as node_of
 use Rattle.machine.specs.Event.{World, is_between, is_enabled, is_follower, is_retired, is_running, may_happen, nodes_run}
 use Rattle.world.specs.Pair.{Acts, AreLives, Does, NodesRefine, Pair, takes_part, Lives}
 use Rattle.world.proofs.LivesLemmas.{retired-as, running-as, serves-as}
-use Rattle.world.proofs.PairLemmas.{none-added, untouched}
+use Rattle.world.proofs.PairLemmas.{none-added, steps-none}
 use Rattle.world.specs.Condition.{has_ended, runs}
 
 -- the nodes of an event run just where they are said to
@@ -31,12 +31,7 @@ nodes-take {first} {second} {lives} {w} are event = ap is_running are.primary �
 pub stays-acts : (old : Pair) (event : Event) → ((first second : Holder) (w : World) → NodesRefine first second old w → is_enabled w event ≡ false) → Acts old event (Ok false) old
 stays-acts old event never =
     record {
-      steps = λ first second w stands. record {
-        world = w;
-        step = record { done = sym (never first second w stands); happens = λ did. absurd (true≢false (sym did)); stands = λ did. refl };
-        stands = stands;
-        moves = untouched first second old old w w refl refl stands.parts;
-      };
+      steps = λ first second w stands. steps-none stands (never first second w stands) stands refl refl;
       cut = tt;
       calls = none-added _ _ refl;
     }

@@ -1,5 +1,5 @@
 -- What the promotion of the standby does to the pair.
-use Rattle.std.proofs.Common.{◌≡◌, inl, inr, ℕ, ◌+◌, ◌<◌, ◌≤◌, Bool, true, ◌&&◌, List, [], map, length, slice_index_or, Result, Ok, Err, All, Vec, Global, refl, sym, ap, ap₂, subst, ◌∙◌, arith, true≢false}
+use Rattle.std.proofs.Common.{◌≡◌, inl, inr, ℕ, ◌<◌, Bool, true, ◌&&◌, [], map, length, slice_index_or, Result, Ok, Err, Vec, Global, refl, sym, ap, ap₂, subst, ◌∙◌, arith}
 use Rattle.std.proofs.lemmas.List.{length-map}
 use Rattle.kv_types.specs.declared.refusal.Refusal.{Refusal}
 use Rattle.kv_types.specs.declared.refusal.Refusal.TheVariants.{Fault}
@@ -7,21 +7,17 @@ use Rattle.pmem.specs.Device.{State}
 use Rattle.pmem.specs.Runs.{LeavesOnly}
 use Rattle.pmem.proofs.Leaving.{LeavesOnly-weaken}
 use Rattle.model.specs.declared.record.Role.TheVariants as role
-use Rattle.model.specs.Call.{cut_at, position_of}
+use Rattle.model.specs.Call.{cut_at}
 use Rattle.model.specs.Group.{Contents}
 use Rattle.model.specs.Image.{Image}
 use Rattle.model.specs.Standing.{Holder}
-use Rattle.model.proofs.CallsLemmas.{position_of-cut_at}
 use Rattle.standby_stream.specs.declared.opening.Opening.{Opening}
 use Rattle.standby_stream.specs.Stream.{Stream}
 use Rattle.wbl_engine.specs.Promoting.{ExhaustsPromotion}
-use Rattle.frames.specs.declared.frame.Frame.{Frame}
 use Rattle.machine.specs.declared.event.Cut.TheVariants as cut
 use Rattle.machine.specs.declared.event.Event.TheVariants.{Promote, Reopen}
 use Rattle.machine.specs.declared.event.Node.TheVariants as node
-use Rattle.machine.specs.Event.{Allowed, World, Step, is_enabled, is_follower, is_retired, is_running, is_stopped, left, promoted, reach, torn}
-use Rattle.machine.specs.Sound.{IsFrameWithin}
-use Rattle.machine.proofs.SoundEvents.{sound-promoted}
+use Rattle.machine.specs.Event.{Allowed, World, Step, is_enabled, is_follower, is_retired, is_running, is_stopped, left, promoted, torn}
 use Rattle.machine.proofs.SureLemmas.{unfailed}
 use Rattle.machine.specs.Promise.{released_in}
 use Rattle.connections.proofs.SessionLemmas.{length-released, released-told}
@@ -31,20 +27,17 @@ use Rattle.world.specs.Cause.{Promoting}
 use Rattle.world.specs.Committing.{OpensAsEither, OpensAt, next_standby, promoted_holder}
 use Rattle.world.specs.Condition.{has_ended, runs}
 use Rattle.world.specs.declared.condition.Condition.TheVariants.{Crashed, Ended}
-use Rattle.world.specs.Link.{AreAcksSent, AreFramesRead}
-use Rattle.world.specs.Pair.{Acts, AreLives, DownRefine, EitherRefines, HasStandby, IsPromotionCut, NodesRefine, Pair, Promotes, Succeeds, first_device, second_device, Lives, Clients, ClientsRefine, Serving}
+use Rattle.world.specs.Pair.{Acts, AreLives, EitherRefines, HasStandby, IsPromotionCut, NodesRefine, Pair, Promotes, Succeeds, first_device, second_device, Lives, Clients, ClientsRefine, Serving}
 use Rattle.world.specs.Standby.{Arrived, Node}
-use Rattle.world.proofs.CutLemmas.{IsDown-cut}
+use Rattle.world.proofs.AroundLemmas.{around-stands}
 use Rattle.world.proofs.KeptLemmas.{KeepsAsEither}
-use Rattle.world.proofs.RecallLemmas.{recalled-none}
-use Rattle.world.specs.Recalling.{past_of}
 use Rattle.world.proofs.LivesLemmas.{not-over, retired-as, running-as}
 use Rattle.world.proofs.OpenedLemmas.{IsNotOpened, IsOpened, opened-stands}
-use Rattle.world.proofs.PairFallen.{devices-are}
-use Rattle.world.proofs.PairLemmas.{none-added, sessions-stand, standby-within}
+use Rattle.world.proofs.PairFallen.{devices-are, promoted-stands}
+use Rattle.world.proofs.PairLemmas.{none-added, does-step}
 use Rattle.world.proofs.PairReopen.{Begins, primary-reopens, with_opened_primary}
-use Rattle.world.proofs.PairStandby.{arrivals-stand, follower, frames-stand, link-epoch}
-use Rattle.world.proofs.PromotionLemmas.{OpensAt-uncut, PromotesUnder, WasNotPromoted, WasPromoted, down-promoted, former_holder, frames-earlier, not-opened-ends, not-opened-keeps, not-promoted-ends, opened-leaves, promoted-floor, same-failures}
+use Rattle.world.proofs.PairStandby.{follower}
+use Rattle.world.proofs.PromotionLemmas.{OpensAt-uncut, PromotesUnder, WasNotPromoted, WasPromoted, down-promoted, former_holder, not-opened-ends, not-opened-keeps, not-promoted-ends, opened-leaves, promoted-floor, same-failures}
 
 -- ---- the pair
 
@@ -73,7 +66,7 @@ record ToldAs (transcript : Transcript) (w : World) : Type 0 where
 
 told-as : {first second : Holder} {pair : Pair} {w : World} → EitherRefines first second pair w → ToldAs pair.clients.transcript w
 told-as {first} {second} {pair} {w} parts =
-    let told = (sessions-stand parts).told in
+    let told = (around-stands parts).sessions.told in
     record {
       calls = told.calls_are;
       released = λ c. released-told w.primary.calls pair.clients.transcript w.primary.connections told c;
@@ -90,7 +83,7 @@ module _ (old : Pair) (fenced : has_ended old.lives.primary ≡ true) (follows :
 
   -- the token of the fence names the epoch of the standby
   pub names-epoch : (first second : Holder) (w : World) → NodesRefine first second old w → (epoch : ℕ) → epoch ≡ old.wire.link.epoch → epoch ≡ old.standby.contents.current.epoch
-  names-epoch first second w stands epoch is = is ∙ link-epoch stands.parts ∙ sym stands.lives.second_epoch ∙ sym (follower follows stands.parts).engine.contents_at.epoch_is
+  names-epoch first second w stands epoch is = is ∙ (around-stands stands.parts).epoch ∙ sym stands.lives.second_epoch ∙ sym (follower follows stands.parts).engine.contents_at.epoch_is
 
   -- ---- it was refused
 
@@ -192,59 +185,14 @@ module _ (old : Pair) (fenced : has_ended old.lives.primary ≡ true) (follows :
       fallen-stands first second w stands =
           let calls = w.primary.calls in
           let p = w.standby.position in
-          let lives = stands.lives in
-          let sound = stands.sound in
           let stood = follower follows stands.parts in
           let made = was first second w stands in
           let image = down-promoted second calls p old.standby.device between crashed old.standby.contents after old.standby.is_faulted stood.engine made.1 made.0 in
           let floor : after.current.floor ≡ p = promoted-floor second calls p old.standby.device between crashed old.standby.contents after old.standby.is_faulted stood.engine made.1 made.0 in
           let here : position ≡ p = at ∙ image.contents_at.at in
-          let epoch : second.epoch + 1 ≡ w.standby.epoch + 1 = ap (λ n. n + 1) (lives.second_epoch ∙ sym sound.standby.epoch_is) in
           let engine = opened-stands (promoted_holder second) calls p crashed serving.device serving.contents serving.is_faulted image opened in
-          let ours : link.epoch ≡ w.standby.epoch + 1 = ap (λ (s : Stream). s.epoch) begins.link_is ∙ engine.contents_at.epoch_is ∙ epoch in
-          let less : old.wire.link.epoch < link.epoch = omega (arith, ours, link-epoch stands.parts, sound.standby.epoch_is) in
-          let within : p ≤ position_of calls = standby-within w sound in
-          let down : DownRefine (promoted_holder second) (former_holder second) fallen (promoted w) =
-          record {
-            sessions = subst (λ n. ClientsRefine clients (map left w.primary.connections) (cut_at calls n)) here (ends w (sessions-stand stands.parts));
-            unseated = unseated;
-            committer = refl;
-            link = refl;
-            ends = omega (arith, position_of-cut_at calls p, within);
-            newest = refl;
-            none_told = refl;
-            image = IsDown-cut (promoted_holder second) calls p p crashed (omega arith) image;
-            opened = refl;
-            recalls = recalled-none p p (past_of (cut_at calls p)) after (omega (arith, floor)) (omega (arith, floor));
-            epoch = ours;
-            frames = frames-earlier w.standby.role w.standby.position old.wire.link.epoch link.epoch (reach w) calls (cut_at calls p) old.wire.frames w.wire.frames less
-                (subst (λ e. All (IsFrameWithin e w.standby.role w.standby.position (reach w)) w.wire.frames) (sym (link-epoch stands.parts)) sound.wire.frames) (frames-stand stands.parts);
-            own = λ whole. absurd (true≢false whole);
-            arrivals = record {
-              delivered = subst (λ (frames : List Frame). AreFramesRead link.epoch (cut_at calls p) frames []) (sym lost) tt;
-              acknowledged = subst (λ (acks : Vec (Vec ℕ Global) Global). AreAcksSent acks.items w.wire.acknowledgements) (sym told) (arrivals-stand stands.parts).acknowledged;
-            };
-            standby = record { stands = λ up. absurd (true≢false (sym up)); left = λ stopped. absurd (true≢false (sym stopped)); down = λ is. absurd (true≢false (sym is)) };
-          } in
-          let refines : EitherRefines (promoted_holder second) (former_holder second) fallen (promoted w) = inr (inl (refl, down)) in
-          record {
-            sound = sound-promoted w sound;
-            lives = record {
-              allowed_are = lives.allowed_are;
-              primary_disk = lives.standby_disk;
-              standby_disk = lives.standby_disk;
-              primary_failing = lives.standby_failing;
-              standby_failing = lives.standby_failing;
-              primary = refl;
-              standby = refl;
-              follows = lives.follows;
-              first_role = refl;
-              second_role = refl;
-              first_epoch = epoch;
-              second_epoch = epoch;
-            };
-            parts = refines;
-          }
+          let ended = subst (λ n. ClientsRefine clients (map left w.primary.connections) (cut_at calls n)) here (ends w (around-stands stands.parts).sessions) in
+          promoted-stands fallen w stands image floor (ap (λ (s : Stream). s.epoch) begins.link_is ∙ engine.contents_at.epoch_is) ended unseated refl lost told refl refl refl
 
       pub promotion-done : node'.device ≡ old.primary.device → AddsOne old.clients.transcript.calls clients.transcript.calls → Promotes old (Ok true) (with_opened_primary serving link opening fallen)
       promotion-done former added =
@@ -266,11 +214,8 @@ module _ (old : Pair) (fenced : has_ended old.lives.primary ≡ true) (follows :
               let reopens = acts.steps (promoted_holder second) (former_holder second) (promoted w) mid in
               let w' = reopens.world in
               let opens = unfailed (promoted w) node.Primary cut.Reopen w' (ap is_stopped reopens.stands.lives.primary) (reopens.step.happens refl) in
-              let step : Step w Promote true w' = record {
-                done = sym (promote-enabled stands.lives fenced follows);
-                happens = λ did. inl (record { ended = opens.ended; gaps = opens.gaps; some = omega arith; few = opens.few; now = opens.now });
-                stands = λ did. absurd (true≢false did);
-              } in
+              let step : Step w Promote true w' =
+              does-step (promote-enabled stands.lives fenced follows) (inl (record { ended = opens.ended; gaps = opens.gaps; some = omega arith; few = opens.few; now = opens.now })) in
               let last : LeavesOnly crashed serving.device (OpensAt (promoted_holder second) calls p) =
               LeavesOnly-weaken (OpensAt (promoted_holder second) calls p)
               (λ image either. elim either [

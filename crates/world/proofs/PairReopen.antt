@@ -1,5 +1,5 @@
 -- What the reopening of a node that crashed does to the pair.
-use Rattle.std.proofs.Common.{All, cond, rules, le_refl, ◌≡◌, inl, inr, Bool, true, false, ◌&&◌, List, length, Result, Ok, Err, refl, sym, ap, subst, ◌∙◌, arith, true≢false, []}
+use Rattle.std.proofs.Common.{cond, rules, le_refl, ◌≡◌, inl, inr, Bool, true, false, ◌&&◌, List, length, Result, Ok, Err, refl, sym, ap, subst, ◌∙◌, arith, true≢false, []}
 use Rattle.kv_types.specs.declared.refusal.Refusal.{Refusal}
 use Rattle.kv_types.specs.Keyspace.{play_all}
 use Rattle.kv_types.specs.declared.refusal.Refusal.TheVariants.{Fault, Memory}
@@ -28,32 +28,32 @@ use Rattle.machine.specs.declared.event.Event.{Event}
 use Rattle.machine.specs.declared.event.Event.TheVariants as events
 use Rattle.machine.specs.declared.event.Node.TheVariants as node
 use Rattle.machine.specs.Event.{Allowed, Committer as MachineCommitter, World, Step, is_crashed, is_enabled, new_link, reopened_primary, reopened_standby, with_primary, with_standby, torn}
-use Rattle.machine.proofs.SoundEvents.{sound-step}
 use Rattle.world.specs.Cause.{EndsBy, Stretch}
 use Rattle.world.specs.Committing.{CommittingRefines, next_primary, next_standby}
 use Rattle.node_steps.specs.GroupSpan.{AreGroupsOf}
-use Rattle.world.specs.Link.{AreFramesSent, IsOwn, LinkRefines}
+use Rattle.world.specs.Link.{LinkRefines}
 use Rattle.primary.specs.Recalling.{AreKeyspaces, RecallsEach, Remembers}
 use Rattle.primary.proofs.KeptImages.{delta-leads, keeps-opened, recalls-of}
 use Rattle.primary.proofs.OpenedLemmas.{leads_to}
 use Rattle.world.specs.Recalling.{OpeningLeads, RemembersFor, past_of}
+use Rattle.world.proofs.AroundLemmas.{around-stands}
 use Rattle.world.proofs.RecallLemmas.{remembered-from}
 use Rattle.primary.specs.Resuming.{IsOver}
 use Rattle.connections.specs.Session.{SequencerRefines}
-use Rattle.world.specs.Standby.{ArrivalsRefine, Node, StandbyRefines, StandbyStands}
-use Rattle.world.specs.Pair.{Acts, AreLives, DownRefine, EitherRefines, IsCut, NodesRefine, Pair, PartsRefine, Steps, Lives, Serving}
+use Rattle.world.specs.Standby.{Node, StandbyRefines, StandbyStands}
+use Rattle.world.specs.Pair.{Acts, AreLives, DownRefine, EitherRefines, IsCut, NodesRefine, Pair, PartsRefine, Steps, Lives, Serving, SurroundingsRefine, surroundings_of, surroundings_in}
 use Rattle.world.proofs.DownLemmas.{restart-refused}
 use Rattle.world.proofs.FormLemmas.{committing-nothing, leads-nothing}
-use Rattle.world.proofs.PairLemmas.{Led, cut-for, none-added, primary-stands, rests-primary, rests-standby, standby-stands, tells, standby-refines}
+use Rattle.world.proofs.PairLemmas.{Led, cut-for, none-added, rests-primary, rests-standby, tells, moves-primary, moves-standby, does-step, steps-to}
 use Rattle.world.proofs.OpenedLemmas.{IsNotOpened, IsOpened, opened-breaks, opened-floor, opened-gaps, opened-limit, opened-moves, opened-rests, opened-stands, table-there}
 use Rattle.world.proofs.OpeningLemmas.{have_their_lines, in_order}
 use Rattle.world.proofs.PairLives.{stays-acts}
-use Rattle.world.proofs.PairStandby.{arrivals-stand, link-epoch, standby-either}
+use Rattle.world.proofs.PairStandby.{standby-either}
 use Rattle.world.proofs.LivesLemmas.{crashed-not-over, still-not-crashed, not-crashed, crashed-as}
 use Rattle.world.specs.Condition.{has_crashed}
 use Rattle.world.specs.declared.condition.Condition.{Condition}
 use Rattle.world.specs.declared.condition.Condition.TheVariants.{Running}
-use Rattle.world.proofs.RemainLemmas.{near-rest, near-from}
+use Rattle.world.proofs.RemainLemmas.{near-from}
 
 -- ---- a node that runs
 
@@ -87,12 +87,12 @@ standby-reopens old node' fallen opened follows own = record { steps = steps; cu
         let calls = w.primary.calls in
         let p = w.standby.position in
         let lives = stands.lives in
-        let down = (standby-refines stands.parts).down fallen in
+        let down = (around-stands stands.parts).standby.down fallen in
         let mine : IsOpened second.role old.standby.device node'.device node'.contents node'.is_faulted =
         subst (λ r. IsOpened r old.standby.device node'.device node'.contents node'.is_faulted) (sym lives.second_role) opened in
         let engine = opened-stands second calls p old.standby.device node'.device node'.contents node'.is_faulted down mine in
         let at = engine.contents_at in
-        let ours : second.epoch ≡ old.wire.link.epoch = lives.second_epoch ∙ sym (link-epoch stands.parts) in
+        let ours : second.epoch ≡ old.wire.link.epoch = lives.second_epoch ∙ sym (around-stands stands.parts).epoch in
         let stood : StandbyStands second old.wire.link.epoch calls p node' =
         record {
           engine = engine;
@@ -102,22 +102,11 @@ standby-reopens old node' fallen opened follows own = record { steps = steps; cu
           epoch_held = sym ours;
         } in
         let w' = with_standby (reopened_standby w.standby) w in
-        let step : Step w event true w' =
-        record { done = sym (standby-opens lives ∙ fallen); happens = λ did. inl refl; stands = λ did. absurd (true≢false did) } in
         let refined : StandbyRefines second old.wire.link.epoch calls p [] node' Running = record { stands = λ up. stood; left = λ is. absurd (true≢false (sym is)); down = λ is. absurd (true≢false (sym is)) } in
-        record {
-          world = w';
-          step = step;
-          stands = record {
-            sound = sound-step w event true w' step stands.sound;
-            lives = search (rules, lives, lives.primary_disk ∙ ap (λ b. cond b 1 0) (crashed-not-over old.lives.standby fallen));
-            parts = standby-either first second old old.wire.arrivals node' Running w w'.standby w.wire.acknowledgements (crashed-not-over old.lives.standby fallen) (le_refl p) stands.parts (arrivals-stand stands.parts) refined;
-          };
-          moves = record {
-            primary = near-rest first calls w.primary.committer.position w.primary.committer.position (torn w.primary.life) old.primary.device old.primary.device refl (primary-stands first second old w stands.parts);
-            standby = λ whole. near-from second calls p p (torn w.standby.life) old.standby.device node'.device (opened-moves second calls p old.standby.device node'.device down opened.moments opened.failures);
-          };
-        }
+        steps-to w' stands (does-step (standby-opens lives ∙ fallen) (inl refl)) (search (rules, lives, lives.primary_disk ∙ ap (λ b. cond b 1 0) (crashed-not-over old.lives.standby fallen)))
+        (standby-either first second old old.wire.arrivals node' Running w w'.standby w.wire.acknowledgements (crashed-not-over old.lives.standby fallen) (le_refl p) stands.parts (around-stands stands.parts).arrivals refined)
+        (moves-standby first second old new w w' stands.parts refl
+        (λ whole. near-from second calls p p (torn w.standby.life) old.standby.device node'.device (opened-moves second calls p old.standby.device node'.device down opened.moments opened.failures)))
 
 -- why a reopening ended the run
 opened-ends : (event : Event) (refusal : Refusal) (P : Stretch → Stretch → Type 0) → refusal ≡ Fault → EndsBy Fault event P → EndsBy refusal event P
@@ -140,7 +129,7 @@ standby-reopening-cut old node' result refusal is fallen refused =
         let p = w.standby.position in
         let next = next_standby w in
         let device = old.standby.device in
-        let down = (standby-refines stands.parts).down fallen in
+        let down = (around-stands stands.parts).standby.down fallen in
         let here = rests-primary first second old w stands in
         let memory : refusal ≡ Memory → node'.device.failures ≡ device.failures → EndsBy refusal event (Led first second old new w) =
         λ is same. subst (λ (r : Refusal). EndsBy r event (Led first second old new w)) (sym is) (refl, (here, λ whole. inl (opened-rests second calls p device node'.device down refused.moments same))) in
@@ -270,10 +259,10 @@ primary-reopens old serving link opening fallen opened begins = record { steps =
         let gaps = length serving.contents.current.gaps.items in
         let w' = with_primary (reopened_primary ended gaps w.primary) w in
         let step : Step w event true w' =
-        record { done = sym (primary-opens lives ∙ fallen); happens = λ did. inl (record { ended = ended; gaps = gaps; some = opened-gaps first calls p old.primary.device serving.device serving.contents serving.is_faulted lost.image mine; few = omega (arith, engine.lawful.current.few, gaps_fit serving.contents.current.layout); now = refl }); stands = λ did. absurd (true≢false did) } in
+        does-step (primary-opens lives ∙ fallen) (inl (record { ended = ended; gaps = gaps; some = opened-gaps first calls p old.primary.device serving.device serving.contents serving.is_faulted lost.image mine; few = omega (arith, engine.lawful.current.few, gaps_fit serving.contents.current.layout); now = refl })) in
         let parts : PartsRefine first second new w' =
         record {
-          sessions = lost.sessions;
+          around = subst (λ e. SurroundingsRefine second (record (surroundings_of old) { epoch = e }) (surroundings_in w)) same lost.around;
           sequencer = sequencing;
           follow = record { by_call = λ c seat has shut. absurd (lost.unseated c seat has); session = λ c seat has. absurd (lost.unseated c seat has) };
           committing = committed;
@@ -288,27 +277,11 @@ primary-reopens old serving link opening fallen opened begins = record { steps =
           };
           remembers = remembered;
           opening = subst (λ n. OpeningLeads low n calls opening) (sym lost.opened) told;
-          epoch = own;
           link = linked;
-          frames = subst (λ e. AreFramesSent e calls old.wire.frames w.wire.frames) same lost.frames;
-          own = λ whole. subst (λ e. All (IsOwn e) w.wire.frames) same (lost.own whole);
-          arrivals = subst (λ e. ArrivalsRefine e calls old.wire.arrivals w.standby.waiting w.wire.acknowledgements) same lost.arrivals;
-          standby = subst (λ e. StandbyRefines second e calls w.standby.position (torn w.standby.life) old.standby old.lives.standby) same lost.standby;
         } in
-        let refines : EitherRefines first second new w' = inl (refl, parts) in
-        record {
-          world = w';
-          step = step;
-          stands = record {
-            sound = sound-step w event true w' step stands.sound;
-            lives = search (rules, lives);
-            parts = refines;
-          };
-          moves = record {
-            primary = near-from first calls p p (torn w.primary.life) old.primary.device serving.device (opened-moves first calls p old.primary.device serving.device lost.image opened.moments opened.failures);
-            standby = λ whole. near-rest second calls w.standby.position w.standby.position (torn w.standby.life) old.standby.device old.standby.device refl (standby-stands first second old w stands.parts whole);
-          };
-        }
+        steps-to w' stands step (search (rules, lives)) (inl (refl, parts))
+        (moves-primary first second old new w w' stands.parts refl
+        (near-from first calls p p (torn w.primary.life) old.primary.device serving.device (opened-moves first calls p old.primary.device serving.device lost.image opened.moments opened.failures)))
 
 pub primary-reopening-cut : (old : Pair) (serving : Serving) (result : Result Bool Refusal) (refusal : Refusal) → result ≡ Err refusal → has_crashed old.lives.primary ≡ true
     → IsNotOpened role.Primary old.primary.device serving.device refusal → Acts old (events.Reopen node.Primary) result (record old { primary = serving })

@@ -20,7 +20,7 @@ use Rattle.model.specs.declared.call.Call.{Call}
 use Rattle.machine.specs.Event.{Happens, Role, World, Standby as MachineStandby, Acknowledgement, Span, Step, acknowledged_of, due_delta, due_from, is_running, nodes_run, may_happen, opened_link, opened_to, acknowledgement_of, delivered, option_items, told, with_link, with_standby, with_acknowledged, without_first, torn}
 use Rattle.machine.specs.Sound.{Sound}
 use Rattle.machine.proofs.GrowLemmas.{grows-step}
-use Rattle.machine.proofs.SoundEvents.{sound-step}
+use Rattle.world.proofs.AroundLemmas.{around-stands, around-standby}
 use Rattle.world.proofs.LivesLemmas.{Runs, enabled-is, lives-like, nodes-refine, not-crashed, not-over, running-as, serving, taken-life, taken-role, not-still, stopped-still}
 use Rattle.connections.specs.Going.{Goes}
 use Rattle.world.specs.Cause.{Stretch, Breaks, RestsAtFrameLimit, EndsBy, Resting}
@@ -29,15 +29,15 @@ use Rattle.world.specs.Following.{HasFollower}
 use Rattle.world.specs.Link.{IsFrameOf, IsOwn, AreFramesOf, LinkRefines, AreFramesSent}
 use Rattle.world.specs.Recalling.{OpeningLeads, past_of}
 use Rattle.world.specs.Standby.{Arrived, Node, StandbyStands, StandbyRefines, ArrivalsRefine, AppliesFirst, told_by}
-use Rattle.world.specs.Pair.{Pair, EitherRefines, NodesRefine, PartsRefine, PairRefines, Steps, Acts, Does, Wire}
+use Rattle.world.specs.Pair.{Pair, EitherRefines, NodesRefine, PartsRefine, PairRefines, Steps, Acts, Does, Wire, AroundRefines}
 use Rattle.world.proofs.FrameLemmas.{length-sent}
-use Rattle.world.proofs.PairLemmas.{Led, cut-for, cut-same, goes-either, goes-map, goes-steps, none-added, primary-stands, rests-primary, standby-refines, tells, untouched}
+use Rattle.world.proofs.PairLemmas.{Led, cut-for, cut-same, goes-either, goes-map, goes-steps, none-added, rests-primary, tells, moves-standby, does-step, steps-to, steps-none}
 use Rattle.world.proofs.PairLink.{link-alone}
 use Rattle.world.proofs.OpeningLemmas.{opening-on}
 use Rattle.world.proofs.RecallLemmas.{recalled-on, remembered-on}
 use Rattle.world.specs.Condition.{has_ended, runs}
 use Rattle.world.specs.declared.condition.Condition.{Condition}
-use Rattle.world.proofs.RemainLemmas.{near-rest, near-from, left-later}
+use Rattle.world.proofs.RemainLemmas.{near-from, left-later}
 
 -- ---- the standby
 
@@ -50,85 +50,46 @@ with_opened arrivals link opening pair = record pair { wire = record pair.wire {
 abbrev pub with_standby_as : Arrived → Node → Condition → Pair → Pair
 with_standby_as arrivals node condition pair = record pair { wire = record pair.wire { arrivals = arrivals }; standby = node; lives = record pair.lives { standby = condition } }
 
--- the standby, and what it told, are others, and it is no further back
-standby-parts : (first second : Holder) (old : Pair) (arrivals : Arrived) (node : Node) (condition : Condition) (w : World) (machine : MachineStandby) (told : List Acknowledgement) → has_ended old.lives.standby ≡ false → w.standby.position ≤ machine.position
-    → PartsRefine first second old w → ArrivalsRefine old.wire.link.epoch w.primary.calls arrivals machine.waiting told → StandbyRefines second old.wire.link.epoch w.primary.calls machine.position (torn machine.life) node condition
-    → PartsRefine first second (with_standby_as arrivals node condition old) (record w { standby = machine; wire = record w.wire { acknowledgements = told } })
-standby-parts first second old arrivals node condition w machine told whole later parts arrivals_stand node_stands =
-    search (
-      rules,
-      λ (still : has_ended condition ≡ false). parts.own whole,
-      remembered-on w.standby.position machine.position w.primary.committer.position (past_of w.primary.calls) old.primary.contents old.primary.committing.waiting.items old.primary.committing.aside old.primary.sequencer old.primary.sequencer later refl refl parts.remembers,
-      opening-on w.standby.position machine.position w.primary.opened w.primary.calls old.wire.opening later parts.opening,
-    )
-
--- whether the primary runs or not
+-- The standby, and what it told, are others, and it is no further back: whether the primary runs or not.
 pub standby-either : (first second : Holder) (old : Pair) (arrivals : Arrived) (node : Node) (condition : Condition) (w : World) (machine : MachineStandby) (told : List Acknowledgement) → has_ended old.lives.standby ≡ false → w.standby.position ≤ machine.position
     → EitherRefines first second old w → ArrivalsRefine old.wire.link.epoch w.primary.calls arrivals machine.waiting told → StandbyRefines second old.wire.link.epoch w.primary.calls machine.position (torn machine.life) node condition
     → EitherRefines first second (with_standby_as arrivals node condition old) (record w { standby = machine; wire = record w.wire { acknowledgements = told } })
-standby-either first second old arrivals node condition w machine told whole later parts arrivals_stand node_stands = elim parts [
-  | inl up ↦ inl (up.0, standby-parts first second old arrivals node condition w machine told whole later up.1 arrivals_stand node_stands)
-  | inr (inl down) ↦
-      let lost = down.1 in
-      inr (inl (down.0, search (rules, λ (still : has_ended condition ≡ false). lost.own whole, recalled-on w.standby.position machine.position w.primary.committer.position (past_of w.primary.calls) lost.image.contents later lost.recalls)))
-  | inr (inr idle) ↦
-      let still = idle.1 in
-      inr (inr (
-        idle.0,
-        record {
-          sessions = still.sessions;
-          lines_are = still.lines_are;
-          left = λ image is. left-later first w (record w { standby = machine; wire = record w.wire { acknowledgements = told } }) image refl later (still.left image is);
-          epoch = still.epoch;
-          frames = still.frames;
-          own = λ goes. still.own whole;
-          arrivals = arrivals_stand;
-          standby = node_stands;
-        },
-      ))
-]
-
-pub frames-stand : {first second : Holder} {pair : Pair} {w : World} → EitherRefines first second pair w → AreFramesSent pair.wire.link.epoch w.primary.calls pair.wire.frames w.wire.frames
-frames-stand parts = elim parts [
-  | inl up ↦ up.1.frames
-  | inr (inl down) ↦ down.1.frames
-  | inr (inr still) ↦ still.1.frames
-]
-
-pub own-frames : {first second : Holder} {pair : Pair} {w : World} → EitherRefines first second pair w → has_ended pair.lives.standby ≡ false → All (IsOwn pair.wire.link.epoch) w.wire.frames
-own-frames parts = elim parts [
-  | inl up ↦ up.1.own
-  | inr (inl down) ↦ down.1.own
-  | inr (inr still) ↦ still.1.own
-]
-
-pub arrivals-stand : {first second : Holder} {pair : Pair} {w : World} → EitherRefines first second pair w
-    → ArrivalsRefine pair.wire.link.epoch w.primary.calls pair.wire.arrivals w.standby.waiting w.wire.acknowledgements
-arrivals-stand parts = elim parts [
-  | inl up ↦ up.1.arrivals
-  | inr (inl down) ↦ down.1.arrivals
-  | inr (inr still) ↦ still.1.arrivals
-]
+standby-either first second old arrivals node condition w machine told whole later parts arrivals_stand node_stands =
+    let w' : World = record w { standby = machine; wire = record w.wire { acknowledgements = told } } in
+    let around : AroundRefines second (with_standby_as arrivals node condition old) w' =
+    around-standby (around-stands parts) whole arrivals node condition machine.waiting machine.position (torn machine.life) told arrivals_stand node_stands in
+    let low = w.standby.position in
+    let p = w.primary.committer.position in
+    let past = past_of w.primary.calls in
+    elim parts [
+      | inl up ↦
+          let s = old.primary.sequencer in
+          inl (
+            up.0,
+            search (
+              rules,
+              around,
+              up.1,
+              remembered-on low machine.position p past old.primary.contents old.primary.committing.waiting.items old.primary.committing.aside s s later refl refl up.1.remembers,
+              opening-on low machine.position w.primary.opened w.primary.calls old.wire.opening later up.1.opening,
+            ),
+          )
+      | inr (inl down) ↦ inr (inl (down.0, search (rules, around, down.1, recalled-on low machine.position p past down.1.image.contents later down.1.recalls)))
+      | inr (inr still) ↦ inr (inr (still.0, record { around = around; lines_are = still.1.lines_are; left = λ image is. left-later first w w' image refl later (still.1.left image is) }))
+    ]
 
 -- all that is on the wire is of the pair's epoch
 owns : {first second : Holder} {pair : Pair} {w : World} → runs pair.lives.standby ≡ true → EitherRefines first second pair w → All (IsOwn pair.wire.link.epoch) w.wire.frames
-owns {first} {second} {pair} {w} follows parts = own-frames parts (not-over pair.lives.standby follows)
+owns {first} {second} {pair} {w} follows parts = (around-stands parts).own (not-over pair.lives.standby follows)
 
 -- a standby that runs
 pub follower : {first second : Holder} {pair : Pair} {w : World} → runs pair.lives.standby ≡ true → EitherRefines first second pair w
     → StandbyStands second pair.wire.link.epoch w.primary.calls w.standby.position pair.standby
-follower follows parts = (standby-refines parts).stands follows
-
-pub link-epoch : {first second : Holder} {pair : Pair} {w : World} → EitherRefines first second pair w → pair.wire.link.epoch ≡ w.primary.epoch
-link-epoch parts = elim parts [
-  | inl up ↦ up.1.epoch
-  | inr (inl down) ↦ down.1.epoch
-  | inr (inr still) ↦ still.1.epoch
-]
+follower follows parts = (around-stands parts).standby.stands follows
 
 -- the epoch of the standby's node is the machine's
 pub own-epoch : (first second : Holder) (old : Pair) (w : World) → runs old.lives.standby ≡ true → NodesRefine first second old w → old.standby.epoch ≡ w.standby.epoch
-own-epoch first second old w follows stands = (follower follows stands.parts).epoch_is ∙ link-epoch stands.parts ∙ sym stands.sound.standby.epoch_is
+own-epoch first second old w follows stands = (follower follows stands.parts).epoch_is ∙ (around-stands stands.parts).epoch ∙ sym stands.sound.standby.epoch_is
 
 -- and it is a standby
 pub has-follower : (first second : Holder) (old : Pair) (w : World) → runs old.lives.standby ≡ true → NodesRefine first second old w → HasFollower old.standby.epoch w.standby
@@ -224,7 +185,9 @@ open-does old arrivals link opening ack follows is acknowledges reopens same =
           let own : told_by ack ≡ acknowledgement_of w.standby = ap₂ (λ e p. record { epoch = e; position = p }) epoch position in
           let told = acknowledges old.wire.link.epoch w parts.arrivals own in
           let w' = with_acknowledged (acknowledgement_of w.standby ∷ []) w in
-          let heard : PartsRefine first second (with_arrivals arrivals old) w' = standby-parts first second old arrivals old.standby old.lives.standby w w.standby (w.wire.acknowledgements ++ acknowledgement_of w.standby ∷ []) (not-over old.lives.standby follows) (le_refl w.standby.position) parts told parts.standby in
+          let around : AroundRefines second (with_arrivals arrivals old) w' =
+          around-standby parts.around (not-over old.lives.standby follows) arrivals old.standby old.lives.standby w.standby.waiting w.standby.position (torn w.standby.life) (w.wire.acknowledgements ++ acknowledgement_of w.standby ∷ []) told parts.standby in
+          let heard : PartsRefine first second (with_arrivals arrivals old) w' = search (rules, around, parts) in
           let reopened = reopens-due old.wire.link old.wire.opening ack.position link (known-within old ack follows is stands) reopens in
           let delta : Option Frame = reopened.0 in
           let machine = opened_link (due_delta w.standby.position (due_from w.primary)) w.primary.link in
@@ -293,14 +256,15 @@ deliver-acts old arrivals texts frame piece (Ok did) follows same go memory some
     record {
       steps = λ first second w stands.
           let parts = stands.parts in
+          let around = around-stands parts in
           let epoch = old.wire.link.epoch in
           let calls = w.primary.calls in
           let came = delivered (option_items (slice_get w.wire.frames frame)) w.standby in
           goes-either first second w (with_standby came w) (events.Deliver frame piece) did old (with_arrivals arrivals old) refl refl stands
           (standby-runs follows stands (events.Deliver frame piece) (λ runs. runs)) refl refl
-          (goes-map (go epoch w (arrivals-stand parts) (subst (λ (all : List (Vec ℕ Global)). AreFramesSent epoch calls all w.wire.frames) (sym same) (frames-stand parts)) (owns follows parts))
-          (λ moved. standby-either first second old arrivals old.standby old.lives.standby w came w.wire.acknowledgements (not-over old.lives.standby follows) (le_refl w.standby.position) parts moved (standby-refines parts))
-          (λ stayed. standby-either first second old arrivals old.standby old.lives.standby w w.standby w.wire.acknowledgements (not-over old.lives.standby follows) (le_refl w.standby.position) parts stayed (standby-refines parts)));
+          (goes-map (go epoch w around.arrivals (subst (λ (all : List (Vec ℕ Global)). AreFramesSent epoch calls all w.wire.frames) (sym same) around.frames) (owns follows parts))
+          (λ moved. standby-either first second old arrivals old.standby old.lives.standby w came w.wire.acknowledgements (not-over old.lives.standby follows) (le_refl w.standby.position) parts moved around.standby)
+          (λ stayed. standby-either first second old arrivals old.standby old.lives.standby w w.standby w.wire.acknowledgements (not-over old.lives.standby follows) (le_refl w.standby.position) parts stayed around.standby));
       cut = tt;
       calls = none-added _ _ refl;
     }
@@ -308,7 +272,7 @@ deliver-acts old arrivals texts frame piece (Err refusal) follows same go memory
     record {
       steps = tt;
       cut = λ first second w stands.
-          let sent = frames-stand stands.parts in
+          let sent = (around-stands stands.parts).frames in
           let is : frame < length w.wire.frames = omega (arith, some, ap length same, length-sent old.wire.link.epoch w.primary.calls old.wire.frames w.wire.frames sent) in
           let refused : refusal ≡ Memory = memory old.wire.link.epoch w (subst (λ (all : List (Vec ℕ Global)). AreFramesSent old.wire.link.epoch w.primary.calls all w.wire.frames) (sym same) sent) in
           cut-same first second (events.Deliver frame piece) refusal old (with_arrivals arrivals old) w refl refused refl refl (tells old.clients.transcript) refl
@@ -338,34 +302,20 @@ apply-steps first second old arrivals node w true follows stands applies =
     let kept = taken-life applied.frame (without_first w.standby) applied.standby applied.told applied.takes in
     let runs = standby-runs follows stands events.Apply (λ runs. runs) in
     let happens : Happens w events.Apply w' = inl (record { frame = applied.frame; first = applied.first; standby = applied.standby; told = applied.told; takes = applied.takes; now = refl }) in
-    let step : Step w events.Apply true w' = record { done = applies.done ∙ sym (enabled-is runs); happens = λ did. happens; stands = λ did. absurd (true≢false did) } in
-    record {
-      world = w';
-      step = step;
-      stands = record {
-        sound = sound-step w events.Apply true w' step stands.sound;
-        lives = lives-like (record { allowed = refl; primary_disk = refl; standby_disk = kept.1; primary = refl; standby = kept.0; role = taken-role applied.frame (without_first w.standby) applied.standby applied.told stands.lives.follows applied.takes; epoch = refl }) stands.lives;
-        parts = node-either first second old arrivals node w applied.standby (w.wire.acknowledgements ++ applied.told) follows stands.parts (grows-step w events.Apply true w' step stands.sound).safe
-            (subst (λ (x : World). ArrivalsRefine old.wire.link.epoch w.primary.calls arrivals x.standby.waiting x.wire.acknowledgements) applied.now moved.2)
-            (subst (λ (x : World). StandbyStands second old.wire.link.epoch w.primary.calls x.standby.position node) applied.now moved.3);
-      };
-      moves = record {
-        primary = near-rest first w.primary.calls w.primary.committer.position w.primary.committer.position (torn w.primary.life) old.primary.device old.primary.device refl (primary-stands first second old w stands.parts);
-        standby = λ whole. near-from second w.primary.calls w.standby.position applied.standby.position (torn w.standby.life) old.standby.device node.device
-            (subst (λ (x : World). Moves second w.primary.calls w.standby.position x.standby.position old.standby.device node.device) applied.now moved.4);
-      };
-    }
+    let step : Step w events.Apply true w' = does-step (enabled-is runs ∙ sym applies.done) happens in
+    steps-to w' stands step
+    (lives-like (record { allowed = refl; primary_disk = refl; standby_disk = kept.1; primary = refl; standby = kept.0; role = taken-role applied.frame (without_first w.standby) applied.standby applied.told stands.lives.follows applied.takes; epoch = refl }) stands.lives)
+    (node-either first second old arrivals node w applied.standby (w.wire.acknowledgements ++ applied.told) follows stands.parts (grows-step w events.Apply true w' step stands.sound).safe
+    (subst (λ (x : World). ArrivalsRefine old.wire.link.epoch w.primary.calls arrivals x.standby.waiting x.wire.acknowledgements) applied.now moved.2)
+    (subst (λ (x : World). StandbyStands second old.wire.link.epoch w.primary.calls x.standby.position node) applied.now moved.3))
+    (moves-standby first second old (with_node arrivals node old) w w' stands.parts refl
+    (λ whole. near-from second w.primary.calls w.standby.position applied.standby.position (torn w.standby.life) old.standby.device node.device
+    (subst (λ (x : World). Moves second w.primary.calls w.standby.position x.standby.position old.standby.device node.device) applied.now moved.4)))
 apply-steps first second old arrivals node w false follows stands applies =
     let stayed = applies.stays refl in
     let parts = node-either first second old arrivals node w w.standby w.wire.acknowledgements follows stands.parts (le_refl w.standby.position) stayed.0
     (subst (StandbyStands second old.wire.link.epoch w.primary.calls w.standby.position) (sym stayed.1) (follower follows stands.parts)) in
-    let runs = standby-runs follows stands events.Apply (λ runs. runs) in
-    record {
-      world = w;
-      step = record { done = applies.done ∙ sym (enabled-is runs); happens = λ did. absurd (true≢false (sym did)); stands = λ did. refl };
-      stands = record { sound = stands.sound; lives = stands.lives; parts = parts };
-      moves = untouched first second old (with_node arrivals node old) w w refl (ap (λ (n : Node). n.device) stayed.1) stands.parts;
-    }
+    steps-none stands (enabled-is (standby-runs follows stands events.Apply (λ runs. runs)) ∙ sym applies.done) (record { sound = stands.sound; lives = stands.lives; parts = parts }) refl (ap (λ (n : Node). n.device) stayed.1)
 
 -- what ended an application is of the standby's device
 ends-apply : (refusal : Refusal) (P Q : Stretch → Stretch → Type 0) → ((last : Stretch) → P Resting last → Q Resting last) → EndsBy refusal events.Apply P → EndsBy refusal events.Apply Q
@@ -388,7 +338,7 @@ apply-acts old arrivals node result follows applies only cuts = go result applie
   where
     arrive : (first second : Holder) (w : World) → NodesRefine first second old w → ArrivalsRefine old.standby.epoch w.primary.calls old.wire.arrivals w.standby.waiting w.wire.acknowledgements
     arrive first second w stands =
-        subst (λ e. ArrivalsRefine e w.primary.calls old.wire.arrivals w.standby.waiting w.wire.acknowledgements) (sym (follower follows stands.parts).epoch_is) (arrivals-stand stands.parts)
+        subst (λ e. ArrivalsRefine e w.primary.calls old.wire.arrivals w.standby.waiting w.wire.acknowledgements) (sym (follower follows stands.parts).epoch_is) (around-stands stands.parts).arrivals
 
     stand : (first second : Holder) (w : World) → NodesRefine first second old w → StandbyStands second old.standby.epoch w.primary.calls w.standby.position old.standby
     stand first second w stands =

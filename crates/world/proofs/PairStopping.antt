@@ -18,14 +18,14 @@ use Rattle.machine.specs.Row.{touches}
 use Rattle.machine.proofs.SoundEvents.{sound-step}
 use Rattle.world.specs.Committing.{event_of}
 use Rattle.world.specs.Cutting.{OpensNear, cut_of}
-use Rattle.world.specs.Pair.{AreLives, EitherRefines, NodesRefine, Pair, StillRefine, allowed, takes_part}
+use Rattle.world.specs.Pair.{EitherRefines, NodesRefine, Pair, StillRefine, allowed, takes_part}
 use Rattle.world.specs.Remaining.{LeftBy}
 use Rattle.world.specs.Step.{IsStep}
 use Rattle.world.specs.Stopping.{BreaksPrimary, Stops, StopsPrimary, call_of}
 use Rattle.world.specs.declared.condition.Condition.TheVariants as conditions
+use Rattle.world.proofs.PairLemmas.{does-step}
+use Rattle.world.proofs.AroundLemmas.{around-stands}
 use Rattle.world.proofs.LeftLemmas.{cut-whole, left-halted}
-use Rattle.world.proofs.PairLemmas.{sessions-stand, standby-refines}
-use Rattle.world.proofs.PairStandby.{arrivals-stand, frames-stand, link-epoch, own-frames}
 use Rattle.world.proofs.RemainLemmas.{left-opens}
 use Rattle.world.proofs.StepLemmas.{stopped-is}
 
@@ -81,21 +81,12 @@ module _ (event : Event) (call : Cut) (old mid : Pair) (may : BreaksIn event cal
       let w' = halted node.Primary remains w in
       let whole : torn w.primary.life ≡ [] = cut-whole w call may.inside fails.enabled in
       let step : Step w event true w' =
-      record {
-        done = sym (may.enabled w lives.allowed_are fails.enabled);
-        happens = λ did. may.happens w w' (record { asked = lives.primary_failing ∙ asked; now = refl });
-        stands = λ did. absurd (true≢false did);
-      } in
+      does-step (may.enabled w lives.allowed_are fails.enabled) (may.happens w w' (record { asked = lives.primary_failing ∙ asked; now = refl })) in
       let still : StillRefine first second new w' =
       record {
-        sessions = sessions-stand stands.parts;
+        around = around-stands stands.parts;
         lines_are = fails.lines_are ∙ breaks.lines_are first second w stands;
         left = λ image is. left-halted first w call image whole (fails.leaves.each image (inl is));
-        epoch = link-epoch stands.parts;
-        frames = frames-stand stands.parts;
-        own = own-frames stands.parts;
-        arrivals = arrivals-stand stands.parts;
-        standby = standby-refines stands.parts;
       } in
       let refines : EitherRefines first second new w' = inr (inr (refl, still)) in
       let opens : (image : Image) → LeftBy first w call image → OpensNear first w.primary.calls w.primary.committer.position (left_by w node.Primary (call_of event)) image =

@@ -3,7 +3,6 @@ use Rattle.std.proofs.Common.{◌≡◌, inl, inr, ℕ, true, false, ◌&&◌, c
 use Rattle.std.proofs.lemmas.Bool.{and_parts}
 use Rattle.pmem.proofs.Leaving.{LeavesOnly-weaken}
 use Rattle.model.specs.Standing.{Holder}
-use Rattle.frames.specs.declared.frame.Frame.{Frame}
 use Rattle.machine.specs.declared.event.Cut.TheVariants as cuts
 use Rattle.machine.specs.declared.event.Event.{Event}
 use Rattle.machine.specs.declared.event.Event.TheVariants.{Apply, Promote, Reopen}
@@ -13,15 +12,15 @@ use Rattle.machine.specs.Row.{touches}
 use Rattle.machine.proofs.SoundEvents.{sound-step}
 use Rattle.world.specs.Condition.{has_ended, life_as}
 use Rattle.world.specs.declared.condition.Condition.TheVariants.{Stopped}
-use Rattle.world.specs.Link.{AreAcksSent, AreFramesRead}
 use Rattle.world.specs.Pair.{AreLives, EitherRefines, HasStandby, NodesRefine, Pair, StillRefine, Lives}
 use Rattle.world.specs.Remaining.{KeepsOne}
 use Rattle.world.specs.Standby.{Arrived, ArrivalsRefine, StandbyRefines}
 use Rattle.world.specs.Step.{IsStep}
 use Rattle.world.specs.Stopping.{BreaksPromotion, BreaksStandby, Fails, StopsStandby, call_of}
+use Rattle.world.proofs.AroundLemmas.{around-stands, around-standby, arrivals-lost}
 use Rattle.world.proofs.LivesLemmas.{crashed-as, crashed-not-over, ended-still, not-over, retired-as, running-as, still-as}
-use Rattle.world.proofs.PairLemmas.{asked-either}
-use Rattle.world.proofs.PairStandby.{arrivals-stand, standby-either, with_standby_as}
+use Rattle.world.proofs.PairLemmas.{asked-either, does-step}
+use Rattle.world.proofs.PairStandby.{standby-either, with_standby_as}
 use Rattle.world.proofs.RemainLemmas.{keeps-near, left-later}
 use Rattle.world.proofs.StepLemmas.{stopped-is}
 
@@ -75,10 +74,7 @@ module _ (event : Event) (is : MayStop event) (old new : Pair) (lost : new.wire.
   next = halted node.Standby others w
 
   empty : ArrivalsRefine old.wire.link.epoch w.primary.calls new.wire.arrivals [] w.wire.acknowledgements
-  empty = record {
-    delivered = subst (λ (frames : List Frame). AreFramesRead old.wire.link.epoch w.primary.calls frames []) (sym lost) tt;
-    acknowledged = subst (λ (acks : List (Vec ℕ Global)). AreAcksSent acks w.wire.acknowledgements) (sym told) (arrivals-stand stands.parts).acknowledged;
-  }
+  empty = arrivals-lost old.wire.arrivals new.wire.arrivals old.wire.link.epoch w.primary.calls lost told (around-stands stands.parts).arrivals
 
   stopped : StandbyRefines second old.wire.link.epoch w.primary.calls w.standby.position others new.standby Stopped
   stopped = record {
@@ -93,7 +89,7 @@ module _ (event : Event) (is : MayStop event) (old new : Pair) (lost : new.wire.
   stops-in asked live device parts =
       let began = is.began stands fails.enabled in
       let step : Step w event true next =
-      record { done = sym (is.enabled stands fails.enabled); happens = λ did. is.happens w next (record { asked = stands.lives.standby_failing ∙ asked; now = refl }); stands = λ did. absurd (true≢false did) } in
+      does-step (is.enabled stands fails.enabled) (is.happens w next (record { asked = stands.lives.standby_failing ∙ asked; now = refl })) in
       let old_lives = stands.lives in
       let lives : AreLives first second new.lives next =
       record {
@@ -180,14 +176,10 @@ promotion-stops old mid arrivals flag breaks lost told =
         let still = still-as (ended-still old.lives.primary over) stands in
         let refined : StillRefine first second new w' =
         record {
-          sessions = still.sessions;
+          around = around-standby still.around (stops-promoting.began stands fails.enabled) arrivals mid.standby Stopped [] w.standby.position (left_by w node.Standby cuts.Promote) w.wire.acknowledgements
+              (empty Promote stops-promoting old new lost acks first second w stands fails lines) (stopped Promote stops-promoting old new lost acks first second w stands fails lines);
           lines_are = still.lines_are;
           left = λ image at. left-later first w w' image refl (le_refl w.standby.position) (still.left image at);
-          epoch = still.epoch;
-          frames = still.frames;
-          own = λ whole. still.own (stops-promoting.began stands fails.enabled);
-          arrivals = empty Promote stops-promoting old new lost acks first second w stands fails lines;
-          standby = stopped Promote stops-promoting old new lost acks first second w stands fails lines;
         } in
         let parts : EitherRefines first second new w' = inr (inr (ended-still old.lives.primary over, refined)) in
         stops-in Promote stops-promoting old new lost acks first second w stands fails lines asked refl refl parts

@@ -34,6 +34,7 @@ use Rattle.machine.specs.declared.event.Event.{Event}
 use Rattle.machine.specs.declared.event.Event.TheVariants as events
 use Rattle.machine.specs.Event.{World, Committer as MachineCommitter, committed_first, from_group, may_happen, with_committer}
 use Rattle.world.specs.Committing.{EngineStands, CommittingRefines, link_has_room, next_primary}
+use Rattle.world.proofs.FreeingLemmas.{primary-steps}
 use Rattle.world.proofs.RecallLemmas.{recalled-each}
 use Rattle.world.specs.Recalling.{RemembersFor, past_of}
 use Rattle.connections.specs.Session.{SequencerRefines}
@@ -44,7 +45,7 @@ use Rattle.world.specs.Remaining.{LeftBy}
 use Rattle.world.proofs.LeftLemmas.{left-next, left-running, left-still}
 use Rattle.world.proofs.LivesLemmas.{enabled-is, nodes-refine, own-runs, serving}
 use Rattle.world.proofs.PairLemmas.{Led, cut-for, cut-same, none-added, rests-standby, stays-does, tells}
-use Rattle.world.proofs.PairCommitting.{commit-steps, ends-commit, hand-does, raise-does, same_closed}
+use Rattle.world.proofs.PairCommitting.{ends-commit, hand-does, raise-does, same_closed}
 use Rattle.world.proofs.QueueLemmas.{commit-disabled, commit-enabled}
 
 -- a turn that took its step was not refused
@@ -197,10 +198,12 @@ module _ {E : Type 0} (device : E → State) (contents : E → Contents) (is_fau
           let fits = λ (sound : is_faulted before.engine ≡ false) (would : Exhausts (contents before.engine) took.group). committed_not_refused (commits.exhausts sound would) in
           let stand = commit-goes first w pair.wire.remote old.primary.committing took.lists took.group new.primary.committing old.primary.device new.primary.device old.primary.contents new.primary.contents old.primary.is_faulted new.primary.is_faulted
           takes commits.in_hand commits.local fits commits.moved commits.durable commits.sound.0 parts.committing parts.engine in
-          commit-steps first second w old new refl refl stands.sound (own-runs stands events.Commit refl) stands.serves commits.sound.1
+          let committer = committed_first (from_group w.primary.committer.waiting) w.primary.committer in
+          primary-steps events.Commit first second w (with_committer committer w) old new refl
+          (record { allowed = refl; primary_disk = refl; standby_disk = refl; primary = refl; standby = refl; role = refl; epoch = refl })
+          stands refl refl commits.sound.1 (inl refl) (sym (may-commit before works handed is first second w parts))
           (commit-moments first w pair.wire.remote old.primary.committing took.lists took.group new.primary.committing old.primary.device new.primary.device old.primary.contents old.primary.is_faulted takes fits commits.moments parts.committing parts.engine)
-          (sym (may-commit before works handed is first second w parts))
-          (parts-after first second w (committed_first (from_group w.primary.committer.waiting) w.primary.committer) parts takes stand (same_closed (from_group w.primary.committer.waiting) w)
+          (parts-after first second w committer parts takes stand (same_closed (from_group w.primary.committer.waiting) w)
           (Remembers-committed first w pair.wire.remote old.primary.committing took.lists took.group new.primary.committing old.primary.contents new.primary.contents pair.primary.sequencer (passed-remote stands) takes commits.moved parts.committing parts.engine.contents_at parts.remembers))
 
   refused : (before after : Committer E) (works works' : Waiting Work) (handed : Waiting Group) (refusal : Refusal) → now-due before works handed ≡ due.Commit

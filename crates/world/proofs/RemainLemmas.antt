@@ -107,10 +107,6 @@ near-rest holder calls p q others old new same remain =
     more image (inl here) = inl here
     more image (inr one) = inr (inr one)
 
-pub near-same : (holder : Holder) (calls : List Call) (p : ℕ) (others : List Remains) (old new : State) → new ≡ old → Remain holder calls p others new → MovesNear holder calls p p others old new
-near-same holder calls p others old new same remain =
-    near-rest holder calls p p others old new same (subst (Remain holder calls p others) same remain)
-
 only-there : (holder : Holder) (calls : List Call) (p : ℕ) (image : Image) → OpensNear holder calls p [] image → OpensAt holder calls p image
 only-there holder calls p image (inl here) = here
 only-there holder calls p image (inr none) = absurd none

@@ -26,11 +26,12 @@ use Rattle.world.specs.Remaining.{Remain}
 use Rattle.world.specs.declared.trace.EarlyEnd.{EarlyEnd}
 use Rattle.world.specs.declared.trace.EarlyEnd.TheVariants.{AtFormatting, AtEvent}
 use Rattle.world.specs.Headline.{AnyWorld, Enables, start, primary_position, standby_position, AreMoments, EndsAs, IsKept, KeepsItsWord, Opening, PlaysOn, OpensFrom, OpensFromEither, Reaches, StandsAfter, StandsIn, IsCutAfter, Plays, HasSent, each, node_on, opens_always, opens_in_the_end, primary_holder, standby_holder}
-use Rattle.world.specs.Pair.{HasStandby, Pair, NodesRefine, allowed, first_device, second_device}
+use Rattle.world.specs.Pair.{HasStandby, Pair, allowed, first_device, second_device}
 use Rattle.connections.specs.Session.{released_of}
-use Rattle.world.proofs.PairLemmas.{primary-stands, rests-primary, rests-standby, sessions-stand}
+use Rattle.world.proofs.StepLemmas.{messages-sent}
+use Rattle.world.proofs.AroundLemmas.{around-stands}
+use Rattle.world.proofs.PairLemmas.{primary-stands, rests-primary, rests-standby}
 use Rattle.world.proofs.RemainLemmas.{lies-still}
-use Rattle.world.proofs.StepLemmas.{acks-sent, frames-sent}
 use Rattle.connections.proofs.SessionLemmas.{released-told}
 use Rattle.world.specs.Condition.{has_ended}
 use Rattle.world.proofs.MomentLemmas.{IsFinal, moments-from}
@@ -64,10 +65,6 @@ promised-by events done worlds calls released primary standby run tells =
       },
       refl,
     )
-
--- what was sent up to a world that a pair stands for
-messages-sent : {first second : Holder} {pair : Pair} {w : World} → NodesRefine first second pair w → HasSent w pair.wire.frames pair.wire.arrivals.acknowledgements.items
-messages-sent {first} {second} {pair} {w} stands = record { frames_are = frames-sent first second pair w stands.parts; acknowledgements_are = acks-sent first second pair w stands.parts }
 
 -- the run went on to the end of these stretches, one of each device
 kept : (Last : World → Type 0) (final : Node → Opening) (first_last second_last : Stretch) (first_lines second_lines : ℕ) (began : Pair) (events : List Event) (done : List Bool) (calls : List Call) (released : List (List ℕ))
@@ -190,7 +187,7 @@ played-whole first_lines second_lines began events done pair released same after
     let w = last_world start after.reaches.worlds in
     let stands = after.stands.stands in
     let parts = stands.parts in
-    let sessions = sessions-stand parts in
+    let sessions = (around-stands parts).sessions in
     let told = sessions.told in
     let ends = ends-by-number first_lines second_lines pair pair w after.stands Resting Resting (rests-primary after.stands.serving after.stands.following pair w stands)
     (rests-standby after.stands.serving after.stands.following pair w stands) (λ ended. refl) refl in

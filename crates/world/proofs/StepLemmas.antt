@@ -15,16 +15,17 @@ use Rattle.world.specs.Committing.{promoted_holder}
 use Rattle.connections.specs.Session.{AddsOne, released_of}
 use Rattle.connections.specs.declared.transcript.Transcript.{Transcript}
 use Rattle.connections.proofs.SessionLemmas.{released-told}
-use Rattle.world.specs.Headline.{start}
-use Rattle.world.specs.Link.{AreAcksSent, AreFramesSent}
-use Rattle.world.specs.Pair.{Acts, Does, EitherRefines, HasRoom, HasWorld, IsCut, NodesRefine, Pair, PairRefines, Promotes, Steps, Succeeds, takes_part}
+use Rattle.world.specs.Headline.{start, HasSent}
+use Rattle.world.specs.Link.{AreFramesSent}
+use Rattle.world.specs.Pair.{Acts, Does, HasRoom, HasWorld, IsCut, NodesRefine, Pair, PairRefines, Promotes, Steps, Succeeds, takes_part}
 use Rattle.world.specs.Cutting.{CutsShort, is_crash}
 use Rattle.world.specs.Effect.{Effect}
 use Rattle.world.specs.Step.{Acted, AcksBy, CallsBy, CutsOrStays, FramesBy, Happened, IsRoomier, IsStep, LacksRoom, Leaves, Shows, Succeeded, Turns, WasCut, WasPromoted, has_begun, released_by, released_to}
 use Rattle.world.specs.Stopping.{Stops}
+use Rattle.world.proofs.AroundLemmas.{around-stands}
 use Rattle.world.proofs.GivenLemmas.{IsWhole, calls-step, released-step}
 use Rattle.world.proofs.LivesLemmas.{nodes-refine, serves-as, serving}
-use Rattle.world.proofs.PairLemmas.{primary-stands, roomier-stands, sessions-stand, standby-stands, stays-does}
+use Rattle.world.proofs.PairLemmas.{primary-stands, roomier-stands, standby-stands, stays-does}
 use Rattle.world.proofs.PairLives.{idle-step, own-acts}
 use Rattle.world.specs.Condition.{has_ended, life_as, runs}
 use Rattle.world.specs.declared.condition.Condition.{Condition}
@@ -32,28 +33,21 @@ use Rattle.world.specs.declared.condition.Condition.TheVariants.{Running, Stoppe
 
 -- ---- what can be seen
 
-pub frames-sent : (first second : Holder) (pair : Pair) (w : World) → EitherRefines first second pair w → AreFramesSent w.primary.epoch w.primary.calls pair.wire.frames w.wire.frames
-frames-sent first second pair w parts = elim parts [
-  | inl up ↦ subst (λ epoch. AreFramesSent epoch w.primary.calls pair.wire.frames w.wire.frames) up.1.epoch up.1.frames
-  | inr (inl down) ↦ subst (λ epoch. AreFramesSent epoch w.primary.calls pair.wire.frames w.wire.frames) down.1.epoch down.1.frames
-  | inr (inr still) ↦ subst (λ epoch. AreFramesSent epoch w.primary.calls pair.wire.frames w.wire.frames) still.1.epoch still.1.frames
-]
-
-pub acks-sent : (first second : Holder) (pair : Pair) (w : World) → EitherRefines first second pair w → AreAcksSent pair.wire.arrivals.acknowledgements.items w.wire.acknowledgements
-acks-sent first second pair w parts = elim parts [
-  | inl up ↦ up.1.arrivals.acknowledged
-  | inr (inl down) ↦ down.1.arrivals.acknowledged
-  | inr (inr still) ↦ still.1.arrivals.acknowledged
-]
+-- what was sent up to a world that a pair stands for
+pub messages-sent : {first second : Holder} {pair : Pair} {w : World} → NodesRefine first second pair w → HasSent w pair.wire.frames pair.wire.arrivals.acknowledgements.items
+messages-sent {first} {second} {pair} {w} stands =
+    let around = around-stands stands.parts in
+    record { frames_are = subst (λ e. AreFramesSent e w.primary.calls pair.wire.frames w.wire.frames) around.epoch around.frames; acknowledgements_are = around.arrivals.acknowledged }
 
 pub shows : (first second : Holder) (pair : Pair) (w : World) → NodesRefine first second pair w → Shows first second w pair
 shows first second pair w stands =
-    let sessions = sessions-stand stands.parts in
+    let sessions = (around-stands stands.parts).sessions in
+    let sent = messages-sent stands in
     record {
       calls = sessions.told.calls_are;
       released = λ c. released-told w.primary.calls pair.clients.transcript w.primary.connections sessions.told c;
-      frames = frames-sent first second pair w stands.parts;
-      acknowledgements = acks-sent first second pair w stands.parts;
+      frames = sent.frames_are;
+      acknowledgements = sent.acknowledgements_are;
       primary = primary-stands first second pair w stands.parts;
       standby = standby-stands first second pair w stands.parts;
       held = λ prefix call released. released-held w stands.sound prefix call released;

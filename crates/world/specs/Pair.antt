@@ -18,7 +18,7 @@ use Rattle.standby_stream.specs.Stream.{Stream}
 use Rattle.standby_stream.specs.declared.opening.Opening.{Opening}
 use Rattle.machine.specs.declared.event.Event.{Event}
 use Rattle.machine.specs.declared.event.Cut.TheVariants as cut
-use Rattle.machine.specs.Event.{Allowed, Connection, Follower, World, Step, is_enabled, new_committer, new_link, torn}
+use Rattle.machine.specs.Event.{Acknowledgement, Allowed, Connection, Follower, Frame, Remains, World, Step, is_enabled, new_committer, new_link, safe_position, torn}
 use Rattle.machine.specs.Row.{are_running, row}
 use Rattle.machine.specs.Promise.{released_in}
 use Rattle.machine.specs.Sound.{Sound}
@@ -95,28 +95,70 @@ ClientsRefine clients machines list = SessionsRefine clients.sessions clients.tr
 abbrev pub HasStandby : Pair → Type 0
 HasStandby pair = has_ended pair.lives.standby ≡ false
 
+-- ---- what is around the primary
+
+-- the connections with the list of calls, what has passed between the nodes, and the standby
+pub record Surroundings : Type 0 where
+  pub clients : Clients
+  -- that of the link
+  pub epoch : ℕ
+  pub frames : List (Vec ℕ Global)
+  pub arrivals : Arrived
+  pub standby : Node
+  pub condition : Condition
+
+-- the same of the machine
+pub record MachineSurroundings : Type 0 where
+  pub connections : List Connection
+  pub calls : List Call
+  pub epoch : ℕ
+  pub frames : List Frame
+  pub acknowledgements : List Acknowledgement
+  -- what came to the standby, where it stands, and what a fence that failed may have left of it
+  pub waiting : List Frame
+  pub position : ℕ
+  pub remains : List Remains
+
+abbrev pub surroundings_of : Pair → Surroundings
+surroundings_of pair = record { clients = pair.clients; epoch = pair.wire.link.epoch; frames = pair.wire.frames; arrivals = pair.wire.arrivals; standby = pair.standby; condition = pair.lives.standby }
+
+abbrev pub surroundings_in : World → MachineSurroundings
+surroundings_in w =
+    record { connections = w.primary.connections; calls = w.primary.calls; epoch = w.primary.epoch; frames = w.wire.frames; acknowledgements = w.wire.acknowledgements; waiting = w.standby.waiting; position = w.standby.position; remains = torn w.standby.life }
+
+-- The surroundings refine the machine's. The standby's image is that of this holder.
+pub record SurroundingsRefine (second : Holder) (code : Surroundings) (machine : MachineSurroundings) : Type 0 where
+  pub sessions : ClientsRefine code.clients machine.connections machine.calls
+  pub epoch : code.epoch ≡ machine.epoch
+  pub frames : AreFramesSent code.epoch machine.calls code.frames machine.frames
+  -- while there is a standby, nothing of an earlier epoch is on the way to it
+  pub own : has_ended code.condition ≡ false → All (IsOwn code.epoch) machine.frames
+  pub arrivals : ArrivalsRefine code.epoch machine.calls code.arrivals machine.waiting machine.acknowledgements
+  pub standby : StandbyRefines second code.epoch machine.calls machine.position machine.remains code.standby code.condition
+
+abbrev pub AroundRefines : Holder → Pair → World → Type 0
+AroundRefines second pair w = SurroundingsRefine second (surroundings_of pair) (surroundings_in w)
+
+-- ---- the pair, by the condition of its primary
+
 -- The parts of one whose primary runs refine those of the machine. The primary's image is that of the first holder, the standby's that of the second.
 pub record PartsRefine (first second : Holder) (pair : Pair) (w : World) : Type 0 where
-  pub sessions : ClientsRefine pair.clients w.primary.connections w.primary.calls
+  pub around : AroundRefines second pair w
+  pub open around use *
   pub sequencer : SequencerRefines w.primary.calls w.primary.committer.closed pair.primary.sequencer
   pub follow : SeatsFollow w.primary.calls (seats_of pair.clients.sessions.connections.items) pair.primary.sequencer
   pub committing : CommittingRefines w.primary.calls pair.primary.committing w.primary.committer
   pub engine : EngineStands first w.primary.calls w.primary.committer.position pair.primary.device pair.primary.contents pair.primary.is_faulted
   pub leads : Leads pair.primary.contents pair.primary.committing.waiting.items pair.primary.committing.aside pair.primary.sequencer pair.primary.notices
   pub freeing : FreeingRefines pair.primary.sequencer pair.primary.notices pair.primary.contents w.primary
-  pub remembers : RemembersFor w.standby.position w.primary.committer.position (past_of w.primary.calls) pair.primary.contents pair.primary.committing.waiting.items pair.primary.committing.aside pair.primary.sequencer
-  pub opening : OpeningLeads w.standby.position w.primary.opened w.primary.calls pair.wire.opening
-  pub epoch : pair.wire.link.epoch ≡ w.primary.epoch
+  pub remembers : RemembersFor (safe_position w) w.primary.committer.position (past_of w.primary.calls) pair.primary.contents pair.primary.committing.waiting.items pair.primary.committing.aside pair.primary.sequencer
+  pub opening : OpeningLeads (safe_position w) w.primary.opened w.primary.calls pair.wire.opening
   pub link : LinkRefines w.primary.calls pair.wire.link pair.primary.handed pair.wire.remote w.primary.link
-  pub frames : AreFramesSent pair.wire.link.epoch w.primary.calls pair.wire.frames w.wire.frames
-  -- while there is a standby, nothing of an earlier epoch is on the way to it
-  pub own : HasStandby pair → All (IsOwn pair.wire.link.epoch) w.wire.frames
-  pub arrivals : ArrivalsRefine pair.wire.link.epoch w.primary.calls pair.wire.arrivals w.standby.waiting w.wire.acknowledgements
-  pub standby : StandbyRefines second pair.wire.link.epoch w.primary.calls w.standby.position (torn w.standby.life) pair.standby pair.lives.standby
 
 -- The parts of one whose primary is crashed: of the primary there is its image.
 pub record DownRefine (first second : Holder) (pair : Pair) (w : World) : Type 0 where
-  pub sessions : ClientsRefine pair.clients w.primary.connections w.primary.calls
+  pub around : AroundRefines second pair w
+  pub open around use *
   -- no seat is taken, nothing is on its way to the committer or the link, and the list ends at the image's position
   pub unseated : (c seat : ℕ) → ¬ HasSeat (seats_of pair.clients.sessions.connections.items) c seat
   pub committer : w.primary.committer ≡ new_committer w.primary.committer.position
@@ -126,26 +168,15 @@ pub record DownRefine (first second : Holder) (pair : Pair) (w : World) : Type 0
   pub none_told : w.primary.notices ≡ 0
   pub image : IsDown first w.primary.calls w.primary.committer.position pair.primary.device
   pub opened : w.primary.opened ≡ w.primary.committer.position
-  pub recalls : RecallsFor w.standby.position w.primary.committer.position (past_of w.primary.calls) image.contents
-  pub epoch : pair.wire.link.epoch ≡ w.primary.epoch
-  pub frames : AreFramesSent pair.wire.link.epoch w.primary.calls pair.wire.frames w.wire.frames
-  -- while there is a standby, nothing of an earlier epoch is on the way to it
-  pub own : HasStandby pair → All (IsOwn pair.wire.link.epoch) w.wire.frames
-  pub arrivals : ArrivalsRefine pair.wire.link.epoch w.primary.calls pair.wire.arrivals w.standby.waiting w.wire.acknowledgements
-  pub standby : StandbyRefines second pair.wire.link.epoch w.primary.calls w.standby.position (torn w.standby.life) pair.standby pair.lives.standby
+  pub recalls : RecallsFor (safe_position w) w.primary.committer.position (past_of w.primary.calls) image.contents
 
 -- The parts of one whose primary has stopped or was fenced: of the primary there is its device, on which each crash leaves an image that holds what the primary held where it stood, or what the
 -- call in which a fence failed would have left. The list of calls stays what it was, with all that was released.
 pub record StillRefine (first second : Holder) (pair : Pair) (w : World) : Type 0 where
-  pub sessions : ClientsRefine pair.clients w.primary.connections w.primary.calls
+  pub around : AroundRefines second pair w
+  pub open around use *
   pub lines_are : pair.primary.device.lines ≡ first.lines
   pub left : (image : Image) → IsImage pair.primary.device.words image → LeftBy first w cut.Between image
-  pub epoch : pair.wire.link.epoch ≡ w.primary.epoch
-  pub frames : AreFramesSent pair.wire.link.epoch w.primary.calls pair.wire.frames w.wire.frames
-  -- while there is a standby, nothing of an earlier epoch is on the way to it
-  pub own : HasStandby pair → All (IsOwn pair.wire.link.epoch) w.wire.frames
-  pub arrivals : ArrivalsRefine pair.wire.link.epoch w.primary.calls pair.wire.arrivals w.standby.waiting w.wire.acknowledgements
-  pub standby : StandbyRefines second pair.wire.link.epoch w.primary.calls w.standby.position (torn w.standby.life) pair.standby pair.lives.standby
 
 -- ---- lives
 

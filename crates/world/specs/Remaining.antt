@@ -12,7 +12,7 @@ use Rattle.wbl_engine.specs.Contents.{Keeps}
 use Rattle.wbl_engine.specs.Lawful.{AreLawful}
 use Rattle.machine.specs.declared.event.Cut.{Cut}
 use Rattle.machine.specs.declared.event.Node.TheVariants as node
-use Rattle.machine.specs.Event.{AsFollower, At, AsPrimary, Remains, World, may_remain}
+use Rattle.machine.specs.Event.{AsFollower, At, AsPrimary, Remains, World, may_remain, safe_position}
 use Rattle.world.specs.Committing.{AreContentsAt, OpensAt, promoted_holder}
 use Rattle.world.specs.Recalling.{RecallsFor, past_of}
 
@@ -62,7 +62,7 @@ pub record LeftBy (holder : Holder) (w : World) (call : Cut) (image : Image) : T
   pub contents_at : AreContentsAt holder w.primary.calls position contents
   pub lawful : AreLawful contents
   pub keeps : Keeps contents image
-  pub recalls : RecallsFor w.standby.position position (past_of w.primary.calls) contents
+  pub recalls : RecallsFor (safe_position w) position (past_of w.primary.calls) contents
 
 -- The image holds contents of the list at this position as those of the primary which this standby becomes. Its floor is there: a standby has freed what ended.
 pub record KeepsPromoted (holder : Holder) (calls : List Call) (position : ℕ) (image : Image) : Type 0 where

@@ -9,7 +9,7 @@ use Rattle.model.specs.Standing.{Holder}
 use Rattle.machine.specs.declared.event.Event.{Event}
 use Rattle.machine.specs.declared.event.Event.TheVariants.{Apply, Crash, OpenLink, Promote, Send, Turn, Write}
 use Rattle.machine.specs.declared.event.Node.TheVariants as node
-use Rattle.machine.specs.Event.{AsFollower, AsPrimary, At, Connection, Remains, World, connection_of, may_remain, torn}
+use Rattle.machine.specs.Event.{AsFollower, AsPrimary, At, Connection, Remains, World, connection_of, may_remain, safe_position, torn}
 use Rattle.machine.specs.Promise.{IsReleased, released_in}
 use Rattle.machine.specs.Row.{touches}
 use Rattle.connections.specs.Session.{AddsOne, TranscriptRefines, released_of}
@@ -74,7 +74,7 @@ pub record Shows (first second : Holder) (w : World) (pair : Pair) : Type 0 wher
   pub primary : Remain first w.primary.calls w.primary.committer.position (torn w.primary.life) pair.primary.device
   pub standby : HasStandby pair → Remain second w.primary.calls w.standby.position (torn w.standby.life) pair.standby.device
   pub held : (prefix : List Call) (call : Call) → IsReleased w.primary.calls (released_in w) prefix call
-      → (position_of (prefix ++ call ∷ []) ≤ w.primary.committer.position) × (position_of (prefix ++ call ∷ []) ≤ w.standby.position)
+      → (position_of (prefix ++ call ∷ []) ≤ w.primary.committer.position) × (position_of (prefix ++ call ∷ []) ≤ safe_position w)
 
 -- ---- what an event gave
 

@@ -5,13 +5,13 @@ use Rattle.machine.specs.declared.event.Event.{Event}
 use Rattle.model.specs.Standing.{Holder}
 use Rattle.world.specs.Headline.{start, StandsAfter, IsCutAfter}
 use Rattle.world.specs.Pair.{HasRoom, Pair, NodesRefine}
-use Rattle.world.proofs.PairLemmas.{sessions-stand}
+use Rattle.world.proofs.AroundLemmas.{around-stands}
 use Rattle.world.proofs.ReachLemmas.{adds-one, reaches-start, reaches-world, reaches-next, reaches-cut}
 use Rattle.world.proofs.playing.play.Goals as goal
 
 -- at the start there is no call
 start-none : (pair : Pair) → (first : Holder) × (second : Holder) × NodesRefine first second pair start → length pair.clients.transcript.calls.items ≤ 0
-start-none pair stands = omega (arith, ap length (sessions-stand stands.2.parts).told.calls_are)
+start-none pair stands = omega (arith, ap length (around-stands stands.2.parts).sessions.told.calls_are)
 
 pub loop-event-init : goal.loop-event-init
 loop-event-init g c = record {

@@ -10,11 +10,12 @@ use Rattle.machine.specs.declared.event.Node.TheVariants.{Standby}
 use Rattle.machine.specs.Event.{At, Frame as Sent}
 use Rattle.world.specs.Following.{next_from}
 use Rattle.world.specs.Standby.{Node, arrived_with, node_at}
+use Rattle.world.proofs.AroundLemmas.{around-stands}
 use Rattle.world.proofs.ArrivalLemmas.{first-frame}
 use Rattle.world.specs.Remaining.{KeepsOne}
 use Rattle.world.proofs.KeptLemmas.{CrashedIn}
 use Rattle.world.proofs.PairCutStandby.{frame-cuts, frame-idle, frame-none}
-use Rattle.world.proofs.PairStandby.{arrivals-stand, follower, link-epoch}
+use Rattle.world.proofs.PairStandby.{follower}
 use Rattle.world.proofs.StandbyLemmas.{StandbyStands-kept, frame-asked, frame-keeps, frame-lines}
 use Rattle.world.proofs.StepLemmas.{leaves-still}
 use Rattle.world.proofs.pair.Pair.cut_frame.Goals as goal
@@ -78,8 +79,8 @@ returns g c =
     let stood = StandbyStands-kept second epoch w.primary.calls w.standby.position _
     (node_at (E.device kept.engine) (E.contents kept.engine) (E.is_faulted kept.engine) (K.table kept.keyspace) kept.heap kept.ended.items)
     moved.keeps moved.contents moved.faulted (ap K.table moved.keyspace) moved.heap (ap (λ ended. ended.items) moved.ended) (ap (λ contents. contents.current.epoch) moved.contents) (follower follows stands.parts) in
-    let one = first-frame epoch w (arrived_with c.args.self.now.arrivals c.args.history.now.acknowledgements) frame c.pop_front.new.self.items stood_first (arrivals-stand stands.parts) in
+    let one = first-frame epoch w (arrived_with c.args.self.now.arrivals c.args.history.now.acknowledgements) frame c.pop_front.new.self.items stood_first (around-stands stands.parts).arrivals in
     subst (λ (frames : List Sent). LeavesOnly (E.device kept.engine) (E.device mid.engine) (KeepsOne second w.primary.calls w.standby.position (At (next_from w.standby frames) ∷ []))) (sym one.all)
     (frame-keeps E.device E.contents E.is_faulted K.table second epoch w.primary.calls w.standby frame one.span kept mid one.epoch_is one.told_is
-    (record { epoch_is = link-epoch stands.parts ∙ sym stands.sound.standby.epoch_is; role_is = stands.lives.follows }) one.is stood c.on_frame.result c.on_frame.ensures))
+    (record { epoch_is = (around-stands stands.parts).epoch ∙ sym stands.sound.standby.epoch_is; role_is = stands.lives.follows }) one.is stood c.on_frame.result c.on_frame.ensures))
     c.requires.world)
