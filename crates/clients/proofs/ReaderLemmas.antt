@@ -1,4 +1,4 @@
--- How what a reader owes changes, step by step.
+use Rattle.std.proofs.Common.{◌≡◌, ℕ, List, [], ◌++◌, Option, Result, Ok, Err, OnOk, refl, sym, ap, subst, ◌∙◌, append_assoc, append-nil}
 use Rattle.std.proofs.Common.{◌≡◌, ℕ, List, [], ◌++◌, Option, refl, sym, ap, subst, ◌∙◌, append_assoc, append-nil}
 use Rattle.std.proofs.KnownBytes.{Consumes-nil, Consumes-trans}
 use Rattle.std.specs.Io.KnownBytes.{Consumes}
@@ -102,3 +102,20 @@ reads-noted source source' old new noted offered offered' held same reads = reco
   };
   consumed = reads.consumed;
 }
+
+-- nothing was read or offered, and what else a reader notes may have changed
+pub reads-waited : (source : Option (List ℕ)) (old new : RequestReader) (offered offered' : List Item) → offered' ≡ offered → new.held ≡ old.held → new.inbound ≡ old.inbound
+    → Reads source source old new offered offered'
+reads-waited source old new offered offered' unchanged held same =
+    subst (λ o. Reads source source old new offered o) (sym unchanged) (reads-none source source old new offered [] (Consumes-nil source) refl held same)
+
+-- the same, before bytes were read and items offered
+pub reads-join-waited : (source source' : Option (List ℕ)) (r0 r1 r2 : RequestReader) (o0 o1 o2 : List Item) → o1 ≡ o0 → r1.held ≡ r0.held → r1.inbound ≡ r0.inbound
+    → Reads source source' r1 r2 o1 o2 → Reads source source' r0 r2 o0 o2
+reads-join-waited source source' r0 r1 r2 o0 o1 o2 unchanged held same reads =
+    reads-trans source source source' r0 r1 r2 o0 o1 o2 (reads-waited source r0 r1 o0 o1 unchanged held same) reads
+
+-- what holds anyway holds where there is a value
+pub waited-on-ok : {A E P : Type 0} (result : Result A E) → P → OnOk result P
+waited-on-ok (Ok value) holds = holds
+waited-on-ok (Err error) holds = tt

@@ -4,7 +4,7 @@ ghost use Rattle.clients.specs.contracts.driver.Driver as driver;
 ghost use Rattle.clients.specs.contracts.intake.DriverEntrance as entrance;
 ghost use Rattle.clients.specs.contracts.intake.IdleLook as idle;
 ghost use Rattle.clients.specs.contracts.room.SocketRoom as room;
-ghost use Rattle.clients.specs.contracts.shown.Shown as shown;
+ghost use Rattle.node_log.specs.contracts.shown.Shown as shown;
 ghost use Rattle.lobby.specs.contracts.lobby.Lobby as lobby;
 ghost use Rattle.marks.specs.contracts.thread_marks.ThreadMarks as thread_marks;
 ghost use Rattle.wakes.specs.contracts.calls.Calls as calls;
@@ -13,9 +13,9 @@ ghost use denote.Param.Send.{IsSend, IsSync};
 use crate::driven::DrivenConnection;
 use crate::intake::IdleLook;
 use crate::room::SocketRoom;
-use crate::shown::Shown;
 use lobby::Lobby;
 use marks::ThreadMarks;
+use node_log::Shown;
 use wakes::Calls;
 
 /// Shows that a driver may go to another thread. It does nothing.

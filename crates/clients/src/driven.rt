@@ -7,16 +7,16 @@ ghost use Rattle.clients.specs.Driven.{Hears, IsVisit};
 ghost use Rattle.clients.specs.ReplySide.{IsVisited, StaysWritten};
 ghost use Rattle.clients.specs.RequestSide.{KeepsRequests, StaysRead};
 
+use crate::measured::{Measured, Standing};
 use crate::registration::{NotRegistered, register};
 use crate::reply_side::{ReplySide, Written};
 use crate::request_side::RequestSide;
-use crate::shown::Counted;
 use crate::signals::Signals;
 use crate::stillness::Stillness;
-use crate::waits::{Measured, Standing, Waits};
 use kv_types::Seen;
 use mio::Registry;
 use mio::event::Event;
+use node_log::{Counted, Waits};
 use pipes::Seat;
 use std::net::{Shutdown, TcpStream};
 use std::sync::Wait;

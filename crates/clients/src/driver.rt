@@ -2,10 +2,10 @@
 use crate::driven_connections::DrivenConnections;
 use crate::intake::DriverEntrance;
 use crate::room::SharedRoom;
-use crate::shown::Shown;
 use kv_types::Refusal;
 use marks::ThreadMarks;
 use mio::{Poll, Token, Waker};
+use node_log::Shown;
 use pipes::MAX_SEATS;
 use std::alloc::Global;
 use std::net::Net;

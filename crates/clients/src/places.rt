@@ -6,11 +6,10 @@ ghost use Rattle.mio.specs.Events.{items as events_in};
 
 use crate::driven::{DrivenConnection, Look, Next};
 use crate::intake::DriverEntrance;
-use crate::shown::Counted;
-use crate::waits::Waits;
 use kv_types::Seen;
 use mio::Events;
 use mio::event::Event;
+use node_log::{Counted, Waits};
 use std::sync::Wait;
 use wakes::{Called, Calls};
 

@@ -8,6 +8,7 @@ ghost use Rattle.clients.specs.Reader as spec;
 
 use crate::block::Block;
 use crate::broken_off::BrokenOff;
+use crate::read_ahead::ReadAhead;
 use crate::signals::Signals;
 use bytes::Bytes;
 use inbound::Inbound;
@@ -52,6 +53,8 @@ pub struct RequestReader {
     held: Option<Item>,
     /// How many items were offered, modulo 2^64.
     offered: u64,
+    /// How far it reads ahead of the thread that serves.
+    ahead: ReadAhead,
     /// Whether a turn came to the end of the requests, or broke off.
     is_done: bool,
 }
@@ -70,6 +73,7 @@ impl RequestReader {
             block: Block::new(alloc)?,
             held: None,
             offered: 0,
+            ahead: ReadAhead::new(),
             is_done: false,
         })
     }
@@ -134,9 +138,31 @@ impl RequestReader {
             if progress != Progress::More {
                 return Ok(progress);
             }
-            progress = self.read_block(stream, outlet, signals)?;
+            progress = self.read_next(stream, outlet, signals)?;
         }
         Ok(progress)
+    }
+
+    /// Reads once, unless it is too far ahead of the thread that serves, and then it waits as for room.
+    fn read_next<S: Read, O: Outlet<Item = Item>>(
+        &mut self,
+        stream: &mut S,
+        outlet: &mut O,
+        signals: &Signals,
+    ) -> Result<Progress, BrokenOff>
+        requires may { (other : O) (item : Item) → O.is_same outlet.old other → O.may_offer other item }
+        requires none_owed { owed self.old [] ≡ [] }
+        ensures reads { OnOk result (Reads (S.remaining stream.old) (S.remaining stream.new) self.old self.new (O.offered outlet.old) (O.offered outlet.new)) }
+        ensures offers { OffersFor self.old self.new (O.offered outlet.old) (O.offered outlet.new) }
+        ensures all { IfOk result (λ progress. (progress ≡ Progress.Full → ⊥) → owed self.new [] ≡ []) }
+        ensures end { IfOk result (λ progress. progress ≡ Progress.Ended → self.new.inbound.is_closed ≡ false → IsAtEnd (S.remaining stream.new)) }
+        ensures done { self.new.is_done ≡ self.old.is_done }
+        ensures same { O.is_same outlet.old outlet.new }
+    {
+        if !self.ahead.next(self.offered, outlet, signals) {
+            return full(signals);
+        }
+        self.read_block(stream, outlet, signals)
     }
 
     /// Reads once, and offers all that the bytes ask for. Nothing is held.

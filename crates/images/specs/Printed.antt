@@ -76,7 +76,8 @@ pub record TellsImage (lines : ℕ) (image : Image) (before after : Option (List
 abbrev pub migrated_text : ℕ → List ℕ
 migrated_text lines = codes "migrated to version 2, " ++ decimal (entries_of_lines Version2 lines) ++ codes " entries" ++ newline
 
--- An image that could be migrated, if it was not of version 2 before, is of version 2, with its map, its position, epoch and role; and how many entries it has is told.
+-- An image that could be migrated, if it was not of version 2 before, is of version 2, with its map, its position, epoch and role, and its position as the floor;
+-- one that was has its record still; and how many entries it has is told.
 pub record TellsMigration (old new : State) (before after : Option (List ℕ)) : Type 0 where
   pub migrated : (r : Record) (s : Keyspace) → IsMigratable old.lines r s (image_of old.words) → Leaves new (IsMigrated old.lines r s)
   pub told : Appends before after (migrated_text old.lines)

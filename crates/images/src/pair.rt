@@ -3,7 +3,7 @@ ghost use Rattle.std.specs.Prelude.{◌≡◌, ◌≢◌, ◌⊎◌, ℕ, ◌<�
 ghost use Rattle.kv_types.specs.Keyspace.{Keyspace};
 ghost use Rattle.kv_types.specs.declared.refusal.Refusal.{Refusal as Cause};
 ghost use Rattle.kv_types.specs.declared.refusal.Refusal.TheVariants.{Fault as Faulted, WrongPair};
-ghost use Rattle.pmem.specs.Device.{Only};
+ghost use Rattle.pmem.specs.Device.{Only, moment};
 ghost use Rattle.pmem.specs.Crash.{image_of};
 ghost use Rattle.pmem.specs.Runs.{LeavesOnly};
 ghost use Rattle.model.specs.declared.image.TheConstants.{COUNTER_LIMIT};
@@ -27,7 +27,7 @@ ghost use Rattle.images.specs.Pair.{IsButForPair, IsNumbering, pair_in};
 use crate::serve_error::ServeError;
 use kv_types::Refusal;
 use model::{COUNTER_LIMIT, Role};
-use pmem::{Pmem, persist};
+use pmem::{Pmem, persist_durably};
 use std::random::RandomSource;
 
 /// The word of the superblock that holds the number, in images of each version.
@@ -66,12 +66,14 @@ pub fn pair_of<P: Pmem>(device: &P) -> u64
     device.load(PAIR_WORD)
 }
 
-/// Writes the number of the image on this device, whatever it was, under a fence of its own. What the image holds besides stays as it is.
+/// Writes the number of the image on this device, whatever it was, under a fence of its own, and syncs. What the image holds besides stays as it is.
 ///
-/// At any moment a crash leaves the number from before or the new one. On `Fault`, the only refusal, a fence has failed, and a crash may leave either.
+/// At any moment a crash leaves the number from before or the new one. On `Fault`, the only refusal, a fence or the sync has failed, and a crash may leave
+/// either.
 pub fn write_pair<P: Pmem>(device: &mut P, pair: u64) -> Result<(), Refusal>
     requires { 0 < (P.state device.old).lines }
     ensures written { OnOk result (Only ((P.state device.new).words PAIR_WORD) pair) }
+    ensures durable { OnOk result (P.floor device.new ≡ moment (P.state device.new)) }
     ensures sound { OnOk result ((P.state device.new).failures ≡ (P.state device.old).failures) }
     ensures cause { IfErr result (λ refusal. refusal ≡ Faulted) }
     ensures fault { OnErr result ((P.state device.old).failures < (P.state device.new).failures) }
@@ -83,7 +85,7 @@ pub fn write_pair<P: Pmem>(device: &mut P, pair: u64) -> Result<(), Refusal>
     ensures contents { (contents : Contents) → IsDurable (P.state device.old) contents
         → LeavesOnly (P.state device.old) (P.state device.new) (Keeps contents) }
 {
-    match persist(device, &[(PAIR_WORD, pair)], &[0]) {
+    match persist_durably(device, &[(PAIR_WORD, pair)], &[0]) {
         Ok(()) => Ok(()),
         Err(_) => Err(Refusal::Fault),
     }
@@ -101,6 +103,7 @@ pub fn adopt_pair<P: Pmem>(device: &mut P, pair: u64) -> Result<(), Refusal>
     ensures written { pair_in (image_of (P.state device.old).words) ≢ pair → OnOk result (Only ((P.state device.new).words PAIR_WORD) pair) }
     ensures certain { Only ((P.state device.old).words PAIR_WORD) (pair_in (image_of (P.state device.old).words))
         → OnOk result (Only ((P.state device.new).words PAIR_WORD) pair) }
+    ensures durable { P.floor device.old ≡ moment (P.state device.old) → OnOk result (P.floor device.new ≡ moment (P.state device.new)) }
     ensures own { pair_in (image_of (P.state device.old).words) ≢ NO_PAIR → device.new ≡ device.old }
     ensures wrong { pair_in (image_of (P.state device.old).words) ≢ NO_PAIR → pair_in (image_of (P.state device.old).words) ≢ pair
         → result ≡ Err WrongPair }
@@ -127,6 +130,7 @@ pub fn into_pair<P: Pmem + Drop>(device: P, pair: u64) -> Result<P, Refusal>
     ensures same { IfOk result (λ left. IsButForPair (image_of (P.state device).words) (image_of (P.state left).words)) }
     ensures settled { IfOk result (λ left. (word : ℕ) → Only ((P.state left).words word) (image_of (P.state left).words word)) }
     ensures lines { IfOk result (λ left. (P.state left).lines ≡ (P.state device).lines) }
+    ensures durable { P.floor device ≡ moment (P.state device) → IfOk result (λ left. P.floor left ≡ moment (P.state left)) }
 {
     let mut device = device;
     adopt_pair(&mut device, pair)?;

@@ -16,8 +16,8 @@ use Rattle.stream_codec.specs.declared.message.Message.{Message}
 use Rattle.stream_codec.specs.Message.{Sent, sent_of, sent_of_frame}
 use Rattle.stream_codec.specs.Scanning.{sent_of_all}
 use Rattle.stream_codec.specs.Stream.{took, fed}
-use Rattle.links.specs.declared.link_error.LinkError.{LinkError}
-use Rattle.links.specs.declared.link_error.LinkError.TheVariants.{Closed}
+use Rattle.node_log.specs.declared.link_error.LinkError.{LinkError}
+use Rattle.node_log.specs.declared.link_error.LinkError.TheVariants.{Closed}
 use Rattle.links.specs.Serving.{Held, Acknowledges, Answers, IsLeft, IsTidied, none, Leaves, keeps, cuts, fails, Says, HasRun, HasSaid, LinkSays, cut_off, Served, ack_text, acks_text, held}
 use Rattle.links.proofs.Serving.{Appends-join, Appends-none, Consumes-join, Run-join, Served-ended, not_refused}
 

@@ -11,8 +11,8 @@ use Rattle.mv_keyspace.specs.Table.{Table, records}
 use Rattle.standby.specs.declared.standby.Standby.{Standby}
 use Rattle.standby.specs.Following.{IsHeld, IsTakenNext, HasTaken}
 use Rattle.standby.specs.Taking.{TakesFrame}
-use Rattle.links.specs.declared.link_error.LinkError.{LinkError}
-use Rattle.links.specs.declared.link_error.LinkError.TheVariants.{Stops}
+use Rattle.node_log.specs.declared.link_error.LinkError.{LinkError}
+use Rattle.node_log.specs.declared.link_error.LinkError.TheVariants.{Stops}
 use Rattle.std.proofs.lemmas.List.{flat_map_more, map-append}
 use Rattle.stream_codec.specs.declared.message.Message.{Message}
 use Rattle.stream_codec.specs.Message.{Sent, sent_of}

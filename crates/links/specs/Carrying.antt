@@ -8,8 +8,8 @@ use Rattle.pipes.specs.declared.ring_pipe.RingInlet.{RingInlet}
 use Rattle.links.specs.Hearing.{HasHeardBehind}
 use Rattle.links.specs.Opening.{HearsLink, Opens, SaysFirst}
 use Rattle.links.specs.Sending.{HasSent}
-use Rattle.links.specs.declared.log.Lost.{Lost}
-use Rattle.links.specs.declared.log.Lost.TheVariants.{Ended, Refused}
+use Rattle.node_log.specs.declared.log.Lost.{Lost}
+use Rattle.node_log.specs.declared.log.Lost.TheVariants.{Ended, Refused}
 use Rattle.links.specs.declared.receiver.AckReceiver.{AckReceiver}
 use Rattle.links.specs.declared.sender.LinkSender.{LinkSender}
 

@@ -12,8 +12,8 @@ use Rattle.links.specs.declared.greetings.Unmet.{Unmet}
 use Rattle.links.specs.declared.greetings.Unmet.TheVariants.{Unwritten, Refused}
 use Rattle.links.specs.declared.left.Left.{Left}
 use Rattle.links.specs.declared.left.Left.TheVariants.{Stopped, Adopts}
-use Rattle.links.specs.declared.link_error.LinkError.{LinkError}
-use Rattle.links.specs.declared.link_error.LinkError.TheVariants.{Closed, Stops}
+use Rattle.node_log.specs.declared.link_error.LinkError.{LinkError}
+use Rattle.node_log.specs.declared.link_error.LinkError.TheVariants.{Closed, Stops}
 
 -- what a node of this release says first whose image has this number
 abbrev pub greeting_of : ℕ → Greeting

@@ -7,4 +7,3 @@ pub mod Serving
 pub mod Greeting
 pub mod Ends
 pub mod Carrying
-pub mod Usage

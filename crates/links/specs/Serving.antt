@@ -13,8 +13,8 @@ use Rattle.stream_codec.specs.declared.message.GroupHead.{GroupHead}
 use Rattle.frames.specs.declared.ack.Ack.{Ack}
 use Rattle.standby.specs.Following.{TakesEpoch, IsHeld, IsNext, IsRearranged, IsTakenNext, HasTaken, EndsAs}
 use Rattle.stream_codec.specs.Message.{Sent, sent_of_frame, sent_of_ack, sent_text}
-use Rattle.links.specs.declared.link_error.LinkError.{LinkError}
-use Rattle.links.specs.declared.link_error.LinkError.TheVariants.{Refused, Stops}
+use Rattle.node_log.specs.declared.link_error.LinkError.{LinkError}
+use Rattle.node_log.specs.declared.link_error.LinkError.TheVariants.{Refused, Stops}
 
 -- what frames move of a standby
 pub record Held : Type 0 where

@@ -3,11 +3,11 @@ ghost use Rattle.std.specs.Prelude.{◌≡◌, ◌⊎◌, ℕ, List, [], ◌++�
 ghost use Rattle.std.specs.Io.KnownBytes.{Appends};
 ghost use Rattle.kv_types.specs.declared.refusal.Refusal.TheVariants.{Memory};
 ghost use Rattle.links.specs.Serving.{ack_text};
-ghost use Rattle.links.specs.declared.link_error.LinkError.TheVariants.{Closed, Refused};
+ghost use Rattle.node_log.specs.declared.link_error.LinkError.TheVariants.{Closed, Refused};
 
-use crate::link_error::LinkError;
 use crate::writing::write_put;
 use frames::Ack;
+use node_log::LinkError;
 use std::io::Write;
 use stream_codec::write_ack;
 

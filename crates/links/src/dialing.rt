@@ -1,10 +1,10 @@
 //! Connecting to the standby.
 ghost use Rattle.std.specs.Prelude.{◌≡◌, ◌⊎◌, ◌↔◌, Some, None, pos};
 ghost use Rattle.std.specs.IoError.{raw_os_error};
-ghost use Rattle.links.specs.declared.log.Lost.TheVariants.{NoDescriptor, Unresolved};
+ghost use Rattle.node_log.specs.declared.log.Lost.TheVariants.{NoDescriptor, Unresolved};
 
-use crate::log::Lost;
 use kv_types::Refusal;
+use node_log::Lost;
 use std::io::{self, ErrorKind};
 use std::net::{Net, TcpStream};
 use std::time::Duration;

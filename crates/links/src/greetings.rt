@@ -3,11 +3,10 @@ ghost use Rattle.std.specs.Prelude.{◌≡◌, IfErr, IfOk};
 ghost use Rattle.greeting.specs.Greeting.{MayLink, greeting_text};
 ghost use Rattle.links.specs.Greeting.{Greets, IsUnmet, IsWhyNot};
 
-use crate::link_error::LinkError;
-use crate::log::Lost;
 use crate::writing::write_whole;
 use greeting::{GREETING_BYTES, Greeting, judge};
 use kv_types::Refusal;
+use node_log::{LinkError, Lost};
 use std::io::{Read, Write};
 
 /// Why two nodes did not greet each other.

@@ -2,11 +2,9 @@
 ghost use Rattle.std.specs.Prelude.{◌≡◌, ◌↔◌, IsTrue, IfSome};
 
 use crate::greetings::Unmet;
-use crate::link_error::LinkError;
 use crate::listening::is_lasting;
-use crate::log::{Log, News};
 use crate::meeting::Met;
-use crate::throttle::Throttle;
+use node_log::{LinkError, Log, News, Throttle};
 use std::io::{self, ErrorKind, Write};
 use std::net::{IpAddr, TcpListener, TcpStream};
 use std::thread;

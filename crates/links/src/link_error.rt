@@ -1,4 +1,4 @@
-//! Why a link ended, on the standby's side.
+//! By which refusal a standby ends a link.
 ghost use Rattle.std.specs.Prelude.{◌≡◌, ◌⊎◌, ◌≤◌, ◌<◌, None};
 ghost use Rattle.model.specs.declared.record.Record.{Record as NodeRecord};
 ghost use Rattle.frames.specs.declared.frame.Frame.{Frame as Sent};
@@ -7,30 +7,8 @@ ghost use Rattle.links.specs.Serving.{ends_by, refusal_of_ack, refusal_of_head, 
 
 use frames::Ack;
 use kv_types::Refusal;
-use std::alloc::AllocError;
+use node_log::LinkError;
 use stream_codec::GroupHead;
-
-/// Why a standby's link ended that the primary did not close.
-#[derive(Clone, Copy, Debug, PartialEq, Eq)]
-pub enum LinkError {
-    /// A read or a write failed.
-    Closed,
-    /// The link alone has ended: the node is sound, and may take the next link.
-    Refused(Refusal),
-    /// The node can take no further frame: its device failed, or its counters have come to their end.
-    Stops(Refusal),
-}
-
-impl From<AllocError> for LinkError {
-    ghost use Rattle.kv_types.specs.declared.refusal.Refusal.TheVariants.{Memory};
-    ghost use Rattle.links.specs.declared.link_error.LinkError.TheVariants.{Refused};
-
-    ghost from_gives = { λ _ end. end ≡ Refused Memory };
-
-    fn from(_e: AllocError) -> LinkError {
-        LinkError::Refused(Refusal::Memory)
-    }
-}
 
 /// How a link ends whose frame was refused.
 pub(crate) fn ends_by(refusal: Refusal) -> LinkError

@@ -2,9 +2,9 @@
 ghost use Rattle.std.specs.Prelude.{◌≡◌};
 
 use crate::link_acceptor::LinkAcceptor;
-use crate::progress::{Progress, end_turn};
 use crate::stage::Stage;
 use greeting::GREETING_BYTES;
+use node_log::Progress;
 use std::cell::Cell;
 use std::io::{self, ErrorKind, Read, Write};
 use std::net::TcpStream;
@@ -165,5 +165,12 @@ impl<S: Read, C: Clock, W: Write> Read for LinkReader<'_, '_, S, C, W> {
             }
         }
         Err(io::Error::from(ErrorKind::TimedOut))
+    }
+}
+
+/// Where a node shows how far it is, it shows that it has taken what came, or left its link.
+pub(crate) fn end_turn(progress: &Option<Arc<Progress>>) {
+    if let Some(progress) = progress {
+        progress.end_turn();
     }
 }

@@ -1,8 +1,8 @@
 //! What goes out on a standby's link.
 ghost use Rattle.std.specs.Prelude.{◌≡◌};
 
-use crate::progress::Progress;
 use greeting::GREETING_BYTES;
+use node_log::Progress;
 use std::cell::Cell;
 use std::io::{self, Write};
 use std::net::TcpStream;

@@ -7,16 +7,15 @@ ghost use Rattle.standby.specs.Taking.{Stands};
 ghost use Rattle.links.specs.Greeting.{IsUnmet, ServesGreeted, left_of};
 ghost use Rattle.links.specs.Serving.{held};
 ghost use Rattle.links.specs.declared.left.Left.TheVariants.{Adopts, Stopped};
-ghost use Rattle.links.specs.declared.link_error.LinkError.TheVariants.{Stops};
+ghost use Rattle.node_log.specs.declared.link_error.LinkError.TheVariants.{Stops};
 
-use crate::fill_gauges::FillSetter;
 use crate::following::serve_link;
 use crate::greetings::{Unmet, greet};
 use crate::left::Left;
-use crate::link_error::LinkError;
 use crate::stage::Stage;
 use greeting::{Greeting, adopts};
 use mv_keyspace::Keyspace;
+use node_log::{FillSetter, LinkError};
 use standby::Standby;
 use std::alloc::Global;
 use std::cell::Cell;

@@ -9,11 +9,11 @@ ghost use Rattle.links.specs.Marking.{StaysFinal};
 ghost use Rattle.links.specs.Opening.{Opens, SaysFirst};
 
 use crate::greetings::greet;
-use crate::log::Lost;
 use crate::reading::{new_block, read_messages};
 use crate::receiver::AckReceiver;
 use frames::Ack;
 use greeting::Greeting;
+use node_log::Lost;
 use standby_stream::Outgoing;
 use std::alloc::Global;
 use std::io::{Read, Write};

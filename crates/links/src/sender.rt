@@ -12,17 +12,15 @@ ghost use Rattle.links.specs.declared.standing.Standing.TheVariants.{Behind};
 
 use crate::dialing::{dial, why_not};
 use crate::gap::tell_gap;
-use crate::log::{Log, Lost, News};
 use crate::opening::greet_and_open;
 use crate::receiver::AckReceiver;
-use crate::refused_links::RefusedLinks;
 use crate::same_end::SameEnd;
 use crate::sending::{Surroundings, send_all};
-use crate::throttle::Throttle;
 use greeting::Greeting;
 use kv_types::Refusal;
 use marks::ThreadMarks;
 use model::Group;
+use node_log::{Log, Lost, News, RefusedLinks, Throttle};
 use pipes::RingInlet;
 use standby_stream::Outgoing;
 use std::alloc::Global;

@@ -6,14 +6,14 @@ ghost use Rattle.frames.specs.declared.frame.Frame.{Frame as Kept};
 ghost use Rattle.standby_stream.specs.Sent.{Grows, MaySend, between};
 ghost use Rattle.standby_stream.specs.Stream.{IsDue, Frames, TakesNext, acknowledged};
 ghost use Rattle.links.specs.Sending.{HasSent, Sends, Step, Waits, WorksOff, delta_text, frame_text, frames_text};
-ghost use Rattle.links.specs.declared.log.Lost.TheVariants.{Ended, Refused};
+ghost use Rattle.node_log.specs.declared.log.Lost.TheVariants.{Ended, Refused};
 
-use crate::log::Lost;
 use crate::writing::write_put;
 use frames::Frame;
 use kv_types::Refusal;
 use marks::ThreadMarks;
 use model::Group;
+use node_log::Lost;
 use pipes::Inlet;
 use standby_stream::Outgoing;
 use std::alloc::Global;

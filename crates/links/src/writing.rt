@@ -1,9 +1,9 @@
 //! Writing to the other node.
 ghost use Rattle.std.specs.Prelude.{◌≡◌, ℕ, ◌≤◌, List, [], ◌++◌, length, take, OnErr, OnOk, IfErr, IfOk};
 ghost use Rattle.std.specs.Io.KnownBytes.{Appends};
-ghost use Rattle.links.specs.declared.log.Lost.TheVariants.{Unwritten};
+ghost use Rattle.node_log.specs.declared.log.Lost.TheVariants.{Unwritten};
 
-use crate::log::Lost;
+use node_log::Lost;
 use std::io::{self, ErrorKind, Write};
 
 /// How many bytes of room are kept between two writes, at most.

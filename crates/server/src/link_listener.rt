@@ -1,7 +1,7 @@
 //! What the nodes of a pair tell of the link between them.
 use crate::client::{Client, PairEnd};
 use kv_types::Refusal;
-use links::{LinkError, Lost, News};
+use node_log::{LinkError, Lost, News};
 use std::alloc::{AllocError, Global};
 use std::io::{self, Write};
 use std::sync::Arc;

@@ -11,10 +11,9 @@ use crate::options::PROGRAM;
 use greeting::Greeting;
 use images::{Failure, Images, into_pair, pair_of, tell_cause};
 use kv_types::Refusal;
-use links::{
-    Capacity, FillSetter, Filling, Left, Log, News, Progress, StandbyWatcher, follow, new_fill,
-};
+use links::{Left, follow};
 use mv_keyspace::{Keyspace, MvKeyspace};
+use node_log::{Capacity, FillSetter, Filling, Log, News, Progress, StandbyWatcher, new_fill};
 use pmem::Pmem;
 use standby::Standby;
 use std::alloc::Global;

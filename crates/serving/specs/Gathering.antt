@@ -2,12 +2,15 @@
 use Rattle.std.specs.Prelude.{ℕ, ◌-◌, Bool, nat_le, nat_lt, min, ◌&&◌, ◌||◌}
 use Rattle.model.specs.declared.group.TheConstants.{MAX_PARTS}
 use Rattle.serving.specs.declared.gathering.Gathering.{Gathering}
-use Rattle.serving.specs.declared.gathering.TheConstants.{IDLE_ROUNDS, LISTED_AT_ONCE}
+use Rattle.serving.specs.declared.gathering.TheConstants.{IDLE_ROUNDS, LISTED_AT_ONCE, MOST_ON_THE_WAY}
 
--- Changes wait, and a request waits for room, or as many changes wait as are in groups that the standby has not acknowledged, or as a group may have.
+-- Changes wait, and fewer than so many are in groups that the standby has not acknowledged; and a request waits for room, or as many changes wait as those, or
+-- as a group may have.
 abbrev pub is_group_due : Gathering → ℕ → ℕ → Bool → Bool
 is_group_due gathering position remote is_short =
-    nat_lt 0 (position - gathering.closed) && (is_short || nat_le (min (gathering.closed - remote) MAX_PARTS) (position - gathering.closed))
+    nat_lt 0 (position - gathering.closed)
+    && (nat_lt (gathering.closed - remote) MOST_ON_THE_WAY
+    && (is_short || nat_le (min (gathering.closed - remote) MAX_PARTS) (position - gathering.closed)))
 
 -- nothing was done for a while, and the standby has acknowledged all groups
 abbrev pub is_idle : Gathering → ℕ → Bool

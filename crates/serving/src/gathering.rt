@@ -10,6 +10,11 @@ use model::MAX_PARTS;
 /// would cost the committer a fourth fence a group. Of an image of 65,536 lines it is an eighth of the entries.
 pub(crate) const LISTED_AT_ONCE: usize = 1_024;
 
+/// While so many changes are in groups that the standby has not acknowledged, no further group is closed, and so, behind `MAX_PARTS` changes more, no request is
+/// turned: whoever asks next waits for the changes of five groups at most, and its own group, however much others send and however slow the standby is. Each node
+/// commits one group meanwhile, and two are between them; half as many cost clients with deep pipelines an eighth of what they get.
+pub(crate) const MOST_ON_THE_WAY: u64 = 4 * MAX_PARTS as u64;
+
 /// After so many rounds in a row without work the node is idle: its thread is about to sleep.
 const IDLE_ROUNDS: u32 = NODE_SPIN;
 
@@ -44,16 +49,16 @@ impl Gathering {
         };
     }
 
-    /// Whether the changes up to this position that wait become a group: some do, and as many as are in groups that the standby has not acknowledged, or as a
-    /// group may have; or a request waits for room (`is_short`). So a lone client waits for nobody, and many clients' changes do not go out one by one while
-    /// the fences and the link are busy with a few.
+    /// Whether the changes up to this position that wait become a group: fewer than `MOST_ON_THE_WAY` are in groups that the standby has not acknowledged, some
+    /// wait, and as many as those, or as a group may have; or a request waits for room (`is_short`). So a lone client waits for nobody, and many clients' changes
+    /// do not go out one by one while the fences and the link are busy with a few.
     pub(crate) fn is_group_due(&self, position: u64, remote: u64, is_short: bool) -> bool
         ensures { result ≡ spec.is_group_due self.now position remote is_short }
     {
         let waiting = position.saturating_sub(self.closed);
         let on_the_way = self.closed.saturating_sub(remote);
         let is_large = on_the_way.min(MAX_PARTS as u64) <= waiting;
-        waiting > 0 && (is_short || is_large)
+        waiting > 0 && on_the_way < MOST_ON_THE_WAY && (is_short || is_large)
     }
 
     /// Whether so many versions that have ended become a free list: no change waits to be in a group before, some have ended, and room is short, or they are

@@ -1,7 +1,8 @@
 //! Both ends of the link that a primary's threads start.
 ghost use Rattle.links.specs.Ends.{AreOfOneEpoch};
 
-use links::{AckReceiver, LinkSender, Log};
+use links::{AckReceiver, LinkSender};
+use node_log::Log;
 use std::alloc::Global;
 use std::io::Write;
 use std::net::{Net, TcpStream};

@@ -1,5 +1,5 @@
 //! What an operator may ask of a primary.
-use links::{Capacity, Log};
+use node_log::{Capacity, Log};
 use pipes::MAX_SEATS;
 use std::time::Duration;
 

@@ -2,10 +2,9 @@
 ghost use Rattle.std.specs.Prelude.{◌<◌};
 
 use crate::setup::Watch;
-use clients::Shown;
 use kv_types::Seen;
-use links::{FillReader, Filling, Log, News, Rate, Usage};
 use marks::ThreadMarks;
+use node_log::{FillReader, Filling, Log, News, Rate, Shown, Usage};
 use std::io::Write;
 use std::sync::{Arc, Wait};
 use std::thread;

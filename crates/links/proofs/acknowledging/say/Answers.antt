@@ -2,8 +2,8 @@ use Rattle.std.proofs.Common.{◌≡◌, ℕ, List, [], ◌++◌, Option, Result
 use Rattle.std.specs.Io.KnownBytes.{Appends}
 use Rattle.links.specs.Serving.{ack_text}
 use Rattle.links.proofs.Serving.{Appends-none, put_alone, sent-alone}
-use Rattle.links.specs.declared.link_error.LinkError.{LinkError}
-use Rattle.links.specs.declared.link_error.LinkError.TheVariants.{Closed}
+use Rattle.node_log.specs.declared.link_error.LinkError.{LinkError}
+use Rattle.node_log.specs.declared.link_error.LinkError.TheVariants.{Closed}
 use Rattle.links.proofs.acknowledging.say.Goals as goal
 
 begun-none : (result : Result (Unit {0}) LinkError) (text : List ℕ) (before : Option (List ℕ))

@@ -1,5 +1,5 @@
 use Rattle.std.proofs.Common.{[], ap, refl}
-use Rattle.links.specs.declared.log.Lost.TheVariants.{Refused}
+use Rattle.node_log.specs.declared.log.Lost.TheVariants.{Refused}
 use Rattle.links.specs.Sending.{delta_text, frames_text}
 use Rattle.links.proofs.Serving.{Appends-none}
 use Rattle.links.proofs.SentRounds.{HasSent-all, HasSent-delta, HasSent-part, HasSent-unwritten, SoSent-delta, SoSent-more, put_alone}

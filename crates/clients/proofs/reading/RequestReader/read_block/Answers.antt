@@ -27,18 +27,18 @@ returns-then-is_empty-clause-reads g c =
 
 pub returns-in_err-progress-clause-offers : goal.returns-in_err-progress-clause-offers
 returns-in_err-progress-clause-offers g c =
-    offers-piece c.args.self.now (record { inbound = c.feed.new.self; block = c.read.new.self; held = c.args.self.now.held; offered = c.args.self.now.offered; is_done = c.args.self.now.is_done })
+    offers-piece c.args.self.now (record { inbound = c.feed.new.self; block = c.read.new.self; held = c.args.self.now.held; offered = c.args.self.now.offered; ahead = c.args.self.now.ahead; is_done = c.args.self.now.is_done })
     c.offer_all.new.self (g.O.Outlet.offered c.args.outlet.now) (g.O.Outlet.offered c.offer_all.new.outlet) c.in-Some.piece refl c.in_ok-feed.ensures.fed c.offer_all.ensures.offers
 
 pub returns-clause-reads : goal.returns-clause-reads
 returns-clause-reads g c =
     let source = g.S.Read.remaining c.args.stream.now in
     let rest = g.S.Read.remaining c.read.new.stream in
-    reads-piece source rest c.args.self.now (record { inbound = c.feed.new.self; block = c.read.new.self; held = c.args.self.now.held; offered = c.args.self.now.offered; is_done = c.args.self.now.is_done })
+    reads-piece source rest c.args.self.now (record { inbound = c.feed.new.self; block = c.read.new.self; held = c.args.self.now.held; offered = c.args.self.now.offered; ahead = c.args.self.now.ahead; is_done = c.args.self.now.is_done })
     c.offer_all.new.self (g.O.Outlet.offered c.args.outlet.now) (g.O.Outlet.offered c.offer_all.new.outlet) c.in-Some.piece
     (subst (Consumes source rest) (ap bytes_of c.in-Some.is) c.in_ok-piece.ensures.read) refl c.in_ok-feed.ensures.fed c.offer_all.ensures.offers
 
 pub returns-clause-offers : goal.returns-clause-offers
 returns-clause-offers g c =
-    offers-piece c.args.self.now (record { inbound = c.feed.new.self; block = c.read.new.self; held = c.args.self.now.held; offered = c.args.self.now.offered; is_done = c.args.self.now.is_done })
+    offers-piece c.args.self.now (record { inbound = c.feed.new.self; block = c.read.new.self; held = c.args.self.now.held; offered = c.args.self.now.offered; ahead = c.args.self.now.ahead; is_done = c.args.self.now.is_done })
     c.offer_all.new.self (g.O.Outlet.offered c.args.outlet.now) (g.O.Outlet.offered c.offer_all.new.outlet) c.in-Some.piece refl c.in_ok-feed.ensures.fed c.offer_all.ensures.offers

@@ -13,12 +13,12 @@ loop-init g c = record {
 
 pub loop-preserved : goal.loop-preserved
 loop-preserved g c = record {
-  reads = reads-trans (g.S.Read.remaining c.args.stream.now) (g.S.Read.remaining c.loop.stream) (g.S.Read.remaining c.read_block.new.stream) c.offer_all.new.self c.loop.self c.read_block.new.self
-      (g.O.Outlet.offered c.offer_all.new.outlet) (g.O.Outlet.offered c.loop.outlet) (g.O.Outlet.offered c.read_block.new.outlet) c.loop.invariant.reads c.in_ok-progress-2.ensures.reads;
+  reads = reads-trans (g.S.Read.remaining c.args.stream.now) (g.S.Read.remaining c.loop.stream) (g.S.Read.remaining c.read_next.new.stream) c.offer_all.new.self c.loop.self c.read_next.new.self
+      (g.O.Outlet.offered c.offer_all.new.outlet) (g.O.Outlet.offered c.loop.outlet) (g.O.Outlet.offered c.read_next.new.outlet) c.loop.invariant.reads c.in_ok-progress-2.ensures.reads;
   all = c.in_ok-progress-2.ensures.all;
   end = c.in_ok-progress-2.ensures.end;
-  done = c.read_block.ensures.done ∙ c.loop.invariant.done;
-  same = g.met.O.Outlet.same_trans c.offer_all.new.outlet c.loop.outlet c.read_block.new.outlet c.loop.invariant.same c.in_ok-progress-2.ensures.same;
+  done = c.read_next.ensures.done ∙ c.loop.invariant.done;
+  same = g.met.O.Outlet.same_trans c.offer_all.new.outlet c.loop.outlet c.read_next.new.outlet c.loop.invariant.same c.in_ok-progress-2.ensures.same;
 }
 
 pub returns-in_err-progress-clause-offers : goal.returns-in_err-progress-clause-offers
@@ -29,7 +29,7 @@ returns-then-ne-clause-reads g c = reads-after _ _ _ _ _ _ _ _ c.offer_all.ensur
 
 pub returns-in_err-progress-2-clause-offers : goal.returns-in_err-progress-2-clause-offers
 returns-in_err-progress-2-clause-offers g c =
-    offers-join _ _ _ _ _ _ (reads-after _ _ _ _ _ _ _ _ c.offer_all.ensures.offers c.loop.invariant.reads).part c.read_block.ensures.offers
+    offers-join _ _ _ _ _ _ (reads-after _ _ _ _ _ _ _ _ c.offer_all.ensures.offers c.loop.invariant.reads).part c.read_next.ensures.offers
 
 pub returns-clause-reads : goal.returns-clause-reads
 returns-clause-reads g c = reads-after _ _ _ _ _ _ _ _ c.offer_all.ensures.offers c.loop.invariant.reads

@@ -38,19 +38,19 @@ impl Progress {
     }
 
     /// Something came, and the node takes it from now on.
-    pub(crate) fn begin_turn(&self) {
+    pub fn begin_turn(&self) {
         let turns = self.turns.load(Ordering::SeqCst).wrapping_add(1);
         self.turns.store(turns, Ordering::SeqCst);
         self.is_at_work.store(true, Ordering::SeqCst);
     }
 
     /// The node has taken what came, or left its link.
-    pub(crate) fn end_turn(&self) {
+    pub fn end_turn(&self) {
         self.is_at_work.store(false, Ordering::SeqCst);
     }
 
     /// These bytes of an acknowledgement went out, of where the standby is, or of a frame that it took.
-    pub(crate) fn note(&self, text: &[u8], is_frame: bool) {
+    pub fn note(&self, text: &[u8], is_frame: bool) {
         if let Some(numbers) = text.last_chunk::<NUMBERS_BYTES>() {
             self.position
                 .store(Ack::read(numbers).position(), Ordering::SeqCst);
@@ -59,13 +59,6 @@ impl Progress {
             let frames = self.frames.load(Ordering::SeqCst).wrapping_add(1);
             self.frames.store(frames, Ordering::SeqCst);
         }
-    }
-}
-
-/// Where a node shows how far it is, it shows that it has taken what came, or left its link.
-pub(crate) fn end_turn(progress: &Option<Arc<Progress>>) {
-    if let Some(progress) = progress {
-        progress.end_turn();
     }
 }
 

@@ -1,4 +1,6 @@
 //! Links that the standby ends again and again without taking what was sent on them.
+ghost use Rattle.std.specs.Prelude.{◌≡◌, false};
+
 use crate::log::{Log, News};
 use crate::throttle::Throttle;
 use std::io::Write;
@@ -9,7 +11,7 @@ const LEAST_LINKS: u32 = 3;
 
 /// Links in a row that the standby ended at one position without taking what was sent on them.
 #[derive(Drop)]
-pub(crate) struct RefusedLinks {
+pub struct RefusedLinks {
     position: u64,
     links: u32,
     telling: Throttle,
@@ -17,7 +19,9 @@ pub(crate) struct RefusedLinks {
 
 impl RefusedLinks {
     /// No link has ended so.
-    pub(crate) fn new() -> RefusedLinks {
+    pub fn new() -> RefusedLinks
+        ensures { result.links ≡ 0 }
+    {
         RefusedLinks {
             position: 0,
             links: 0,
@@ -27,14 +31,17 @@ impl RefusedLinks {
 
     /// A link has ended, with the standby at this position; `is_refused` says that something was sent on it, that nothing of it was acknowledged, and that it
     /// was the standby that ended it. Tells of several in a row: at once, and then ever more seldom.
-    pub(crate) fn note<C: Clock, W: Write>(
+    pub fn note<C: Clock, W: Write>(
         &mut self,
         clock: &C,
         log: &mut Log<W>,
         address: &str,
         position: u64,
         is_refused: bool,
-    ) {
+    )
+        ensures position { self.new.position ≡ position }
+        ensures none { is_refused ≡ false → self.new.links ≡ 0 }
+    {
         if !is_refused || position != self.position {
             *self = RefusedLinks::new();
             self.position = position;

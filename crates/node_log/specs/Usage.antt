@@ -1,9 +1,9 @@
 -- How much of an image's room is taken, and when that is told.
 use Rattle.std.specs.Prelude.{ℕ, ◌-◌, ◌/◌, Bool, Option, Some, None, max, min, nat_le, nat_lt, if◌then◌else◌}
 use Rattle.placing.specs.declared.fill.Fill.{Fill}
-use Rattle.links.specs.declared.usage.Capacity.{Capacity}
-use Rattle.links.specs.declared.usage.Share.{Share}
-use Rattle.links.specs.declared.usage.Usage.{Usage}
+use Rattle.node_log.specs.declared.usage.Capacity.{Capacity}
+use Rattle.node_log.specs.declared.usage.Share.{Share}
+use Rattle.node_log.specs.declared.usage.Usage.{Usage}
 
 -- what is not free is taken
 abbrev pub usage_of : Fill → Capacity → Usage

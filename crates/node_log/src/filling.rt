@@ -1,6 +1,6 @@
 //! What is told of an image that fills.
 ghost use Rattle.std.specs.Prelude.{◌≡◌};
-ghost use Rattle.links.specs.Usage.{news_of, told_after};
+ghost use Rattle.node_log.specs.Usage.{news_of, told_after};
 
 use crate::fill_gauges::FillReader;
 use crate::log::{Log, News};

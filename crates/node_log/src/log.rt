@@ -1,4 +1,7 @@
 //! What a node tells of itself, a line at a time.
+ghost use Rattle.std.specs.Prelude.{◌≡◌, ◌⊎◌, ◌↔◌, IsTrue};
+ghost use Rattle.node_log.specs.declared.log.Lost.TheVariants.{Ended, Unwritten};
+
 use crate::link_error::LinkError;
 use crate::progress::Progress;
 use crate::usage::{Share, Usage};
@@ -186,7 +189,9 @@ pub enum Lost {
 
 impl Lost {
     /// Whether the connection was ended by the other side, or by what lies between.
-    pub(crate) fn is_by_peer(self) -> bool {
+    pub fn is_by_peer(self) -> bool
+        ensures { IsTrue result ↔ ((self ≡ Ended) ⊎ (self ≡ Unwritten)) }
+    {
         match self {
             Lost::Ended | Lost::Unwritten => true,
             Lost::Unreachable
@@ -219,7 +224,7 @@ impl<W: Write> Log<W> {
     }
 
     /// Where a standby shows how far it is, if it does.
-    pub(crate) fn progress(&self) -> Option<Arc<Progress>> {
+    pub fn progress(&self) -> Option<Arc<Progress>> {
         match &self.progress {
             Some(progress) => Arc::try_clone(progress).ok(),
             None => None,

@@ -1,4 +1,6 @@
 //! What a driver shows of its connections to whoever tells of the node.
+ghost use Rattle.std.specs.Prelude.{◌≡◌};
+
 use crate::waits::Waits;
 use std::sync::atomic::{AtomicBool, AtomicU64, Ordering};
 
@@ -44,7 +46,7 @@ impl Shown {
     }
 
     /// Shows what was counted: connections, requests since the last time, whether a reply waits, and for how long one was waited for.
-    pub(crate) fn show(&self, counted: &Counted) {
+    pub fn show(&self, counted: &Counted) {
         self.connections
             .store(counted.connections, Ordering::SeqCst);
         let requests = self.requests().wrapping_add(counted.requests);
@@ -58,17 +60,19 @@ impl Shown {
 
 /// What was counted of the connections of a driver.
 #[derive(Clone, Copy)]
-pub(crate) struct Counted {
+pub struct Counted {
     connections: u64,
     requests: u64,
     is_waiting: bool,
     /// The longest wait among them.
-    pub(crate) waits: Waits,
+    pub waits: Waits,
 }
 
 impl Counted {
     /// None was looked at yet. In the visits since the last time there were these waits, and connections ended to which requests had come.
-    pub(crate) fn nothing(waits: Waits) -> Counted {
+    pub fn nothing(waits: Waits) -> Counted
+        ensures { (result.requests ≡ waits.uncounted) × (result.waits ≡ waits) }
+    {
         Counted {
             connections: 0,
             requests: waits.uncounted,
@@ -78,7 +82,9 @@ impl Counted {
     }
 
     /// Counts one more, to which so many requests came since it was looked at last, and of whose replies one waits or none does.
-    pub(crate) fn count(&mut self, requests: u64, is_waiting: bool) {
+    pub fn count(&mut self, requests: u64, is_waiting: bool)
+        ensures { self.new.waits ≡ self.old.waits }
+    {
         self.connections = self.connections.saturating_add(1);
         self.requests = self.requests.saturating_add(requests);
         self.is_waiting |= is_waiting;

@@ -1,5 +1,5 @@
 //! How often the same thing is told.
-ghost use Rattle.std.specs.Prelude.{◌≡◌, min};
+ghost use Rattle.std.specs.Prelude.{◌≡◌, min, false, true, IsSome, None};
 
 use std::time::{Clock, Duration, Instant};
 
@@ -10,7 +10,7 @@ const MOST_SECONDS: u64 = 600;
 
 /// Has a thing told at once, and then ever more seldom.
 #[derive(Clone, Copy)]
-pub(crate) struct Throttle {
+pub struct Throttle {
     /// When it was told last.
     told: Option<Instant>,
     /// How long it is not told again after that.
@@ -19,7 +19,9 @@ pub(crate) struct Throttle {
 
 impl Throttle {
     /// Nothing was told yet.
-    pub(crate) fn new() -> Throttle {
+    pub fn new() -> Throttle
+        ensures { result.told ≡ None }
+    {
         Throttle {
             told: None,
             seconds: FIRST_SECONDS,
@@ -27,7 +29,10 @@ impl Throttle {
     }
 
     /// Whether it is told now, and if so it was. Without a clock it never is.
-    pub(crate) fn is_due<C: Clock>(&mut self, clock: &C) -> bool {
+    pub fn is_due<C: Clock>(&mut self, clock: &C) -> bool
+        ensures rests { result ≡ false → self.new ≡ self.old }
+        ensures told { result ≡ true → IsSome self.new.told }
+    {
         let Ok(now) = Instant::now(clock) else {
             return false;
         };

@@ -1,7 +1,7 @@
 //! How much of an image's room is taken.
 ghost use Rattle.std.specs.Prelude.{◌≡◌, ◌-◌};
 ghost use Rattle.model.specs.Layout as layouts;
-ghost use Rattle.links.specs.Usage.{percent_taken, usage_of};
+ghost use Rattle.node_log.specs.Usage.{percent_taken, usage_of};
 
 use model::Layout;
 use placing::Fill;
