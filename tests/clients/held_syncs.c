@@ -1,5 +1,6 @@
 // Loaded before the C library (LD_PRELOAD), holds the syncs of a program while a file is there. It reads:
 //   HELD_FILE    the file; its name with `.begun` behind it is made when a sync is held, and while there is one with `.slow` each sync takes a millisecond more
+//   SLOW_MS      or so many milliseconds
 #include <dlfcn.h>
 #include <fcntl.h>
 #include <stdio.h>
@@ -8,14 +9,14 @@
 #include <unistd.h>
 
 static void hold(void) {
-    const char *file = getenv("HELD_FILE");
+    const char *file = getenv("HELD_FILE"), *more = getenv("SLOW_MS");
     char begun[4200], slow[4200];
     if (file == NULL) {
         return;
     }
     snprintf(slow, sizeof slow, "%s.slow", file);
     if (access(slow, F_OK) == 0) {
-        nanosleep(&(struct timespec){0, 1000000}, NULL);
+        nanosleep(&(struct timespec){0, 1000000 * (more == NULL ? 1 : atol(more))}, NULL);
     }
     if (access(file, F_OK) != 0) {
         return;

@@ -11,11 +11,11 @@ OPTIONS = ["-shared", "-fPIC", "-O1", "-Wall", "-Wextra", "-Werror", "-D_GNU_SOU
 HAS_COMPILER = shutil.which("gcc") is not None
 
 
-def hold(node, file):
+def hold(node, file, slow_milliseconds=1):
     """A node that has ended is started so, from its next start on, that its syncs are held while this file is there."""
     library = file.with_name("held_syncs.so")
     subprocess.run(["gcc", *OPTIONS, "-o", library, SOURCE, "-ldl"], check=True)
-    node.before = ["/usr/bin/env", f"LD_PRELOAD={library}", f"HELD_FILE={file}"]
+    node.before = ["/usr/bin/env", f"LD_PRELOAD={library}", f"HELD_FILE={file}", f"SLOW_MS={slow_milliseconds}"]
 
 
 def begun(file):
@@ -24,5 +24,5 @@ def begun(file):
 
 
 def slow(file):
-    """Where this is there each sync takes a millisecond more."""
+    """Where this is there each sync takes a millisecond more, or as many as were said."""
     return file.with_suffix(".slow")

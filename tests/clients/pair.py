@@ -305,9 +305,16 @@ class Node:
         return inspected(self.image)
 
     def read_image(self):
-        """The image, as the plain reader has it. A process that runs may write meanwhile."""
-        words = memoryview(self.image.read_bytes()).cast("Q")
-        return plain_image.read_image(plain_image.Words(len(words) // 8, {place: word for place, word in enumerate(words) if word}))
+        """The image, as the plain reader has it. Beside a process that runs, which may write meanwhile, it is read until it is whole."""
+        end = time.monotonic() + PATIENCE
+        while True:
+            words = memoryview(self.image.read_bytes()).cast("Q")
+            try:
+                return plain_image.read_image(plain_image.Words(len(words) // 8, {place: word for place, word in enumerate(words) if word}))
+            except plain_image.BadImage:
+                if not self.is_running() or time.monotonic() > end:
+                    raise
+            time.sleep(0.005)
 
 
 class Pair:

@@ -1,5 +1,5 @@
-"""What bin/bench-pair measures with values of each length, and the tables that it prints. Its client program (programs/load.c) is tried over a pair, and
-over servers made up here that read and answer as they like. Where there is no gcc each test of the program is skipped, and says so."""
+"""What bin/bench-pair measures with values of each length and beside pipelines, and the tables that it prints. Its client program (programs/load.c) is
+tried over a pair, and over servers made up here that read and answer as they like. Where there is no gcc each test of the program is skipped, and says so."""
 
 import contextlib
 import io
@@ -75,6 +75,17 @@ class Pairs(LoadCases):
         self.assertEqual((client.ask("FLUSHDB"), client.ask("HSET", KEY, "f", "v")), (OK, integer(1)))
         ran = self.run_load(nodes.door.number, "get", 1_024)
         self.assertEqual((ran.returncode, ran.stdout, ran.stderr[:25]), (1, b"", b"load: answered -WRONGTYPE"))
+
+
+class Waits(PairCases):
+    def test_one_that_asks_beside_pipelines(self):
+        """What is measured by --waits: how long it waits, and how many INCRs of the pipelines are answered meanwhile, with values and without."""
+        nodes = self.pair(lines=SAID.VALUE_LINES)
+        for length in (0, 65_536):
+            with self.case("pipelines", length=length):
+                most, median, rate = SAID.waits_beside(nodes.door.number, 2, length, 0.5)
+                self.assertLessEqual(median, most)
+                self.assertGreater(rate, 0)
 
 
 class Door:
@@ -153,7 +164,8 @@ class MadeUp(LoadCases):
                 self.check_pieces("mget", self.MGET, array(SAID.MGET_KEYS * [value]), value_bytes)
 
     def test_one_that_is_not_read(self):
-        """Whose request the server does not read keeps no other client waiting: a system takes no ten mebibytes ahead."""
+        """Whose request the server does not read keeps no other client waiting: a system takes no ten mebibytes ahead. A client that is through may be closed
+        while others still wait."""
         if not self.load:
             return
         value_bytes, seconds = SAID.LONG[-1], 0.4
@@ -165,8 +177,9 @@ class MadeUp(LoadCases):
             # (then the time is over: neither sends another)
             time.sleep(2 * seconds)
             for it in (unread, read):
-                if read_request(it, request):
-                    it.sendall(OK)
+                with it:
+                    if read_request(it, request):
+                        it.sendall(OK)
 
         door = Door(2, serve)
         ran = self.run_load(door.port, "mset", value_bytes, clients=2, seconds=seconds)

@@ -1,12 +1,15 @@
 """Clients that pipeline without pause, and one that asks one request at a time beside them. It catches a round that begins with the same connection each
-time, one connection that takes a whole group while others wait, and a group of long values for which all wait.
+time, one connection that takes a whole group while others wait, a group of long values for which all wait, and groups that pile up before a standby which is
+slower than its primary.
 
 How long one waits is told by a counter that all raise: by how many others were answered between two of its own."""
 
 import contextlib
 import statistics
 import time
+import unittest
 
+import held_syncs
 from pair import PairCases
 from pipelines import pipelines
 
@@ -15,18 +18,27 @@ IS_SLOW = True
 IS_ALONE = True
 
 # How long the pipelines last, how often the other one asks, and how many pipelines there are.
-SECONDS, ASKED, PIPELINES = 6, 15, (1, 3, 20)
+SECONDS, ASKED, PIPELINES = 6, 15, (1, 3, 50)
 # By the bytes of a value: how many others are answered at most, in the median, while one waits. A round of a few groups is some hundred of them, and of
 # long values some ten; what the machine does beside it may be ten times as much. One that waits for a pipeline waits for all that is sent meanwhile, which is
 # without end here.
-MOST = {0: 30_000, 4_096: 10_000, 65_536: 2_000, 1_048_576: 200}
+MOST = {100: 30_000, 4_096: 10_000, 65_536: 2_000, 1_048_576: 200}
+# The same where each sync of the standby takes so many milliseconds more and the primary's none, so that whatever is on its way waits there: four groups'
+# changes are, and one more may be full.
+SLOW_MILLISECONDS, MOST_WHERE_SLOW = 2, 1_000
 
 
 class Fairness(PairCases):
     @contextlib.contextmanager
-    def beside(self, count, length):
-        """A pair with so many clients that pipeline, which have begun to be answered."""
-        nodes = self.pair(lines=1_048_576 if length >= 65_536 else 262_144)
+    def beside(self, count, length, is_slow=False):
+        """A pair with so many clients that pipeline, which have begun to be answered; its standby is slow, or not."""
+        nodes = self.pair(lines=2_097_152 if length >= 65_536 else 262_144)
+        if is_slow:
+            file = nodes.folder / "held"
+            held_syncs.hold(nodes.standby, file, SLOW_MILLISECONDS)
+            held_syncs.slow(file).touch()
+            nodes.restart(nodes.standby, nodes.primary)
+            nodes.wait()
         with contextlib.closing(nodes), pipelines(nodes.door.number, count, length) as made:
             time.sleep(0.5)
             yield nodes, made
@@ -44,6 +56,12 @@ class Fairness(PairCases):
                 with self.case("beside pipelines", length=length, count=count), self.beside(count, length) as (nodes, _):
                     found = self.between(nodes)
                     self.assertLessEqual(statistics.median(found), most, found)
+
+    @unittest.skipUnless(held_syncs.HAS_COMPILER, "there is no gcc")
+    def test_a_standby_that_syncs_slowly(self):
+        with self.beside(1, 100, is_slow=True) as (nodes, _):
+            found = self.between(nodes)
+            self.assertLessEqual(statistics.median(found), MOST_WHERE_SLOW, found)
 
     def test_pipelines_get_on_alike(self):
         with self.beside(3, 0) as (_, made):

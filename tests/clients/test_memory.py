@@ -1,5 +1,6 @@
 """What a node holds in memory once a burst of long values is over (docs/operating.md): its image and what is live, and little else. The nodes are started
-as bin/wbl-server does, which tells the C library what to give back."""
+as bin/wbl-server does, which tells the C library what to give back. Of shorter values it gives nothing back: it holds what it held at most, which is bounded
+by what is read ahead of the thread that serves."""
 
 import os
 import pathlib
@@ -8,6 +9,7 @@ import shutil
 import subprocess
 import tempfile
 import threading
+import time
 
 import common
 from pair import ServingCases, wait_until
@@ -26,6 +28,10 @@ LINES = 2**19
 KEYS, CLIENTS, DEPTH = 16, 20, 10
 # What the C library keeps free at the end of its memory, for the node's thread and for each of those that read what clients send.
 KEPT = 3 * 4 * MEBIBYTE
+# Values that are too short to be given back: how long they are, of how many keys, and how many each client sends.
+SHORT, SHORT_KEYS, SHORT_DEPTH = 65_536, 256, 240
+# What is read ahead of each client, and for how long a primary that holds all that it will holds no more.
+AHEAD, STEADY = 2 * MEBIBYTE, 3
 
 
 def starter(folder, runs):
@@ -55,24 +61,8 @@ class Starter(common.Cases):
 
 
 class Bursts(ServingCases):
-    def burst(self, nodes):
-        """Clients that send ten values each while the standby takes nothing, and read all replies once it does."""
-        nodes.standby.freeze()
-        before, clients = held(nodes.primary), [nodes.client() for _ in range(CLIENTS)]
-        requests = [b"".join(spell("SET", f"k{random.randrange(KEYS)}", random.randbytes(MEBIBYTE)) for _ in range(DEPTH)) for _ in clients]
-        senders = [threading.Thread(target=it.send, args=[sent], daemon=True) for it, sent in zip(clients, requests)]
-        for it in senders:
-            it.start()
-        wait_until(lambda: held(nodes.primary) - before > CLIENTS * DEPTH * MEBIBYTE // 3, "a primary that holds what came")
-        nodes.standby.thaw()
-        for client in clients:
-            for _ in range(DEPTH):
-                self.assertEqual(client.reply(), OK)
-            client.close()
-        for it in senders:
-            it.join()
-
-    def test_long_values(self):
+    def started(self):
+        """A pair whose nodes were started as bin/wbl-server does."""
         nodes = self.pair(lines=LINES, standby_lines=LINES + MORE_LINES)
         folder = nodes.folder / "starter"
         folder.mkdir()
@@ -80,9 +70,35 @@ class Bursts(ServingCases):
             node.before = [starter(folder, 'shift 2\nexec "$@"')]
         nodes.restart(nodes.standby, nodes.primary)
         nodes.wait()
+        return nodes
+
+    def burst(self, nodes, length, keys, depth, comes):
+        """Clients that send so many values each while the standby takes nothing, and read all replies once it does. It is thawed once all that is to come while
+        it is frozen has come: `comes` is given what the primary held before, and waits for that."""
+        nodes.standby.freeze()
+        before, clients = held(nodes.primary), [nodes.client() for _ in range(CLIENTS)]
+        requests = [b"".join(spell("SET", f"k{random.randrange(keys)}", random.randbytes(length)) for _ in range(depth)) for _ in clients]
+        senders = [threading.Thread(target=it.send, args=[sent], daemon=True) for it, sent in zip(clients, requests)]
+        for it in senders:
+            it.start()
+        comes(before)
+        nodes.standby.thaw()
+        for client in clients:
+            for _ in range(depth):
+                self.assertEqual(client.reply(), OK)
+            client.close()
+        for it in senders:
+            it.join()
+
+    def test_long_values(self):
+        nodes = self.started()
         empty = {node.role: held(node) for node in (nodes.primary, nodes.standby)}
+
+        def holds_a_third(before):
+            wait_until(lambda: held(nodes.primary) - before > CLIENTS * DEPTH * MEBIBYTE // 3, "a primary that holds what came")
+
         for _ in range(2):
-            self.burst(nodes)
+            self.burst(nodes, MEBIBYTE, KEYS, DEPTH, holds_a_third)
             for node in (nodes.primary, nodes.standby):
                 with self.case("node", role=node.role):
                     most = empty[node.role] + (LINES + MORE_LINES) * 64 + 3 * KEYS * MEBIBYTE // 2 + KEPT
@@ -92,3 +108,22 @@ class Bursts(ServingCases):
             with self.case("flushed", role=node.role):
                 most = empty[node.role] + (LINES + MORE_LINES) * 64 + KEPT
                 wait_until(lambda: held(node) <= most, f"a {node.role} that holds no more than {most} bytes: {held(node)}")
+
+    def test_shorter_values(self):
+        nodes = self.started()
+        empty, client = held(nodes.primary), nodes.client()
+        for key in range(SHORT_KEYS):
+            self.assertEqual(client.ask("SET", f"k{key}", random.randbytes(SHORT)), OK)
+
+        def stays(_):
+            most, since = 0, time.monotonic()
+            while time.monotonic() - since < STEADY:
+                now = held(nodes.primary)
+                if now > most:
+                    most, since = now, time.monotonic()
+                time.sleep(0.1)
+
+        self.burst(nodes, SHORT, SHORT_KEYS, SHORT_DEPTH, stays)
+        # (beside the live values: what was read ahead, the same for what is on its way, and what the C library keeps)
+        most = empty + LINES * 64 + SHORT_KEYS * SHORT + 2 * CLIENTS * AHEAD + KEPT
+        wait_until(lambda: held(nodes.primary) <= most, f"a primary that holds no more than {most} bytes: {held(nodes.primary)}")

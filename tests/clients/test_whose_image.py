@@ -1,13 +1,11 @@
 """Whose image a node is given: one of an earlier moment. It ends in a refusal that is told, with nothing changed; nothing that was answered is gone or comes
 back."""
 
-import contextlib
 import re
 import shutil
 
 import common
 from pair import Client, Ended, PairCases, wait_until
-from plain_image import BadImage
 from plain_replies import NULL_BULK, OK, bulk, integer
 from spelling import spell
 
@@ -68,12 +66,8 @@ class Images(PairCases):
         return {int(number) for number in REFUSED.findall(self.told(node))}
 
     def map_of(self, node):
-        """What the image of a node holds, which may free something while it is read."""
-        def read():
-            with contextlib.suppress(BadImage):
-                return [dict(node.read_image().map)]
-
-        return wait_until(read, "an image that can be read")[0]
+        """What the image of a node holds."""
+        return dict(node.read_image().map)
 
 
 class OlderPrimaries(Images):
@@ -106,12 +100,8 @@ class OlderStandbys(Images):
     """A standby over an image from before, of which the primary has freed what it lacks."""
 
     def floor(self):
-        """That of the primary's record, which may write another while it is read."""
-        def read():
-            with contextlib.suppress(BadImage):
-                return [self.nodes.primary.read_image().record.floor]
-
-        return wait_until(read, "an image that can be read")[0]
+        """That of the primary's record."""
+        return self.nodes.primary.read_image().record.floor
 
     def backed_up(self, name):
         """A copy of the image of the standby, which is stopped for it."""

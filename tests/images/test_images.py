@@ -26,7 +26,7 @@ LINES = 4_096
 ROLES = {PRIMARY: "primary", STANDBY: "standby"}
 DONE, FAILED, MISUSED, PASSING = 0, 1, 2, 75
 
-# "Refusals" of docs/replication.md, those of images and their files.
+# docs/refusals.md, those of images and their files.
 TEXTS = {
     1: "device fault", 2: "bad magic", 3: "bad version", 4: "wrong size", 5: "full", 6: "stamps exhausted", 7: "damaged image", 16: "wrong role",
 }

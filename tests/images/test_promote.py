@@ -20,7 +20,7 @@ PROGRAMS = ["server"]
 STOPPED = "--old-primary-stopped"
 LAST_COUNTER = 2**62 - 1
 
-# "Refusals" of docs/replication.md, those that a promotion meets.
+# docs/refusals.md, those that a promotion meets.
 TEXTS = {
     1: "device fault",
     2: "bad magic",

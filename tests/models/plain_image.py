@@ -66,7 +66,7 @@ LAYOUT = VERSION_2
 SPARE_LINES = (2 * MOST_KEY_BYTES + MOST_VALUE_BYTES) // 64
 MORE_LINES = 18_744
 
-# "Refusals" of docs/replication.md: those of an image that is read.
+# docs/refusals.md: those of an image that is read.
 WRONG_SIZE, BAD_MAGIC, BAD_VERSION, DAMAGED = 4, 2, 3, 7
 
 

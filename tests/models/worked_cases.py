@@ -1,5 +1,5 @@
 """Cases of one connection that the programs show, by name, with the bytes in and out. docs/worked-cases.md has those that teach most, each as it is
-here and by its name."""
+here and by its name, and docs/protocol.md most of the faults."""
 
 import typing
 

@@ -15,7 +15,7 @@ sys.path.insert(0, str(common.ROOT / "bin"))
 import wrong_bodies  # noqa: E402
 
 README, CRATES = (common.ROOT / name for name in ("README.md", "docs/architecture.md"))
-CASES = common.ROOT / "docs" / "worked-cases.md"
+CASES, PROTOCOL = (common.ROOT / "docs" / f"{name}.md" for name in ("worked-cases", "protocol"))
 
 
 NAME = re.compile(r"([A-Za-z_][\w'-]*)((?:::[A-Za-z_]\w*)*)(?:\([^()]*\)|::<\w+>)?")
@@ -36,18 +36,18 @@ LIMITS = [
     ("kv_types", "REQUEST_LIMITS.word_bytes", "README protocol commands"),
     ("kv_types", "MAX_KEY_BYTES", "README protocol commands replication"),
     ("kv_types", "MAX_VALUE_BYTES", "README protocol commands replication"),
-    ("model", "MAX_CHANGE_TEXT_BYTES", "README protocol worked-cases"),
+    ("model", "MAX_CHANGE_TEXT_BYTES", "README protocol"),
     ("model", "MAX_PARTS", "promises architecture image replication simulator crates/redis_core"),
-    ("model", "MIN_LINES", "README image replication worked-cases crates/pmem_file crates/server"),
-    ("model", "MAX_LINES", "README image replication crates/pmem_file"),
-    ("model", "COUNTER_LIMIT", "README commands promises replication"),
+    ("model", "MIN_LINES", "README image refusals worked-cases crates/pmem_file crates/server"),
+    ("model", "MAX_LINES", "README image refusals crates/pmem_file"),
+    ("model", "COUNTER_LIMIT", "README commands promises refusals"),
     ("model", "MAGIC", "image"),
     ("model", "MAX_GAPS", "image"),
     ("model", "STAMP_WINDOW", "image"),
     ("multi_watch", "MAX_QUEUED_REQUESTS", "README protocol"),
     ("machine", "OPEN_CHANGES", "README promises simulator"),
     ("machine", "KEPT_GROUPS", "promises replication simulator"),
-    ("pipes", "MAX_SEATS", "README protocol promises replication simulator crates/lobby crates/pipes"),
+    ("pipes", "MAX_SEATS", "README protocol promises refusals simulator crates/lobby crates/pipes"),
     ("pipes", "PIPE_ITEMS", "promises replication simulator crates/pipes"),
     ("pmem_file", "LINES_A_WRITE", "crates/pmem_file"),
     ("simulator", "USUAL_LINES", "simulator"),
@@ -144,18 +144,27 @@ class Names(common.Cases):
                     self.assertTrue(not test or callable(getattr(found, test)))
 
     def test_rows_of_worked_cases(self):
-        for heading, table in [("The first path", worked.FIRST_PATH), ("Protocol", worked.FAULTS)]:
-            # (the table of three columns: the other names its tests)
-            rows = [row for row in pages.rows(CASES, heading) if len(row) == 3]
-            self.assert_cases([row[0] for row in rows], table)
-            said = ""
-            for name, given, output in rows:
-                said = said if output == "the same" else output
-                with self.case("row", name=name):
-                    data, wanted = table[name.replace(" ", "_")]
-                    self.assertEqual(bytes_of(said), wanted)
-                    if re.fullmatch(r"`\*[^`]*`", given):
-                        self.assertEqual(bytes_of(given), data)
+        rows = pages.rows(CASES, "The first path")
+        self.assert_cases([row[0] for row in rows], worked.FIRST_PATH)
+        for name, given, output in rows:
+            with self.case("row", name=name):
+                data, wanted = worked.FIRST_PATH[name.replace(" ", "_")]
+                self.assertEqual(bytes_of(output), wanted)
+                if re.fullmatch(r"`\*[^`]*`", given):
+                    self.assertEqual(bytes_of(given), data)
+
+    def test_faults_of_the_protocol(self):
+        """Most examples of the page are cases of the table of faults, with the reply of their row."""
+        wanted, count = dict(worked.FAULTS.values()), 0
+        for _, reply, examples in pages.rows(PROTOCOL, "Faults"):
+            for example in pages.CODE.findall(examples):
+                data = bytes_of(f"`{example}`")
+                if data in wanted:
+                    with self.case("fault", example=example):
+                        count += 1
+                        said = pages.CODE.findall(reply)[0].replace("'x'", f"'{example[-1]}'")
+                        self.assertEqual(bytes_of(f"`{said}`"), wanted[data])
+        self.assertGreater(count, 6)
 
     def assert_cases(self, shown, table):
         """The page shows cases of the table, in its order, each once."""
@@ -203,20 +212,26 @@ class Names(common.Cases):
 
 
 class Crates(common.Cases):
-    """The table of crates in docs/architecture.md."""
+    """The tables of crates in docs/architecture.md and README.md."""
 
     def test_each_crate_has_its_row(self):
         self.assertEqual([row[0] for row in pages.rows(CRATES, "What each crate proves")], list(sources.crates()))
 
     def test_what_carries_each_crate(self):
-        rows = pages.rows(CRATES, "What each crate proves")
-        libraries = {crate for crate in sources.crates() if sources.public_names(crate)}
-        self.assertLessEqual(libraries, {crate for row in rows for crate in row[0].split(", ")})
-        for crate, _, carried in rows:
-            known = {name for it in crate.split(", ") for name in sources.shown(it)}
-            for name in pages.CODE.findall(carried):
+        """In the table of README.md, where a crate is followed by its contracts."""
+        count = 0
+        for cell, _ in pages.rows(README, "Proved, tested, trusted"):
+            crate = None
+            for name in pages.CODE.findall(cell):
+                if name in sources.crates():
+                    crate = name
+                    continue
                 with self.case("carried", crate=crate, name=name):
-                    self.assertTrue(name in known, "the crate has no such contract")
+                    count += 1
+                    # (a program shows nothing to others)
+                    known = sources.shown(crate) if sources.public_names(crate) else sources.words(crate)
+                    self.assertIn(name, known, "the crate has no such contract")
+        self.assertGreater(count, 40)
 
     def test_the_ten_lines(self):
         """They stand so in the source."""

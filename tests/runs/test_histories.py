@@ -1,4 +1,4 @@
-"""Histories for the simulator: of a failover, of commits and promotions that are cut, of fences that fail. Each is a file of histories/, which says first what it
+"""Histories for the simulator: of a failover, of commits and promotions that are cut, of fences that fail, of older images that are put back. Each is a file of histories/, which says first what it
 shows, then has the events, and last the command that plays it, after a `$ `, with what that prints."""
 
 import pathlib
@@ -14,7 +14,7 @@ COMMAND = "# $ bin/wbl-sim --map | grep -v ': done'"
 class Histories(Cases):
     def test_what_is_printed(self):
         files = sorted(HISTORIES.iterdir())
-        self.assertEqual(len(files), 5)
+        self.assertEqual(len(files), 8)
         for path in files:
             with self.case("history", name=path.stem):
                 lines = path.read_text(encoding="ascii").splitlines()

@@ -58,6 +58,8 @@ BAD_LINES = [
     "crash primary commit 1 x", "crash primary commit 01 0", "crash commit 1 0", "crash primary hand 1 0", "crash primary Commit 1 0",
     "crash primary commit apply 1 0", "fail-fence", "fail-fence primary", "fail-fence 1 primary", "fail-fence third 1", "fail-fence primary 01",
     "fail-fence primary 1 2", "fail_fence primary 1", "reopen", "reopen third", "reopen primary 0", "reopen 0", "repeat 2 reopen",
+    "keep", "keep third", "keep primary 0", "keep 0", "Keep primary", "repeat 2 keep primary", "restore", "restore third", "restore primary", "restore standby",
+    "restore primary 0", "repeat 2 restore primary",
 ]
 
 # By its text lines of which the last is told so.
@@ -71,6 +73,8 @@ TEXTS_OF_BAD_LINES = {
     "the mark is neither local nor remote": ["read 0 both"],
     "the node is neither primary nor standby": ["crash third 0", "reopen third", "fail third 1", "fail-fence third 1"],
     "fail after the first event": ["enter\nfail primary 1"],
+    "no image of this node was kept": ["restore primary", "keep standby\nenter\nrestore primary"],
+    "a word behind the restore": [f"keep primary\nrestore primary\n{word}" for word in ("enter", "keep standby", "restore primary", "fail primary 1", "x")],
     "more than 16777216 events": [f"repeat {MOST_EVENTS + 1} enter", f"repeat {MOST_EVENTS} enter\nenter"],
 }
 

@@ -287,6 +287,8 @@ int main(int count, char **words) {
                 begin_batch(client);
                 send_more(client);
             } else {
+                // (that the server closes it now is nothing to this run)
+                epoll_ctl(poll, EPOLL_CTL_DEL, client->socket, NULL);
                 live--;
             }
         }
