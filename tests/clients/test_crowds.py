@@ -6,6 +6,7 @@ import socket
 import threading
 import time
 
+from common import TakesTooLong
 from pair import HOST, PATIENCE, Client, ServingCases, allow_descriptors, wait_until
 from plain_replies import OK, bulk, integer
 from spelling import spell
@@ -36,7 +37,7 @@ def run_threads(*works):
     for thread in threads:
         thread.join(PATIENCE)
         if thread.is_alive():
-            wrong.append(AssertionError("a thread that does not end"))
+            wrong.append(TakesTooLong("a thread that does not end"))
     if wrong:
         raise wrong[0]
 

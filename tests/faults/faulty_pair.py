@@ -5,7 +5,7 @@ import contextlib
 import errno
 import time
 
-from common import drawn, tell, without_news
+from common import TakesTooLong, drawn, tell, without_news
 from pair import PATIENCE, Client, Ended, PairCases, allow_descriptors, wait_until
 from plain_image import MORE_LINES
 from plain_machine import SEATS
@@ -133,9 +133,12 @@ class FaultyPair(FaultyCases, PairCases):
         self.assertEqual(nodes.primary.read_image().map, nodes.standby.read_image().map)
 
     def ended(self, node):
-        """Waits until a node has ended, and returns why it did."""
+        """Waits until a node has ended, and returns why it did. Its last words may be missing: as it ends it waits a second for them to be written."""
         status = node.wait()
-        return status, without_news(node.errors.read_bytes())
+        words = without_news(node.errors.read_bytes())
+        if not words:
+            raise TakesTooLong(f"the last words of a {node.role} that ended with {status}")
+        return status, words
 
     def fill(self, nodes):
         """Some records, of which some have ended."""
@@ -175,7 +178,7 @@ class FaultyPair(FaultyCases, PairCases):
             if self.is_answered(nodes, number):
                 return False
             time.sleep(0.002)
-        raise AssertionError(f"the {node.role} neither ends nor serves: {node.errors.read_bytes()!r}")
+        raise TakesTooLong(f"the {node.role} neither ends nor serves: {node.errors.read_bytes()!r}")
 
     def is_answered(self, nodes, number):
         """Whether a change is answered within half a second."""

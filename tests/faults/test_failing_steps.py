@@ -205,7 +205,7 @@ class Openings(Steps):
                 self.counter = int(reply[1:])
                 return has_ended
             time.sleep(0.002)
-        raise AssertionError(f"nothing is answered: {nodes.primary.errors.read_bytes()!r}, {nodes.standby.errors.read_bytes()!r}")
+        raise common.TakesTooLong(f"nothing is answered: {nodes.primary.errors.read_bytes()!r}, {nodes.standby.errors.read_bytes()!r}")
 
     def start_once_ended(self, nodes, node, kind, how):
         """A node ends and says why, and is started again."""

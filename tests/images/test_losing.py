@@ -58,7 +58,7 @@ class AtTerminal:
         last = time.monotonic() + common.SECONDS
         while not self.told.endswith(end):
             if not select.select([self.process.stderr], [], [], max(0, last - time.monotonic()))[0]:
-                raise AssertionError(f"it tells no more than {self.told!r}")
+                raise common.TakesTooLong(f"it tells no more than {self.told!r}")
             piece = os.read(self.process.stderr.fileno(), 4_096)
             if not piece:
                 raise AssertionError(f"it has ended: {self.told!r}")
