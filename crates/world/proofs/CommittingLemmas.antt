@@ -1,55 +1,27 @@
 -- The committer and its engine still refine the machine's after each step.
 use Rattle.std.proofs.Common.{◌≡◌, ◌⊎◌, inl, inr, true≢false, ℕ, ◌+◌, ◌-◌, ◌<◌, ◌≤◌, ◌++◌, Bool, true, false, List, [], ◌∷◌, length, map, Result, Err, IfErr, IsErrOf, refl, sym, ap, ap₂, subst, ◌∙◌, arith, le_refl, max}
-use Rattle.std.proofs.Math.Nat.{le-max_left}
-use Rattle.std.proofs.lemmas.List.{map-append}
-use Rattle.pmem.specs.Device.{State}
-use Rattle.pmem.specs.Crash.{IsImage}
-use Rattle.kv_types.specs.declared.refusal.Refusal.{Refusal}
-use Rattle.kv_types.specs.declared.refusal.Refusal.TheVariants.{Fault, Exhausted}
-use Rattle.pmem.specs.Runs.{LeavesOnly}
-use Rattle.pmem.proofs.Leaving.{LeavesOnly-weaken}
-use Rattle.model.specs.declared.call.Call.{Call}
-use Rattle.model.specs.declared.group.Group.{Group}
+use Rattle.world.specs.Words.{after_group, AreGroupsOf, AreLawful, AreWorkOf, Call, Commit, committed_first, Contents, COUNTER_LIMIT, Done, Durable, Exhausted, Exhausts, Fault, Freed, FreeList, from_group, Goes, Group, handed, Holder, Image, IsDurable, IsGroup, IsGroupOf, IsImage, Keeps, last_position, LeavesOnly, MachineStage, MachineWork, may_happen, PIPE_ITEMS, position_of, positions_of_lists, raised_local, Ready, ready_again, Refusal, Remembers, Same, Sequencing, Shown, Sound, Span, Stage, STAMP_WINDOW, State, Versions, Waiting, Work, World}
+use Rattle.world.proofs.Words.{group_lawful, HasRecord-lines, le-max_left, leads_renumbered, LeavesOnly-weaken, length-groups, map-append, Same-is}
 use Rattle.model.specs.declared.group.Part.{Part}
-use Rattle.model.specs.declared.image.TheConstants.{COUNTER_LIMIT, STAMP_WINDOW}
-use Rattle.model.specs.declared.work.FreeList.{FreeList}
-use Rattle.model.specs.declared.work.Work.{Work}
 use Rattle.model.specs.declared.work.Work.TheVariants as work
-use Rattle.model.specs.Call.{position_of}
-use Rattle.model.specs.Image.{Image}
-use Rattle.model.proofs.RecordLemmas.{HasRecord-lines}
 use Rattle.model.specs.Floor.{floored}
-use Rattle.model.specs.Group.{AreParts, Contents, IsConsistent, IsGroup, Versions, after_group, last_position, part_versions}
-use Rattle.model.specs.Standing.{Holder}
-use Rattle.wbl_engine.specs.declared.freeing.Freed.{Freed}
-use Rattle.wbl_engine.specs.Contents.{Exhausts, Keeps, IsDurable, Same}
-use Rattle.wbl_engine.specs.Lawful.{AreLawful}
-use Rattle.wbl_engine.proofs.LawfulLemmas.{group_lawful, same_lawful}
-use Rattle.redis_core.specs.Sequencing.{Sequencing}
-use Rattle.pipes.specs.Waiting.{Waiting}
+use Rattle.model.specs.Group.{AreParts, IsConsistent, part_versions}
+use Rattle.wbl_engine.proofs.LawfulLemmas.{same_lawful}
 use Rattle.group_commit.specs.Group.{AreWork, groups_of}
-use Rattle.group_commit.specs.declared.stage.Done.{Done}
-use Rattle.group_commit.specs.declared.stage.Stage.{Stage}
-use Rattle.group_commit.specs.declared.stage.Stage.TheVariants.{Ready, Durable, Shown}
-use Rattle.group_commit.proofs.GroupsLemmas.{Same-is}
 use Rattle.group_commit.proofs.WorkLemmas.{AreWork-behind, groups_of-lists}
-use Rattle.machine.specs.declared.event.TheConstants.{PIPE_ITEMS}
-use Rattle.machine.specs.declared.event.Event.TheVariants.{Commit, Hand, RaiseLocal}
-use Rattle.machine.specs.Event.{Committer as Machine, Stage as MachineStage, Span, Work as MachineWork, World, committed_first, from_group, handed, may_happen, is_durable, is_shown, raised_local, ready_again, shown}
+use Rattle.machine.specs.declared.event.Event.TheVariants.{Hand, RaiseLocal}
+use Rattle.machine.specs.Event.{Committer as Machine, is_durable, is_shown, shown}
 use Rattle.machine.specs.World as machine_stage
-use Rattle.machine.specs.Sound.{HasRoomFor, Sound}
+use Rattle.machine.specs.Sound.{HasRoomFor}
 use Rattle.world.specs.Cause.{IsAtLimit, EndsBy}
 use Rattle.world.specs.Committing.{AreContentsAt, AreOfEpoch, Committing, CommittingRefines, EngineStands, Leads, StageRefines, OpensAtEither, NearOnly, next_primary}
-use Rattle.connections.specs.Going.{Goes}
-use Rattle.node_steps.specs.GroupSpan.{AreGroupsOf, AreWorkOf, IsGroupOf, positions_of_lists}
-use Rattle.primary.specs.Recalling.{Remembers}
 use Rattle.primary.proofs.RecallParts.{remembers-committed}
 use Rattle.world.specs.Recalling.{RemembersFor, past_of}
 use Rattle.world.proofs.EngineLemmas.{AreContentsAt-after_group, Opens-engine, keeps-opens, rests-same}
 use Rattle.node_steps.proofs.CommittingLemmas.{FirstGroup, first-group}
-use Rattle.node_steps.proofs.GroupSpanLemmas.{AreGroupsOf-push, length-groups}
+use Rattle.node_steps.proofs.GroupSpanLemmas.{AreGroupsOf-push}
 use Rattle.primary.proofs.LeadsLemmas.{leads-after}
-use Rattle.primary.proofs.NumberedLemmas.{lawful_renumbered, leads_renumbered}
+use Rattle.primary.proofs.NumberedLemmas.{lawful_renumbered}
 use Rattle.world.proofs.RecallLemmas.{remembered-from, remembers-raised, remembers-renumbered}
 
 -- ---- a group that waits behind free lists

@@ -1,19 +1,7 @@
 -- What the committer's step does to the pair, whichever is due.
 use Rattle.std.proofs.Common.{◌≡◌, ◌≢◌, ℕ, Bool, true, false, List, [], ◌++◌, Result, Ok, Err, inl, inr, refl, sym, ap, subst, ◌∙◌, true≢false, append-nil}
-use Rattle.pmem.specs.Device.{State}
-use Rattle.kv_types.specs.declared.refusal.Refusal.{Refusal}
-use Rattle.kv_types.specs.declared.refusal.Refusal.TheVariants.{Memory}
-use Rattle.pipes.specs.Waiting.{Waiting}
-use Rattle.model.specs.declared.group.Group.{Group}
-use Rattle.model.specs.declared.work.Work.{Work}
-use Rattle.model.specs.Group.{Contents}
-use Rattle.wbl_engine.specs.declared.freeing.Freed.{Freed}
-use Rattle.group_commit.specs.Due.{due_now}
-use Rattle.group_commit.specs.declared.committer.Committer.{Committer}
-use Rattle.group_commit.specs.declared.due.Due.{Due}
+use Rattle.world.specs.Words.{Committer, Contents, Done, Due, due_now, Freed, Group, Memory, notices_of, Refusal, State, Waiting, Work}
 use Rattle.group_commit.specs.declared.due.Due.TheVariants as due
-use Rattle.group_commit.specs.declared.stage.Done.{Done}
-use Rattle.primary.specs.Standing.{notices_of}
 use Rattle.world.specs.Committing.{event_of, frees_places, link_has_room}
 use Rattle.world.specs.Pair.{Does, Pair}
 use Rattle.world.specs.Step.{Leaves, has_begun}

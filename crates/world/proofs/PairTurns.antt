@@ -1,50 +1,27 @@
 -- What the turns of the committer do to the pair: its own clauses refine the machine's events.
 use Rattle.std.proofs.Common.{rules, ◌≡◌, ◌⊎◌, ◌-◌, ◌≤◌, ℕ, Bool, true, false, nat_lt, List, ◌∷◌, ◌++◌, length, Result, Ok, Err, inl, inr, refl, sym, ap, subst, ◌∙◌, arith, []}
-use Rattle.std.proofs.lemmas.Bool.{cases_lt, le-ltb, lt-ltb}
+use Rattle.world.specs.Words.{committed_first, Committer, Contents, Done, Due, due_now, Durable, Event, Exhausts, Freed, FreeList, from_group, Group, Holder, LeavesOnly, MachineCommitter, may_happen, Memory, PIPE_ITEMS, Ready, Record, Refusal, Same, SequencerRefines, Shown, State, TakesGroup, Waiting, with_committer, Work, World}
+use Rattle.world.proofs.Words.{cases_lt, group_lawful, le-ltb, LeavesOnly-weaken, lt-ltb}
 use Rattle.std.specs.Coded.{le_prop}
-use Rattle.pmem.specs.Device.{State}
-use Rattle.pmem.specs.Runs.{LeavesOnly}
-use Rattle.pmem.proofs.Leaving.{LeavesOnly-weaken}
-use Rattle.kv_types.specs.declared.refusal.Refusal.{Refusal}
-use Rattle.kv_types.specs.declared.refusal.Refusal.TheVariants.{Memory}
-use Rattle.pipes.specs.Waiting.{Waiting}
 use Rattle.pipes.specs.declared.limits.TheConstants as limits
-use Rattle.model.specs.declared.group.Group.{Group}
-use Rattle.model.specs.declared.record.Record.{Record}
-use Rattle.model.specs.declared.work.FreeList.{FreeList}
-use Rattle.model.specs.declared.work.Work.{Work}
-use Rattle.model.specs.Group.{Contents}
-use Rattle.model.specs.Standing.{Holder}
-use Rattle.wbl_engine.specs.Contents.{Exhausts, Same}
-use Rattle.wbl_engine.proofs.LawfulLemmas.{group_lawful}
-use Rattle.wbl_engine.specs.declared.freeing.Freed.{Freed}
 use Rattle.group_commit.specs.Committing.{Commits, raised, ready_again}
-use Rattle.group_commit.specs.Due.{due_now}
-use Rattle.group_commit.specs.Working.{LacksRoom, TakesGroup, Takes}
-use Rattle.group_commit.specs.declared.committer.Committer.{Committer}
-use Rattle.group_commit.specs.declared.due.Due.{Due}
+use Rattle.group_commit.specs.Working.{LacksRoom, Takes}
 use Rattle.group_commit.specs.declared.due.Due.TheVariants as due
-use Rattle.group_commit.specs.declared.stage.Done.{Done}
 use Rattle.group_commit.specs.declared.stage.Done.TheVariants.{Handed, Idle}
-use Rattle.group_commit.specs.declared.stage.Stage.TheVariants.{Ready, Durable, Shown}
 use Rattle.group_commit.proofs.DueLemmas.{hand-now, raise-now}
 use Rattle.machine.specs.declared.event.Cut.TheVariants as cut
-use Rattle.machine.specs.declared.event.TheConstants.{PIPE_ITEMS}
-use Rattle.machine.specs.declared.event.Event.{Event}
 use Rattle.machine.specs.declared.event.Event.TheVariants as events
-use Rattle.machine.specs.Event.{World, Committer as MachineCommitter, committed_first, from_group, may_happen, with_committer}
 use Rattle.world.specs.Committing.{EngineStands, CommittingRefines, link_has_room, next_primary}
 use Rattle.world.proofs.FreeingLemmas.{primary-steps}
 use Rattle.world.proofs.RecallLemmas.{recalled-each}
 use Rattle.world.specs.Recalling.{RemembersFor, past_of}
-use Rattle.connections.specs.Session.{SequencerRefines}
 use Rattle.world.specs.Pair.{FreeingRefines, Pair, PartsRefine, PairRefines, Steps, Does}
 use Rattle.world.specs.Parts.{serving_by}
 use Rattle.world.proofs.CommittingLemmas.{Leads-committed, Remembers-committed, TakesLawful, commit-ends, commit-goes, commit-lands, commit-moments, hand-goes, hand-none, hand-room, made, made-lawful, raise-goes, raise-none, takes-lawful}
 use Rattle.world.specs.Remaining.{LeftBy}
 use Rattle.world.proofs.LeftLemmas.{left-next, left-running, left-still}
 use Rattle.world.proofs.LivesLemmas.{enabled-is, nodes-refine, own-runs, serving}
-use Rattle.world.proofs.PairLemmas.{Led, cut-for, cut-same, none-added, rests-standby, stays-does, tells}
+use Rattle.world.proofs.PairLemmas.{Led, cut-for, cut-same, rests-standby, stays-does, tells, steps-only, cut-only}
 use Rattle.world.proofs.PairCommitting.{ends-commit, hand-does, raise-does, same_closed}
 use Rattle.world.proofs.QueueLemmas.{commit-disabled, commit-enabled}
 
@@ -156,7 +133,7 @@ module _ {E : Type 0} (device : E → State) (contents : E → Contents) (is_fau
   committed : (before after : Committer E) (works works' : Waiting Work) (handed : Waiting Group) (done : Done) → now-due before works handed ≡ due.Commit
       → TakesGroup device contents is_faulted pair.wire.remote before works (Ok done) after works' → Does (pair_of before works handed) events.Commit (Ok true) (pair_of after works' handed)
   committed before after works works' handed done is took =
-      record { steps = steps; cut = tt; calls = none-added _ _ refl }
+      (steps-only steps refl)
     where
       old : Pair
       old = pair_of before works handed
@@ -209,36 +186,28 @@ module _ {E : Type 0} (device : E → State) (contents : E → Contents) (is_fau
   refused : (before after : Committer E) (works works' : Waiting Work) (handed : Waiting Group) (refusal : Refusal) → now-due before works handed ≡ due.Commit
       → TakesGroup device contents is_faulted pair.wire.remote before works (Err refusal) after works' → Does (pair_of before works handed) events.Commit (Err refusal) (pair_of after works' handed)
   refused before after works works' handed refusal is took =
-      record {
-        steps = tt;
-        cut = λ first second w stands.
-            let old = pair_of before works handed in
-            let new = pair_of after works' handed in
-            let parts = stands.parts in
-            let commits = took.commits in
-            let takes = takes-first before after works works' handed (Err refusal) took first second w parts in
-            cut-for first second events.Commit refusal old new w (nodes-refine stands) (tells pair.clients.transcript) refl
-            (enabled-is (own-runs stands events.Commit refl) ∙ may-commit before works handed is first second w parts)
-            (ends-commit refusal (λ last _. last first w.primary.calls w.primary.committer.position (next_primary w) old.primary.device new.primary.device) (Led first second old new w)
-            (λ last broken. (inl broken, rests-standby first second old w (nodes-refine stands)))
-            (commit-ends first w pair.wire.remote old.primary.committing took.lists took.group new.primary.committing old.primary.device new.primary.device old.primary.contents old.primary.is_faulted (Err refusal) refusal refl takes
-            commits.causes commits.fault (λ cause. let told = commits.exhausted cause in (told.0, ap (λ (e : E). device e) told.1))
-            commits.exhausts commits.moments parts.committing parts.engine));
-        calls = none-added _ _ refl;
-      }
+      cut-only (λ first second w stands.
+      let old = pair_of before works handed in
+      let new = pair_of after works' handed in
+      let parts = stands.parts in
+      let commits = took.commits in
+      let takes = takes-first before after works works' handed (Err refusal) took first second w parts in
+      cut-for first second events.Commit refusal old new w (nodes-refine stands) (tells pair.clients.transcript) refl
+      (enabled-is (own-runs stands events.Commit refl) ∙ may-commit before works handed is first second w parts)
+      (ends-commit refusal (λ last _. last first w.primary.calls w.primary.committer.position (next_primary w) old.primary.device new.primary.device) (Led first second old new w)
+      (λ last broken. (inl broken, rests-standby first second old w (nodes-refine stands)))
+      (commit-ends first w pair.wire.remote old.primary.committing took.lists took.group new.primary.committing old.primary.device new.primary.device old.primary.contents old.primary.is_faulted (Err refusal) refusal refl takes
+      commits.causes commits.fault (λ cause. let told = commits.exhausted cause in (told.0, ap (λ (e : E). device e) told.1))
+      commits.exhausts commits.moments parts.committing parts.engine))) refl
 
   -- room for the lists to stand aside was refused
   without-room : (before after : Committer E) (works works' : Waiting Work) (handed : Waiting Group) (result : Result Done Refusal) → now-due before works handed ≡ due.Commit
       → LacksRoom device contents is_faulted before works result after works' → Does (pair_of before works handed) events.Commit (went result) (pair_of after works' handed)
   without-room before after works works' handed result is lacks =
       subst (λ (r : Result Done Refusal). Does (pair_of before works handed) events.Commit (went r) (pair_of after works' handed)) (sym lacks.answer)
-      (record {
-        steps = tt;
-        cut = λ first second w stands.
-            cut-same first second events.Commit Memory (pair_of before works handed) (pair_of after works' handed) w refl refl (ap device lacks.engine) refl (tells pair.clients.transcript) refl (own-runs stands events.Commit refl)
-            (may-commit before works handed is first second w stands.parts) (nodes-refine stands);
-        calls = none-added _ _ refl;
-      })
+      (cut-only (λ first second w stands.
+      cut-same first second events.Commit Memory (pair_of before works handed) (pair_of after works' handed) w refl refl (ap device lacks.engine) refl (tells pair.clients.transcript) refl (own-runs stands events.Commit refl)
+      (may-commit before works handed is first second w stands.parts) (nodes-refine stands)) refl)
 
   -- what a turn does to a pair for which a commit is due
   pub commit-does : (before after : Committer E) (works works' : Waiting Work) (handed handed' : Waiting Group) (result : Result Done Refusal) → now-due before works handed ≡ due.Commit
@@ -343,12 +312,8 @@ module _ {E : Type 0} (device : E → State) (contents : E → Contents) (is_fau
           (λ w sound stands are. hand-goes w old.primary.committing (pair_of (ready_again before) works waiting).primary.committing hands.group waiting.items waiting'.items hands.in_hand refl refl refl refl handed.2 stands are) refl refl))
       by (inr full) =
           subst (λ (r : Result Done Refusal). Does old events.Hand (went r) (pair_of after works waiting')) (sym full.0)
-          (record {
-            steps = λ first second w stands.
-                absurd (omega (arith, full.2, hand-room w before.stage hands.group waiting.items hands.in_hand stands.sound stands.parts.committing.stage_is stands.parts.link.waiting));
-            cut = tt;
-            calls = none-added _ _ refl;
-          })
+          (steps-only (λ first second w stands.
+          absurd (omega (arith, full.2, hand-room w before.stage hands.group waiting.items hands.in_hand stands.sound stands.parts.committing.stage_is stands.parts.link.waiting))) refl)
 
   -- another step is due
   pub raise-stays : (before : Committer E) (works : Waiting Work) (waiting : Waiting Group) → (now-due before works waiting ≡ due.Raise → ⊥)

@@ -1,24 +1,11 @@
 -- How the committer and its engine refine the machine's.
 use Rattle.std.specs.Prelude.{◌≡◌, ◌⊎◌, ℕ, ◌+◌, ◌≤◌, Bool, true, false, nat_lt, List, length}
-use Rattle.pmem.specs.Device.{State}
-use Rattle.pmem.specs.Crash.{IsImage, IsSettled, image_of}
-use Rattle.pmem.specs.Runs.{LeavesOnly}
-use Rattle.model.specs.declared.call.Call.{Call}
-use Rattle.model.specs.Image.{Image}
-use Rattle.model.specs.declared.group.Group.{Group}
-use Rattle.model.specs.declared.work.FreeList.{FreeList}
-use Rattle.model.specs.declared.work.Work.{Work}
-use Rattle.model.specs.Group.{Contents}
-use Rattle.model.specs.Standing.{Holder, StandsAt}
+use Rattle.world.specs.Words.{AreLawful, Call, Contents, Due, Event, FreeList, Group, Holder, Image, image_of, IsFormatting, IsImage, IsSettled, IsUndamaged, Keeps, LeavesOnly, State, Work}
+use Rattle.model.specs.Standing.{StandsAt}
 use Rattle.model.specs.declared.record.Role.{Role}
-use Rattle.wbl_engine.specs.Contents.{Keeps}
-use Rattle.wbl_engine.specs.Formatting.{IsFormatting}
-use Rattle.wbl_engine.specs.Lawful.{AreLawful, IsUndamaged}
 use Rattle.pipes.specs.declared.limits.TheConstants.{PIPE_ITEMS}
 use Rattle.group_commit.specs.Due.{reached_by}
-use Rattle.group_commit.specs.declared.due.Due.{Due}
 use Rattle.group_commit.specs.declared.due.Due.TheVariants as due
-use Rattle.machine.specs.declared.event.Event.{Event}
 use Rattle.machine.specs.declared.event.Event.TheVariants as events
 -- where the nodes stand after the group that the primary commits next, and after the frame that the standby takes next
 pub use Rattle.machine.specs.Event.{next_primary}

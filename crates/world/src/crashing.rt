@@ -6,7 +6,7 @@ ghost use Rattle.machine.specs.declared.event.Cut.TheVariants as cuts;
 ghost use Rattle.machine.specs.declared.event.Node.TheVariants as nodes;
 ghost use Rattle.world.specs.Pair.{Acts, HasWorld};
 ghost use Rattle.world.specs.Condition.{has_stopped};
-ghost use Rattle.world.specs.Step.{CutsOrStays, IsStep, Leaves};
+ghost use Rattle.world.specs.Step.{IsStep, Leaves};
 ghost use Rattle.world.specs.Stopping.{BreaksPrimary, BreaksStandby};
 ghost use Rattle.world.specs.declared.history.History.{History};
 
@@ -66,7 +66,7 @@ impl<E: Restarting, K: Keyspace + Drop> Pair<E, K> {
     fn crash_stopped_primary(&mut self, history: &mut History, picks: &Vec<u64>)
         requires stopped { has_stopped self.old.primary_condition ≡ true }
         requires world { HasWorld (⟦<Pair<E, K> as Stepper>⟧.parts self.old history.old) }
-        ensures { (after : ℕ) → CutsOrStays (⟦<Pair<E, K> as Stepper>⟧.parts self.old history.old) (events.Crash nodes.Primary cuts.Between after picks.now) true (⟦<Pair<E, K> as Stepper>⟧.parts self.new history.new) }
+        ensures { (after : ℕ) → IsStep (⟦<Pair<E, K> as Stepper>⟧.parts self.old history.old) (events.Crash nodes.Primary cuts.Between after picks.now) (Ok true) (⟦<Pair<E, K> as Stepper>⟧.parts self.new history.new) }
     {
         self.primary.back.crash(picks.as_slice());
         let position = self.image_position();
@@ -105,7 +105,7 @@ impl<E: Restarting, K: Keyspace + Drop> Pair<E, K> {
     fn crash_stopped_standby(&mut self, history: &mut History, picks: &Vec<u64>)
         requires stopped { has_stopped self.old.standby_condition ≡ true }
         requires world { HasWorld (⟦<Pair<E, K> as Stepper>⟧.parts self.old history.old) }
-        ensures { (after : ℕ) → CutsOrStays (⟦<Pair<E, K> as Stepper>⟧.parts self.old history.old) (events.Crash nodes.Standby cuts.Between after picks.now) true (⟦<Pair<E, K> as Stepper>⟧.parts self.new history.new) }
+        ensures { (after : ℕ) → IsStep (⟦<Pair<E, K> as Stepper>⟧.parts self.old history.old) (events.Crash nodes.Standby cuts.Between after picks.now) (Ok true) (⟦<Pair<E, K> as Stepper>⟧.parts self.new history.new) }
     {
         self.standby.crash(picks.as_slice());
         self.go_by_image(history);
