@@ -1,16 +1,27 @@
 // Loaded before the C library (LD_PRELOAD), holds the syncs of a program while a file is there. It reads:
 //   HELD_FILE    the file; its name with `.begun` behind it is made when a sync is held, and while there is one with `.slow` each sync takes a millisecond more
 //   SLOW_MS      or so many milliseconds
+//   SYNC_US      how many microseconds each sync takes more, whatever files there are
 #include <dlfcn.h>
 #include <fcntl.h>
 #include <stdio.h>
 #include <stdlib.h>
+#include <sys/prctl.h>
 #include <time.h>
 #include <unistd.h>
 
+static void sleep_for(long microseconds) {
+    // (a system may let a sleep last longer by this slack)
+    prctl(PR_SET_TIMERSLACK, 1UL, 0UL, 0UL, 0UL);
+    nanosleep(&(struct timespec){microseconds / 1000000, 1000 * (microseconds % 1000000)}, NULL);
+}
+
 static void hold(void) {
-    const char *file = getenv("HELD_FILE"), *more = getenv("SLOW_MS");
+    const char *file = getenv("HELD_FILE"), *more = getenv("SLOW_MS"), *each = getenv("SYNC_US");
     char begun[4200], slow[4200];
+    if (each != NULL) {
+        sleep_for(atol(each));
+    }
     if (file == NULL) {
         return;
     }

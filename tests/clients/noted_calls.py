@@ -7,7 +7,7 @@ import subprocess
 import typing
 
 SOURCE = pathlib.Path(__file__).resolve().parent / "noted_calls.c"
-WORD, BLOCK = 8, 4_096
+WORD, SECTOR, BLOCK = 8, 512, 4_096
 # Without one no library is made.
 HAS_COMPILER = shutil.which("gcc") is not None
 OPTIONS = ["-shared", "-fPIC", "-O1", "-Wall", "-Wextra", "-Werror", "-D_GNU_SOURCE"]
@@ -68,11 +68,18 @@ class Noting:
 
     def writes_and_syncs(self):
         """What the program asked of its image, in order: of each write its offset and its bytes, and None for each sync. None of them failed."""
+        return [change for change in self.changes() if change is None or change[1] is not None]
+
+    def changes(self):
+        """The same, with each new length, which has no bytes. A call that a kill cut off is none."""
         found = []
         with self.bytes.open("rb") as written:
             for call in self.calls():
-                if call.path == str(self.image) and call.word in ("write", "sync", "data"):
-                    found.append((call.numbers[0], written.read(call.numbers[1])) if call.word == "write" else None)
+                if call.word == "write":
+                    data = written.read(call.numbers[1])
+                if call.path != str(self.image) or call.word in ("open", "made"):
+                    continue
+                found.append((call.numbers[0], data if call.word == "write" else None) if call.word in ("write", "length") else None)
         return found
 
     def crash(self, draws=None):
@@ -80,6 +87,47 @@ class Noting:
         those that are drawn, or none."""
         durable = self.synced.read_bytes()
         self.image.write_bytes(mixed(self.image.read_bytes(), durable, draws) if draws else durable)
+
+
+def changed(data, changes):
+    """The bytes of a file that had these, behind these changes, none of which is a sync. What is written behind its end is not there."""
+    found = bytearray(data)
+    for at, written in changes:
+        if written is None:
+            found = found[:at].ljust(at, b"\0")
+        else:
+            found[at:at + len(written)] = written[:max(0, len(found) - at)]
+    return bytes(found)
+
+
+def in_sectors(changes, draws):
+    """Each change that is a write in sectors, of which some are drawn, and some of the others."""
+    share = draws.random()
+    for at, written in changes:
+        ends = [0, *range(SECTOR - at % SECTOR, len(written or b""), SECTOR), len(written or b"")]
+        for first, end in zip(ends, ends[1:]) if written else ():
+            if draws.random() < share:
+                yield at + first, written[first:end]
+        if written is None and draws.random() < share:
+            yield at, None
+
+
+def after_cuts(data, changes, draws):
+    """What power cuts may leave of a file that had these bytes, at each of these changes, and how many of them there were: of what was asked since the last
+    sync nothing, all, the older half, the newer one, or some sectors. What is left twice in a row comes once."""
+    durable, waiting, last = data, [], None
+    for number, change in enumerate([*changes, None]):
+        middle = len(waiting) // 2
+        some = [[], waiting, waiting[:middle], waiting[middle:], [*in_sectors(waiting, draws)]] if waiting else [[]]
+        for kept in some:
+            left = changed(durable, kept)
+            if left != last:
+                yield number, left
+            last = left
+        if change is None:
+            durable, waiting = changed(durable, waiting), []
+        else:
+            waiting = [*waiting, change]
 
 
 def mixed(left, durable, draws):

@@ -66,7 +66,7 @@ class PageShell:
             program = os.path.abspath(common.program(crate)) if crate in ("server", "client") else "/bin/false"
             starter.write_text(STARTER.format(python=sys.executable, launch=launcher, descriptors=DESCRIPTORS, program=program), encoding="ascii")
             starter.chmod(0o755)
-        for script in ("wbl-status", "fail-over", "pair", "stop-node", "wait-for-write"):
+        for script in ("wbl-status", "copy-image", "fail-over", "pair", "stop-node", "wait-for-write"):
             shutil.copy(common.ROOT / "bin" / script, self.folder / "bin")
 
     def close(self):

@@ -17,6 +17,7 @@ import time
 
 import common
 import plain_image
+import plain_journal
 from common import TakesTooLong
 from plain_wire import GREETING_BYTES, Greeting, read_greeting, text
 from spelling import spell
@@ -219,18 +220,25 @@ def inspected(image):
 
 def number_in(image):
     """The number of the pair in an image, also of a node that runs."""
-    with open(image, "rb") as file:
-        return int.from_bytes(os.pread(file.fileno(), WORD_BYTES, PAIR_AT), "little")
+    return int.from_bytes(plain_journal.read_file(image)[PAIR_AT:PAIR_AT + WORD_BYTES], "little")
 
 
 def give_number(image, number):
     """Gives an image that no node runs this number of a pair."""
+    had_journal = plain_journal.shape_in(pathlib.Path(image).read_bytes()) is not None
+    # (else the line may stand in the journal, too)
+    run("settle", "--image", str(image))
     with open(image, "r+b") as file:
         os.pwrite(file.fileno(), number.to_bytes(WORD_BYTES, "little"), PAIR_AT)
+    if had_journal:
+        run("journal", "--image", str(image))
 
 
 class Node:
     """A primary or a standby: the image, how the program is called over it, and its process while it runs."""
+
+    # Whether its image gets a journal where it is formatted.
+    has_journal = True
 
     def __init__(self, role, image, port, *options):
         self.role, self.image, self.port = role, image, port
@@ -244,7 +252,7 @@ class Node:
 
     def format(self, lines):
         """Makes the image a new one."""
-        run("format", "--image", str(self.image), "--lines", str(lines), "--role", self.role)
+        run("format", "--image", str(self.image), "--lines", str(lines), "--role", self.role, "--journal", str(int(self.has_journal)))
 
     def start(self, descriptors=DESCRIPTORS):
         """Starts the process over the image as it is."""
@@ -308,7 +316,7 @@ class Node:
         """The image, as the plain reader has it. Beside a process that runs, which may write meanwhile, it is read until it is whole."""
         end = time.monotonic() + PATIENCE
         while True:
-            words = memoryview(self.image.read_bytes()).cast("Q")
+            words = memoryview(plain_journal.read_file(self.image)).cast("Q")
             try:
                 return plain_image.read_image(plain_image.Words(len(words) // 8, {place: word for place, word in enumerate(words) if word}))
             except plain_image.BadImage:
@@ -319,10 +327,11 @@ class Node:
 
 class Pair:
     """A primary and a standby over two new images, both running, and the clients of it. The standby's image has as many lines as the primary's,
-    or as many as are said. It takes over the number of the pair with its first frame, and leaves a link for that; or it has it from the first."""
+    or as many as are said. It takes over the number of the pair with its first frame, and leaves a link for that; or it has it from the first. The images have
+    journals, or none. Some words may stand before those that start a node."""
 
-    def __init__(self, lines=LINES, descriptors=DESCRIPTORS, folder=None, standby_lines=None, has_number=False):
-        self.parts = contextlib.ExitStack()
+    def __init__(self, lines=LINES, descriptors=DESCRIPTORS, folder=None, standby_lines=None, has_number=False, has_journal=True, before=()):
+        self.parts, self.has_journal, self.before = contextlib.ExitStack(), has_journal, list(before)
         try:
             self._make(lines, descriptors, folder, standby_lines or lines, has_number)
         except BaseException:
@@ -345,12 +354,16 @@ class Pair:
 
     def primary_over(self, image):
         """A primary over this image, at the address where clients come."""
-        node = Node("primary", image, self.door, "--link", self.link.address())
-        return self.parts.enter_context(contextlib.closing(node))
+        return self._over("primary", image, self.door, "--link", self.link.address())
 
     def standby_over(self, image):
         """A standby over this image, at the address where the primary sends."""
-        return self.parts.enter_context(contextlib.closing(Node("standby", image, self.link)))
+        return self._over("standby", image, self.link)
+
+    def _over(self, *words):
+        node = self.parts.enter_context(contextlib.closing(Node(*words)))
+        node.has_journal, node.before = self.has_journal, self.before
+        return node
 
     def __enter__(self):
         return self

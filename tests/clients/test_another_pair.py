@@ -13,6 +13,7 @@ import common
 import held_syncs
 import noted_calls
 import plain_image
+import plain_journal
 from damaged_frames import SET_A
 from load import WRITERS, Load
 from noted_calls import Noting, mixed
@@ -61,7 +62,7 @@ class Pairs(Images):
     def kept(self, node):
         """What a node keeps in its image while nobody can change it: all but the record, of which a standby clears gaps; and what that says of the list."""
         def read():
-            words = words_of(node.image.read_bytes())
+            words = words_of(plain_journal.read_file(node.image))
             with contextlib.suppress(BadImage):
                 return plain_image.read_image(plain_image.Words(LINES, words)).record.told(), without_records(words, LINES)
 

@@ -77,6 +77,28 @@ class Pairs(LoadCases):
         self.assertEqual((ran.returncode, ran.stdout, ran.stderr[:25]), (1, b"", b"load: answered -WRONGTYPE"))
 
 
+class Slow(PairCases):
+    def test_syncs_that_take_longer(self):
+        """Each does, of a node that is started by these words: a SET waits for one of each node at least, and without journals for three."""
+        if not shutil.which("gcc"):
+            print(f"{self.id()}: skipped, since there is no gcc", flush=True)
+            return
+        microseconds = 20_000
+        with tempfile.TemporaryDirectory(prefix="wbl-slow-") as folder:
+            before = SAID.held_syncs.slowed(folder, microseconds)
+            for has_journal, syncs in [(True, 2), (False, 6)]:
+                with self.case("pair", has_journal=has_journal):
+                    nodes = self.pair(has_journal=has_journal, before=before)
+                    with nodes.client() as client:
+                        took = []
+                        for number in range(10):
+                            begun = time.monotonic()
+                            self.assertEqual(client.ask("SET", f"key{number}", "x"), OK)
+                            took.append(time.monotonic() - begun)
+                    self.assertGreaterEqual(min(took), syncs * microseconds / 1e6)
+                    print(f"a SET took {1_000 * min(took):.0f} ms, {'with' if has_journal else 'without'} journals", flush=True)
+
+
 class Waits(PairCases):
     def test_one_that_asks_beside_pipelines(self):
         """What is measured by --waits: how long it waits, and how many INCRs of the pipelines are answered meanwhile, with values and without."""
@@ -208,6 +230,9 @@ class Tables(common.Cases):
         for words in (["--quick"], ["--keys", "2"], ["--new-keys"], ["--reopen"]):
             with self.case("option", words=words), contextlib.redirect_stderr(io.StringIO()), self.assertRaises(SystemExit):
                 SAID.options_of(["--values", *words])
+        for words in (["0"], ["-1"], ["x"], ["1000", "--values"], ["1000", "--reopen"], ["1000", "--waits"]):
+            with self.case("sync", words=words), contextlib.redirect_stderr(io.StringIO()), self.assertRaises(SystemExit):
+                SAID.options_of(["--sync", *words])
 
     def shown(self, found):
         """The tables of these figures, by their titles: of each row its cells."""

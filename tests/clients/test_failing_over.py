@@ -10,6 +10,7 @@ from operated import FIRST, NODES, PAGE, Operated
 from page_shell import PageShell, blocks_below
 from pair import PairCases, inspected, wait_until
 from plain_image import PRIMARY, STANDBY
+from plain_journal import Shape, file_of
 from plain_keyspace import Put
 from plain_replies import OK, bulk
 from plain_writer import Writer
@@ -172,8 +173,15 @@ class New(Scripts):
                 self.assert_done(PROMOTED, *([] if data else ["a.img was there, and is a.img.old"]), FORMATTED)
 
     def formatted(self, name):
-        self.shell.run(f"bin/wbl-server format --image {name} --lines {LINES + MORE_LINES} --role standby --new")
+        self.shell.run(f"bin/wbl-server format --image {name} --lines {LINES + MORE_LINES} --role standby --journal 0 --new")
         return self.read(name)
+
+    def test_one_with_a_journal(self):
+        """The new image gets one too."""
+        self.write("b.img", file_of(written()))
+        self.assertEqual(self.fail_over(), (0, [PROMOTED, FORMATTED], ""))
+        self.assertEqual(len(self.read("a.img")), LINE_BYTES * Shape.of_image(LINES + MORE_LINES).lines_of_file)
+        self.assertEqual(len(self.read("b.img")), len(file_of(written())))
 
     def test_what_is_no_file(self):
         """It stays, and nobody waits for it."""

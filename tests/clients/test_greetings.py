@@ -10,8 +10,9 @@ import time
 
 import common
 import plain_image
+import plain_journal
 from damaged_frames import SET_A
-from pair import HOST, LINES, PATIENCE, PairCases, ServingCases, number_in, wait_until
+from pair import HOST, LINES, PATIENCE, PairCases, ServingCases, number_in, run, wait_until
 from plain_image import STANDBY
 from plain_keyspace import Put
 from plain_replies import OK, bulk
@@ -289,6 +290,9 @@ class AnotherRelease(ServingCases):
         number = number_in(self.nodes.primary.image)
         wait_until(lambda: number_in(self.nodes.standby.image) == number, "a standby that has the number")
         self.nodes.end()
+        for node in (self.nodes.primary, self.nodes.standby):
+            # (that release knows no journal)
+            run("settle", "--image", str(node.image))
 
     def start(self, node, program):
         """Starts a node by this program."""
@@ -299,7 +303,7 @@ class AnotherRelease(ServingCases):
         wait_until(node.is_listening, f"a {node.role} that listens")
 
     def kept(self, node):
-        return plain_image.read_image(plain_image.Words(LINES, words_of(node.image.read_bytes())))
+        return plain_image.read_image(plain_image.Words(LINES, words_of(plain_journal.read_file(node.image))))
 
     def told(self, node):
         return node.errors.read_bytes()[node.began:]

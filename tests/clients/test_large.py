@@ -3,6 +3,7 @@ that replies share with the keyspace, and replies above a mebibyte through wbl-c
 
 import struct
 
+import plain_journal
 from common import run_program
 from pair import LINES, PairCases, wait_until
 from plain_image import LAYOUT
@@ -20,10 +21,9 @@ RECORDS, FEW_LINES = 2_000, 8 * 4_096
 
 def position_in(image):
     """The position in the current record of an image whose node runs (docs/image.md)."""
-    with open(image, "rb") as file:
-        words = struct.unpack("<8Q", file.read(64))
-        file.seek(8 * LAYOUT.slot_word(words[2], words[LAYOUT.root_word]))
-        return struct.unpack("<2Q", file.read(16))[1]
+    data = plain_journal.read_file(image)
+    words = struct.unpack_from("<8Q", data)
+    return struct.unpack_from("<2Q", data, 8 * LAYOUT.slot_word(words[2], words[LAYOUT.root_word]))[1]
 
 
 class Large(PairCases):

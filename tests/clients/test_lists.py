@@ -6,6 +6,7 @@ import time
 
 import common
 import plain_image
+import plain_journal
 from pair import PairCases, wait_until
 from plain_replies import OK, QUEUED, array, integer
 from spelling import spell
@@ -26,7 +27,7 @@ class Kept(PairCases):
     def ended(self, node):
         """How many versions that have ended a node's image holds; `None` where it was read while the node wrote it."""
         with contextlib.suppress(plain_image.BadImage):
-            words = memoryview(node.image.read_bytes()).cast("Q")
+            words = memoryview(plain_journal.read_file(node.image)).cast("Q")
             device = plain_image.Words(len(words) // 8, {place: word for place, word in enumerate(words) if word})
             return sum(version.has_ended for version in plain_image.versions_on(device))
         return None

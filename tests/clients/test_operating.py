@@ -14,6 +14,7 @@ from operated import FIRST, PAGE, SECOND, Operated, Page
 from page_shell import blocks_below
 from pair import Client, PairCases, give_number, inspected, number_in, wait_until
 from plain_image import HALFWAY, STANDBY
+from plain_journal import Shape
 from plain_replies import NULL_BULK, OK, bulk, integer
 from spelling import spell
 from test_images import image_bytes
@@ -220,7 +221,9 @@ class Former(Operated):
                 self.assertEqual(dict(zip(names, found)), {it: bulk(value) for it, value in wanted.items()})
                 for image, data in former.items():
                     self.assertEqual((self.shell.folder / f"{image}.old").read_bytes(), data)
-                self.assertEqual([(self.shell.folder / it).stat().st_size // 64 for it in former], [LINES, LINES + 18_744])
+                # (the new one has a journal)
+                sizes = [(self.shell.folder / it).stat().st_size // 64 for it in former]
+                self.assertEqual(sizes, [LINES, Shape.of_image(LINES + 18_744).lines_of_file])
                 self.do("A lost primary")
                 found = self.client(SECOND).ask_all([["GET", *it] if len(it) == 1 else ["HGET", *it] for it in names])
                 self.assertEqual(dict(zip(names, found)), {it: bulk(value) for it, value in wanted.items()})

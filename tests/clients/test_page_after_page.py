@@ -12,6 +12,7 @@ from operated import FIRST, NODES, PAGE, SECOND, Operated
 from page_shell import PageShell
 from pair import Client, Ended, TakesTooLong, wait_until
 from plain_image import Words
+from plain_journal import image_in
 from plain_replies import NULL_BULK, OK, bulk, integer
 from test_images import words_of
 
@@ -81,9 +82,9 @@ class After(Operated):
     def in_images(self):
         """What each file holds that is a whole image."""
         for path in self.shell.folder.glob("*.img*"):
-            words = words_of(path.read_bytes())
+            data = image_in(path.read_bytes())
             with contextlib.suppress(plain_image.BadImage):
-                found = plain_image.read_image(Words(path.stat().st_size // 64, words)).map
+                found = plain_image.read_image(Words(len(data) // 64, words_of(data))).map
                 yield {key: found.get((key.encode(),), b"").decode() or None for key in ("first", "gone", "second", "third")}
 
     def lose_between(self, loss):

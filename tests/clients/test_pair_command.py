@@ -16,6 +16,7 @@ import types
 import common
 from page_shell import PageShell, blocks_below
 from pair import HOST, PATIENCE, Client, PairCases, Port, TakesTooLong, inspected, launch, number_in, run, wait_until
+from plain_journal import Shape, image_in
 from plain_replies import OK, bulk
 
 PROGRAMS = ["server", "client"]
@@ -176,7 +177,7 @@ class Serving(CommandCases):
         command, told = self.started("--lines", "8192")
         self.assertEqual(told, "made ziltovna-pair/standby.img of 26936 lines\n")
         self.assertEqual(self.ask(command, "SET", "a", "1"), OK)
-        self.assertEqual(self.images["primary"].stat().st_size, 64 * 4_096)
+        self.assertEqual(self.images["primary"].stat().st_size, 64 * Shape.of_image(4_096).lines_of_file)
         self.assertEqual(sorted(it.name for it in self.images["standby"].parent.iterdir()), ["primary.img", "primary.log", "standby.img", "standby.log"])
 
     def test_the_second_at_once(self):
@@ -289,13 +290,14 @@ class NotStarting(CommandCases):
                     told = self.refused(output="both nodes have ended\n")
                     self.assertTrue(told.startswith(f"the {role} has ended with status 1. The last that it told, in ziltovna-pair/{role}.log:\n"), told)
                     self.assertIn(f"\n    ziltovna-pair/{role}.img {cause}\n    refusal ", told)
-                    self.assert_bytes(self.images[role].read_bytes(), damaged)
+                    # (its journal may have begun)
+                    self.assert_bytes(image_in(self.images[role].read_bytes()), image_in(damaged))
                     self.images[role].write_bytes(whole[role])
         for role, other in (ROLES, ROLES[::-1]):
             self.images[role].write_bytes(whole[other])
         self.assertRegex(self.refused(output="both nodes have ended\n"), r"\n    ziltovna-pair/(\w+)\.img is an image of the other role\n    refusal 16: ")
         for role, other in (ROLES, ROLES[::-1]):
-            self.assert_bytes(self.images[role].read_bytes(), whole[other])
+            self.assert_bytes(image_in(self.images[role].read_bytes()), image_in(whole[other]))
 
     def test_a_primary_that_is_lost(self):
         """An empty primary beside a standby that is there would lose what that holds."""

@@ -10,6 +10,7 @@ import filling
 import held_syncs
 import noted_calls
 import plain_image
+import plain_journal
 from noted_calls import Noting, mixed
 from pair import PATIENCE, PairCases, wait_until
 from plain_image import MORE_LINES, STANDBY, Words
@@ -54,9 +55,9 @@ class Lines(RoomCases):
             image = nodes.primary.image
             for client, request in [(first, spell("SET", "A", LONGEST)), (second, spell("SET", "s", "2"))]:
                 # (each is a group of its own once it is on the image before the other is sent)
-                before = image.read_bytes()
+                before = plain_journal.read_file(image)
                 client.send(request)
-                wait_until(lambda: image.read_bytes()[40:48] != before[40:48], "a group that is committed")
+                wait_until(lambda: plain_journal.read_file(image)[40:48] != before[40:48], "a group that is committed")
             nodes.standby.thaw()
             self.assertEqual([first.reply(), second.reply()], 2 * [OK])
             # (the primary answers that its store is full before it has freed what the first has replaced)

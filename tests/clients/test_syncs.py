@@ -20,6 +20,7 @@ import noted_calls
 from load import WRITERS, Load
 from noted_calls import Call, Noting, mixed
 from pair import PATIENCE, Ended, PairCases, wait_until
+from plain_journal import Shape, image_in
 from plain_replies import OK, integer
 from spelling import spell
 
@@ -28,6 +29,10 @@ IS_SLOW = True
 
 ROUNDS = int(os.environ.get("WBL_ROUNDS", "3"))
 LINES = 4_096
+LINES_OF_FILE = Shape.of_image(LINES).lines_of_file
+# How many blocks an opening reads and writes back of a file with a journal, and how many whoever looks for the cause of a fault.
+BLOCKS_OF_IMAGE, BLOCKS_BEHIND = LINES // 1_024, -(-(LINES_OF_FILE - LINES) // 1_024)
+BLOCKS_LOOKED_AT = -(-LINES_OF_FILE // 1_024)
 FAULT = b"refusal 1: device fault\n"
 
 
@@ -55,10 +60,10 @@ class Failing(NotedCases):
     """A sync of a node fails, or a write after its first half. It catches a node that goes on behind it: one that syncs once more is told that all
     is well, where the system has dropped what it could not write."""
 
-    # One is behind what is written back of an image, in four writes, and two open it; those that clear gaps and free what has ended follow, and three are
-    # of each commit: so several of each.
+    # One is behind what is written back of a file, in seven writes, and three begin the next generation of its journal, in three writes at least; one opens the
+    # image; those that clear gaps and free what has ended follow, and one is of each commit: so several of each.
     SYNCS = [{"fails": number} for number in range(1, 14)]
-    WRITES = [{"torn": number} for number in range(1, 13)]
+    WRITES = [{"torn": number} for number in range(1, 21)]
 
     def setUp(self):
         super().setUp()
@@ -77,7 +82,7 @@ class Failing(NotedCases):
         calls = node.noting.calls()
         (last,) = (at for at, call in enumerate(calls) if call.failed)
         # (why an image could not be opened is looked for at the file, which is read and written back, as an opening does it)
-        looks = [[], ["open"], ["open", *["write"] * (LINES // 1_024), "data"]]
+        looks = [[], ["open"], ["open", *["write"] * BLOCKS_LOOKED_AT, "data"]]
         self.assertIn([call.word for call in calls[last + 1:]], looks[:1] if b"opened at" in told else looks)
         calls = calls[:last + 1]
         words = ["data", "sync"] if "fails" in way else ["write"]
@@ -114,7 +119,8 @@ class Failing(NotedCases):
     def check_primary(self, ways):
         if not self.loaded:
             return
-        nodes = self.pair(lines=LINES)
+        # (a standby that takes over a number opens its image once more)
+        nodes = self.pair(lines=LINES, has_number=True)
         for number, way in enumerate(ways):
             with self.case("call", **way):
                 nodes.primary.end()
@@ -136,7 +142,8 @@ class Failing(NotedCases):
         """The primary waits, and answers once the standby has been started again on what the system left of its image."""
         if not self.loaded:
             return
-        nodes = self.pair(lines=LINES)
+        # (a standby that takes over a number opens its image once more)
+        nodes = self.pair(lines=LINES, has_number=True)
         for number, way in enumerate(ways):
             with self.case("call", **way), nodes.client() as client:
                 nodes.standby.end()
@@ -236,6 +243,10 @@ class PowerCuts(NotedCases):
         self.assertEqual(node.inspect()["role"], "primary")
 
 
+# How often a lone SET is tried: on a busy machine what one replaced may be freed with a later one.
+TURNS = 30
+
+
 class LoneSets(NotedCases):
     """What a lone SET asks of the files is what bin/bench-pair says that it costs at least. It catches a sync more, and figures beside a bound that is none."""
 
@@ -247,24 +258,39 @@ class LoneSets(NotedCases):
         if not self.loaded:
             return
         said = common.script("bench-pair")
+        self.check(True, said.LONE_PRIMARY, said.LONE_STANDBY)
+        self.check(False, said.PLACED_PRIMARY, said.PLACED_STANDBY)
+
+    def check(self, has_journal, of_primary, of_standby):
         # (a standby whose image has a spare place)
-        nodes = self.pair(lines=8 * LINES)
-        both = {nodes.primary: said.LONE_PRIMARY, nodes.standby: said.LONE_STANDBY}
+        nodes = self.pair(lines=8 * LINES, has_journal=has_journal)
+        both = {nodes.primary: of_primary, nodes.standby: of_standby}
         for node in (nodes.standby, nodes.primary):
             node.end()
             self.start(node)
         nodes.wait()
+        wanted = {node: counted(words) for node, words in both.items()}
+        seen = dict.fromkeys(both, False)
         with nodes.client() as client:
-            found = []
-            for turn in range(6):
+            before = None
+            for turn in range(TURNS):
                 self.assertEqual(client.ask("SET", "a", f"{turn}"), OK)
                 # (the primary frees what it replaced a little later; the standby does with the next, or clears gaps, where nothing comes for a second)
                 time.sleep(0.5)
-                found.append([self.asked(node) for node in both])
-        for at, (node, words) in enumerate(both.items()):
-            with self.case("node", role=node.role):
-                wanted = collections.Counter(int(word[1:].split("@")[0]) if word[0] == "w" else "data" for word in words.split() if word[0] in "wd")
-                self.assertIn(wanted, [later[at] - earlier[at] for earlier, later in itertools.pairwise(found[1:])])
+                found = {node: self.asked(node) for node in both}
+                if before:
+                    seen = {node: was or found[node] - before[node] == wanted[node] for node, was in seen.items()}
+                before = found
+                if all(seen.values()):
+                    break
+        for node in both:
+            with self.case("node", role=node.role, has_journal=has_journal):
+                self.assertTrue(seen[node], wanted[node])
+
+
+def counted(words):
+    """How often a node writes so many bytes, and syncs, by the words of bench-pair."""
+    return collections.Counter(int(word[1:].split("@")[0]) if word[0] == "w" else "data" for word in words.split() if word[0] in "wd")
 
 
 def settled(calls, image):
@@ -278,33 +304,35 @@ class Formatting(NotedCases):
     """What `format` asks of its files. It catches one after which a crash takes the file, its length or its name away."""
 
     MADE = ["made file", "length file", "sync file", "sync folder"]
-    WRITTEN_BACK = [*(("write", 65_536 * block) for block in range(LINES // 1_024)), ("data", None)]
-    WRITES = [*WRITTEN_BACK, *4 * [("write", 0), ("data", None)]]
+    WRITTEN_BACK = [("write", 65_536 * block) for block in range(BLOCKS_OF_IMAGE)]
+    BEHIND = [("write", 64 * LINES + 65_536 * block) for block in range(BLOCKS_BEHIND)]
+    WRITES = [("data", None), *4 * [("write", 0), ("data", None)]]
 
-    def format(self, image, role, keeps):
+    def format(self, image, role, keeps, journal=0):
         noting = Noting(self.loaded, image, keeps=keeps)
-        words = [common.program("server"), "format", "--image", image, "--lines", str(LINES), "--role", role]
+        words = [common.program("server"), "format", "--image", image, "--lines", str(LINES), "--role", role, "--journal", str(journal)]
         ran = subprocess.run([*noting.words, *words], capture_output=True, timeout=PATIENCE)
         self.assertEqual((ran.returncode, ran.stderr), (0, b""))
         return noting
 
-    def assert_writes(self, noting):
+    def assert_writes(self, noting, journal=0):
         """The file is written back, with a sync behind it; then four writes from the first byte on, the last of which is that of the number of the pair, each with
-        a sync, and nothing more."""
+        a sync, and nothing more: the journal has not begun."""
         calls = [call for call in noting.calls() if call.word in ("write", "data")]
-        self.assertEqual([(call.word, call.numbers[0] if call.numbers else None) for call in calls], self.WRITES)
+        wanted = [*self.WRITTEN_BACK, *self.BEHIND * journal, *self.WRITES]
+        self.assertEqual([(call.word, call.numbers[0] if call.numbers else None) for call in calls], wanted)
         self.assertEqual({call.path for call in calls}, {str(noting.image)})
 
     def test_a_new_file(self):
         if not self.loaded:
             return
-        for role in ("primary", "standby"):
-            with self.case("role", role=role):
-                noting = self.format(self.folder / f"{role}.img", role, keeps=False)
+        for role, journal in itertools.product(("primary", "standby"), (0, 1)):
+            with self.case("role", role=role, journal=journal):
+                noting = self.format(self.folder / f"{role}{journal}.img", role, keeps=False, journal=journal)
                 self.assertEqual(settled(noting.calls(), noting.image), self.MADE)
                 length = next(call for call in noting.calls() if call.word == "length")
-                self.assertEqual(length.numbers, (64 * LINES,))
-                self.assert_writes(noting)
+                self.assertEqual(length.numbers, (64 * (LINES_OF_FILE if journal else LINES),))
+                self.assert_writes(noting, journal)
 
     def test_a_file_that_is_there(self):
         """Whoever made it may have ended before it was durable, so it is synced once more, with its folder."""
@@ -328,7 +356,7 @@ class Formatting(NotedCases):
             with self.case("sync", number=fails):
                 image = self.folder / f"fails{fails}.img"
                 noting = Noting(self.loaded, image, fails=fails, keeps=False)
-                words = [common.program("server"), "format", "--image", image, "--lines", str(LINES), "--role", "primary"]
+                words = [common.program("server"), "format", "--image", image, "--lines", str(LINES), "--role", "primary", "--journal", "0"]
                 ran = subprocess.run([*noting.words, *words], capture_output=True, timeout=PATIENCE)
                 self.assertEqual((ran.returncode, ran.stdout, common.without_cause(ran.stderr)), (1, b"", FAULT))
                 # (what is held at the file, and why it could not be made or used, is looked for by opening it)
@@ -346,18 +374,18 @@ class Formatting(NotedCases):
         if not self.loaded:
             return
         lacking = 0
-        for fails in range(1, 8):
-            with self.case("sync", number=fails):
-                image = self.folder / f"read{fails}.img"
-                self.format(image, "standby", keeps=False)
+        for fails, journal in itertools.product(range(1, 8), (0, 1)):
+            with self.case("sync", number=fails, journal=journal):
+                image = self.folder / f"read{fails}{journal}.img"
+                self.format(image, "standby", keeps=False, journal=journal)
                 for goes_on, number, statuses in [(False, fails, (0, 1)), (True, 0, (0, 1))]:
                     noting = Noting(self.loaded, image, fails=number, goes_on=goes_on, lasts=True)
-                    lacking += goes_on and noting.synced.read_bytes() != image.read_bytes()
+                    lacking += goes_on and image_in(noting.synced.read_bytes()) != image_in(image.read_bytes())
                     words = [common.program("server"), "promote", "--image", image, "--old-primary-stopped"]
                     ran = subprocess.run([*noting.words, *words], capture_output=True, timeout=PATIENCE)
                     self.assertIn(ran.returncode, statuses)
                 self.assertNotEqual(ran.stderr, FAULT)
-                self.assert_bytes(noting.synced.read_bytes(), image.read_bytes())
+                self.assert_bytes(image_in(noting.synced.read_bytes()), image_in(image.read_bytes()))
         self.assertTrue(lacking)
 
     def test_what_is_left_out_is_seen(self):

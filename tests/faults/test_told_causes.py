@@ -24,7 +24,7 @@ READERS = [["inspect"], ["status"]]
 # Of each the role of the image that it takes.
 WRITERS = [
     (STANDBY, ["promote", "--old-primary-stopped"]), (PRIMARY, ["primary", "--listen", NOWHERE, "--link", NOWHERE]), (STANDBY, ["standby", "--listen", NOWHERE]),
-    (PRIMARY, ["format", "--lines", str(LINES), "--role", "primary"]),
+    (PRIMARY, ["format", "--lines", str(LINES), "--role", "primary", "--journal", "0"]),
 ]
 DISK = b"Input/output error (os error 5)"
 NO_ROOM = b"its file system has no room for it"

@@ -11,6 +11,7 @@ import tempfile
 from common import Cases, program, run_program
 from pair import Client, Port, wait_until
 from plain_image import PRIMARY, STANDBY
+from plain_journal import file_of
 from plain_replies import OK
 from plain_wire import Acknowledgement, Greeting, text
 from plain_writer import Writer
@@ -74,7 +75,7 @@ class Server(ClosedStreams):
     def test_format(self):
         for role, name in ROLES.items():
             words = ["format", "--lines", str(LINES), "--role", name]
-            self.check_image(words, None, lambda left, role=role: new_image(LINES, role, left), None)
+            self.check_image(words, None, lambda left, role=role: file_of(new_image(LINES, role, left)), None)
 
     def test_inspect(self):
         image = image_bytes(LINES, with_groups().words)

@@ -68,8 +68,8 @@ def new_image(lines, role, data):
     return image_bytes(lines, Writer(lines, role, pair=words_of(data).get(PAIR_WORD, 0)).words)
 
 
-def format_words(path, lines=LINES, role="primary"):
-    return ["format", "--image", str(path), "--lines", str(lines), "--role", role]
+def format_words(path, lines=LINES, role="primary", journal=0):
+    return ["format", "--image", str(path), "--lines", str(lines), f"--journal={journal}", "--role", role]
 
 
 def limited(size):
@@ -379,6 +379,12 @@ class CommandLines(Images):
                 ("no value", good[:-1], b"--role"),
                 ("another role", [*good[:-1], "newcomer"], b"newcomer"),
                 ("a role in capitals", [*good[:-1], "Primary"], b"Primary"),
+                *((f"a journal of {value!r}", format_words(path, journal=value), b"--journal") for value in ("", "2", "-1", "01", "yes", "true", " 1")),
+                ("no value of a journal", [*good[:5], *good[6:], "--journal"], b"--journal"),
+                ("a journal twice", [*good, "--journal", "1"], b"--journal"),
+                ("journal without an image", ["journal"], b"--image"),
+                ("settle without an image", ["settle"], b"--image"),
+                ("settle with a value", ["settle", "--image", path, "--journal", "0"], b"--journal"),
                 ("no number", format_words(path, "many"), b"many"),
                 ("no digits", format_words(path, ""), b"--lines"),
                 ("a number below 0", [*good[:3], "--lines=-1", *good[5:]], b"-1"),
@@ -400,10 +406,10 @@ class CommandLines(Images):
     def test_help(self):
         for words in (["help"], ["--help"], ["-h"]):
             with self.case("help", words=words):
-                self.assert_helped(words, b"format", b"inspect", b"primary", b"standby")
+                self.assert_helped(words, b"format", b"inspect", b"primary", b"standby", b"journal", b"settle")
         for words in (["help", "format"], ["format", "--help"], ["format", "--lines", "4096", "-h"]):
             with self.case("help of a subcommand", words=words):
-                self.assert_helped(words, b"--image", b"--lines", b"--role", b"standby")
+                self.assert_helped(words, b"--image", b"--lines", b"--role", b"standby", b"--journal <0|1>")
 
     def test_faults_of_the_command_line_come_first(self):
         with self.folder() as folder:

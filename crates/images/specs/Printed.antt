@@ -29,6 +29,14 @@ use Rattle.images.specs.Told.{newline}
 abbrev pub formatted_text : ℕ → List ℕ
 formatted_text lines = codes "formatted " ++ decimal lines ++ codes " lines, " ++ decimal (entries_of_lines LAYOUT lines) ++ codes " entries" ++ newline
 
+-- after an image was given a journal
+abbrev pub journaled_text : List ℕ
+journaled_text = codes "has a journal" ++ newline
+
+-- after the journal of an image was taken away
+abbrev pub settled_text : List ℕ
+settled_text = codes "has no journal" ++ newline
+
 -- after an image was promoted
 abbrev pub promoted_text : ℕ → List ℕ
 promoted_text epoch = codes "promoted to epoch " ++ decimal epoch ++ newline

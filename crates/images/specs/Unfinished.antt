@@ -23,8 +23,14 @@ pub record IsUnused (lines : ℕ) (of : Role) (image : Image) : Type 0 where
 abbrev pub AreZero : (first end : ℕ) → Image → Type 0
 AreZero first end image = (word : ℕ) → word < 8 * end → 8 * first ≤ word → image word ≡ 0
 
--- There is no magic, and nothing but zeros where an image has its entries and what they hold.
-pub record IsUnfinished (lines : ℕ) (image : Image) : Type 0 where
+-- There is no magic, and nothing but zeros where an image of so many lines has its entries and what they hold, and behind it, up to the end.
+pub record IsUnfinished (lines end : ℕ) (image : Image) : Type 0 where
   pub magic : image 0 ≡ 0
   pub entries : AreZero DIRECTORY_LINE (first_slot_line LAYOUT lines) image
-  pub extents : AreZero (first_extent_line lines) lines image
+  pub extents : AreZero (first_extent_line lines) end image
+
+-- That is so of an image of all lines, or of some first ones.
+pub record IsLeft (end : ℕ) (image : Image) : Type 0 where
+  pub lines : ℕ
+  pub within : lines ≤ end
+  pub unfinished : IsUnfinished lines end image

@@ -4,7 +4,7 @@ use crate::failure::Failure;
 use crate::images::Images;
 use crate::serve_error::ServeError;
 use crate::trouble::Trouble;
-use crate::unfinished::is_unfinished;
+use crate::unfinished::is_left;
 use kv_types::Refusal;
 use std::alloc::Global;
 use std::io::Write;
@@ -51,12 +51,13 @@ pub fn tell_cause_of_reading<T, I: Images, E: Write>(
     tell_refused(alloc, images, name, refusal, trouble, errors)
 }
 
-/// The same of a call that makes an image of so many lines where it is not there.
+/// The same of a call that makes an image of so many lines, with a journal or without, where it is not there.
 pub fn tell_cause_of_making<T, I: Images, E: Write>(
     alloc: Global,
     images: &I,
     name: &str,
     lines: u64,
+    has_journal: bool,
     done: &Result<T, Failure>,
     errors: &mut E,
 ) -> bool {
@@ -64,7 +65,26 @@ pub fn tell_cause_of_making<T, I: Images, E: Write>(
         return false;
     };
     let trouble = match refusal {
-        Refusal::Fault => images.trouble_of_making(name, lines),
+        Refusal::Fault => images.trouble_of_making(name, lines, has_journal),
+        Refusal::Damaged => images.trouble(name),
+        _ => Trouble::None,
+    };
+    tell_refused(alloc, images, name, refusal, trouble, errors)
+}
+
+/// The same of a call that gives it a journal.
+pub fn tell_cause_of_giving<T, I: Images, E: Write>(
+    alloc: Global,
+    images: &I,
+    name: &str,
+    done: &Result<T, Failure>,
+    errors: &mut E,
+) -> bool {
+    let Some(refusal) = refusal_in(done) else {
+        return false;
+    };
+    let trouble = match refusal {
+        Refusal::Fault => images.trouble_of_giving(name),
         Refusal::Damaged => images.trouble(name),
         _ => Trouble::None,
     };
@@ -120,7 +140,7 @@ fn tell_trouble<E: Write>(alloc: Global, name: &str, trouble: Trouble, errors: &
 fn what_it_is<I: Images>(images: &I, name: &str) -> &'static str {
     match images.read_only(name) {
         Ok(device) => {
-            if is_unfinished(&device) {
+            if is_left(&device) {
                 "is what a format has left unfinished: give that again"
             } else {
                 NO_MAGIC

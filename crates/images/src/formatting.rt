@@ -24,7 +24,7 @@ use std::alloc::Global;
 use std::io::{Read, Write};
 use wbl_engine::{Durable, Role, WblEngine};
 
-/// Writes a new image of so many lines under this name, with this number of its pair, and says so. With `is_new` a file that is there is kept, unless it is that
+/// Writes a new image of so many lines under this name, with this number of its pair, with a journal or without, and says so. With `is_new` a file that is there is kept, unless it is that
 /// image already, or what a format of it left that was cut. Where `is_asked` says so, the reader has to say `yes` first to what is lost. That is told to
 /// `errors`.
 pub fn format<I: Images, R: Read, W: Write, E: Write>(
@@ -34,6 +34,7 @@ pub fn format<I: Images, R: Read, W: Write, E: Write>(
     lines: u64,
     role: Role,
     pair: u64,
+    has_journal: bool,
     is_new: bool,
     is_asked: bool,
     reader: &mut R,
@@ -44,15 +45,15 @@ pub fn format<I: Images, R: Read, W: Write, E: Write>(
     ensures kept { (why : WhyKept) → result ≡ Err (failure.Kept why) → writer.new ≡ writer.old }
 {
     if is_new && images.is_there(name) {
-        match in_the_way(alloc, images, name, lines, role)? {
+        match in_the_way(alloc, images, name, lines, role, has_journal)? {
             // (whoever made it may have ended before it was durable, or had its number)
             InTheWay::Unused | InTheWay::Unfinished => {}
             InTheWay::Other => return Err(Failure::Kept(Kept::IsThere)),
         }
     }
-    let lost = loss_of(alloc, images, name, lines)?;
+    let lost = loss_of(alloc, images, name, lines, has_journal)?;
     confirm_loss(name, &lost, is_asked, reader, errors)?;
-    let _device = new_image(images, name, lines, role, pair)?;
+    let _device = new_image(images, name, lines, role, pair, has_journal)?;
     if let Some(loss) = lost {
         let _ = writeln!(errors, "{name} held {loss}");
     }
@@ -109,11 +110,12 @@ fn new_image<I: Images>(
     lines: u64,
     role: Role,
     pair: u64,
+    has_journal: bool,
 ) -> Result<I::Device, Refusal>
     ensures formatted { IfOk result (λ device. IsFormatted lines role pair (I.Device.state device)) }
     ensures unlawful { (lines < MIN_LINES) ⊎ (MAX_LINES < lines) → result ≡ Err WrongSize }
 {
-    let device = images.create(name, lines)?;
+    let device = images.create(name, lines, has_journal)?;
     let engine = match WblEngine::format(device, role) {
         Ok(engine) => engine,
         Err((refusal, _device)) => return Err(refusal),

@@ -1,14 +1,16 @@
 //! Where images are found by name.
-ghost use Rattle.std.specs.Prelude.{◌≡◌, ◌⊎◌, ℕ, ◌<◌, ◌≤◌, Err, IfOk};
+ghost use Rattle.std.specs.Prelude.{◌≡◌, ◌⊎◌, ℕ, ◌<◌, ◌≤◌, ◌^◌, Err, IfOk};
 ghost use Rattle.kv_types.specs.declared.refusal.Refusal.TheVariants.{WrongSize};
 ghost use Rattle.model.specs.declared.image.TheConstants.{MIN_LINES, MAX_LINES};
 ghost use Rattle.pmem.specs.Device.{Only};
 ghost use Rattle.pmem.specs.Crash.{image_of};
 
+use crate::room::{LINE_BYTES, give_room};
 use crate::trouble::{
     Step, Trouble, Why, locked, refused, refused_making, trouble_of_filling, trouble_of_reading,
     trouble_of_using,
 };
+use journal::Shape;
 use kv_types::Refusal;
 use model::{MAX_LINES, MIN_LINES};
 use pmem::Pmem;
@@ -34,14 +36,21 @@ pub trait Images {
     /// What keeps this name from being opened and read just now. Whoever has it open keeps it, and nothing is written to it.
     fn trouble_of_reading(&self, name: &str) -> Trouble;
 
-    /// What keeps a file of so many lines from being made under this name just now, or one that is there from being used. Nothing is left there.
-    fn trouble_of_making(&self, name: &str, lines: u64) -> Trouble;
+    /// What keeps a file for an image of so many lines, with room for a journal or without, from being made under this name just now, or one that is there from
+    /// being used. Nothing is left there.
+    fn trouble_of_making(&self, name: &str, lines: u64, has_journal: bool) -> Trouble;
 
-    /// The device of `lines` lines of this name, which is made where there is none.
+    /// What keeps an image of this name from being given a journal just now. It is as it was.
+    fn trouble_of_giving(&self, name: &str) -> Trouble;
+
+    /// Whether what has this name has the size of an image of so many lines, with a journal or without.
+    fn has_size(&self, name: &str, lines: u64, has_journal: bool) -> bool;
+
+    /// The device of `lines` lines of this name, which is made where there is none, with a journal or without.
     ///
-    /// `WrongSize` where `lines` is not 4,096 to 2^31, with nothing touched, or where the one that is there has another size; `Fault` where it
-    /// cannot be made or read; `Memory`.
-    fn create(&self, name: &str, lines: u64) -> Result<Self::Device, Refusal>
+    /// `WrongSize` where `lines` is not 4,096 to 2^31, with nothing touched, or where the one that is there has another size, or something else than zeros or a
+    /// journal of such an image where its journal is to be; `Fault` where it cannot be made or read; `Memory`.
+    fn create(&self, name: &str, lines: u64, has_journal: bool) -> Result<Self::Device, Refusal>
         ensures lines { IfOk result (λ device. (Self.Device.state device).lines ≡ lines) }
         ensures unlawful { (lines < MIN_LINES) ⊎ (MAX_LINES < lines) → result ≡ Err WrongSize };
 
@@ -63,6 +72,16 @@ pub trait Images {
         ensures few { IfOk result (λ device. (Self.Device.state device).lines ≤ MAX_LINES) }
         ensures settled { IfOk result (λ device. (word : ℕ)
             → Only ((Self.Device.state device).words word) (image_of (Self.Device.state device).words word)) };
+
+    /// Gives the image of this name a journal, where it has none. At any moment a crash leaves what it holds.
+    ///
+    /// Only `Fault`, where another has it and keeps it for two seconds, or there is no room for a journal.
+    fn give_journal(&self, name: &str) -> Result<(), Refusal>;
+
+    /// Takes the journal of the image of this name away, where it has one. At any moment a crash leaves what it holds.
+    ///
+    /// Refusals as at `open`.
+    fn settle(&self, name: &str) -> Result<(), Refusal>;
 }
 
 /// How often a file that another process holds is tried again, and after how many milliseconds: one that was killed holds it for a moment.
@@ -111,6 +130,12 @@ impl<'a> Files<'a> {
         }
     }
 
+    /// Gives the file of this name room for a journal, once it is locked.
+    fn give_room(&self, name: &str) -> Result<(), Trouble> {
+        let file = self.locked(name)?;
+        give_room(&file)
+    }
+
     /// Makes a file of this name and so many lines, and takes it away again.
     fn try_to_make(&self, name: &str, lines: u64) -> Trouble {
         match File::options()
@@ -143,6 +168,18 @@ impl<'a> Files<'a> {
             }
             thread::sleep(self.rt, Duration::from_millis(PAUSE_MILLISECONDS));
         }
+    }
+}
+
+/// How many lines the file of an image of so many lines has, with a journal or without.
+fn lines_of_file(lines: u64, has_journal: bool) -> u64
+    requires { lines ≤ MAX_LINES }
+    ensures { result < 2 ^ 33 }
+{
+    if has_journal {
+        Shape::of_image(lines).lines_of_file()
+    } else {
+        lines
     }
 }
 
@@ -187,19 +224,38 @@ impl<'a> Images for Files<'a> {
         }
     }
 
-    fn trouble_of_making(&self, name: &str, lines: u64) -> Trouble {
+    fn trouble_of_making(&self, name: &str, lines: u64, has_journal: bool) -> Trouble {
         match self.trouble_of_using(name) {
-            Trouble::Missing => self.try_to_make(name, lines),
+            Trouble::Missing if lines <= MAX_LINES => {
+                self.try_to_make(name, lines_of_file(lines, has_journal))
+            }
             Trouble::NoFolder => Trouble::Refused(Step::Make, Why::NoFolder),
             trouble => trouble,
         }
     }
 
-    fn create(&self, name: &str, lines: u64) -> Result<FilePmem, Refusal> {
+    fn trouble_of_giving(&self, name: &str) -> Trouble {
+        // (what kept it a moment ago may be over: then it has a journal)
+        match self.give_room(name) {
+            Ok(()) => Trouble::None,
+            Err(trouble) => trouble,
+        }
+    }
+
+    fn has_size(&self, name: &str, lines: u64, has_journal: bool) -> bool {
+        match fs::metadata(self.rt, name) {
+            Ok(found) if lines <= MAX_LINES => {
+                found.len() == LINE_BYTES * lines_of_file(lines, has_journal)
+            }
+            _ => false,
+        }
+    }
+
+    fn create(&self, name: &str, lines: u64, has_journal: bool) -> Result<FilePmem, Refusal> {
         if MIN_LINES <= lines && lines <= MAX_LINES && self.is_no_file(name) {
             return Err(Refusal::Fault);
         }
-        FilePmem::create(self.rt, name, lines)
+        FilePmem::create(self.rt, name, lines, has_journal)
     }
 
     fn open(&self, name: &str) -> Result<FilePmem, Refusal> {
@@ -215,5 +271,21 @@ impl<'a> Images for Files<'a> {
             return Err(Refusal::Fault);
         }
         FilePmem::read_only(self.rt, name)
+    }
+
+    fn give_journal(&self, name: &str) -> Result<(), Refusal> {
+        self.wait_for(name);
+        match self.give_room(name) {
+            Ok(()) => Ok(()),
+            Err(_) => Err(Refusal::Fault),
+        }
+    }
+
+    fn settle(&self, name: &str) -> Result<(), Refusal> {
+        if self.is_no_file(name) {
+            return Err(Refusal::Fault);
+        }
+        self.wait_for(name);
+        FilePmem::settle(self.rt, name)
     }
 }

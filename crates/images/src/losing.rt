@@ -56,18 +56,23 @@ fn owner(role: Role) -> &'static str {
     }
 }
 
-/// What is lost where the file of this name becomes a new image of so many lines: `None` where it is not there, is no image of that size, or holds nothing.
+/// What is lost where the file of this name becomes a new image of so many lines, with a journal or without: `None` where it is not there, has not the size of
+/// such a file, or holds nothing.
 /// Only `Memory`.
 pub fn loss_of<I: Images>(
     alloc: Global,
     images: &I,
     name: &str,
     lines: u64,
+    has_journal: bool,
 ) -> Result<Option<Loss>, Refusal>
     ensures cause { IfErr result (λ refusal. refusal ≡ Memory) }
 {
+    if !images.has_size(name, lines, has_journal) {
+        return Ok(None);
+    }
     match images.read_only(name) {
-        Ok(device) if device.lines() == lines => loss_on(alloc, &device),
+        Ok(device) => loss_on(alloc, &device),
         Err(Refusal::Memory) => Err(Refusal::Memory),
         _ => Ok(None),
     }

@@ -1,14 +1,15 @@
 //! What is in the way of a new image: what another format has left, or something else.
-ghost use Rattle.std.specs.Prelude.{◌≡◌, ◌≤◌, true, Ok, IfErr};
+ghost use Rattle.std.specs.Prelude.{◌≡◌, ◌<◌, ◌≤◌, true, Ok, IfErr};
 ghost use Rattle.kv_types.specs.declared.refusal.Refusal.TheVariants.{Memory};
 ghost use Rattle.model.specs.declared.image.TheConstants.{MIN_LINES};
 ghost use Rattle.pmem.specs.Crash.{image_of};
-ghost use Rattle.images.specs.Unfinished.{AreZero, IsFirst, IsUnfinished, IsUnused};
+ghost use Rattle.images.specs.Unfinished.{AreZero, IsFirst, IsLeft, IsUnfinished, IsUnused};
 ghost use Rattle.images.specs.declared.unfinished.InTheWay.TheVariants as found;
 
 use crate::images::Images;
+use journal::{MAX_PART_LINES, Shape};
 use kv_types::Refusal;
-use model::{DIRECTORY_LINE, LAYOUT, LINE_WORDS, Layout, Record, Role};
+use model::{DIRECTORY_LINE, LAYOUT, LINE_WORDS, Layout, MIN_LINES, Record, Role};
 use pmem::Pmem;
 use std::alloc::Global;
 
@@ -23,18 +24,24 @@ pub enum InTheWay {
     Other,
 }
 
-/// What the file of this name is, where an image of so many lines and this role is to be made. It is as it was. Only `Memory`.
+/// What the file of this name is, where an image of so many lines and this role is to be made, with a journal or without. It is as it was. Only `Memory`.
 pub fn in_the_way<I: Images>(
     alloc: Global,
     images: &I,
     name: &str,
     lines: u64,
     role: Role,
+    has_journal: bool,
 ) -> Result<InTheWay, Refusal>
     ensures cause { IfErr result (λ refusal. refusal ≡ Memory) }
 {
+    if !images.has_size(name, lines, has_journal) {
+        return Ok(InTheWay::Other);
+    }
     match images.read_only(name) {
         Ok(device) if device.lines() == lines => found_on(alloc, &device, role),
+        // (all lines of the file are read as its image where none of it is written yet)
+        Ok(device) if is_left_of(&device, lines) => Ok(InTheWay::Unfinished),
         Err(Refusal::Memory) => Err(Refusal::Memory),
         _ => Ok(InTheWay::Other),
     }
@@ -44,7 +51,8 @@ pub fn in_the_way<I: Images>(
 fn found_on<P: Pmem>(alloc: Global, device: &P, role: Role) -> Result<InTheWay, Refusal>
     requires { MIN_LINES ≤ (P.state device.now).lines }
     ensures unused { result ≡ Ok found.Unused → IsUnused (P.state device.now).lines role (image_of (P.state device.now).words) }
-    ensures unfinished { result ≡ Ok found.Unfinished → IsUnfinished (P.state device.now).lines (image_of (P.state device.now).words) }
+    ensures unfinished { result ≡ Ok found.Unfinished
+        → IsUnfinished (P.state device.now).lines (P.state device.now).lines (image_of (P.state device.now).words) }
     ensures cause { IfErr result (λ refusal. refusal ≡ Memory) }
 {
     match wbl_engine::inspect(alloc, device, LAYOUT) {
@@ -53,7 +61,7 @@ fn found_on<P: Pmem>(alloc: Global, device: &P, role: Role) -> Result<InTheWay, 
         } else {
             InTheWay::Other
         }),
-        Err(Refusal::BadMagic) => Ok(if is_unfinished(device) {
+        Err(Refusal::BadMagic) => Ok(if is_unfinished(device, device.lines()) {
             InTheWay::Unfinished
         } else {
             InTheWay::Other
@@ -70,15 +78,46 @@ fn is_first(current: &Record, role: Role) -> bool
     current.number == 1 && current.position == 0 && current.role == role
 }
 
-/// Whether a device has no magic, and nothing but zeros where an image has its entries and what they hold.
-pub fn is_unfinished<P: Pmem>(device: &P) -> bool
+/// Whether a device has what is left where a format was cut, of an image of all its lines or of one with room for a journal behind it.
+pub fn is_left<P: Pmem>(device: &P) -> bool
     requires { MIN_LINES ≤ (P.state device.now).lines }
-    ensures { result ≡ true → IsUnfinished (P.state device.now).lines (image_of (P.state device.now).words) }
+    ensures { result ≡ true → IsLeft (P.state device.now).lines (image_of (P.state device.now).words) }
 {
-    let lines = device.lines();
+    let all = device.lines();
+    if is_unfinished(device, all) {
+        return true;
+    }
+    let lines = lines_before_journal(all);
+    Shape::of_image(lines).is_of(all) && is_left_of(device, lines)
+}
+
+/// How many lines the image has in a file of so many lines with room for a journal, where there can be such a file.
+fn lines_before_journal(all: u64) -> u64 {
+    let behind = all.saturating_sub(1);
+    if behind / 6 < MAX_PART_LINES {
+        4 * (behind / 6) + behind % 6
+    } else {
+        behind.saturating_sub(2 * MAX_PART_LINES)
+    }
+}
+
+/// The same of a device that has an image of so many lines, if any, and something behind it.
+fn is_left_of<P: Pmem>(device: &P, lines: u64) -> bool
+    ensures { result ≡ true → (lines < (P.state device.now).lines)
+        × IsUnfinished lines (P.state device.now).lines (image_of (P.state device.now).words) }
+{
+    MIN_LINES <= lines && lines < device.lines() && is_unfinished(device, lines)
+}
+
+/// Whether a device has no magic, and nothing but zeros where an image of its first lines, so many, has its entries and what they hold, and behind it.
+fn is_unfinished<P: Pmem>(device: &P, lines: u64) -> bool
+    requires least { MIN_LINES ≤ lines }
+    requires within { lines ≤ (P.state device.now).lines }
+    ensures { result ≡ true → IsUnfinished lines (P.state device.now).lines (image_of (P.state device.now).words) }
+{
     device.load(0) == 0
         && are_zeros(device, DIRECTORY_LINE, LAYOUT.first_slot_line(lines))
-        && are_zeros(device, Layout::first_extent_line(lines), lines)
+        && are_zeros(device, Layout::first_extent_line(lines), device.lines())
 }
 
 /// Whether all words of the lines from `first` on, up to `end`, are zero.

@@ -1,6 +1,6 @@
 -- What the calls of a fence make of the words that the file may hold.
 use Rattle.std.proofs.Common.{◌≡◌, ◌⊎◌, ℕ, ◌+◌, ◌*◌, ◌/◌, ◌-◌, ◌^◌, ◌<◌, ◌≤◌, Bool, true, false, not, cond, ◌&&◌, ◌||◌, ◌==◌, nat_le, nat_lt, List, [], ◌∷◌, length, take, drop, get_or, refl, inl, inr, sym, subst, ap, ◌∙◌, arith}
-use Rattle.std.proofs.lemmas.Bool.{or_cases, or_left, or_right, and_parts, and_from, cond_both, cond-true, cond-false, eqb-true, eq-eqb, leb-true, ltb-true, le-leb, lt-ltb}
+use Rattle.std.proofs.lemmas.Bool.{or_cases, or_left, or_right, and_parts, and_from, cond_both, cond-true, cond-false, eqb-true, eq-eqb, leb-true, ltb-true, le-leb, lt-ltb, cases_lt}
 use Rattle.std.proofs.lemmas.List.{get_or-drop, get_or-take, length-take, length-drop}
 use Rattle.std.proofs.lemmas.Bool.Decides.{nat_tests}
 use Rattle.std.proofs.Math.Bool.{or-false}
@@ -9,11 +9,9 @@ use Rattle.pmem_file.specs.Byte.{words_in}
 use Rattle.pmem_file.specs.Call.{Call, Wrote, Measured, Synced, has_failed, reaches, brought, written, may_hold, Brings}
 use Rattle.pmem_file.specs.Line.{has_line, runs_from, runs_of, run_bytes, with_writes, Fixes}
 use Rattle.pmem_file.proofs.BytesLemmas.{take-below, words_in-bytes_of}
+use Rattle.pmem_file.specs.Written.{MayWrite, Writes, is_in, word_of}
 use Rattle.pmem_file.proofs.LinesLemmas.{has_line-at}
-
--- each word fits 64 bits
-abbrev pub Fit : List ℕ → Type 0
-Fit words = (k : ℕ) → get_or words k 0 < 2 ^ 64
+use Rattle.pmem_file.proofs.WritesLemmas.{Fit, Touches, Touches-none, Touches-wrote, Touches-then}
 
 Fit-part : (words : List ℕ) (n m : ℕ) → Fit words → Fit (take n (drop m words))
 Fit-part words n m fit = take-below n (2 ^ 64) (drop m words) (omega arith) (λ k. rw (get_or-drop m words k 0) (fit (m + k)))
@@ -97,6 +95,12 @@ only_or_before true x w may e h = subst (λ (y : ℕ). may y ≡ true) (sym (eqb
 only_or_before false x w may e h = h
 
 -- a sync adds nothing
+pub MayWrite-synced : (touched : ℕ → Bool) (value : ℕ → ℕ) (old calls : List Call) (done : Bool) → MayWrite touched value old calls
+    → MayWrite touched value old (Synced done ∷ calls)
+MayWrite-synced touched value old calls done within read word x may =
+    within read word x
+    (only_or_before (done && not (has_failed calls)) x (written read calls word) (may_hold read calls word) (written-may_hold read calls word) may)
+
 pub Brings-synced : (words : List ℕ) (old calls : List Call) (done : Bool) → Brings words old calls → Brings words old (Synced done ∷ calls)
 Brings-synced words old calls done brings read word x may =
     brings read word x
@@ -178,6 +182,32 @@ pub record Writing (words lines : List ℕ) (old : List Call) (first count : ℕ
   pub short : count ≤ LINES_A_WRITE
   pub unfailed : has_failed calls ≡ has_failed old
   pub brings : Brings words old calls
+  pub touches : Touches (is_in lines) (word_of words) old calls
+  -- the lines of the run are among them, and so are those that are left
+  pub these : (line : ℕ) → first ≤ line → line < first + count → has_line lines line ≡ true
+  pub those : (line : ℕ) → has_line rest line ≡ true → has_line lines line ≡ true
+
+-- the write of a run, whether it succeeded or not
+pub Touches-run : (words lines : List ℕ) (old calls : List Call) (first count : ℕ) (done : Bool) → Fit words
+    → ((line : ℕ) → first ≤ line → line < first + count → has_line lines line ≡ true)
+    → Touches (is_in lines) (word_of words) old calls
+    → Touches (is_in lines) (word_of words) old (Wrote (64 * first) (run_bytes words (first, count)) done ∷ calls)
+Touches-run words lines old calls first count done fit these touches =
+    let bytes = run_bytes words (first, count) in
+    Touches-then (is_in lines) (reaches (64 * first) bytes) (word_of words) (brought (64 * first) bytes) old calls _
+    (λ word e.
+    let part = take (8 * count) (drop (8 * first) words) in
+    let both = and_parts (nat_le (8 * first) word) (nat_lt word (8 * first + length part)) (sym (reaches-run words first count word fit) ∙ e) in
+    let low : 8 * first ≤ word = leb-true (8 * first) word both.0 in
+    let high : word < 8 * first + length part = ltb-true word (8 * first + length part) both.1 in
+    let few : length part ≤ 8 * count = omega (arith, length-take (8 * count) (drop (8 * first) words)) in (
+      these (word / 8) (omega (arith, low)) (omega (arith, high, few)),
+      brought-run words first count word fit e,
+    ))
+    touches (Touches-wrote (64 * first) bytes done calls)
+
+one_line : (first line : ℕ) → first ≤ line → line < first + 1 → line ≡ first
+one_line first line low high = omega arith
 
 pub Writing-start : (words lines : List ℕ) (old : List Call) (first : ℕ) (rest : List ℕ) → lines ≡ first ∷ rest → InRange words lines
     → Writing words lines old first 1 rest old
@@ -188,6 +218,9 @@ Writing-start words lines old first rest are range =
       short = omega arith;
       unfailed = refl;
       brings = Brings-none words old;
+      touches = Touches-none (is_in lines) (word_of words) old;
+      these = λ line low high. subst (λ (l : ℕ). has_line lines l ≡ true) (sym (one_line first line low high)) (rw are (line_is first rest));
+      those = λ line has. rw are (or_right (line == first) (has_line rest line) has);
     }
 
 -- the next line goes on with the run
@@ -205,6 +238,13 @@ Writing-joined words lines old first count line rest calls last e writing =
       short = omega (arith, few);
       unfailed = writing.unfailed;
       brings = writing.brings;
+      touches = writing.touches;
+      these = λ l low high.
+          elim (cases_lt l (first + count)) [
+            | inl before ↦ writing.these l low before
+            | inr now ↦ subst (λ (k : ℕ). has_line lines k ≡ true) (let same : line ≡ l = omega (arith, now, high, next) in same) (writing.those line (line_is line rest))
+          ];
+      those = λ l has. writing.those l (or_right (l == line) (has_line rest l) has);
     }
 
 -- the run was written, and the next line begins one
@@ -219,6 +259,9 @@ Writing-written words lines old first count line rest calls fit last e writing =
       short = omega arith;
       unfailed = or-false (has_failed calls) ∙ writing.unfailed;
       brings = Brings-write words old calls first count true fit writing.brings;
+      touches = Touches-run words lines old calls first count true fit writing.these writing.touches;
+      these = λ l low high. subst (λ (k : ℕ). has_line lines k ≡ true) (sym (one_line line l low high)) (writing.those line (line_is line rest));
+      those = λ l has. writing.those l (or_right (l == line) (has_line rest l) has);
     }
 
 -- a later line lies within the words too
@@ -235,3 +278,23 @@ pub Writing-end : (words lines : List ℕ) (old : List Call) (first count : ℕ)
     → Wrote (64 * first) (run_bytes words (first, count)) true ∷ calls ≡ with_writes words (runs_of lines) old
 Writing-end words lines old first count rest calls none writing =
     ap (λ (ls : List ℕ). with_writes words (runs_from first count ls) calls) (sym none) ∙ writing.plan
+
+-- all lines were written
+pub Writes-lines : (words lines : List ℕ) (old new : List Call) → Fit words → InRange words lines → new ≡ with_writes words (runs_of lines) old
+    → Touches (is_in lines) (word_of words) old new → Writes (is_in lines) (word_of words) old new
+Writes-lines words lines old new fit range are touches =
+    record {
+      last = λ read word has.
+          ap (λ (calls : List Call). written read calls word) are ∙ written-lines words lines read old word fit range has;
+      others = touches.others;
+      within = touches.within;
+    }
+
+-- no line was written
+pub Writes-none : (words lines : List ℕ) (old : List Call) → lines ≡ [] → Writes (is_in lines) (word_of words) old old
+Writes-none words lines old none =
+    record {
+      last = λ read word has. absurd (let h : false ≡ true = subst (λ (ls : List ℕ). has_line ls (word / 8) ≡ true) none has in cc);
+      others = λ read word e. refl;
+      within = (Touches-none (is_in lines) (word_of words) old).within;
+    }

@@ -1,5 +1,6 @@
 -- A device over a file knows its candidates through each call.
-use Rattle.std.proofs.Common.{◌≡◌, ℕ, ◌/◌, ◌<◌, Bool, true, false, not, ◌||◌, ◌==◌, List, [], ◌∷◌, ◌++◌, filter, length, get_or, set, refl, inl, inr, sym, subst, ap, ◌∙◌, get_or-set_same, get_or-set_other}
+use Rattle.std.proofs.Common.{◌≡◌, ℕ, ◌/◌, ◌<◌, Bool, true, false, not, ◌||◌, ◌==◌, List, [], ◌∷◌, ◌++◌, filter, length, get_or, set, refl, inl, inr, sym, subst, ap, ◌∙◌, arith, get_or-set_same, get_or-set_other}
+use Rattle.std.proofs.lemmas.List.{length-set}
 use Rattle.std.proofs.lemmas.Bool.{or_cases, or_left, or_parts, or_from, not-true, not_from_false, cond-true, cond_both, cases_Bool, eqb-true, eqb-false}
 use Rattle.pmem.specs.Device.{Older, Word, store_word, flush_word, fence_word, store_at, flush_at, fenced, settled}
 use Rattle.pmem.specs.Cell.{may_be}
@@ -13,15 +14,17 @@ use Rattle.pmem_file.specs.Noted.{is_noted}
 use Rattle.pmem_file.specs.Holding.{has_passed, Holds}
 
 -- a file that was just read holds its words
-pub Holds-read : (copy : List ℕ) (notes : Notes) → Holds copy notes copy [] (λ (word : ℕ). settled (get_or copy word 0))
-Holds-read copy notes =
+pub Holds-read : (copy : List ℕ) (notes : Notes) (read : List ℕ) → ((word : ℕ) → word < length copy → get_or copy word 0 ≡ get_or read word 0)
+    → Holds copy notes read [] (λ (word : ℕ). settled (get_or copy word 0))
+Holds-read copy notes read same =
     record {
       newest = λ word. refl;
       noted = λ word un. refl;
-      within = λ word x may. or_left (x == get_or copy word 0) false may;
+      within = λ word x below may.
+          or_left (x == get_or copy word 0) false (subst (λ (y : ℕ). (x == y) ≡ true) (sym (same word below)) may);
     }
 
-has_passed-push : (older : List Older) (x : ℕ) → has_passed (older ++ record { value = x; passed = false } ∷ []) ≡ has_passed older
+pub has_passed-push : (older : List Older) (x : ℕ) → has_passed (older ++ record { value = x; passed = false } ∷ []) ≡ has_passed older
 has_passed-push [] x = refl
 has_passed-push (o ∷ older) x = ap (λ (b : Bool). o.passed || b) (has_passed-push older x)
 
@@ -42,12 +45,13 @@ Holds-stored copy notes read calls words at x below holds =
                 ∙ has_passed-push (words word).older (words word).newest ∙ holds.noted word un
             | inr n ↦ ap (λ (w : Word). has_passed w.older) (store_at-other at x words word n) ∙ holds.noted word un
           ];
-      within = λ word y may.
+      within = λ word y below' may.
+          let inside : word < length copy = omega (arith, below', length-set copy at x) in
           elim (same_or_other word at) [
             | inl e ↦
                 subst (λ (w : Word). may_be w y ≡ true) (sym (store_at-same at x words word e))
-                (MayBe-may_be (store_word x (words word)) y (MayBe-store_word x (words word) y (may_be-MayBe (words word) y (holds.within word y may))))
-            | inr n ↦ subst (λ (w : Word). may_be w y ≡ true) (sym (store_at-other at x words word n)) (holds.within word y may)
+                (MayBe-may_be (store_word x (words word)) y (MayBe-store_word x (words word) y (may_be-MayBe (words word) y (holds.within word y inside may))))
+            | inr n ↦ subst (λ (w : Word). may_be w y ≡ true) (sym (store_at-other at x words word n)) (holds.within word y inside may)
           ];
     }
 
@@ -61,23 +65,23 @@ Holds-flushed copy notes notes' read calls words line noted holds =
       noted = λ word un.
           let both = or_parts (word / 8 == line) (is_noted notes (word / 8)) (sym (noted (word / 8)) ∙ un) in
           ap (λ (w : Word). has_passed w.older) (flush_at-other line words word (eqb-false (word / 8) line both.0)) ∙ holds.noted word both.1;
-      within = λ word y may.
+      within = λ word y below may.
           elim (same_or_other (word / 8) line) [
             | inl e ↦
                 subst (λ (w : Word). may_be w y ≡ true) (sym (flush_at-same line words word e))
-                (MayBe-may_be (flush_word (words word)) y (flush_word-MayBe (words word) y (may_be-MayBe (words word) y (holds.within word y may))))
-            | inr n ↦ subst (λ (w : Word). may_be w y ≡ true) (sym (flush_at-other line words word n)) (holds.within word y may)
+                (MayBe-may_be (flush_word (words word)) y (flush_word-MayBe (words word) y (may_be-MayBe (words word) y (holds.within word y below may))))
+            | inr n ↦ subst (λ (w : Word). may_be w y ≡ true) (sym (flush_at-other line words word n)) (holds.within word y below may)
           ];
     }
 
-fence_keeps : (older : List Older) → has_passed older ≡ false → filter (λ o. not o.passed) older ≡ older
+pub fence_keeps : (older : List Older) → has_passed older ≡ false → filter (λ o. not o.passed) older ≡ older
 fence_keeps [] none = refl
 fence_keeps (o ∷ older) none =
     let both = or_parts o.passed (has_passed older) none in
     cond-true (not o.passed) _ _ (not_from_false o.passed both.0) ∙ ap (λ (os : List Older). o ∷ os) (fence_keeps older both.1)
 
 -- after a fence no candidate is passed
-fence_leaves : (older : List Older) → has_passed (filter (λ o. not o.passed) older) ≡ false
+pub fence_leaves : (older : List Older) → has_passed (filter (λ o. not o.passed) older) ≡ false
 fence_leaves [] = refl
 fence_leaves (o ∷ older) =
     cond_both (not o.passed) (o ∷ filter (λ o. not o.passed) older) (filter (λ o. not o.passed) older) (λ (os : List Older). has_passed os ≡ false)
@@ -91,7 +95,7 @@ Holds-fenced copy notes notes' lines read calls calls' words listed brings fixes
     record {
       newest = holds.newest;
       noted = λ word un. fence_leaves (words word).older;
-      within = λ word y may.
+      within = λ word y below may.
           elim (cases_Bool (is_noted notes (word / 8))) [
             | inl is ↦
                 MayBe-may_be (fence_word (words word)) y (inl (fixes read word y may (listed (word / 8) ∙ is) ∙ holds.newest word))
@@ -100,7 +104,7 @@ Holds-fenced copy notes notes' lines read calls calls' words listed brings fixes
                 ap (λ (os : List Older). record { newest = (words word).newest; older = os }) (fence_keeps (words word).older (holds.noted word is)) in
                 subst (λ (w : Word). may_be w y ≡ true) (sym same)
                 (elim (or_cases (may_hold read calls word y) (y == get_or copy word 0) (brings read word y may)) [
-                  | inl before ↦ holds.within word y before
+                  | inl before ↦ holds.within word y below before
                   | inr new ↦ MayBe-may_be (words word) y (inl (eqb-true y (get_or copy word 0) new ∙ holds.newest word))
                 ])
           ];

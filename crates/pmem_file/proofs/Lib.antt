@@ -1,8 +1,22 @@
 pub mod BytesLemmas
-mod WordsLemmas
 pub mod CallsLemmas
+pub mod DiskLemmas
+pub mod EarlierLemmas
+pub mod FollowingLemmas
 pub mod HoldingLemmas
+pub mod JournalLemmas
 pub mod LinesLemmas
+pub mod LoadedLemmas
+pub mod NotingLemmas
+pub mod OpenedLemmas
 pub mod OpeningLemmas
+pub mod OrderLemmas
 pub mod PageCacheLemmas
+pub mod PlacesLemmas
+pub mod RecoverLemmas
+pub mod ReplayedLemmas
+mod WordsLemmas
+pub mod WritesLemmas
 pub mod WrittenBackLemmas
+pub mod FirstLemmas
+pub mod ClearedLemmas

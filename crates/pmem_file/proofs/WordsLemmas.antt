@@ -59,3 +59,12 @@ pub fit-front : (xs : List ℕ) (n most : ℕ) → 0 < most → ((k : ℕ) → g
 fit-front [] n most some fits k = rw (get_or-zeros n k) some
 fit-front (x ∷ xs) n most some fits zero = fits 0
 fit-front (x ∷ xs) n most some fits (suc k) = fit-front xs n most some (λ j. fits (suc j)) k
+
+-- zeros behind words do not matter to a look
+pub at-front : (xs : List ℕ) (n k : ℕ) → get_or (xs ++ replicate n 0) k 0 ≡ get_or xs k 0
+at-front [] n k = get_or-zeros n k
+at-front (x ∷ xs) n zero = refl
+at-front (x ∷ xs) n (suc k) = at-front xs n k
+
+pub whole-at : (kept : List ℕ) (count k : ℕ) → get_or (whole kept count) k 0 ≡ get_or kept k 0
+whole-at kept count k = at-front kept (count - length kept) k

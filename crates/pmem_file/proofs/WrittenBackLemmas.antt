@@ -1,5 +1,5 @@
 -- What the blocks that were written back make of a file.
-use Rattle.std.proofs.Common.{◌≡◌, ◌⊎◌, ℕ, ◌+◌, ◌*◌, ◌<◌, ◌≤◌, zero, suc, true, false, not, ◌&&◌, ◌==◌, nat_le, nat_lt, List, ◌∷◌, length, take, drop, get_or, refl, inl, inr, sym, subst, ap, ◌∙◌, arith}
+use Rattle.std.proofs.Common.{◌≡◌, ◌⊎◌, ℕ, ◌+◌, ◌*◌, ◌<◌, ◌≤◌, zero, suc, true, false, not, ◌&&◌, ◌==◌, nat_le, nat_lt, List, [], ◌∷◌, ◌++◌, length, take, drop, get_or, refl, inl, inr, sym, subst, ap, ◌∙◌, arith}
 use Rattle.std.proofs.lemmas.Bool.{or_left, or_right, and_from, cond_both, cond-true, eqb-true, le-leb, lt-ltb}
 use Rattle.std.proofs.lemmas.List.{length-take, length-drop}
 use Rattle.std.proofs.Math.Bool.{or-false}
@@ -8,11 +8,12 @@ use Rattle.std.proofs.lemmas.Grind.{div_ceil_times}
 use Rattle.pmem_file.specs.declared.run.TheConstants.{LINES_A_WRITE}
 use Rattle.pmem_file.specs.Call.{Call, Synced, has_failed, reaches, brought, written, may_hold}
 use Rattle.pmem_file.specs.Line.{run_bytes}
-use Rattle.pmem_file.specs.Opening.{Step, IsBegun, with_blocks}
+use Rattle.pmem_file.specs.Opening.{Step, Made, Opened, Locked, Resized, FileSynced, FolderSynced, Found, ReadAt, WroteBack, DataSynced, IsBegun, AreReads, with_blocks}
 use Rattle.pmem_file.specs.declared.device.FilePmem.{FilePmem}
-use Rattle.pmem_file.specs.Device.{state_of, read_by, opening_by, IsReadAfter, IsOpened, IsCreated}
+use Rattle.pmem_file.specs.Device.{read_by, opening_by, lines_in_file, IsReadAfter, IsOpened, IsCreated}
 use Rattle.pmem_file.specs.PageCache.{Pages, Event, pages_after, tells, calls_in, changes_in, HasOnly, Allows}
-use Rattle.pmem_file.proofs.CallsLemmas.{Fit, reaches-run, brought-run}
+use Rattle.pmem_file.proofs.CallsLemmas.{reaches-run, brought-run}
+use Rattle.pmem_file.proofs.WritesLemmas.{Fit}
 use Rattle.pmem_file.proofs.PageCacheLemmas.{is_known, may_have, after, may_have-settled}
 
 -- the write of a block reaches each word of it
@@ -109,12 +110,28 @@ allows read start since calls has told asked word inside =
       sym (may_have-settled read (calls_in since) word (pages.cached word)) ∙ so.in_cache,
     )
 
+-- reads change nothing
+changes-looks : (looks before : List Step) → AreReads looks → changes_in (looks ++ before) ≡ changes_in before
+changes-looks [] before are = refl
+changes-looks (ReadAt offset bytes true ∷ looks) before are = changes-looks looks before are
+changes-looks (ReadAt offset bytes false ∷ looks) before are = absurd are
+changes-looks (Made done ∷ looks) before are = absurd are
+changes-looks (Opened done ∷ looks) before are = absurd are
+changes-looks (Locked done ∷ looks) before are = absurd are
+changes-looks (Resized bytes done ∷ looks) before are = absurd are
+changes-looks (FileSynced done ∷ looks) before are = absurd are
+changes-looks (FolderSynced done ∷ looks) before are = absurd are
+changes-looks (Found bytes ∷ looks) before are = absurd are
+changes-looks (WroteBack offset bytes done ∷ looks) before are = absurd are
+changes-looks (DataSynced done ∷ looks) before are = absurd are
+
 -- after these steps, none of which failed, the device has what the disk has
-reads_back : (device : FilePmem) (before : List Step) → IsReadAfter device before → has_failed (changes_in before) ≡ false
+reads_back : (device : FilePmem) (lines : ℕ) (before : List Step) → IsReadAfter device lines before → has_failed (changes_in before) ≡ false
     → (start : Pages) (events : List Event) → tells events ≡ true → calls_in events ≡ changes_in (opening_by device)
     → HasOnly (read_by device) (pages_after events start)
-reads_back device before is fine start events told asked =
-    settles (read_by device) (state_of device).lines before (opening_by device) start events is.fit is.words fine (ap changes_in is.calls) told asked
+reads_back device lines before is fine start events told asked =
+    settles (read_by device) lines (is.looks ++ before) (opening_by device) start events is.fit is.words
+    (ap has_failed (changes-looks is.looks before is.looked) ∙ fine) (ap changes_in is.calls) told asked
 
 begun_unfailed : (bytes : ℕ) (begun : List Step) → IsBegun bytes begun → has_failed (changes_in begun) ≡ false
 begun_unfailed bytes begun (inl made) = ap (λ (steps : List Step). has_failed (changes_in steps)) made
@@ -123,7 +140,7 @@ begun_unfailed bytes begun (inr there) = ap (λ (steps : List Step). has_failed 
 -- however it was opened
 pub begins : (device : FilePmem) → IsOpened device ⊎ IsCreated device → (start : Pages) (events : List Event) → tells events ≡ true
     → calls_in events ≡ changes_in (opening_by device) → HasOnly (read_by device) (pages_after events start)
-begins device (inl opened) = reads_back device _ opened refl
+begins device (inl opened) = reads_back device (lines_in_file device) _ opened refl
 begins device (inr created) =
-    reads_back device _ created.read
-    (or-false (has_failed (changes_in created.begun)) ∙ begun_unfailed (64 * (state_of device).lines) created.begun created.begins)
+    reads_back device created.lines _ created.read
+    (or-false (has_failed (changes_in created.begun)) ∙ begun_unfailed (64 * created.lines) created.begun created.begins)

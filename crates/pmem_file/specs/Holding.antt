@@ -1,5 +1,5 @@
 -- What a device over a file knows of its candidates.
-use Rattle.std.specs.Prelude.{◌≡◌, ℕ, ◌/◌, Bool, true, false, ◌||◌, List, [], ◌∷◌, slice_index}
+use Rattle.std.specs.Prelude.{◌≡◌, ℕ, ◌/◌, ◌<◌, Bool, true, false, ◌||◌, List, [], ◌∷◌, length, slice_index}
 use Rattle.pmem_file.specs.declared.notes.Notes.{Notes}
 use Rattle.pmem.specs.Device.{Older, Word}
 use Rattle.pmem.specs.Cell.{may_be}
@@ -17,5 +17,5 @@ pub record Holds (copy : List ℕ) (notes : Notes) (read : List ℕ) (calls : Li
   pub newest : (word : ℕ) → slice_index copy word ≡ (words word).newest
   -- where a flush has passed a candidate, the line is noted
   pub noted : (word : ℕ) → is_noted notes (word / 8) ≡ false → has_passed (words word).older ≡ false
-  -- a crash leaves nothing in the file but candidates
-  pub within : (word x : ℕ) → may_hold read calls word x ≡ true → may_be (words word) x ≡ true
+  -- a crash leaves nothing in their place in the file but candidates
+  pub within : (word x : ℕ) → word < length copy → may_hold read calls word x ≡ true → may_be (words word) x ≡ true

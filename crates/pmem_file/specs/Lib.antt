@@ -1,9 +1,15 @@
 pub mod Byte
 pub mod Call
 pub mod Device
+pub mod Finding
+pub mod Following
 pub mod Holding
+pub mod Journaled
 pub mod Known
 pub mod Line
 pub mod Noted
 pub mod Opening
+pub mod OverJournal
 pub mod PageCache
+pub mod Placed
+pub mod Written

@@ -1,5 +1,5 @@
 -- What was asked of a file before the device over it was there.
-use Rattle.std.specs.Prelude.{◌≡◌, ◌⊎◌, ℕ, zero, suc, ◌*◌, Bool, true, false, Option, List, [], ◌∷◌}
+use Rattle.std.specs.Prelude.{◌≡◌, ◌⊎◌, ⊤, ℕ, zero, suc, ◌*◌, Bool, true, false, Option, List, [], ◌∷◌}
 use Rattle.pmem_file.specs.declared.opening_calls.OpeningCall.{OpeningCall}
 use Rattle.pmem_file.specs.declared.opening_calls.OpeningCall.TheVariants.{Make, Open, Lock, Resize, SyncFile, SyncFolder, Measure, Read, WriteBack, SyncData}
 use Rattle.pmem_file.specs.declared.opening_calls.OpeningCalls.{OpeningCalls}
@@ -29,6 +29,12 @@ pub data Step : Type 0 where
   WroteBack : (offset : ℕ) (bytes : List ℕ) (done : Bool) → Step
   -- its data are synced
   DataSynced : (done : Bool) → Step
+
+-- each of these is a read, which succeeded
+abbrev pub AreReads : List Step → Type 0
+AreReads [] = ⊤
+AreReads (ReadAt offset bytes true ∷ steps) = AreReads steps
+AreReads (step ∷ steps) = ⊥
 
 -- how the file of a device that is created begins: it is made, locked and given its length in bytes; or one is there, and it is opened and locked
 abbrev pub IsBegun : ℕ → List Step → Type 0

@@ -1,5 +1,5 @@
 // Words to bytes and back.
-ghost use Rattle.std.specs.Prelude.{◌≡◌, ◌↔◌, ◌+◌, ◌/◌, ◌%◌, ◌++◌, ◌≤◌, length, replicate, vec_len, IsTrue, OnOk};
+ghost use Rattle.std.specs.Prelude.{◌≡◌, ◌↔◌, ◌+◌, ◌*◌, ◌/◌, ◌%◌, ◌++◌, ◌≤◌, length, replicate, vec_len, vec_capacity, IsTrue, OnOk};
 ghost use Rattle.std.specs.Int.{w64, from_le_bytes};
 ghost use Rattle.pmem_file.specs.Byte.{bytes_of, words_in, eight_at};
 
@@ -31,7 +31,7 @@ pub fn decode(bytes: &[u8], words: &mut Vec<u64>) -> Result<(), AllocError>
 
 /// The word that the eight bytes from this one on are.
 #[inline]
-fn word_at(bytes: &[u8], at: usize) -> u64
+pub fn word_at(bytes: &[u8], at: usize) -> u64
     requires { at + 8 ≤ length bytes.now }
     ensures { result ≡ from_le_bytes w64 (eight_at bytes.now at) }
 {
@@ -45,4 +45,30 @@ fn word_at(bytes: &[u8], at: usize) -> u64
         bytes[at + 6],
         bytes[at + 7],
     ])
+}
+
+/// Puts the bytes of these words in the place of what the buffer held. It takes no memory.
+pub fn encode(words: &[u64], buffer: &mut Vec<u8>)
+    requires { 8 * length words.now ≤ vec_capacity buffer.old }
+    ensures bytes { buffer.new.items ≡ bytes_of words.now }
+    ensures capacity { vec_capacity buffer.old ≤ vec_capacity buffer.new }
+{
+    buffer.clear();
+    for word in words {
+        if buffer.extend_from_slice(&word.to_le_bytes()).is_err() {
+            unreachable!();
+        }
+    }
+}
+
+/// Puts so many zeros in the place of what the buffer held. It takes no memory.
+pub fn fill_zeros(buffer: &mut Vec<u8>, count: usize)
+    requires { count ≤ vec_capacity buffer.old }
+    ensures bytes { buffer.new.items ≡ replicate count 0 }
+    ensures capacity { vec_capacity buffer.old ≤ vec_capacity buffer.new }
+{
+    buffer.clear();
+    while buffer.len() < count {
+        buffer.push_reserved(0);
+    }
 }

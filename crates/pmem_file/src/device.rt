@@ -1,97 +1,59 @@
 // A device over a file.
-ghost use Rattle.std.specs.Prelude.{◌≡◌, ◌*◌, ◌^◌, ◌<◌, ◌≤◌, ◌-◌, min, length, vec_len, vec_capacity};
-ghost use Rattle.pmem.specs.History.{words_of, failures_of};
-ghost use Rattle.pmem_file.specs.Call.{read_of, calls_of};
-ghost use Rattle.pmem_file.specs.declared.run.TheConstants.{LINES_A_WRITE};
-ghost use Rattle.pmem_file.specs.Holding.{Holds};
-ghost use Rattle.pmem_file.specs.Known.{Holds-prop};
-
-use crate::logged_file::LoggedFile;
-use crate::notes::Notes;
-use crate::opening::Opening;
-use crate::opening_calls::OpeningCalls;
-use crate::words::Words;
-use pmem::{Fault, History, Pmem};
+use crate::journaled::JournaledFile;
+use crate::placed::PlacedFile;
+use pmem::{Fault, Pmem};
 
 /// A device whose words are in a file. Once it is open it takes no memory.
-///
-/// A store changes a copy of the words; a flush notes its line; a fence brings the noted lines to the file and syncs it. Where any of
-/// that fails, each fence fails from then on, since a system may forget what it failed to write.
 #[derive(Drop)]
-pub struct FilePmem {
-    /// The newest value of each word.
-    words: Words,
-    /// The lines flushed since the last fence that succeeded.
-    notes: Notes,
-    /// Room for the bytes of one write.
-    buffer: Vec<u8>,
-    /// What was asked of the file before it was a device.
-    opening: OpeningCalls,
-    file: LoggedFile,
-    failures: u64,
-    history: History,
-    ghost sized: { length words ≡ 8 * vec_len notes.marks },
-    ghost countable: { 8 * vec_len notes.marks < 2 ^ 64 },
-    ghost addressed: { 8 * length words < 2 ^ 64 },
-    ghost room: { 64 * LINES_A_WRITE ≤ vec_capacity buffer },
-    ghost holds: { Holds words notes (read_of file.calls) (calls_of file.calls) (words_of history) } by { Holds-prop words notes (read_of file.calls) (calls_of file.calls) (words_of history) },
-    ghost counted: { failures ≡ min (failures_of history) (2 ^ 64 - 1) },
+pub enum FilePmem {
+    /// Each fence puts lines in their places and syncs.
+    Placed(PlacedFile),
+    /// Each fence seals a record of a journal behind the lines, and a sync makes all records durable.
+    Journaled(JournaledFile),
 }
 
 impl FilePmem {
-    ghost use Rattle.std.specs.Prelude.{ℕ, ◌≡◌, length, slice_index};
-    ghost use Rattle.pmem.specs.Floor.{MayBeLeft};
-    ghost use Rattle.pmem_file.specs.Call.{IsFileImage};
-    ghost use Rattle.pmem_file.specs.Device.{state_of, floor_of, read_by, asked_by, opening_by, IsFresh};
-    ghost use Rattle.pmem_file.specs.Opening.{steps_of};
+    ghost use Rattle.std.specs.Prelude.{◌≡◌};
+    ghost use Rattle.pmem_file.specs.Device.{LeavesAnImage, LeavesAHead, has_journal};
 
-    /// A device over an open file that holds these words. There is room to note every line of these words and for the bytes of one write.
-    pub(crate) fn new(words: Words, notes: Notes, buffer: Vec<u8>, opening: Opening) -> FilePmem
-        requires sized { length words ≡ 8 * vec_len notes.marks }
-        requires countable { 8 * length words < 2 ^ 64 }
-        requires room { 64 * LINES_A_WRITE ≤ vec_capacity buffer }
-        ensures fresh { IsFresh result }
-        ensures lines { (state_of result).lines ≡ vec_len notes.marks }
-        ensures read { read_by result ≡ words }
-        ensures fit { (word : ℕ) → slice_index words word < 2 ^ 64 }
-        ensures opening { opening_by result ≡ steps_of opening.calls }
+    /// Whether the file has a journal, so that a fence makes nothing durable, and a sync does.
+    pub fn has_journal(&self) -> bool
+        ensures { result ≡ has_journal self.now }
     {
-        // (each of them is a word)
-        let _words = words.len();
-        let (file, opening) = opening.into_parts();
-        let file = LoggedFile::new(file, &words);
-        let history = words.history();
-        FilePmem {
-            words,
-            notes,
-            buffer,
-            opening,
-            file,
-            failures: 0,
-            history,
+        match self {
+            FilePmem::Placed(_) => false,
+            FilePmem::Journaled(_) => true,
         }
     }
 
-    /// A law, at every moment between two calls: an image that a crash may leave in the file, by the list of what was asked of it, is one
-    /// that a crash may leave of the device.
+    /// A law, at every moment between two calls: what an opening makes of an image that a crash may leave in the file, by the list of what was asked of it, is
+    /// one that a crash may leave of the device from its floor on; and the opening finds the journal, where there is one.
     pub fn leaves_an_image(&self)
-        ensures { (image : ℕ → ℕ) → IsFileImage (read_by self.now) (asked_by self.now) image
-            → MayBeLeft (state_of self.now) (floor_of self.now) image }
-    {}
+        ensures image { LeavesAnImage self.now }
+        ensures head { ∥ LeavesAHead self.now ∥₁ }
+    {
+        match self {
+            FilePmem::Placed(device) => device.leaves_an_image(),
+            FilePmem::Journaled(device) => device.leaves_an_image(),
+        }
+    }
 }
 
 impl Pmem for FilePmem {
     ghost use Rattle.std.specs.Prelude.{◌≡◌, ◌*◌, ◌<◌, ◌≤◌, ◌+◌, true, suc, OnOk, OnErr, IsErr, IsTrue};
-    ghost use Rattle.pmem.specs.Device.{Steps, store_at, flush_at, fenced, fences_after, must_fail, may_fail};
+    ghost use Rattle.pmem.specs.Device.{Steps, store_at, flush_at, fenced, fences_after, must_fail, may_fail, is_unsure, moment};
     ghost use Rattle.pmem_file.specs.Call.{has_failed};
-    ghost use Rattle.pmem_file.specs.Device.{state_of, floor_of, read_by, asked_by, opening_by, Persists, countable, reached};
+    ghost use Rattle.pmem_file.specs.Device.{state_of, floor_of, read_by, asked_by, opening_by, has_journal, PersistsInPlace, countable, reached};
 
     ghost state = { state_of };
 
     ghost floor = { floor_of };
 
     fn load(&self, word: u64) -> u64 {
-        self.words.get(word as usize)
+        match self {
+            FilePmem::Placed(device) => device.load(word),
+            FilePmem::Journaled(device) => device.load(word),
+        }
     }
 
     fn store(&mut self, word: u64, value: u64)
@@ -103,9 +65,12 @@ impl Pmem for FilePmem {
         ensures file { asked_by self.new ≡ asked_by self.old }
         ensures opening { opening_by self.new ≡ opening_by self.old }
         ensures read { read_by self.new ≡ read_by self.old }
+        ensures journal { has_journal self.new ≡ has_journal self.old }
     {
-        self.words.set(word as usize, value);
-        self.history.stored(word, value);
+        match self {
+            FilePmem::Placed(device) => device.store(word, value),
+            FilePmem::Journaled(device) => device.store(word, value),
+        }
     }
 
     fn flush(&mut self, line: u64)
@@ -116,9 +81,12 @@ impl Pmem for FilePmem {
         ensures file { asked_by self.new ≡ asked_by self.old }
         ensures opening { opening_by self.new ≡ opening_by self.old }
         ensures read { read_by self.new ≡ read_by self.old }
+        ensures journal { has_journal self.new ≡ has_journal self.old }
     {
-        self.notes.add(line);
-        self.history.flushed(line);
+        match self {
+            FilePmem::Placed(device) => device.flush(line),
+            FilePmem::Journaled(device) => device.flush(line),
+        }
     }
 
     fn fence(&mut self) -> Result<(), Fault>
@@ -129,40 +97,51 @@ impl Pmem for FilePmem {
         ensures asked { IsTrue (must_fail (state_of self.old)) → IsErr result }
         ensures unasked { IsErr result → IsTrue (may_fail (state_of self.old)) }
         ensures rises { floor_of self.old ≤ floor_of self.new }
-        ensures written { OnOk result (Persists self.old self.new) }
+        ensures written { OnOk result (PersistsInPlace self.old self.new) }
         // it fails just where a call of this fence or of an earlier one failed
         ensures cause { OnErr result (has_failed (asked_by self.new) ≡ true) }
         ensures lasting { has_failed (asked_by self.old) ≡ true → asked_by self.new ≡ asked_by self.old }
         ensures fails { has_failed (asked_by self.old) ≡ true → IsErr result }
         ensures opening { opening_by self.new ≡ opening_by self.old }
         ensures read { read_by self.new ≡ read_by self.old }
+        ensures journal { has_journal self.new ≡ has_journal self.old }
     {
-        self.notes.sort();
-        if self
-            .file
-            .persist(&mut self.buffer, &self.words, self.notes.lines())
-        {
-            self.notes.clear();
-            self.history.fenced();
-            Ok(())
-        } else {
-            self.history.failed();
-            self.failures = self.failures.saturating_add(1);
-            Err(Fault)
+        match self {
+            FilePmem::Placed(device) => device.fence(),
+            FilePmem::Journaled(device) => device.fence(),
         }
     }
 
-    /// Does nothing: each fence that succeeds syncs the file.
-    fn sync(&mut self) -> Result<(), Fault> {
-        Ok(())
+    fn sync(&mut self) -> Result<(), Fault>
+        ensures ok { OnOk result (state_of self.new ≡ state_of self.old) }
+        ensures durable { OnOk result (floor_of self.new ≡ moment (state_of self.new)) }
+        ensures err { OnErr result (state_of self.new ≡ record (state_of self.old) { failures = suc (state_of self.old).failures }) }
+        ensures unasked { IsErr result → IsTrue (is_unsure (state_of self.old).fences) }
+        ensures rises { floor_of self.old ≤ floor_of self.new }
+        ensures cause { OnErr result (has_failed (asked_by self.new) ≡ true) }
+        ensures lasting { has_failed (asked_by self.old) ≡ true → asked_by self.new ≡ asked_by self.old }
+        ensures opening { opening_by self.new ≡ opening_by self.old }
+        ensures read { read_by self.new ≡ read_by self.old }
+        ensures journal { has_journal self.new ≡ has_journal self.old }
+    {
+        match self {
+            FilePmem::Placed(device) => device.sync(),
+            FilePmem::Journaled(device) => device.sync(),
+        }
     }
 
     fn lines(&self) -> u64 {
-        self.words.len() as u64 / 8
+        match self {
+            FilePmem::Placed(device) => device.lines(),
+            FilePmem::Journaled(device) => device.lines(),
+        }
     }
 
     fn failures(&self) -> u64 {
-        self.failures
+        match self {
+            FilePmem::Placed(device) => device.failures(),
+            FilePmem::Journaled(device) => device.failures(),
+        }
     }
 
     ghost countable = { countable };

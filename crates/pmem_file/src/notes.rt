@@ -1,5 +1,5 @@
 // The lines that were flushed since the last fence that succeeded.
-ghost use Rattle.std.specs.Prelude.{◌≡◌, ℕ, ◌<◌, ◌≤◌, ◌||◌, ◌==◌, true, false, vec_len, vec_capacity, slice_index_or, IfOk};
+ghost use Rattle.std.specs.Prelude.{◌≡◌, ℕ, ◌<◌, ◌≤◌, ◌||◌, ◌==◌, true, false, length, vec_len, vec_capacity, slice_index_or, IfOk};
 ghost use Rattle.pmem_file.specs.Line.{has_line, marked};
 
 use std::alloc::{AllocError, Global};
@@ -44,6 +44,18 @@ impl Notes {
         }
         self.marks[line as usize] = true;
     }
+
+    /// Notes these lines.
+    pub fn add_all(&mut self, lines: &[u64])
+        requires { (line : ℕ) → has_line lines.now line ≡ true → line < vec_len self.old.marks }
+        ensures noted { (line : ℕ) → is_noted self.new line ≡ (is_noted self.old line || has_line lines.now line) }
+        ensures lines { vec_len self.new.marks ≡ vec_len self.old.marks }
+    {
+        for line in lines {
+            self.add(*line);
+        }
+    }
+
     /// Puts the noted lines in rising order.
     pub fn sort(&mut self)
         ensures sorted { IsNonDecreasing self.new.lines.items }
@@ -57,6 +69,8 @@ impl Notes {
     pub fn lines(&self) -> &[u64]
         ensures same { result.now ≡ self.now.lines.items }
         ensures listed { (line : ℕ) → has_line result.now line ≡ is_noted self.now line }
+        ensures within { (line : ℕ) → has_line result.now line ≡ true → line < vec_len self.now.marks }
+        ensures few { length result.now ≤ vec_len self.now.marks }
     {
         &self.lines
     }

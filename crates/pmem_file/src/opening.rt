@@ -142,7 +142,7 @@ impl Opening {
     }
 
     /// Fills a block with the bytes from the byte `offset` on.
-    fn read(&mut self, offset: u64, block: &mut Vec<u8>) -> bool
+    pub fn read(&mut self, offset: u64, block: &mut Vec<u8>) -> bool
         ensures noted { steps_of self.new.calls ≡ ReadAt offset block.new.items result ∷ steps_of self.old.calls }
         ensures length { vec_len block.new ≡ vec_len block.old }
     {

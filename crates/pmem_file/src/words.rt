@@ -1,10 +1,14 @@
 // The words of a device in memory.
-ghost use Rattle.std.specs.Prelude.{◌≡◌, ℕ, ◌+◌, ◌-◌, ◌*◌, ◌/◌, ◌%◌, ◌^◌, ◌<◌, ◌≤◌, ◌++◌, [], length, replicate, set, take, drop, slice_index, vec_len, vec_capacity, IsTrue, IfOk, OnOk};
+ghost use Rattle.std.specs.Prelude.{◌≡◌, ℕ, ◌+◌, ◌-◌, ◌*◌, ◌/◌, ◌%◌, ◌^◌, ◌<◌, ◌≤◌, ◌++◌, [], List, length, replicate, set, take, drop, slice_index, vec_len, vec_capacity, true, IsTrue, IfOk, OnOk};
 ghost use Rattle.pmem.specs.Device.{settled};
 ghost use Rattle.pmem.specs.History.{words_of, past_of, failures_of};
 ghost use Rattle.pmem_file.specs.Byte.{bytes_of, words_in};
+ghost use Rattle.journal.specs.Record.{Record};
+ghost use Rattle.journal.specs.Journal.{IsJournal};
+ghost use Rattle.journal.specs.Replay.{replayed};
 
 use crate::bytes::{are_zeros, decode};
+use journal::replay;
 use pmem::History;
 use std::alloc::{AllocError, Global};
 use std::marker::Model;
@@ -58,6 +62,60 @@ impl Words {
             Some(value) => *value,
             None => 0,
         }
+    }
+
+    /// The first words, all that another than 0 is among.
+    pub fn kept(&self) -> &[u64]
+        ensures { (word : ℕ) → slice_index result.now word ≡ slice_index self.now word }
+    {
+        &self.kept
+    }
+
+    /// Whether each word from this one on is 0.
+    pub fn are_zeros_from(&self, first: usize) -> bool
+        ensures { result ≡ true → (word : ℕ) → first ≤ word → slice_index self.now word ≡ 0 }
+    {
+        for word in first..self.count {
+            if self.get(word) != 0 {
+                return false;
+            }
+        }
+        true
+    }
+
+    /// Takes the words from this one on away, and gives them.
+    pub fn split_off(&mut self, alloc: Global, at: usize) -> Result<Vec<u64>, AllocError>
+        requires { at ≤ length self.old }
+        ensures kept { OnOk result (self.new ≡ take at self.old) }
+        ensures taken { IfOk result (λ taken. taken.items ≡ drop at self.old) }
+    {
+        let mut taken = Vec::with_capacity(alloc, self.count - at)?;
+        for word in at..self.count {
+            taken.push(self.get(word))?;
+        }
+        self.cut(at);
+        Ok(taken)
+    }
+
+    /// Lets go of the words from this one on. It takes no memory.
+    pub fn cut(&mut self, at: usize)
+        requires { at ≤ length self.old }
+        ensures { self.new ≡ take at self.old }
+    {
+        self.kept.truncate(at);
+        self.count = at;
+    }
+
+    /// Brings the lines of the records at the beginning of a journal to these words, which are those of an image of so many lines. It takes no memory.
+    pub fn replay(&mut self, lines: u64, journal: &[u64])
+        requires { length self.old ≡ 8 * lines }
+        ensures count { length self.new ≡ length self.old }
+        ensures replayed { (records : List Record) × IsJournal lines journal.now records
+            × ((word : ℕ) → slice_index self.new word ≡ replayed records (λ w. slice_index self.old w) word) }
+    {
+        replay(lines, journal, &mut self.kept);
+        // (behind the lines of the image there is nothing but zeros)
+        self.kept.truncate(self.count);
     }
 
     /// Puts a value in the place of a word. It takes no memory.

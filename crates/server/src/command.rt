@@ -3,12 +3,14 @@ ghost use Rattle.std.specs.Prelude.{◌≡◌, ◌≤◌, IfOk, OnOk, length};
 ghost use Rattle.images.specs.Told.{IsStatus};
 ghost use Rattle.server.specs.Served.{IsServed};
 
+use crate::grammar::PROGRAM;
 use crate::nodes::run_node;
-use crate::options::{PROGRAM, Task, options};
+use crate::options::{Task, options};
 use crate::serve::serve;
 use images::{
-    DONE, Failure, Images, ServeError, format, inspect, migrate, new_pair, promote, status, tell,
-    tell_cause, tell_cause_of_making, tell_cause_of_reading,
+    DONE, Failure, Images, ServeError, add_journal, format, inspect, migrate, new_pair, promote,
+    settle, status, tell, tell_cause, tell_cause_of_giving, tell_cause_of_making,
+    tell_cause_of_reading,
 };
 use pmem::Pmem;
 use std::alloc::Global;
@@ -125,14 +127,43 @@ fn work<S: RandomSource, I: Images, R: Read, W: Write, E: Write>(
             image,
             lines,
             role,
+            has_journal,
             is_new,
         } => {
             let pair = new_pair(rt, role)?;
             let done = format(
-                alloc, images, image, lines, role, pair, is_new, is_asked, reader, writer, errors,
+                alloc,
+                images,
+                image,
+                lines,
+                role,
+                pair,
+                has_journal,
+                is_new,
+                is_asked,
+                reader,
+                writer,
+                errors,
             );
-            let is_held = tell_cause_of_making(alloc, images, image, lines, &done, errors);
+            let is_held = tell_cause_of_making(
+                alloc,
+                images,
+                image,
+                lines,
+                has_journal,
+                &done,
+                errors,
+            );
             while_held(done, is_held)
+        }
+        Task::AddJournal { image } => {
+            let done = add_journal(alloc, images, image, writer);
+            let is_held = tell_cause_of_giving(alloc, images, image, &done, errors);
+            while_held(done, is_held)
+        }
+        Task::Settle { image } => {
+            let done = settle(alloc, images, image, writer);
+            told(alloc, images, image, done, errors)
         }
         Task::Migrate { image } => {
             let done = migrate(alloc, images, image, writer);

@@ -1,45 +1,14 @@
 //! What the words of the command line ask for.
+use crate::grammar::{
+    AT_LEAST, BEHIND, FROM, IDLE, JOURNAL, LINK, LISTEN, NEW, PRIMARY, REPORT, STANDBY, STOPPED,
+    grammar,
+};
 use addresses::is_address;
-use clap::builder::{Arg, ArgAction, Command};
 use clap::error::ErrorKind;
-use clap::{ArgMatches, Error, value_parser};
+use clap::{ArgMatches, Error};
 use std::alloc::Global;
 use std::net::{AddrParseError, IpAddr};
-use version::VERSION;
 use wbl_engine::Role;
-
-/// The program's name in its own texts.
-pub const PROGRAM: &str = "wbl-server";
-
-const PRIMARY: &str = "primary";
-
-const STANDBY: &str = "standby";
-
-/// The option by which the operator states that the old primary does nothing more.
-const STOPPED: &str = "old-primary-stopped";
-
-/// The option by which a file that is there is not formatted.
-const NEW: &str = "new";
-
-/// The option by which no image below a position is promoted.
-const AT_LEAST: &str = "at-least";
-
-/// The option by which a second image is told of.
-const BEHIND: &str = "behind";
-
-/// The option by which a standby takes links from one host alone.
-const FROM: &str = "from";
-
-/// The option by which a node tells now and then how far it is.
-const REPORT: &str = "report";
-
-/// The option by which a primary closes connections on which nothing comes.
-const IDLE: &str = "idle";
-
-/// The options that name where a node listens, and where it connects.
-const LISTEN: &str = "listen";
-
-const LINK: &str = "link";
 
 const NO_HOST: &str = "'--from <HOST>' takes an IP address, without a port";
 
@@ -47,17 +16,15 @@ const NO_LISTEN: &str = "'--listen <ADDRESS>' takes a host and a port, as 127.0.
 
 const NO_LINK: &str = "'--link <ADDRESS>' takes a host and a port, as 127.0.0.1:7100";
 
-/// The roles that an image is formatted for.
-static ROLES: [&str; 2] = [PRIMARY, STANDBY];
-
 /// What the program is asked to do. Names of images and addresses are as they were written.
 #[derive(Drop)]
 pub enum Task<'a> {
-    /// To write a new image of so many lines for this role, into a new file alone if that is asked for.
+    /// To write a new image of so many lines for this role, with a journal or without, into a new file alone if that is asked for.
     Format {
         image: &'a str,
         lines: u64,
         role: Role,
+        has_journal: bool,
         is_new: bool,
     },
     /// To run a node.
@@ -70,6 +37,14 @@ pub enum Task<'a> {
     },
     /// To bring an image to version 2 of the format.
     Migrate {
+        image: &'a str,
+    },
+    /// To give an image a journal.
+    AddJournal {
+        image: &'a str,
+    },
+    /// To take the journal of an image away.
+    Settle {
         image: &'a str,
     },
     /// To print what an image holds.
@@ -146,155 +121,6 @@ pub fn not_text(alloc: Global) -> Error {
     }
 }
 
-/// The subcommands and the options of each.
-fn grammar<'a>(alloc: Global) -> Result<Command<'a>, Error> {
-    let command = Command::new(alloc, PROGRAM)
-        .bin_name(PROGRAM)?
-        .about("A durable key-value server; without arguments it serves standard input")
-        .version(VERSION)
-        .subcommand_required(true)
-        .subcommand(format_command(alloc)?)?
-        .subcommand(primary_command(alloc)?)?
-        .subcommand(standby_command(alloc)?)?
-        .subcommand(promote_command(alloc)?)?
-        .subcommand(migrate_command(alloc)?)?
-        .subcommand(inspect_command(alloc)?)?
-        .subcommand(status_command(alloc)?)?;
-    Ok(command)
-}
-
-fn format_command<'a>(alloc: Global) -> Result<Command<'a>, Error> {
-    let lines = option(
-        alloc,
-        "lines",
-        "N",
-        "How many lines of 64 bytes the image has",
-    )
-    .value_parser(value_parser!(u64));
-    let role = option(alloc, "role", "ROLE", "Which node the image is for").value_parser(
-        ROLES.as_slice(),
-    );
-    let new = flag(
-        alloc,
-        NEW,
-        "Makes a new file, and refuses one that is there",
-    );
-    let command = Command::new(alloc, "format")
-        .about("Writes a new image")
-        .arg(image(alloc))?
-        .arg(lines)?
-        .arg(role)?
-        .arg(new)?;
-    Ok(command)
-}
-
-fn primary_command<'a>(alloc: Global) -> Result<Command<'a>, Error> {
-    let command = Command::new(alloc, PRIMARY)
-        .about("Serves clients, and sends to the standby")
-        .arg(image(alloc))?
-        .arg(option(alloc, LISTEN, "ADDRESS", "Where clients connect"))?
-        .arg(option(alloc, LINK, "ADDRESS", "Where the standby listens"))?
-        .arg(report(alloc))?
-        .arg(seconds(
-            alloc,
-            IDLE,
-            "Closes a connection on which nothing came for so long",
-        ))?;
-    Ok(command)
-}
-
-fn standby_command<'a>(alloc: Global) -> Result<Command<'a>, Error> {
-    let from = option(
-        alloc,
-        FROM,
-        "HOST",
-        "The one IP address that links are taken from",
-    )
-    .required(false);
-    let command = Command::new(alloc, STANDBY)
-        .about("Follows a primary")
-        .arg(image(alloc))?
-        .arg(option(alloc, LISTEN, "ADDRESS", "Where the primary connects"))?
-        .arg(from)?
-        .arg(report(alloc))?;
-    Ok(command)
-}
-
-fn promote_command<'a>(alloc: Global) -> Result<Command<'a>, Error> {
-    let stopped = flag(
-        alloc,
-        STOPPED,
-        "States that the old primary is stopped and is not started again",
-    );
-    let at_least = option(alloc, AT_LEAST, "P", "Refuses an image below this position")
-        .value_parser(value_parser!(u64))
-        .required(false);
-    let command = Command::new(alloc, "promote")
-        .about("Makes a stopped standby's image a primary's")
-        .arg(image(alloc))?
-        .arg(stopped)?
-        .arg(at_least)?;
-    Ok(command)
-}
-
-fn migrate_command<'a>(alloc: Global) -> Result<Command<'a>, Error> {
-    let command = Command::new(alloc, "migrate")
-        .about("Brings an image of version 1 to version 2, with what it holds")
-        .arg(image(alloc))?;
-    Ok(command)
-}
-
-fn inspect_command<'a>(alloc: Global) -> Result<Command<'a>, Error> {
-    let command = Command::new(alloc, "inspect")
-        .about("Prints what an image holds")
-        .arg(image(alloc))?;
-    Ok(command)
-}
-
-fn status_command<'a>(alloc: Global) -> Result<Command<'a>, Error> {
-    let behind = option(alloc, BEHIND, "FILE", "Another image, told of as well").required(false);
-    let command = Command::new(alloc, "status")
-        .about("Prints how far an image is and how full, beside a node that has it open")
-        .arg(image(alloc))?
-        .arg(behind)?;
-    Ok(command)
-}
-
-/// The option that names the image.
-fn image<'a>(alloc: Global) -> Arg<'a> {
-    option(alloc, "image", "FILE", "The file of the image")
-}
-
-/// The option for reports.
-fn report<'a>(alloc: Global) -> Arg<'a> {
-    seconds(alloc, REPORT, "Tells so often how far it is")
-}
-
-/// An option with a number of seconds, at least one, which may be left out.
-fn seconds<'a>(alloc: Global, name: &'a str, help: &'a str) -> Arg<'a> {
-    option(alloc, name, "SECONDS", help)
-        .value_parser(value_parser!(u64).range(1..))
-        .required(false)
-}
-
-/// An option with one value, which may not be left out.
-fn option<'a>(alloc: Global, name: &'a str, value: &'a str, help: &'a str) -> Arg<'a> {
-    Arg::new(alloc, name)
-        .long(name)
-        .value_name(value)
-        .help(help)
-        .required(true)
-        .action(ArgAction::Set)
-}
-
-/// An option without a value, which may be left out.
-fn flag<'a>(alloc: Global, name: &'a str, help: &'a str) -> Arg<'a> {
-    Arg::new(alloc, name)
-        .long(name)
-        .help(help)
-        .action(ArgAction::SetTrue)
-}
-
 /// What was asked for, if each option of the subcommand has its value.
 fn asked<'a>(matches: &ArgMatches<'a>) -> Result<Option<Task<'a>>, BadValue> {
     let Some((name, found)) = matches.subcommand() else {
@@ -369,6 +195,7 @@ fn task_of<'a>(name: &str, found: &ArgMatches<'a>) -> Option<Task<'a>> {
             image,
             lines: found.get_one("lines")?,
             role: role_named(found.get_str("role")?),
+            has_journal: found.get_str(JOURNAL) != Some("0"),
             is_new: found.get_flag(NEW),
         }),
         "promote" => Some(Task::Promote {
@@ -377,6 +204,8 @@ fn task_of<'a>(name: &str, found: &ArgMatches<'a>) -> Option<Task<'a>> {
             at_least: found.get_one(AT_LEAST).unwrap_or(0),
         }),
         "migrate" => Some(Task::Migrate { image }),
+        JOURNAL => Some(Task::AddJournal { image }),
+        "settle" => Some(Task::Settle { image }),
         "inspect" => Some(Task::Inspect { image }),
         "status" => Some(Task::Status {
             image,

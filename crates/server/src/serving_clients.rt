@@ -7,8 +7,8 @@ ghost use Rattle.images.specs.Pair.{pair_in};
 ghost use Rattle.primary.specs.Resuming.{IsOpened};
 ghost use Rattle.primary.specs.Standing.{Stands};
 
+use crate::grammar::PROGRAM;
 use crate::listening::{self, bind};
-use crate::options::PROGRAM;
 use descriptors::{Room, room_for_clients};
 use images::{Failure, Images, ServeError, pair_of, tell_cause};
 use model::LAYOUT;

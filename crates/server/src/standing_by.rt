@@ -6,8 +6,8 @@ ghost use Rattle.pmem.specs.Crash.{image_of};
 ghost use Rattle.images.specs.Pair.{pair_in};
 ghost use Rattle.standby.specs.Taking.{Stands};
 
+use crate::grammar::PROGRAM;
 use crate::listening::{self, bind};
-use crate::options::PROGRAM;
 use greeting::Greeting;
 use images::{Failure, Images, into_pair, pair_of, tell_cause};
 use kv_types::Refusal;

@@ -1,7 +1,10 @@
 use Rattle.std.proofs.Common.{◌≡◌, ℕ, ◌+◌, ◌*◌, ◌≤◌, Bool, true, false, not, ◌||◌, List, drop, get_or, length, refl, sym, ap, ◌∙◌, arith}
 use Rattle.std.proofs.lemmas.List.{at_drop_more, drop_all}
 use Rattle.pmem_file.specs.Call.{calls_of, has_failed}
-use Rattle.pmem_file.proofs.CallsLemmas.{Fit, Writing, Writing-start, Writing-joined, Writing-written, Writing-end, Brings-write, InRange-later}
+use Rattle.pmem_file.specs.Line.{runs_of, with_writes}
+use Rattle.pmem_file.proofs.CallsLemmas.{Writing, Writing-start, Writing-joined, Writing-written, Writing-end, Brings-write, InRange-later, Touches-run, Writes-lines}
+use Rattle.pmem_file.proofs.WritesLemmas.{Fit, Touches}
+use Rattle.pmem_file.specs.Written.{is_in, word_of}
 use Rattle.pmem_file.proofs.logged_file.LoggedFile.write_lines.Goals as goal
 use Rattle.pmem_file.proofs.logged_file.LoggedFile.write_lines.Goals.{then-is_next, else-is_next+then-write_run}
 
@@ -71,12 +74,16 @@ returns-else-write_run c =
     let calls = calls_of c.loop-line.self.calls in
     let asked = rw c.if-write_run.false at c.write_run.ensures.calls in
     let fine : has_failed calls ≡ false = c.loop-line.invariant.writing.unfailed ∙ c.requires.unfailed in
+    let touches : Touches (is_in c.args.lines.now) (word_of words) old (calls_of c.write_run.new.self.calls) =
+    rw asked (Touches-run words c.args.lines.now old calls run.first run.count false c.len-words.ensures.fit c.loop-line.invariant.writing.these c.loop-line.invariant.writing.touches) in
     record {
       read = c.write_run.ensures.read ∙ c.loop-line.invariant.read;
       done = λ e. absurd (cc);
       failed = ap has_failed asked ∙ ap (λ (b : Bool). b || true) fine;
       within =
           rw asked (Brings-write words old calls run.first run.count false (c.len-words.ensures.fit) c.loop-line.invariant.writing.brings);
+      written = λ e. absurd (cc);
+      only = touches.within;
       capacity = omega (arith, c.write_run.ensures.capacity, c.loop-line.invariant.capacity);
     }
 
@@ -89,12 +96,21 @@ returns c =
     let calls = calls_of c.loop-line.self.calls in
     let later = c.in-Some.later.now in
     let fine : has_failed calls ≡ false = c.loop-line.invariant.writing.unfailed ∙ c.requires.unfailed in
+    let fit : Fit words = c.len-words.ensures.fit in
+    let new = calls_of c.write_run-2.new.self.calls in
+    let touches : Touches (is_in lines) (word_of words) old new =
+    rw c.write_run-2.ensures.calls
+    (Touches-run words lines old calls run.first run.count c.write_run-2.result fit c.loop-line.invariant.writing.these c.loop-line.invariant.writing.touches) in
+    let done : c.write_run-2.result ≡ true → new ≡ with_writes words (runs_of lines) old =
+    λ e.
+    (rw e at c.write_run-2.ensures.calls)
+    ∙ Writing-end words lines old run.first run.count (drop c.loop-line.line-index later) calls
+    (drop_all c.loop-line.line-index later c.loop-line-test.false) c.loop-line.invariant.writing in
     record {
       read = c.write_run-2.ensures.read ∙ c.loop-line.invariant.read;
-      done = λ e.
-          (rw e at c.write_run-2.ensures.calls)
-          ∙ Writing-end words lines old run.first run.count (drop c.loop-line.line-index later) calls
-          (drop_all c.loop-line.line-index later c.loop-line-test.false) c.loop-line.invariant.writing;
+      done = done;
+      written = λ e. Writes-lines words lines old new fit c.requires.in_range (done e) touches;
+      only = touches.within;
       failed = ap has_failed c.write_run-2.ensures.calls ∙ ap (λ (b : Bool). b || not c.write_run-2.result) fine;
       within =
           rw c.write_run-2.ensures.calls (Brings-write words old calls run.first run.count c.write_run-2.result (c.len-words.ensures.fit) c.loop-line.invariant.writing.brings);

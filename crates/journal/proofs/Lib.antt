@@ -1,0 +1,4 @@
+pub mod FileLemmas
+pub mod LossLemmas
+pub mod RecordLemmas
+pub mod ReplayLemmas

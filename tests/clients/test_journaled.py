@@ -1,0 +1,342 @@
+"""A pair whose images have journals (docs/image.md, "Behind the lines"): what its nodes ask of their files is noted, and files are made of what power cuts
+leave at each write and sync, in serving, in checkpoints and in openings; copies of nodes that run; kills. What is in a file is told by the plain model, and of
+some by the program. It catches lines that are put in place before their records are durable, a generation that begins too early, and a reply before a sync.
+Where there is no gcc each test that notes calls is skipped, and says so."""
+
+import contextlib
+import itertools
+import pathlib
+import random
+import subprocess
+import tempfile
+import threading
+
+import common
+import noted_calls
+import plain_image
+import plain_journal
+from load import WRITERS, Load
+from noted_calls import Noting, after_cuts
+from pair import PATIENCE, Ended, PairCases, inspected, wait_until
+from plain_journal import Shape, image_in
+from plain_replies import integer
+from standby_node import NOWHERE
+from test_images import words_of
+
+PROGRAMS = ["server"]
+IS_SLOW = True
+
+LINES = 4_096
+SHAPE = Shape.of_image(LINES)
+# How many calls are answered while they are noted: a part has room for the records of some 60, and each replaces a version.
+CALLS, KEYS = 150, 7
+# How many of the files that cuts leave are opened by the program.
+OPENED = 12
+COPIES, ROUNDS = 100, 6
+
+
+def generation_of(data):
+    return plain_journal.shape_in(data)[1]
+
+
+def read(data):
+    """The record and the map of the image that an opening makes of these bytes."""
+    found = plain_image.read_image(plain_image.Words(LINES, words_of(image_in(data))))
+    return found.record, found.map
+
+
+def expected(count):
+    """The map after so many calls: counters by turns."""
+    counts = {}
+    for number in range(count):
+        key = b"n%d" % (number % KEYS)
+        counts[key,] = b"%d" % (int(counts.get((key,), b"0")) + 1)
+    return counts
+
+
+class Cuts(PairCases):
+    """One node is started so that its calls are noted, and its counters count."""
+
+    def setUp(self):
+        super().setUp()
+        folder = tempfile.TemporaryDirectory(prefix="wbl-journaled-")
+        self.addCleanup(folder.cleanup)
+        self.folder, self.loaded = pathlib.Path(folder.name), noted_calls.library(folder.name)
+        if self.loaded is None:
+            print(f"{self.id()}: skipped, since there is no gcc", flush=True)
+
+    def counted(self, role):
+        """The bytes of a node's file before it was started, what it asked of it, and how much of that was noted when each call was answered."""
+        nodes = self.pair(lines=LINES, has_number=True)
+        node = getattr(nodes, role)
+        node.end()
+        before, noting = node.image.read_bytes(), Noting(self.loaded, node.image, keeps=False, keeps_bytes=True)
+        node.before = noting.words
+        node.start()
+        nodes.wait()
+        answered = []
+        with nodes.client() as client:
+            for number in range(CALLS):
+                self.assertEqual(client.ask("INCR", f"n{number % KEYS}"), integer(number // KEYS + 1))
+                answered.append(noting.log.read_bytes().count(b"\n"))
+        nodes.end()
+        self.assertGreaterEqual(generation_of(node.image.read_bytes()), 3)
+        # (by how many of the changes of the image that were)
+        lines, places, changes = list(map(str.encode, noting.log.read_text("utf-8").splitlines())), [], noting.changes()
+        for number, call in enumerate(noting.calls(), 1):
+            if call.path == str(node.image) and call.word in ("write", "length", "sync", "data"):
+                places.append(number)
+        self.assertEqual(len(places), len(changes))
+        self.assertEqual(len(lines), len(noting.calls()))
+        return before, changes, [sum(place <= count for place in places) for count in answered]
+
+    def files_left(self, role):
+        """What cuts leave, with how many calls were answered by then at least."""
+        before, changes, answered = self.counted(role)
+        draws = random.Random(f"cuts of the {role}")
+        return [(sum(count <= number for count in answered), left) for number, left in after_cuts(before, changes, draws)]
+
+    def check(self, role):
+        if not self.loaded:
+            return
+        found, wrong, opened = self.files_left(role), [], random.Random(f"opened of the {role}")
+        self.assertGreater(len(found), CALLS)
+        for least, left in found:
+            record, held = read(left)
+            if not least <= record.position <= CALLS or held != expected(record.position):
+                wrong.append((least, record.position, held))
+        self.assertEqual(wrong, [])
+        for number, (_, left) in enumerate(opened.sample(found, OPENED)):
+            with self.case("opened", number=number):
+                self.check_opening(role, left, opened, 2)
+
+    def check_opening(self, role, left, draws, times):
+        """The program tells what the model tells, and opens it to the same; so it does whatever a cut in that leaves, and once more in that."""
+        path = self.folder / "left.img"
+        path.write_bytes(left)
+        record, held = read(left)
+        found = inspected(path)
+        self.assertEqual((found["position"], found["record"], found["live"]), (record.position, record.number, len(held)))
+        noting = Noting(self.loaded, path, keeps=False, keeps_bytes=True)
+        words = [role, "--image", path, "--listen", NOWHERE, *(["--link", NOWHERE] if role == "primary" else [])]
+        ran = subprocess.run([*noting.words, common.program("server"), *words], capture_output=True, timeout=PATIENCE, check=False)
+        self.assertIn(b"cannot listen", ran.stderr)
+        again = list(after_cuts(left, noting.changes(), draws))
+        for _, data in again:
+            after, map_after = read(data)
+            self.assertEqual((after.position, map_after), (record.position, held))
+            # (a reopening writes one record, or two)
+            self.assertIn(after.number, range(record.number, record.number + 3))
+        self.assertGreater(generation_of(path.read_bytes()), generation_of(left))
+        if times > 1:
+            self.check_opening(role, draws.choice(again)[1], draws, times - 1)
+
+    def test_cuts_of_the_primary(self):
+        self.check("primary")
+
+    def test_cuts_of_the_standby(self):
+        self.check("standby")
+
+
+class Copies(PairCases):
+    """A node is copied while it serves: lines first, then the journal, again where that began anew meanwhile (bin/copy-image)."""
+
+    def test_copies(self):
+        """Each is whole, and holds what was answered before it was begun."""
+        nodes = self.pair(lines=4 * LINES)
+        load, copy = Load(nodes), nodes.folder / "copy.img"
+        load.start()
+        load.wait_for(10 * WRITERS)
+        generations = set()
+        for number in range(COPIES):
+            node = (nodes.primary, nodes.standby)[number % 2]
+            with self.case("copy", number=number):
+                # (so that writes go on between two copies)
+                load.wait_for(WRITERS)
+                answered = load.answered()
+                if number % 10:
+                    self.copy(node.image, copy)
+                else:
+                    copied = subprocess.run([common.ROOT / "bin" / "copy-image", node.image, copy], capture_output=True, text=True, timeout=PATIENCE, check=False)
+                    self.assertEqual((copied.returncode, copied.stdout, copied.stderr), (0, "", ""))
+                asked = load.asked()
+                generations.add((node.role, generation_of(copy.read_bytes())))
+                record = plain_image.read_image(plain_image.Words(nodes.lines, words_of(image_in(copy.read_bytes())))).record
+                self.assertLessEqual(answered, record.position)
+                self.assertLessEqual(record.position, asked)
+                if number % 10 == 0:
+                    self.assertEqual(inspected(copy)["position"], record.position)
+                copy.unlink()
+        load.end()
+        # (checkpoints came between)
+        self.assertGreater(len(generations), 3)
+        load.check("after copies")
+
+    def test_copies_of_values_that_fit_no_part(self):
+        """They are put in place at once: each copy has them whole."""
+        nodes = self.pair(lines=2 * LINES)
+        copy, ended = nodes.folder / "copy.img", threading.Event()
+        lines_of_value = 2_100
+        self.assertGreater(lines_of_value, Shape.of_image(nodes.lines).part)
+
+        def write():
+            with nodes.client() as client:
+                for number in itertools.count():
+                    if ended.is_set():
+                        return
+                    client.ask("SET", "large", chr(97 + number % 26) * (64 * lines_of_value - 100))
+
+        writer = threading.Thread(target=write, daemon=True)
+        writer.start()
+        try:
+            with nodes.client() as client:
+                wait_until(lambda: client.ask("EXISTS", "large") == integer(1), "a large value")
+            for number in range(COPIES // 2):
+                with self.case("copy", number=number):
+                    self.copy((nodes.primary, nodes.standby)[number % 2].image, copy)
+                    held = plain_image.read_image(plain_image.Words(nodes.lines, words_of(image_in(copy.read_bytes())))).map
+                    self.assertEqual([len(set(value)) for value in held.values()], [1])
+                    copy.unlink()
+        finally:
+            ended.set()
+            writer.join(PATIENCE)
+
+    def copy(self, image, copy):
+        """As bin/copy-image does it, within this process."""
+        COPYING.copied(image, copy)
+
+    def test_status_beside_a_node(self):
+        """It is never refused, and tells no position below what was answered."""
+        nodes = self.pair(lines=4 * LINES)
+        load = Load(nodes)
+        load.start()
+        for number in range(30):
+            node = (nodes.primary, nodes.standby)[number % 2]
+            with self.case("status", number=number):
+                load.wait_for(WRITERS)
+                answered = load.answered()
+                found = common.run_program("server", ["status", "--image", str(node.image)], seconds=PATIENCE)
+                self.assertEqual((found.status, found.errors), (0, b""))
+                rows = dict(line.split(b" ", 1) for line in found.output.splitlines())
+                self.assertLessEqual(answered, int(rows[b"position"]))
+                self.assertLessEqual(int(rows[b"position"]), load.asked())
+        load.end()
+
+
+COPYING = common.script("copy-image")
+
+
+class Kills(PairCases):
+    """Kills of either node, or both, under writers, with a journal that begins anew every few dozen writes."""
+
+    ON_DISK = True
+
+    def test_kills(self):
+        nodes = self.pair(lines=LINES)
+        load, draws = Load(nodes), random.Random()
+        for number in range(ROUNDS):
+            with self.case("round", number=number):
+                load.start()
+                load.wait_for(draws.randrange(1, 20) * WRITERS)
+                killed = [[nodes.primary], [nodes.standby], [nodes.standby, nodes.primary]][number % 3]
+                for node in killed:
+                    node.end()
+                if nodes.primary in killed:
+                    load.end()
+                for node in killed:
+                    data = node.image.read_bytes()
+                    found = node.inspect()
+                    self.assertEqual(found["position"], plain_image.read_image(plain_image.Words(nodes.lines, words_of(image_in(data)))).record.position)
+                    self.assertLessEqual(load.answered() if nodes.primary in killed else 0, found["position"])
+                for node in killed:
+                    node.start()
+                if nodes.primary not in killed:
+                    load.wait_for(WRITERS)
+                    load.end()
+                nodes.wait()
+                load.check(f"after round {number}")
+        self.assertEqual(self.assert_positions(nodes), (load.answered(), load.answered()))
+        # (more often than it was opened)
+        self.assertGreater(generation_of(nodes.primary.image.read_bytes()), ROUNDS + 1)
+
+    def test_a_file_that_is_cut_short(self):
+        """Beside a node that runs: its next sync fails, and nothing more is answered; so where it is made longer."""
+        for change in (-64, 64):
+            with self.case("bytes", change=change):
+                nodes = self.pair(lines=LINES)
+                size = nodes.primary.image.stat().st_size
+                with nodes.client() as client:
+                    self.assertEqual(client.ask("INCR", "n"), integer(1))
+                    with open(nodes.primary.image, "r+b") as file:
+                        file.truncate(size + change)
+                    with contextlib.suppress(OSError), self.assertRaises(Ended):
+                        client.ask("INCR", "n")
+                self.assertEqual(nodes.primary.wait(), 1)
+                self.assertEqual(common.without_news(nodes.primary.errors.read_bytes()), b"refusal 1: device fault\n")
+                finished = common.run_program("server", ["inspect", "--image", str(nodes.primary.image)])
+                self.assertEqual((finished.status, common.without_cause(finished.errors)), (1, b"refusal 4: wrong size\n"))
+                with open(nodes.primary.image, "r+b") as file:
+                    file.truncate(size)
+                if change > 0:
+                    self.assertIn(nodes.primary.inspect()["position"], (1, 2))
+                nodes.close()
+
+
+class Generations(PairCases):
+    """Lines for which no part has room are put in place, and then another generation begins before a record is written: whoever reads beside the node may have
+    read these lines before, and sees by the head that they are others."""
+
+    def test_a_value_that_fits_no_part(self):
+        with tempfile.TemporaryDirectory(prefix="wbl-journaled-") as folder:
+            loaded = noted_calls.library(folder)
+            if loaded is None:
+                print(f"{self.id()}: skipped, since there is no gcc", flush=True)
+                return
+            nodes = self.pair(lines=LINES, has_number=True)
+            for node in (nodes.standby, nodes.primary):
+                node.end()
+                node.noting = Noting(loaded, node.image, keeps=False, keeps_bytes=True)
+                node.before = node.noting.words
+                node.start()
+            nodes.wait()
+            length = 64 * (SHAPE.part + 1)
+            with nodes.client() as client:
+                self.assertEqual(client.ask("SET", "large", length * "v"), b"+OK\r\n")
+            nodes.end()
+            for node in (nodes.primary, nodes.standby):
+                with self.case("node", role=node.role):
+                    changes = node.noting.changes()
+                    (last,) = [at for at, change in enumerate(changes) if change and change[0] < 64 * LINES and change[1].endswith(b"v" + bytes(-(length + 5) % 64))]
+                    self.assertEqual((changes[last + 1], changes[last + 2][0], changes[last + 3]), (None, 64 * LINES, None))
+                    self.assertEqual(generation_of(node.image.read_bytes()), words_of(changes[last + 2][1])[1])
+
+
+class Syncs(PairCases):
+    """How often a node syncs: once for each call of its engine that writes, whatever the call asks of its device."""
+
+    def test_a_lone_write(self):
+        loaded = None
+        with tempfile.TemporaryDirectory(prefix="wbl-journaled-") as folder:
+            loaded = noted_calls.library(folder)
+            if loaded is None:
+                print(f"{self.id()}: skipped, since there is no gcc", flush=True)
+                return
+            nodes = self.pair(lines=16 * LINES)
+            for node in (nodes.standby, nodes.primary):
+                node.end()
+                node.noting = Noting(loaded, node.image, keeps=False)
+                node.before = node.noting.words
+                node.start()
+            nodes.wait()
+            with nodes.client() as client:
+                syncs = lambda: [sum(call.word == "data" for call in node.noting.calls()) for node in (nodes.primary, nodes.standby)]
+                counts = [syncs()]
+                for number in range(20):
+                    self.assertEqual(client.ask("SET", f"k{number}", "v"), b"+OK\r\n")
+                    counts.append(syncs())
+                for at, role in enumerate(("primary", "standby")):
+                    with self.case("node", role=role):
+                        found = [later[at] - first[at] for first, later in itertools.pairwise(counts)]
+                        # (a node that nothing came to for a second clears gaps, and others share this machine)
+                        self.assertTrue(all(count > 0 for count in found), found)
+                        self.assertGreater(found.count(1), 10, found)
